@@ -1,0 +1,13 @@
+//! The program `itipdesk`: a desk for to-dos under iTIP, driven by a script on standard input.
+//!
+//! Its status is 0, or 1 where something printed was a refusal, 2 for bad words or a bad window, and 3 for a fault.
+#![tactic(auto)]
+
+mod run;
+mod words;
+
+use std::process::ExitCode;
+
+fn main(rt: HostRuntime) -> ExitCode {
+    ExitCode::from(run::status(&rt))
+}

@@ -1,0 +1,58 @@
+//! One run of the program: its words, then its script.
+ghost use Rattle.std.specs.Prelude.{◌≡◌};
+ghost use Rattle.itip_app.specs.Words.{AreDesks};
+
+use crate::words::{Call, NoCall, read_words};
+use itip_office::run_script;
+use std::fmt::Display;
+use std::rt::Env;
+use std::{env, io};
+
+const FAULT: u8 = 3;
+
+/// Runs the program and gives its status.
+pub(crate) fn status<R: AllocGlobal + Env + Input + Print + Eprint>(rt: &R) -> u8 {
+    let words: Vec<String> = match env::args(rt).map(|words| words.collect(rt.alloc())) {
+        Ok(Ok(words)) => words,
+        Ok(Err(_)) => return complain(rt, &"no memory", FAULT),
+        Err(error) => return no_words(rt, &error),
+    };
+    match read_words(rt.alloc(), words.as_slice()) {
+        Ok(call) => run(rt, call),
+        Err(NoCall::Help(help)) => match help.print(rt) {
+            Ok(()) => 0,
+            Err(_) => complain(rt, &"write failed", FAULT),
+        },
+        Err(NoCall::BadWords) => complain(rt, &"bad words", 2),
+        Err(NoCall::NoMemory) => complain(rt, &"no memory", FAULT),
+    }
+}
+
+fn no_words<R: Eprint>(rt: &R, error: &io::Error) -> u8 {
+    if error.kind() == io::ErrorKind::OutOfMemory {
+        complain(rt, &"no memory", FAULT)
+    } else {
+        complain(rt, &"bad words", 2)
+    }
+}
+
+fn run<R: AllocGlobal + Input + Print + Eprint>(rt: &R, call: Call) -> u8
+    requires { AreDesks call.desks }
+{
+    let mut reader = rt.reader();
+    let mut writer = io::writer(rt);
+    let desks = call.desks as usize;
+    match run_script(rt.alloc(), &mut reader, &mut writer, desks, call.window) {
+        Ok(false) => 0,
+        Ok(true) => 1,
+        Err(fault) => complain(rt, &fault, FAULT),
+    }
+}
+
+// Where standard error takes no text, the status alone says what was wrong.
+fn complain<R: Eprint, T: Display>(rt: &R, what: &T, status: u8) -> u8
+    ensures { result ≡ status }
+{
+    let _ = eprintln!(rt; "itipdesk: {what}");
+    status
+}

@@ -1,0 +1,126 @@
+//! The words that the program is called with.
+ghost use Rattle.std.specs.Prelude.{◌≡◌, ℕ, IfOk, IfSome, IfNone};
+ghost use Rattle.itip_app.specs.Words.{AreDesks, desks_of, IsWindowOf, IsCallOf};
+ghost use Rattle.itip_app.specs.declared.words.NoCall.TheVariants.{NoMemory};
+ghost use Rattle.itip_view.specs.declared.window.Window.{Window};
+
+use clap::error::ErrorKind;
+use clap::{Arg, ArgMatches, Command, Error};
+use itip_moment::read_date;
+use itip_office::read_number;
+use itip_view::Window;
+use std::alloc::{AllocError, Global};
+
+/// The most desks of a run.
+const MAX_DESKS: u64 = 8;
+
+/// What a call of the program asks for: a script with so many desks, and lists of the days of a window.
+#[derive(Clone, Copy)]
+pub(crate) struct Call {
+    pub(crate) desks: u64,
+    pub(crate) window: Window,
+}
+
+/// Why nothing is run.
+#[derive(Drop)]
+pub(crate) enum NoCall {
+    /// Help was asked for; the error prints it.
+    Help(Error),
+    BadWords,
+    NoMemory,
+}
+
+impl From<AllocError> for NoCall {
+    ghost from_gives = { λ _ e. e ≡ NoMemory };
+
+    fn from(_: AllocError) -> NoCall {
+        NoCall::NoMemory
+    }
+}
+
+impl From<Error> for NoCall {
+    fn from(error: Error) -> NoCall {
+        match error.kind() {
+            ErrorKind::DisplayHelp => NoCall::Help(error),
+            ErrorKind::OutOfMemory => NoCall::NoMemory,
+            _ => NoCall::BadWords,
+        }
+    }
+}
+
+/// Reads the words, the first of which is the program's name.
+pub(crate) fn read_words(alloc: Global, words: &[String]) -> Result<Call, NoCall>
+    ensures desks { IfOk result (λ call. AreDesks call.desks) }
+{
+    let matches = command(alloc)?.try_get_matches_from(words)?;
+    matches
+        .subcommand_matches("run")
+        .and_then(call_of)
+        .ok_or(NoCall::BadWords)
+}
+
+fn command<'a>(alloc: Global) -> Result<Command<'a>, AllocError> {
+    let desks = Arg::new(alloc, "desks")
+        .long("desks")
+        .value_name("D")
+        .default_value("1")
+        .help("How many desks there are: 1 to 8");
+    let from = Arg::new(alloc, "from")
+        .long("from")
+        .value_name("YYYYMMDD")
+        .required(true)
+        .help("The first day that lists show");
+    let to = Arg::new(alloc, "to")
+        .long("to")
+        .value_name("YYYYMMDD")
+        .required(true)
+        .help("The day after the last that lists show, at most 3660 days later");
+    let run = Command::new(alloc, "run")
+        .about("Runs a script from standard input")
+        .arg(desks)?
+        .arg(from)?
+        .arg(to)?;
+    Command::new(alloc, "itipdesk")
+        .bin_name("itipdesk")?
+        .about("A desk for to-dos under iTIP (RFC 5546)")
+        .subcommand_required(true)
+        .subcommand(run)
+}
+
+fn call_of(matches: &ArgMatches<'_>) -> Option<Call>
+    ensures { IfSome result (λ call. AreDesks call.desks) }
+{
+    call_of_texts(
+        matches.get_str("desks")?,
+        matches.get_str("from")?,
+        matches.get_str("to")?,
+    )
+}
+
+/// What the values of the words ask for, where they are what they have to be.
+fn call_of_texts(desks: &str, from: &str, to: &str) -> Option<Call>
+    ensures found { IfSome result (λ call. IsCallOf desks.now from.now to.now call.desks call.window) }
+    ensures none { IfNone result ((count : ℕ) (window : Window) → IsCallOf desks.now from.now to.now count window → ⊥) }
+    ensures desks { IfSome result (λ call. AreDesks call.desks) }
+{
+    let desks = desks_of(desks)?;
+    let window = window_of(from, to)?;
+    Some(Call { desks, window })
+}
+
+/// The window from one date up to another, each spelled `YYYYMMDD`.
+fn window_of(from: &str, to: &str) -> Option<Window>
+    ensures found { IfSome result (IsWindowOf from.now to.now) }
+    ensures none { IfNone result ((window : Window) → IsWindowOf from.now to.now window → ⊥) }
+{
+    let from = read_date(from)?;
+    let to = read_date(to)?;
+    Window::new(from.number, to.number).ok()
+}
+
+/// A decimal number from 1 to 8.
+fn desks_of(text: &str) -> Option<u64>
+    ensures { result ≡ desks_of text.now }
+{
+    read_number(text.as_bytes()).filter(|desks| (1..=MAX_DESKS).contains(desks))
+}

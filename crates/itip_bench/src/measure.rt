@@ -1,0 +1,90 @@
+//! What is measured.
+
+use crate::load::{Numbers, message};
+use itip_desk::{Batch, Desk, DeskError};
+use itip_message::{ReadError, read_message};
+use itip_view::{BadWindow, ViewError, Window};
+use std::alloc::{AllocError, AllocFailed, Global};
+use std::io;
+use std::rt::Clock;
+use std::time::Instant;
+use thiserror::Error;
+
+/// Why nothing more was measured.
+#[derive(Debug, Drop, Error)]
+pub(crate) enum BenchError {
+    #[error("the words are how many messages, and a seed")]
+    Words,
+    #[error("no memory")]
+    Memory,
+    #[error("{0}")]
+    Io(#[from] io::Error),
+    #[error("{0}")]
+    Read(#[from] ReadError),
+    #[error("{0}")]
+    Desk(#[from] DeskError),
+    #[error("{0}")]
+    Window(#[from] BadWindow),
+    #[error("{0}")]
+    View(#[from] ViewError),
+}
+
+impl From<AllocError> for BenchError {
+    fn from(_: AllocError) -> BenchError {
+        BenchError::Memory
+    }
+}
+
+impl<T: Drop> From<AllocFailed<T>> for BenchError {
+    fn from(_: AllocFailed<T>) -> BenchError {
+        BenchError::Memory
+    }
+}
+
+/// Reads so many messages, takes them one after another, lists what the desk keeps, and prints a line for each.
+pub(crate) fn measure<R: AllocGlobal + Clock + Print>(
+    rt: &R,
+    count: u64,
+    seed: u64,
+) -> Result<(), BenchError> {
+    let alloc = rt.alloc();
+    let (texts, octets) = messages(alloc, count, seed)?;
+    let start = Instant::now(rt)?;
+    let batches = read(alloc, &texts)?;
+    let time = start.elapsed(rt)?.as_millis();
+    println!(rt; "read {count} messages {octets} bytes {time} ms")?;
+    let mut desk = Desk::empty_at(alloc, 0);
+    let start = Instant::now(rt)?;
+    for batch in &batches {
+        desk.take(batch)?;
+    }
+    let time = start.elapsed(rt)?.as_millis();
+    println!(rt; "take {count} items {time} ms")?;
+    let start = Instant::now(rt)?;
+    let octets = desk.list(Window::new(20_454, 20_819)?)?.len();
+    let time = start.elapsed(rt)?.as_millis();
+    let entries = desk.entries();
+    println!(rt; "list {entries} to-dos {octets} bytes {time} ms")?;
+    Ok(())
+}
+
+fn messages(alloc: Global, count: u64, seed: u64) -> Result<(Vec<String>, u64), BenchError> {
+    let mut numbers = Numbers::of_seed(seed);
+    let mut texts = Vec::new(alloc);
+    let mut octets = 0u64;
+    for number in 0..count {
+        let text = message(alloc, number, &mut numbers)?;
+        octets = octets.saturating_add(text.len() as u64);
+        texts.push(text)?;
+    }
+    Ok((texts, octets))
+}
+
+fn read(alloc: Global, texts: &Vec<String>) -> Result<Vec<Batch>, BenchError> {
+    let mut batches = Vec::new(alloc);
+    for text in texts {
+        let items = read_message(alloc, text.as_bytes())?;
+        batches.push(Batch::of_items(items)?)?;
+    }
+    Ok(batches)
+}

@@ -1,0 +1,70 @@
+-- Desks of histories, and one more step of one of them.
+use Rattle.std.proofs.Common.{◌≡◌, ℕ, zero, suc, ◌+◌, ◌<◌, List, [], ◌∷◌, ◌++◌, length, get_or, refl, sym, ap, subst, ◌∙◌, arith, Option, Some, None}
+use Rattle.std.specs.Prelude.{slice_get, slice_set, replicate}
+use Rattle.itip_message.specs.declared.item.Item.{Item}
+use Rattle.itip_desk.specs.Desk.{Shown, IsDeskOf}
+use Rattle.itip_delta.specs.Worlds.{Histories, AreDesksOf, with_step, no_histories}
+
+-- one desk heard one more step, and the others are as before
+pub record HeardMore (histories : Histories) (desks : List Shown) (desk : ℕ) (step : List Item) (old : Shown) (new_desks : List Shown) : Type 0 where
+  pub history : List (List Item)
+  pub there : slice_get histories desk ≡ Some history
+  pub was : IsDeskOf history 0 old
+  pub are : AreDesksOf (with_step histories desk step) new_desks
+
+some_same : {A : Type 0} (a b : A) → Some a ≡ Some b → a ≡ b
+some_same a b e = ap (λ (o : Option _). elim o [ None ↦ a | Some x ↦ x ]) e
+
+none_there : {A : Type 0} (a : A) → None ≡ Some a → ⊥
+none_there a e = cc
+
+More : List Item → Shown → Shown → Type 0
+More step old new = (history : List (List Item)) → IsDeskOf history 0 old → IsDeskOf (history ++ step ∷ []) 0 new
+
+heard_first : (h : List (List Item)) (hs : Histories) (d : Shown) (ds : List Shown) (step : List Item) (old new : Shown) → IsDeskOf h 0 d → AreDesksOf hs ds → d ≡ old → More step old new
+    → HeardMore (h ∷ hs) (d ∷ ds) zero step old (new ∷ ds)
+unfolding More
+heard_first h hs d ds step old new is are same more =
+    let was : IsDeskOf h 0 old = subst (λ (x : Shown). IsDeskOf h 0 x) same is in
+    record { history = h; there = refl; was = was; are = (more h was, are) }
+
+heard_later : (h : List (List Item)) (hs : Histories) (d : Shown) (ds : List Shown) (desk : ℕ) (step : List Item) (old : Shown) (new_desks : List Shown) → IsDeskOf h 0 d → HeardMore hs ds desk step old new_desks
+    → HeardMore (h ∷ hs) (d ∷ ds) (suc desk) step old (d ∷ new_desks)
+heard_later h hs d ds desk step old new_desks is rest =
+    record { history = rest.history; there = rest.there; was = rest.was; are = (is, rest.are) }
+
+heard_more_lem : (desks : List Shown) (histories : Histories) (desk : ℕ) (step : List Item) (old new : Shown) → AreDesksOf histories desks → slice_get desks desk ≡ Some old → More step old new → HeardMore histories desks desk step old (slice_set desks desk new)
+heard_more_lem [] histories desk step old new are at more = absurd (none_there old at)
+heard_more_lem (d ∷ ds) [] desk step old new are at more = absurd are
+heard_more_lem (d ∷ ds) (h ∷ hs) zero step old new are at more = heard_first h hs d ds step old new are.0 are.1 (some_same d old at) more
+heard_more_lem (d ∷ ds) (h ∷ hs) (suc desk) step old new are at more = heard_later h hs d ds desk step old (slice_set ds desk new) are.0 (heard_more_lem ds hs desk step old new are.1 at more)
+
+pub heard_more : (histories : Histories) (desks : List Shown) (desk : ℕ) (step : List Item) (old new : Shown) → AreDesksOf histories desks → slice_get desks desk ≡ Some old
+    → ((history : List (List Item)) → IsDeskOf history 0 old → IsDeskOf (history ++ step ∷ []) 0 new) → HeardMore histories desks desk step old (slice_set desks desk new)
+unfolding More
+heard_more histories desks desk step old new are at more = heard_more_lem desks histories desk step old new are at more
+
+-- a desk in the list
+pub desk_there : (desks : List Shown) (desk : ℕ) → desk < length desks → (d : Shown) × (slice_get desks desk ≡ Some d)
+desk_there [] desk lt = absurd (omega arith)
+desk_there (d ∷ ds) zero lt = (d, refl)
+desk_there (d ∷ ds) (suc desk) lt = desk_there ds desk (omega arith)
+
+-- writing what stands there changes nothing
+pub set_itself : (desks : List Shown) (desk : ℕ) (d : Shown) → slice_get desks desk ≡ Some d → slice_set desks desk d ≡ desks
+set_itself [] desk d at = refl
+set_itself (x ∷ xs) zero d at = ap (λ (y : Shown). y ∷ xs) (sym (some_same x d at))
+set_itself (x ∷ xs) (suc desk) d at = ap (λ ys. x ∷ ys) (set_itself xs desk d at)
+
+-- one more desk that has heard nothing
+pub one_more_desk : (n : ℕ) (desks : List Shown) (d : Shown) → AreDesksOf (no_histories n) desks → IsDeskOf [] 0 d → AreDesksOf (no_histories (suc n)) (desks ++ d ∷ [])
+one_more_desk zero [] d are is = (is, tt)
+one_more_desk zero (x ∷ xs) d are is = absurd are
+one_more_desk (suc n) [] d are is = absurd are
+one_more_desk (suc n) (x ∷ xs) d are is = (are.0, one_more_desk n xs d are.1 is)
+
+-- what stands at an index within the list, as the option that reading it gives
+pub slice_get-get_or : (desks : List Shown) (desk : ℕ) (d : Shown) → desk < length desks → slice_get desks desk ≡ Some (get_or desks desk d)
+slice_get-get_or [] desk d lt = absurd (omega arith)
+slice_get-get_or (x ∷ xs) zero d lt = refl
+slice_get-get_or (x ∷ xs) (suc desk) d lt = slice_get-get_or xs desk d (omega arith)

@@ -1,0 +1,4 @@
+pub use Rattle.itip_state.specs.Kept
+pub use Rattle.itip_desk.specs.Heard
+pub use Rattle.itip_desk.specs.Desk
+pub mod Worlds

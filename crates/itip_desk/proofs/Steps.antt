@@ -1,0 +1,94 @@
+-- What one more step adds to what was heard.
+use Rattle.std.proofs.Common.{◌≡◌, ℕ, ◌+◌, List, [], ◌∷◌, ◌++◌, ◌↔◌, ◌⊎◌, inl, inr, refl, sym, ap, subst, ◌∙◌, append_assoc, append-nil, length, arith}
+use Rattle.std.proofs.lemmas.List.Elements.{Contains-append_left, Contains-push}
+use Rattle.std.specs.List.{Contains}
+use Rattle.itip_message.specs.KeyParts.{uid_of}
+use Rattle.itip_message.specs.declared.item.Item.{Item}
+use Rattle.itip_state.specs.Kept.{AreKept, IsKept, KeepSame, Moves, AreMoved, SameItems}
+use Rattle.itip_state.proofs.Keeping.{kept_again, kept_iff, kept_beside, kept_of_parts, covers_itself, covers_kept, are_kept_by}
+use Rattle.itip_desk.specs.Desk.{Shown, IsDeskOf}
+use Rattle.itip_desk.specs.Heard.{heard, TickStep, Ticks}
+
+-- one more step is heard last
+pub heard-append : (steps : List (List Item)) (step : List Item) → heard (steps ++ step ∷ []) ≡ heard steps ++ step
+heard-append [] step = append-nil step
+heard-append (first ∷ steps) step = ap (λ rest. first ++ rest) (heard-append steps step) ∙ sym (append_assoc first (heard steps) step)
+
+-- what a step adds to what was heard it adds to what was kept of that
+pub keep_same_up : (uid : List ℕ) (kept all step : List Item) → AreKept kept all → KeepSame uid kept (kept ++ step) → KeepSame uid all (all ++ step)
+keep_same_up uid kept all step are same item about =
+    let again = kept_again kept all are item in
+    let beside = kept_beside all step kept are item in
+    let here = same item about in
+    (λ k. beside.0 (here.0 (again.1 k)), λ k. again.0 (here.1 (beside.1 k)))
+
+pub keep_same_down : (uid : List ℕ) (kept all step : List Item) → AreKept kept all → KeepSame uid all (all ++ step) → KeepSame uid kept (kept ++ step)
+keep_same_down uid kept all step are same item about =
+    let again = kept_again kept all are item in
+    let beside = kept_beside all step kept are item in
+    let here = same item about in
+    (λ k. beside.1 (here.0 (again.0 k)), λ k. again.1 (here.1 (beside.0 k)))
+
+pub tick_step_up : (kept all step : List Item) (tick next : ℕ) → AreKept kept all → TickStep kept step tick next → TickStep all step tick next
+tick_step_up kept all step tick next are (inl (moves, up)) = inl ((moves.0, λ same. moves.1 (keep_same_down moves.0 kept all step are same)), up)
+tick_step_up kept all step tick next are (inr (same, stays)) = inr (λ uid. keep_same_up uid kept all step are (same uid), stays)
+
+pub ticks_more : (before : List Item) (tick : ℕ) (steps : List (List Item)) (step : List Item) (last next : ℕ) → Ticks before tick steps last → TickStep (before ++ heard steps) step last next → Ticks before tick (steps ++ step ∷ []) next
+ticks_more before tick [] step last next at more =
+    let here : TickStep before step last next = subst (λ (b : List Item). TickStep b step last next) (append-nil before) more in
+    (next, subst (λ (t : ℕ). TickStep before step t next) at here, refl)
+ticks_more before tick (first ∷ steps) step last next (mid, one, rest) more =
+    (mid, one, ticks_more (before ++ first) mid steps step last next rest (subst (λ (b : List Item). TickStep b step last next) (sym (append_assoc before first (heard steps))) more))
+
+-- a desk that keeps what is kept of one more step, at the tick that the step leaves, is that of one more step
+pub one_more_step : (steps : List (List Item)) (start : ℕ) (old new : Shown) (step : List Item) → AreKept new.kept (old.kept ++ step) → TickStep old.kept step old.tick new.tick → IsDeskOf steps start old → IsDeskOf (steps ++ step ∷ []) start new
+one_more_step steps start old new step kept tick is = record {
+  kept = subst (λ (all : List Item). AreKept new.kept all) (sym (heard-append steps step)) (are_kept_by new.kept (old.kept ++ step) (heard steps ++ step) (kept_beside (heard steps) step old.kept is.kept) kept);
+  tick = ticks_more [] start steps step old.tick new.tick is.tick (tick_step_up old.kept (heard steps) step old.tick new.tick is.kept tick);
+}
+
+-- what a step moves is what the kept part of it moves
+pub moved_whole : (uids : List (List ℕ)) (before part step : List Item) → AreKept part step → AreMoved uids before part → AreMoved uids before step
+moved_whole uids before part step are moved = record {
+  ascend = moved.ascend;
+  each = λ uid h same. moved.each uid h (λ item about. let two = kept_of_parts before step before part (covers_itself before) (covers_kept part step are) item in
+      (λ k. two.1 ((same item about).0 k), λ k. (same item about).1 (two.0 k)));
+  others = λ uid h item about. let two = kept_of_parts before step before part (covers_itself before) (covers_kept part step are) item in
+      let here = moved.others uid h item about in
+      (λ k. two.0 (here.0 k), λ k. here.1 (two.1 k));
+}
+
+-- where a step moves no UID, what was kept is what is kept with it
+pub none_moved : (before step : List Item) → AreKept before before → ((uid : List ℕ) → KeepSame uid before (before ++ step)) → AreKept before (before ++ step)
+none_moved before step are same = are_kept_by before before (before ++ step) (λ item. same (uid_of item.key) item refl) are
+
+-- of no UID it can't be told otherwise that it moved
+pub some_moved : (uids : List (List ℕ)) (before step : List Item) → AreMoved uids before step → ¬ (length uids ≡ 0) → (uid : List ℕ) × Moves before step uid
+some_moved [] before step moved some = absurd (some refl)
+some_moved (uid ∷ uids) before step moved some = (uid, moved.each uid (Contains-append_left (uid ∷ []) uids uid (Contains-push [] uid)))
+
+-- a step that moves none of these UIDs, which are all that it moves
+pub none_in : (uids : List (List ℕ)) (before step : List Item) → AreMoved uids before step → length uids ≡ 0 → (uid : List ℕ) → KeepSame uid before (before ++ step)
+none_in uids before step moved none uid = moved.others uid (λ h. omega (arith, h.1))
+
+-- a step of nothing moves nothing
+pub nothing_more : (steps : List (List Item)) (start : ℕ) (desk : Shown) → IsDeskOf steps start desk → IsDeskOf (steps ++ [] ∷ []) start desk
+nothing_more steps start desk is =
+    let same : (uid : List ℕ) → KeepSame uid desk.kept (desk.kept ++ []) = λ uid item _. subst (λ (all : List Item). IsKept desk.kept item ↔ IsKept all item) (sym (append-nil desk.kept)) (λ k. k, λ k. k) in
+    let state : AreKept desk.kept desk.kept = λ item. let again = kept_again desk.kept (heard steps) is.kept item in
+    (λ h. again.1 ((is.kept item).0 h), λ k. (is.kept item).1 (again.0 k)) in
+    one_more_step steps start desk desk [] (none_moved desk.kept [] state same) (inr (same, refl)) is
+
+-- what a step moves of what was kept it moves of all that was heard
+pub moved_of_all : (uids : List (List ℕ)) (kept all step : List Item) → AreKept kept all → AreMoved uids kept step → AreMoved uids all step
+moved_of_all uids kept all step are moved = record {
+  ascend = moved.ascend;
+  each = λ uid h same. moved.each uid h (keep_same_down uid kept all step are same);
+  others = λ uid h. keep_same_up uid kept all step are (moved.others uid h);
+}
+
+-- desks that have heard the same items keep the same
+pub same_heard : (steps others : List (List Item)) (start beginning : ℕ) (desk other : Shown) → IsDeskOf steps start desk → IsDeskOf others beginning other → SameItems (heard steps) (heard others) → SameItems desk.kept other.kept
+same_heard steps others start beginning desk other is_desk is_other same item =
+    let iff = kept_iff (heard steps) (heard others) same item in
+    (λ h. (is_other.kept item).1 (iff.0 ((is_desk.kept item).0 h)), λ h. (is_desk.kept item).1 (iff.1 ((is_other.kept item).0 h)))

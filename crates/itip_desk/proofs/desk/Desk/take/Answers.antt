@@ -1,0 +1,82 @@
+use Rattle.std.proofs.Common.{◌≡◌, ◌+◌, [], ◌++◌, ◌∷◌, List, ℕ, inl, inr, refl, ap, subst, sym, ◌∙◌, length, arith}
+use Rattle.itip_message.specs.declared.item.Item.{Item}
+use Rattle.itip_state.specs.Kept.{AreKept, AreMoved, Moves}
+use Rattle.itip_state.specs.Order.{IsState}
+use Rattle.itip_state.proofs.Keeping.{are_kept_by, kept_of_parts, covers_itself, covers_kept}
+use Rattle.itip_desk.specs.Desk.{Shown}
+use Rattle.itip_desk.proofs.Steps.{moved_whole, none_moved, none_in, some_moved, one_more_step}
+use Rattle.itip_desk.proofs.desk.Desk.take.Goals as goal
+use Rattle.itip_desk.proofs.desk.Desk.take.Goals.{In_ok-uids}
+
+-- the UIDs are those that the batch moves
+moved : (c : In_ok-uids) → AreMoved c.in_ok-uids.uids.items c.args.self.now.kept c.args.batch.now
+moved c =
+    let kept : c.self.inside.state ≡ c.args.self.now.kept = ap (λ (d : Shown). d.kept) c.self.view_is in
+    let are : AreKept c.in_ok-heard.heard c.args.batch.now = subst (λ (step : List Item). AreKept c.in_ok-heard.heard step) c.as_slice.ensures c.in_ok-heard.ensures in
+    subst (λ (k : List Item). AreMoved c.in_ok-uids.uids.items k c.args.batch.now) kept (moved_whole c.in_ok-uids.uids.items c.self.inside.state c.in_ok-heard.heard c.args.batch.now are c.in_ok-uids.ensures.uids)
+
+-- what the desk keeps is a state
+state : (c : In_ok-uids) → IsState c.args.self.now.kept
+state c =
+    let kept : c.self.inside.state ≡ c.args.self.now.kept = ap (λ (d : Shown). d.kept) c.self.view_is in
+    subst IsState kept c.in_ok-uids.ensures.state
+
+-- merging what is kept of the batch is hearing the batch
+kept_with : (c : In_ok-uids) (new : List Item) → AreKept new (c.self.inside.state ++ c.in_ok-heard.heard) → AreKept new (c.args.self.now.kept ++ c.args.batch.now)
+kept_with c new are_new =
+    let kept : c.self.inside.state ≡ c.args.self.now.kept = ap (λ (d : Shown). d.kept) c.self.view_is in
+    let are : AreKept c.in_ok-heard.heard c.args.batch.now = subst (λ (step : List Item). AreKept c.in_ok-heard.heard step) c.as_slice.ensures c.in_ok-heard.ensures in
+    let whole : AreKept new (c.self.inside.state ++ c.args.batch.now) = are_kept_by new (c.self.inside.state ++ c.in_ok-heard.heard) (c.self.inside.state ++ c.args.batch.now)
+    (kept_of_parts c.self.inside.state c.args.batch.now c.self.inside.state c.in_ok-heard.heard (covers_itself c.self.inside.state) (covers_kept c.in_ok-heard.heard c.args.batch.now are)) are_new in
+    subst (λ (k : List Item). AreKept new (k ++ c.args.batch.now)) kept whole
+
+pub returns-then-is_empty-clause-kept : goal.returns-then-is_empty-clause-kept
+returns-then-is_empty-clause-kept c =
+    let before = (goal.at.returns-then-is_empty-clause-kept c).In_ok-uids in
+    let none : length c.in_ok-uids.uids.items ≡ 0 = grind arith in
+    none_moved c.args.self.now.kept c.args.batch.now (state before) (none_in c.in_ok-uids.uids.items c.args.self.now.kept c.args.batch.now (moved before) none)
+
+pub returns-then-is_empty-clause-uids : goal.returns-then-is_empty-clause-uids
+returns-then-is_empty-clause-uids c = moved (goal.at.returns-then-is_empty-clause-uids c).In_ok-uids
+
+pub returns-then-is_empty-clause-rises : goal.returns-then-is_empty-clause-rises
+returns-then-is_empty-clause-rises c =
+    let before = (goal.at.returns-then-is_empty-clause-rises c).In_ok-uids in
+    let none : length c.in_ok-uids.uids.items ≡ 0 = grind arith in
+    inr (none_in c.in_ok-uids.uids.items c.args.self.now.kept c.args.batch.now (moved before) none, refl)
+
+pub returns-then-is_empty-clause-step : goal.returns-then-is_empty-clause-step
+returns-then-is_empty-clause-step c = λ steps start.
+    let before = (goal.at.returns-then-is_empty-clause-step c).In_ok-uids in
+    let none : length c.in_ok-uids.uids.items ≡ 0 = grind arith in
+    let same = none_in c.in_ok-uids.uids.items c.args.self.now.kept c.args.batch.now (moved before) none in
+    one_more_step steps start c.args.self.now c.args.self.now c.args.batch.now (none_moved c.args.self.now.kept c.args.batch.now (state before) same) (inr (same, refl))
+
+pub returns-then-self-clause-spent : goal.returns-then-self-clause-spent
+returns-then-self-clause-spent c = λ _.
+    let before = (goal.at.returns-then-self-clause-spent c).In_ok-uids in
+    let some : ¬ (length c.in_ok-uids.uids.items ≡ 0) = grind arith in
+    let at : c.self.inside.tick ≡ c.args.self.now.tick = ap (λ (d : Shown). d.tick) c.self.view_is in
+    (sym at ∙ c.if-self.true, some_moved c.in_ok-uids.uids.items c.args.self.now.kept c.args.batch.now (moved before) some)
+
+pub returns-clause-kept : goal.returns-clause-kept
+returns-clause-kept c = kept_with (goal.at.returns-clause-kept c).In_ok-uids c.merge.new.self (c.in_ok-merge.ensures.ok)
+
+pub returns-clause-uids : goal.returns-clause-uids
+returns-clause-uids c = moved (goal.at.returns-clause-uids c).In_ok-uids
+
+pub returns-clause-rises : goal.returns-clause-rises
+returns-clause-rises c =
+    let before = (goal.at.returns-clause-rises c).In_ok-uids in
+    let some : ¬ (length c.in_ok-uids.uids.items ≡ 0) = grind arith in
+    let at : c.self.inside.tick ≡ c.args.self.now.tick = ap (λ (d : Shown). d.tick) c.self.view_is in
+    inl (some_moved c.in_ok-uids.uids.items c.args.self.now.kept c.args.batch.now (moved before) some, ap (λ t. t + 1) at)
+
+pub returns-clause-step : goal.returns-clause-step
+returns-clause-step c = λ steps start.
+    let before = (goal.at.returns-clause-step c).In_ok-uids in
+    let some : ¬ (length c.in_ok-uids.uids.items ≡ 0) = grind arith in
+    let at : c.self.inside.tick ≡ c.args.self.now.tick = ap (λ (d : Shown). d.tick) c.self.view_is in
+    let new : Shown = record { kept = c.merge.new.self; tick = c.self.inside.tick + 1 } in
+    one_more_step steps start c.args.self.now new c.args.batch.now (kept_with before c.merge.new.self (c.in_ok-merge.ensures.ok))
+    (inl (some_moved c.in_ok-uids.uids.items c.args.self.now.kept c.args.batch.now (moved before) some, ap (λ t. t + 1) at))

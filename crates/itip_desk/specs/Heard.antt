@@ -1,0 +1,24 @@
+-- What a desk has heard after a list of steps, each a set of items, and when its UIDs moved (our own rule).
+use Rattle.std.specs.Prelude.{◌≡◌, ℕ, ◌+◌, ◌<◌, List, [], ◌∷◌, ◌++◌, ◌⊎◌}
+use Rattle.itip_message.specs.declared.item.Item.{Item}
+use Rattle.itip_state.specs.Kept.{KeepSame, Moves}
+
+-- everything heard in these steps
+abbrev pub heard : List (List Item) → List Item
+heard [] = []
+heard (step ∷ steps) = step ++ heard steps
+
+-- a step that moves a UID raises the tick by one, and no other does
+abbrev pub TickStep : List Item → List Item → ℕ → ℕ → Type 0
+TickStep before step tick next = (((uid : List ℕ) × Moves before step uid) × (next ≡ tick + 1)) ⊎ (((uid : List ℕ) → KeepSame uid before (before ++ step)) × (next ≡ tick))
+
+-- the tick after these steps, where it was `tick` when `before` had been heard
+abbrev pub Ticks : List Item → ℕ → List (List Item) → ℕ → Type 0
+Ticks before tick [] last = last ≡ tick
+Ticks before tick (step ∷ steps) last = (next : ℕ) × TickStep before step tick next × Ticks (before ++ step) next steps last
+
+-- a UID moved in a step that left the tick above `since`
+abbrev pub MovedAfter : List Item → ℕ → List (List Item) → ℕ → List ℕ → Type 0
+MovedAfter before tick [] since uid = ⊥
+MovedAfter before tick (step ∷ steps) since uid =
+    (next : ℕ) × TickStep before step tick next × ((Moves before step uid × (since < next)) ⊎ MovedAfter (before ++ step) next steps since uid)

@@ -1,0 +1,47 @@
+//! What a desk takes in one step.
+ghost use Rattle.std.specs.Prelude.{◌≡◌, IfOk};
+
+use itip_message::Item;
+use itip_state::by_octets;
+use std::alloc::{AllocError, Global};
+use std::marker::Model;
+
+/// A finite set of items: by canonical octets, each once.
+#[derive(Debug, Drop)]
+pub struct Batch {
+    items: Vec<Item>,
+}
+
+impl Model for Batch {
+    ghost use Rattle.std.specs.Prelude.{List};
+    ghost use Rattle.itip_message.specs.declared.item.Item.{Item};
+
+    ghost Value = { List Item };
+
+    ghost use Rattle.std.specs.Coded.{coded_list};
+    ghost use Rattle.itip_message.specs.contracts.item.Item as item;
+
+    ghost coded = { coded_list item.the_row.coded };
+
+    ghost view = { λ b. b.items.items };
+}
+
+impl Batch {
+    ghost use Rattle.itip_state.specs.Kept.{IsItemsOf};
+
+    /// The items given, by canonical octets, each once. A refusal, for want of memory, drops the items.
+    pub fn of_items(items: Vec<Item>) -> Result<Batch, AllocError>
+        ensures { IfOk result (λ batch. IsItemsOf batch items.items) }
+    {
+        Ok(Batch {
+            items: by_octets(items)?,
+        })
+    }
+
+    /// The items.
+    pub fn as_slice(&self) -> &[Item]
+        ensures { result.now ≡ self.now }
+    {
+        self.items.as_slice()
+    }
+}

@@ -1,0 +1,120 @@
+//! A desk.
+ghost use Rattle.std.specs.Prelude.{◌≡◌, ◌≢◌, ◌+◌, [], ◌++◌, ◌∷◌, IfOk, OnOk, OnErr, length, min, List, ℕ, IsErrOf};
+ghost use Rattle.itip_message.specs.declared.item.Item.{Item};
+
+use crate::batch::Batch;
+use crate::error::DeskError;
+use itip_state::State;
+use itip_todo::Uid;
+use itip_view::{ViewError, Window, rows, write_list};
+use std::alloc::Global;
+use std::marker::Model;
+
+/// What a taken batch changed: the tick after it, and the UIDs that moved, by octets, each once.
+#[derive(Debug, Drop)]
+pub struct Changed {
+    pub tick: u64,
+    pub uids: Vec<Uid>,
+}
+
+/// A replica: what it keeps of all that it has heard, and its tick.
+#[derive(Debug, Drop)]
+pub struct Desk {
+    state: State,
+    tick: u64,
+    alloc: Global,
+}
+
+impl Model for Desk {
+    ghost use Rattle.itip_desk.specs.Desk.{Shown, shown_code};
+
+    ghost Value = { Shown };
+
+    ghost coded = { shown_code };
+
+    ghost view = { λ d. record { kept = d.state; tick = d.tick } };
+}
+
+impl Desk {
+    ghost use Rattle.itip_state.specs.Kept.{AreKept, AreMoved, Moves};
+    ghost use Rattle.itip_desk.specs.Desk.{IsDeskOf};
+    ghost use Rattle.itip_desk.specs.Heard.{TickStep};
+    ghost use Rattle.itip_view.specs.Rows.{AreTooMany};
+    ghost use Rattle.itip_view.specs.ListText.{IsListText};
+
+    /// A desk that has heard nothing, at this tick. It takes no memory.
+    pub fn empty_at(alloc: Global, tick: u64) -> Desk
+        ensures { IsDeskOf [] tick result }
+    {
+        Desk {
+            state: State::empty(alloc),
+            tick,
+            alloc,
+        }
+    }
+
+    /// The tick: the number of steps that moved a UID, above the first tick.
+    pub fn tick(&self) -> u64
+        ensures { result ≡ self.now.tick }
+    {
+        self.tick
+    }
+
+    /// The kept items.
+    pub fn state(&self) -> &State
+        ensures { result.now ≡ self.now.kept }
+    {
+        &self.state
+    }
+
+    /// The number of kept items; `usize::MAX` where there are more.
+    pub fn entries(&self) -> usize
+        ensures { result ≡ min (length self.now.kept) usize.MAX }
+    {
+        self.state.entries()
+    }
+
+    /// Hears a batch. Where UIDs move the tick rises by one, and they carry it.
+    ///
+    /// Refused for want of memory, or where a UID would move at the last tick; a refusal changes nothing.
+    pub fn take(&mut self, batch: &Batch) -> Result<Changed, DeskError>
+        ensures kept { OnOk result (AreKept self.new.kept (self.old.kept ++ batch.now)) }
+        ensures uids { IfOk result (λ changed. AreMoved changed.uids.items self.old.kept batch.now) }
+        ensures tick { IfOk result (λ changed. changed.tick ≡ self.new.tick) }
+        ensures rises { OnOk result (TickStep self.old.kept batch.now self.old.tick self.new.tick) }
+        ensures step { OnOk result ((steps : List (List Item)) (start : ℕ) → IsDeskOf steps start self.old → IsDeskOf (steps ++ batch.now ∷ []) start self.new) }
+        ensures spent { IsErrOf result DeskError.TicksSpent → (self.old.tick ≡ u64.MAX) × ((uid : List ℕ) × Moves self.old.kept batch.now uid) }
+        ensures err { OnErr result (self.new ≡ self.old) }
+    {
+        let heard = State::of_items(self.alloc, batch.as_slice())?;
+        let uids = self.state.moved_by(&heard)?;
+        if uids.is_empty() {
+            return Ok(Changed {
+                tick: self.tick,
+                uids,
+            });
+        }
+        if self.tick == u64::MAX {
+            return Err(DeskError::TicksSpent);
+        }
+        self.state.merge(&heard)?;
+        self.tick += 1;
+        Ok(Changed {
+            tick: self.tick,
+            uids,
+        })
+    }
+
+    /// The text of the task list in a window.
+    ///
+    /// Refused where more than 100,000 rows stand there (31), or for want of memory (32).
+    pub fn list(&self, window: Window) -> Result<Vec<u8>, ViewError>
+        ensures text { IfOk result (λ text. (heard : List Item) → AreKept self.now.kept heard → IsListText heard window text.items) }
+        ensures many { IsErrOf result ViewError.TooManyRows → (heard : List Item) → AreKept self.now.kept heard → AreTooMany heard window }
+    {
+        let rows = rows(self.alloc, &self.state, window)?;
+        let mut text = Vec::new(self.alloc);
+        write_list(&rows, &mut text)?;
+        Ok(text)
+    }
+}

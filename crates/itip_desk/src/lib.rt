@@ -1,0 +1,15 @@
+//! A desk: it hears batches of items, keeps what the rules keep of them, and tells what moved since.
+#![tactic(auto)]
+
+mod batch;
+mod desk;
+mod error;
+mod laws;
+#[cfg(test)]
+mod tests;
+
+pub use batch::Batch;
+pub use desk::{Changed, Desk};
+pub use error::DeskError;
+pub use laws::desks_converge;
+pub use std::alloc::AllocError as NoMemory;

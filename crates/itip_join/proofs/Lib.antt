@@ -1,0 +1,7 @@
+pub mod Equal
+pub mod Walk
+pub mod Puts
+pub mod Steps
+pub mod Adds
+pub mod Under
+pub mod Folds

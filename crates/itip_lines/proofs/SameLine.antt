@@ -1,0 +1,24 @@
+-- Two lines with equal fields are one line.
+use Rattle.std.proofs.Common.{◌≡◌, List, map, [], ◌∷◌, ◌∙◌, refl, ap}
+use Rattle.std.specs.List.{AllZip}
+use Rattle.std.proofs.lemmas.Slice.Zip.{AllZip-map}
+use mathlib.Core.HLevel.{is_prop→PathP}
+use Rattle.itip_lines.specs.Lawful.{IsLawful, IsLawful-prop}
+use Rattle.itip_lines.specs.declared.line.Line.{Line}
+
+pub same_line : (l m : Line) → l.name ≡ m.name → l.params ≡ m.params → l.value ≡ m.value → l ≡ m
+same_line l m p q r =
+    λ i. record {
+      name = p i;
+      params = q i;
+      value = r i;
+      lawful = is_prop→PathP (λ j. IsLawful (p j) (q j) (r j)) (λ j. IsLawful-prop (p j) (q j) (r j)) l.lawful m.lawful i;
+    }
+
+map_same : {X : Type 0} (xs : List X) → map (λ x. x) xs ≡ xs
+map_same [] = refl
+map_same (x ∷ xs) = ap (λ ys. x ∷ ys) (map_same xs)
+
+-- a copy of equal values is equal
+pub same_copy : {X : Type 0} (xs ys : List X) → AllZip (λ x y. y ≡ x) xs ys → ys ≡ xs
+same_copy xs ys h = AllZip-map (λ x. x) xs ys h ∙ map_same xs

@@ -1,0 +1,22 @@
+use Rattle.std.proofs.Common.{sym, subst, arith}
+use Rattle.std.specs.Str.{IsUtf8}
+use Rattle.itip_lines.proofs.Runs.{empty_from_test}
+use Rattle.itip_lines.proofs.Utf8Parts.{utf8_name, utf8_past_name, utf8_behind}
+use Rattle.itip_lines.proofs.Params.{lacks_equals, lacks_name, lacks_values}
+use Rattle.itip_lines.proofs.grammar.read_param.Goals as goal
+
+pub returns-in_default : goal.returns-in_default
+returns-in_default c = lacks_equals _ _ _ c.cut_run.ensures c.in_default.ensures
+
+pub returns-then-is_empty : goal.returns-then-is_empty
+returns-then-is_empty c = lacks_name _ _ _ c.cut_run.ensures (empty_from_test _ (sym c.if-is_empty.ensures))
+
+pub read_values-requires : goal.read_values-requires
+read_values-requires c =
+    utf8_behind 61 _ (subst IsUtf8 c.in-Some.ensures (utf8_past_name _ _ c.cut_run.ensures.passes (subst IsUtf8 c.cut_run.ensures.whole c.requires))) (omega arith)
+
+pub returns-in_default-2 : goal.returns-in_default-2
+returns-in_default-2 c = lacks_values _ _ _ _ c.cut_run.ensures c.in-Some.ensures (rw c.in_default-2.is at c.in_ok-values.ensures)
+
+pub upper_name-requires : goal.upper_name-requires
+upper_name-requires c = utf8_name _ c.cut_run.ensures.passes

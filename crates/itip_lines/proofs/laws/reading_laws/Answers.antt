@@ -1,0 +1,15 @@
+use Rattle.itip_lines.proofs.Decided.{reads_or_refused}
+use Rattle.itip_lines.proofs.OneReading.{one_reading, one_fault, reading_apart}
+use Rattle.itip_lines.proofs.laws.reading_laws.Goals as goal
+
+pub returns-clause-some : goal.returns-clause-some
+returns-clause-some c = reads_or_refused
+
+pub returns-clause-one_reading : goal.returns-clause-one_reading
+returns-clause-one_reading c = one_reading
+
+pub returns-clause-one_fault : goal.returns-clause-one_fault
+returns-clause-one_fault c = one_fault
+
+pub returns-clause-apart : goal.returns-clause-apart
+returns-clause-apart c = reading_apart

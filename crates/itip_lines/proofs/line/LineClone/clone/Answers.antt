@@ -1,0 +1,5 @@
+use Rattle.itip_lines.proofs.SameLine.{same_line, same_copy}
+use Rattle.itip_lines.proofs.line.LineClone.clone.Goals as goal
+
+pub returns : goal.returns
+returns c = record { cases = same_line _ _ c.in_ok-name.ensures.cases (same_copy _ _ c.in_ok-params.ensures.cases.0) c.in_ok-value.ensures.cases }

@@ -1,0 +1,18 @@
+use Rattle.std.proofs.Common.{sym, inr, arith}
+use Rattle.itip_lines.proofs.Runs.{some_from_test}
+use Rattle.itip_lines.proofs.read.push_line.Goals as goal
+
+pub returns-clause-pushed : goal.returns-clause-pushed
+returns-clause-pushed c =
+    inr (
+      some_from_test _ (sym c.if-is_empty.ensures),
+      (
+        c.in-Some.line,
+        c.in_ok-push.ensures.items,
+        record {
+          within = record { few = omega arith; short = omega arith };
+          utf8 = c.in-Ok.ensures.cases.1;
+          spells = rw c.in-Some.is at c.in_ok-line.ensures;
+        },
+      ),
+    )

@@ -1,0 +1,9 @@
+use Rattle.itip_lines.specs.Scan.{HasRead}
+use Rattle.itip_lines.specs.Scanned.{left_behind}
+use Rattle.itip_lines.proofs.read.read_lines.Given as goal
+
+abbrev pub invariant-loop-rest : goal.invariant-loop-rest
+invariant-loop-rest l = HasRead l.fn.text l.lines.items l.rest
+
+abbrev pub decreases-loop-rest : goal.decreases-loop-rest
+decreases-loop-rest l = left_behind l.rest

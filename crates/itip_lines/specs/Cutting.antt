@@ -1,0 +1,63 @@
+-- The cutting of a text at its line breaks, and its unfolded lines (RFC 5545 3.1).
+use Rattle.std.specs.Prelude.{◌≡◌, ◌≢◌, ℕ, Bool, cond, ◌||◌, ◌==◌, List, [], ◌∷◌, ◌++◌, map}
+use Rattle.std.specs.List.{All, AllByRecursion}
+
+-- a line break is LF (10), or CR (13) with LF directly behind it
+pub data Break : Type 0 where
+  lf : Break
+  crlf : Break
+
+abbrev pub break_bytes : Break → List ℕ
+break_bytes lf = 10 ∷ []
+break_bytes crlf = 13 ∷ (10 ∷ [])
+
+-- a stretch of the text with the break that ends it
+pub record Piece : Type 0 where
+  pub text : List ℕ
+  pub end : Break
+
+abbrev pub HasNoLf : List ℕ → Type 0
+HasNoLf text = All (λ b. b ≢ 10) text
+
+-- no LF stands in the stretch, and none that a bare LF ends has CR before that LF
+pub record IsPiece (piece : Piece) : Type 0 where
+  pub no_lf : HasNoLf piece.text
+  pub bare : piece.end ≡ lf → (front : List ℕ) → piece.text ≢ front ++ 13 ∷ []
+
+-- the pieces in a row, and what stands behind the last break
+abbrev pub joined : List Piece → List ℕ → List ℕ
+joined [] last = last
+joined (p ∷ ps) last = p.text ++ (break_bytes p.end ++ joined ps last)
+
+-- the bytes are cut into these pieces and this last stretch
+pub record IsCutting (bytes : List ℕ) (pieces : List Piece) (last : List ℕ) : Type 0 where
+  pub whole : bytes ≡ joined pieces last
+  pub each : AllByRecursion IsPiece pieces
+  pub last_stretch : HasNoLf last
+
+abbrev pub stretches : List Piece → List ℕ → List (List ℕ)
+stretches pieces last = map (λ p. p.text) pieces ++ last ∷ []
+
+-- SPACE or HTAB
+abbrev pub is_blank : ℕ → Bool
+is_blank b = b == 32 || b == 9
+
+-- A break whose next stretch begins with a blank is a fold: the stretch without that blank goes on the line.
+abbrev pub unfolded_onto : List ℕ → List (List ℕ) → List (List ℕ)
+unfolded_onto line [] = line ∷ []
+unfolded_onto line ([] ∷ cs) = line ∷ unfolded_onto [] cs
+unfolded_onto line ((b ∷ c) ∷ cs) = cond (is_blank b) (unfolded_onto (line ++ c) cs) (line ∷ unfolded_onto (b ∷ c) cs)
+
+-- the unfolded lines of the stretches of a text; before the first stretch no break stands
+abbrev pub unfolded : List (List ℕ) → List (List ℕ)
+unfolded [] = []
+unfolded (c ∷ cs) = unfolded_onto c cs
+
+abbrev pub without_empty : List (List ℕ) → List (List ℕ)
+without_empty [] = []
+without_empty ([] ∷ ls) = without_empty ls
+without_empty ((b ∷ l) ∷ ls) = (b ∷ l) ∷ without_empty ls
+
+-- the lines of a cutting: unfolded, without the empty ones
+abbrev pub lines_of : List Piece → List ℕ → List (List ℕ)
+lines_of pieces last = without_empty (unfolded (stretches pieces last))

@@ -1,0 +1,10 @@
+pub mod Octets
+pub mod Lawful
+pub mod Spelling
+pub mod Cutting
+pub mod Reading
+pub mod Parts
+pub mod Scan
+pub mod Scanned
+pub mod Writing
+pub mod Folding

@@ -1,0 +1,72 @@
+-- The parts of a line, as one scan from left to right cuts them off.
+use Rattle.std.specs.Prelude.{◌≡◌, ℕ, Bool, false, ◌==◌, ◌||◌, IsTrue, ◌+◌, ◌<◌, List, [], ◌∷◌, ◌++◌, length}
+use Rattle.std.specs.List.{list_all}
+use Rattle.std.specs.Str.{IsUtf8}
+use Rattle.itip_lines.specs.declared.line.Param.{Param}
+use Rattle.itip_lines.specs.Octets.{is_name_octet, is_value_octet, is_quotable_octet, is_plain_octet, is_separator}
+use Rattle.itip_lines.specs.Spelling.{ValueThen, ValuesThen, ParamThen, IsTail, Spells}
+use Rattle.itip_lines.specs.declared.grammar.Octets.{Octets}
+use Rattle.itip_lines.specs.declared.grammar.Octets.TheVariants.{Name, Plain, Quotable, Value}
+
+abbrev pub is_of : Octets → ℕ → Bool
+is_of Name = is_name_octet
+is_of Plain = is_plain_octet
+is_of Quotable = is_quotable_octet
+is_of Value = is_value_octet
+
+-- the first octet, if there is one, passes the test
+abbrev pub begins : (ℕ → Bool) → List ℕ → Bool
+begins test [] = false
+begins test (b ∷ bs) = test b
+
+-- `front` is the longest front of the text whose octets pass the test, and `rest` is left
+pub record IsRun (test : ℕ → Bool) (text front rest : List ℕ) : Type 0 where
+  pub whole : text ≡ front ++ rest
+  pub passes : IsTrue (list_all test front)
+  pub stops : begins test rest ≡ false
+
+-- behind a parameter stands ";" or ":", and behind a value also ","
+abbrev pub ends_param : ℕ → Bool
+ends_param b = b == 59 || b == 58
+
+-- `value` is the only value that the text can begin with, whatever follows it
+pub data CutsValue (text value rest : List ℕ) : Type 0 where
+  quoted : IsTrue (list_all is_quotable_octet value) → text ≡ 34 ∷ (value ++ 34 ∷ rest) → CutsValue text value rest
+  plain : IsRun is_plain_octet text value rest → begins (λ b. b == 34) text ≡ false → CutsValue text value rest
+
+-- what may follow a value of a parameter: ";", ":" or ","
+abbrev pub EndsValue : List ℕ → Type 0
+EndsValue rest = IsTrue (begins is_separator rest)
+
+-- what may follow a parameter: ";" or ":"
+abbrev pub EndsParam : List ℕ → Type 0
+EndsParam rest = IsTrue (begins ends_param rest)
+
+-- the text begins with no value, whatever follows it
+abbrev pub LacksValue : List ℕ → Type 0
+LacksValue text = (value rest : List ℕ) → ValueThen text value rest → EndsValue rest → ⊥
+
+-- the text begins with these values, and what may follow them is left; or it begins with none
+pub record ReadsValues (text : List ℕ) (values : List (List ℕ)) (rest : List ℕ) : Type 0 where
+  pub are : ValuesThen text values rest
+  pub ends : EndsParam rest
+  pub utf8 : IsUtf8 rest
+  pub shorter : length rest < length text + 1
+
+abbrev pub LacksValues : List ℕ → Type 0
+LacksValues text = (values : List (List ℕ)) (rest : List ℕ) → ValuesThen text values rest → EndsParam rest → ⊥
+
+pub record ReadsParam (text : List ℕ) (param : Param) (rest : List ℕ) : Type 0 where
+  pub is : ParamThen text param rest
+  pub ends : EndsParam rest
+  pub utf8 : IsUtf8 rest
+  pub shorter : length rest < length text + 1
+
+abbrev pub LacksParam : List ℕ → Type 0
+LacksParam text = (param : Param) (rest : List ℕ) → ParamThen text param rest → EndsParam rest → ⊥
+
+abbrev pub LacksTail : List ℕ → Type 0
+LacksTail text = (params : List Param) (value : List ℕ) → IsTail text params value → ⊥
+
+abbrev pub LacksLine : List ℕ → Type 0
+LacksLine text = (name : List ℕ) (params : List Param) (value : List ℕ) → Spells text name params value → ⊥

@@ -1,0 +1,219 @@
+//! The grammar of one unfolded line.
+ghost use Rattle.std.specs.Prelude.{◌≡◌, ◌≢◌, ◌≤◌, ◌∷◌, ℕ, List, IfOk, length, MatchOption};
+ghost use Rattle.std.specs.List.{prefix_len};
+ghost use Rattle.std.specs.Str.{IsUtf8, str_to_ascii_uppercase};
+ghost use Rattle.itip_lines.specs.Octets.{is_name_octet, is_value_octet, is_separator};
+ghost use Rattle.itip_lines.specs.Lawful.{line_limit};
+ghost use Rattle.itip_lines.specs.Spelling.{IsTail, Spells};
+ghost use Rattle.itip_lines.specs.Parts.{is_of, begins, ends_param, IsRun, CutsValue, LacksValue, LacksValues, ReadsValues, LacksParam, ReadsParam, LacksTail, LacksLine};
+
+use crate::line::{Line, Param};
+use crate::list::ListOf;
+use crate::text::Text;
+use std::alloc::{AllocError, Global};
+
+/// The octets that a part of a line may have.
+#[derive(Clone, Copy)]
+pub(crate) enum Octets {
+    /// A name: letters, digits and `-`.
+    Name,
+    /// A parameter's value without quotes.
+    Plain,
+    /// A parameter's value between quotes.
+    Quotable,
+    /// A line's value.
+    Value,
+}
+
+fn is_name_octet(octet: u8) -> bool
+    ensures { result ≡ is_name_octet octet }
+{
+    octet.is_ascii_uppercase()
+        || octet.is_ascii_digit()
+        || octet == b'-'
+        || octet.is_ascii_lowercase()
+}
+
+fn is_value_octet(octet: u8) -> bool
+    ensures { result ≡ is_value_octet octet }
+{
+    !matches!(octet, 0..=8 | 10..=31 | 127)
+}
+
+/// Whether the octet is one for which a parameter's value needs quotes.
+pub(crate) fn is_separator(octet: u8) -> bool
+    ensures { result ≡ is_separator octet }
+{
+    octet == b';' || octet == b':' || octet == b','
+}
+
+impl Octets {
+    fn has(self, octet: u8) -> bool
+        ensures { result ≡ is_of self octet }
+    {
+        match self {
+            Octets::Name => is_name_octet(octet),
+            Octets::Plain => is_value_octet(octet) && octet != b'"' && !is_separator(octet),
+            Octets::Quotable => is_value_octet(octet) && octet != b'"',
+            Octets::Value => is_value_octet(octet),
+        }
+    }
+}
+
+/// How many such octets the text begins with.
+fn run_len(text: &[u8], octets: Octets) -> usize
+    ensures { result ≡ prefix_len (is_of octets) text.now }
+{
+    text.iter().take_while(|b| octets.has(**b)).count()
+}
+
+/// The longest front of such octets, and the rest.
+fn cut_run(text: &[u8], octets: Octets) -> (&[u8], &[u8])
+    ensures { IsRun (is_of octets) text.now result.0.now result.1.now }
+{
+    text.split_at(run_len(text, octets))
+}
+
+/// What stands behind the octet, where the text begins with it.
+fn strip(text: &[u8], octet: u8) -> Option<&[u8]>
+    ensures { MatchOption result ((rest : List ℕ) → text.now ≢ octet ∷ rest)
+        (λ rest. text.now ≡ octet ∷ rest.now) }
+{
+    match text {
+        [first, rest @ ..] if *first == octet => Some(rest),
+        _ => None,
+    }
+}
+
+/// The value of a parameter that the text begins with, without its quotes, and the rest.
+///
+/// The text has one such value at most, whatever follows it. A value that stands without quotes goes as far
+/// as it can.
+fn cut_value(text: &[u8]) -> Option<(&[u8], &[u8])>
+    ensures { MatchOption result (LacksValue text.now) (λ p. CutsValue text.now p.0.now p.1.now) }
+{
+    let Some(quoted) = strip(text, b'"') else {
+        return Some(cut_run(text, Octets::Plain));
+    };
+    let (value, behind) = cut_run(quoted, Octets::Quotable);
+    let Some(rest) = strip(behind, b'"') else {
+        return None;
+    };
+    Some((value, rest))
+}
+
+/// A text of its own.
+fn copy(alloc: Global, octets: &[u8]) -> Result<Text, AllocError>
+    requires { IsUtf8 octets.now }
+    ensures { IfOk result (λ text. text ≡ octets.now) }
+{
+    match str::from_utf8(octets) {
+        Ok(text) => Text::copy(alloc, text),
+        Err(_) => unreachable!(),
+    }
+}
+
+/// A name in upper case.
+fn upper_name(alloc: Global, octets: &[u8]) -> Result<Text, AllocError>
+    requires { IsUtf8 octets.now }
+    ensures { IfOk result (λ name. name ≡ str_to_ascii_uppercase octets.now) }
+{
+    let mut name = copy(alloc, octets)?.into_string();
+    name.make_ascii_uppercase();
+    Ok(Text::new(name))
+}
+
+/// Whether the text begins with `;` or `:`.
+fn ends_param(text: &[u8]) -> bool
+    ensures { result ≡ begins ends_param text.now }
+{
+    matches!(text, [b';' | b':', ..])
+}
+
+/// The values of a parameter that the text begins with, up to `;` or `:`, and the rest.
+fn read_values(alloc: Global, text: &[u8]) -> Result<Option<(ListOf<Text>, &[u8])>, AllocError>
+    requires { IsUtf8 text.now }
+    ensures { IfOk result (λ o.
+        MatchOption o (LacksValues text.now) (λ p. ReadsValues text.now p.0 p.1.now)) }
+{
+    let mut values = Vec::new(alloc);
+    let mut rest = text;
+    loop {
+        let Some((value, behind)) = cut_value(rest) else {
+            return Ok(None);
+        };
+        values.push(copy(alloc, value)?)?;
+        if let Some(more) = strip(behind, b',') {
+            rest = more;
+        } else if ends_param(behind) {
+            return Ok(Some((ListOf::from_vec(values), behind)));
+        } else {
+            return Ok(None);
+        }
+    }
+}
+
+/// The parameter that the text begins with, and the rest.
+fn read_param(alloc: Global, text: &[u8]) -> Result<Option<(Param, &[u8])>, AllocError>
+    requires { IsUtf8 text.now }
+    ensures { IfOk result (λ o.
+        MatchOption o (LacksParam text.now) (λ p. ReadsParam text.now p.0 p.1.now)) }
+{
+    let (spelled, behind) = cut_run(text, Octets::Name);
+    let Some(after) = strip(behind, b'=') else {
+        return Ok(None);
+    };
+    if spelled.is_empty() {
+        return Ok(None);
+    }
+    let Some((values, rest)) = read_values(alloc, after)? else {
+        return Ok(None);
+    };
+    let name = upper_name(alloc, spelled)?;
+    Ok(Some((Param { name, values }, rest)))
+}
+
+/// The parameters and the value of a line, from what stands behind its name.
+fn read_tail(alloc: Global, text: &[u8]) -> Result<Option<(ListOf<Param>, Text)>, AllocError>
+    requires { IsUtf8 text.now }
+    ensures { IfOk result (λ o. MatchOption o (LacksTail text.now) (λ p. IsTail text.now p.0 p.1)) }
+{
+    let mut params = Vec::new(alloc);
+    let mut rest = text;
+    while let Some(after) = strip(rest, b';') {
+        let Some((param, behind)) = read_param(alloc, after)? else {
+            return Ok(None);
+        };
+        params.push(param)?;
+        rest = behind;
+    }
+    let Some(value) = strip(rest, b':') else {
+        return Ok(None);
+    };
+    if run_len(value, Octets::Value) < value.len() {
+        return Ok(None);
+    }
+    Ok(Some((ListOf::from_vec(params), copy(alloc, value)?)))
+}
+
+/// The line of a text, where the grammar has one.
+pub(crate) fn read_text(alloc: Global, text: &[u8]) -> Result<Option<Line>, AllocError>
+    requires utf8 { IsUtf8 text.now }
+    requires short { length text.now ≤ line_limit }
+    ensures { IfOk result (λ o.
+        MatchOption o (LacksLine text.now) (λ l. Spells text.now l.name l.params l.value)) }
+{
+    let (spelled, tail) = cut_run(text, Octets::Name);
+    if spelled.is_empty() {
+        return Ok(None);
+    }
+    let Some((params, value)) = read_tail(alloc, tail)? else {
+        return Ok(None);
+    };
+    let name = upper_name(alloc, spelled)?;
+    Ok(Some(Line {
+        name,
+        params,
+        value,
+    }))
+}

@@ -1,0 +1,30 @@
+//! Content lines (RFC 5545 3.1): bytes are read into `Line`s, or refused for their first fault, and a `Line`
+//! is written with folds.
+//!
+//! `Text`, `Bytes` and `ListOf` are strings and vectors that contracts see as plain lists.
+#![tactic(auto)]
+
+mod bytes;
+mod error;
+mod grammar;
+mod laws;
+mod line;
+mod list;
+mod read;
+mod scan;
+#[cfg(test)]
+mod tests;
+mod text;
+mod write;
+
+pub use bytes::Bytes;
+pub use error::{Fault, LineError};
+pub use laws::{cutting_laws, reading_laws, writing_laws};
+pub use line::{Line, Param};
+pub use list::ListOf;
+pub use read::read_lines;
+pub use text::Text;
+pub use write::{write_line, write_property};
+
+/// Memory was refused.
+pub type NoMemory = std::alloc::AllocError;

@@ -1,0 +1,51 @@
+//! One content line.
+ghost use Rattle.itip_lines.specs.Lawful.{IsLawful, IsLawful-prop};
+ghost use Rattle.std.specs.Prelude.{◌≡◌};
+
+use crate::list::ListOf;
+use crate::text::Text;
+use std::alloc::AllocError;
+
+/// A parameter of a line: its name in upper case, and its values without quotes.
+#[derive(PartialEq, Debug, Drop)]
+pub struct Param {
+    pub name: Text,
+    pub values: ListOf<Text>,
+}
+
+/// A content line (RFC 5545 3.1).
+///
+/// A line is lawful: names are in upper case, no value has a control but HTAB, no parameter's value has a
+/// quote, each parameter has a value, and the line has at most 65,536 octets as it is written without folds.
+#[derive(PartialEq, Debug, Drop)]
+pub struct Line {
+    pub name: Text,
+    pub params: ListOf<Param>,
+    pub value: Text,
+    pub ghost lawful: { IsLawful name params value } by { IsLawful-prop name params value },
+}
+
+impl Clone for Param {
+    ghost is_clone = { λ param copy. copy ≡ param };
+
+    fn clone(&self) -> Result<Param, AllocError> {
+        let name = self.name.clone()?;
+        let values = self.values.clone()?;
+        Ok(Param { name, values })
+    }
+}
+
+impl Clone for Line {
+    ghost is_clone = { λ line copy. copy ≡ line };
+
+    fn clone(&self) -> Result<Line, AllocError> {
+        let name = self.name.clone()?;
+        let params = self.params.clone()?;
+        let value = self.value.clone()?;
+        Ok(Line {
+            name,
+            params,
+            value,
+        })
+    }
+}

@@ -1,0 +1,14 @@
+pub mod Bare
+pub mod Composing
+pub mod Contents
+pub mod Frames
+pub mod Heads
+pub mod Keys
+pub mod Making
+pub mod OneMessage
+pub mod OneTodo
+pub mod ReadAgain
+pub mod Revisions
+pub mod SameItem
+pub mod Stages
+pub mod Uids

@@ -1,0 +1,10 @@
+use Rattle.std.proofs.Common.{◌∙◌, ap, ◌++◌, List, ℕ}
+use Rattle.itip_todo.specs.PartsOf.{parts_of}
+use Rattle.itip_message.proofs.Composing.{canonical_is}
+use Rattle.itip_message.proofs.items.write_canonical.Goals as goal
+
+pub returns : goal.returns
+returns c =
+    canonical_is c.args.kind (parts_of c.args.todo.now) _ _ _ _ c.in_ok-octets.ensures.items
+    (c.in_ok-extend_from_slice.ensures.items ∙ ap (λ (line : List ℕ). c.in_ok-octets.octets.items ++ line) c.method_line.ensures)
+    c.in_ok-write_todo.ensures.ok c.in_ok-extend_from_slice-2.ensures.items

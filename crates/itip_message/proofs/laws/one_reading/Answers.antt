@@ -1,0 +1,11 @@
+use Rattle.itip_message.proofs.laws.one_reading.Goals as goal
+use Rattle.itip_message.proofs.OneMessage.{one_message, one_cause, message_apart}
+
+pub returns-clause-items : goal.returns-clause-items
+returns-clause-items c = one_message
+
+pub returns-clause-fault : goal.returns-clause-fault
+returns-clause-fault c = one_cause
+
+pub returns-clause-apart : goal.returns-clause-apart
+returns-clause-apart c = message_apart

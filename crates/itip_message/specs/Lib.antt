@@ -1,0 +1,10 @@
+pub mod KeyParts
+pub mod Items
+pub mod Later
+pub mod Faults
+pub mod Frame
+pub mod Head
+pub mod Sorting
+pub mod Message
+pub mod OctetOrder
+pub mod Numbers

@@ -1,0 +1,19 @@
+-- Lines that are sorted so far, and what they are with those that follow.
+use Rattle.std.specs.Prelude.{◌≡◌, List, ◌∷◌, ◌++◌}
+use Rattle.itip_lines.specs.declared.line.Line.{Line}
+use Rattle.itip_message.specs.Frame.{calendar_lines, todos_within}
+use Rattle.itip_message.specs.declared.frame.Placed.{Placed}
+use Rattle.itip_message.specs.declared.sort.Sorted.{Sorted}
+
+-- the properties directly in the VCALENDAR
+abbrev pub calendar_with : Sorted → List Placed → List Line
+calendar_with sorted rest = sorted.calendar.items ++ calendar_lines rest
+
+-- the properties of each VTODO
+abbrev pub todos_with : Sorted → List Placed → List (List Line)
+todos_with sorted rest = sorted.closed.items ++ todos_within sorted.open rest
+
+-- sorting one more line left the rest to be sorted so
+pub record Continues (old new : Sorted) (placed : Placed) (rest : List Placed) : Type 0 where
+  pub calendar : calendar_with new rest ≡ calendar_with old (placed ∷ rest)
+  pub todos : todos_with new rest ≡ todos_with old (placed ∷ rest)

@@ -1,0 +1,26 @@
+//! Messages (RFC 5546 3.4): a text is read into items, and each item has canonical octets that read as that one item.
+#![tactic(auto)]
+
+mod components;
+mod error;
+mod frame;
+mod head;
+mod item;
+mod items;
+mod key;
+mod kind;
+mod laws;
+mod ordered;
+mod read;
+mod sort;
+#[cfg(test)]
+mod tests;
+
+pub use error::{Fault, ReadError};
+pub use item::Item;
+pub use items::write_item;
+pub use key::Key;
+pub use kind::{Kind, Method};
+pub use laws::{equal_octets, one_reading, read_again};
+pub use read::read_message;
+pub use std::alloc::AllocError as NoMemory;

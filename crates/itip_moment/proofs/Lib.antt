@@ -1,0 +1,9 @@
+pub mod Calendar
+pub mod DigitLemmas
+pub mod ValueLaws
+pub mod WrittenOctets
+pub mod MomentLemmas
+pub mod OptionLemmas
+pub mod Same
+pub mod ShiftLemmas
+pub mod TextLemmas

@@ -1,0 +1,9 @@
+pub mod Years
+pub mod Zone
+pub mod Digits
+pub mod Spelling
+pub mod Written
+pub mod Moment
+pub mod Order
+pub mod OrderLaws
+pub mod Shift

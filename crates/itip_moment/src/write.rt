@@ -1,0 +1,96 @@
+ghost use Rattle.std.specs.Prelude.{◌≡◌, ◌<◌, ◌++◌, ◌∷◌, [], OnOk, OnErr};
+ghost use Rattle.jiff.specs.Words.{epoch_day};
+ghost use Rattle.itip_moment.specs.Digits.{two_digits};
+ghost use Rattle.itip_moment.specs.Years.{IsDayNumber};
+ghost use Rattle.itip_moment.specs.Written.{date_of, date_text, clock_text, local_text, stamp_text, moment_text};
+
+use crate::{Moment, NoMemory, Stamp};
+use jiff::ToSpan;
+use jiff::civil::{self, Date};
+
+/// Appends the text of a stamp, `YYYYMMDDTHHMMSSZ` (RFC 5545 3.3.5).
+///
+/// On an error, for want of memory, the vector is as before.
+pub fn write_stamp(stamp: &Stamp, out: &mut Vec<u8>) -> Result<(), NoMemory>
+    ensures ok { OnOk result (out.new.items ≡ out.old.items ++ stamp_text stamp.now) }
+    ensures err { OnErr result (out.new.items ≡ out.old.items) }
+{
+    let [y1, y2, y3, y4, m1, m2, d1, d2] = date_bytes(stamp.day);
+    let [h1, h2, n1, n2, s1, s2] = clock_bytes(stamp.second);
+    out.extend_from_slice(&[
+        y1, y2, y3, y4, m1, m2, d1, d2, b'T', h1, h2, n1, n2, s1, s2, b'Z',
+    ])
+}
+
+/// Appends the value text of a moment (RFC 5545 3.3.4 and 3.3.5), without its TZID.
+///
+/// On an error, for want of memory, the vector is as before.
+pub fn write_moment(moment: &Moment, out: &mut Vec<u8>) -> Result<(), NoMemory>
+    ensures ok { OnOk result (out.new.items ≡ out.old.items ++ moment_text moment.now) }
+    ensures err { OnErr result (out.new.items ≡ out.old.items) }
+{
+    match moment {
+        Moment::Date(day) => out.extend_from_slice(&date_bytes(day.number)),
+        Moment::Utc(stamp) => write_stamp(stamp, out),
+        Moment::Floating(stamp) | Moment::Zoned(_, stamp) => write_local(stamp, out),
+    }
+}
+
+fn write_local(stamp: &Stamp, out: &mut Vec<u8>) -> Result<(), NoMemory>
+    ensures ok { OnOk result (out.new.items
+        ≡ out.old.items ++ local_text stamp.now.day stamp.now.second) }
+    ensures err { OnErr result (out.new.items ≡ out.old.items) }
+{
+    let [y1, y2, y3, y4, m1, m2, d1, d2] = date_bytes(stamp.day);
+    let [h1, h2, n1, n2, s1, s2] = clock_bytes(stamp.second);
+    out.extend_from_slice(&[y1, y2, y3, y4, m1, m2, d1, d2, b'T', h1, h2, n1, n2, s1, s2])
+}
+
+fn date_bytes(day: i32) -> [u8; 8]
+    requires { IsDayNumber day }
+    ensures { result ≡ date_text day }
+{
+    let (year, month, day) = year_month_day(day);
+    let [y1, y2] = digit_bytes((year / 100) as u8);
+    let [y3, y4] = digit_bytes((year % 100) as u8);
+    let [m1, m2] = digit_bytes(month);
+    let [d1, d2] = digit_bytes(day);
+    [y1, y2, y3, y4, m1, m2, d1, d2]
+}
+
+fn clock_bytes(second: u32) -> [u8; 6]
+    requires { second < 86_400 }
+    ensures { result ≡ clock_text second }
+{
+    let [h1, h2] = digit_bytes((second / 3600) as u8);
+    let [m1, m2] = digit_bytes((second / 60 % 60) as u8);
+    let [s1, s2] = digit_bytes((second % 60) as u8);
+    [h1, h2, m1, m2, s1, s2]
+}
+
+fn digit_bytes(n: u8) -> [u8; 2]
+    requires { n < 100 }
+    ensures { result ≡ two_digits n }
+{
+    [b'0' + n / 10, b'0' + n % 10]
+}
+
+fn year_month_day(day: i32) -> (u16, u8, u8)
+    requires { IsDayNumber day }
+    ensures year { result.0 ≡ (date_of day).year }
+    ensures month { result.1 ≡ (date_of day).month }
+    ensures day { result.2 ≡ (date_of day).day }
+    ensures bounds { (result.0 < 10_000) × (result.1 < 100) × (result.2 < 100) }
+{
+    let date = calendar_date(day);
+    (date.year() as u16, date.month() as u8, date.day() as u8)
+}
+
+fn calendar_date(day: i32) -> Date
+    requires { IsDayNumber day }
+    ensures { epoch_day result ≡ day }
+{
+    civil::date(1970, 1, 1)
+        .checked_add((day as i64).days())
+        .unwrap()
+}

@@ -1,0 +1,373 @@
+-- What desks that heard the same answer is the same.
+use Rattle.std.proofs.Common.{◌≡◌, ℕ, zero, suc, ◌+◌, ◌-◌, ◌^◌, ◌<◌, ◌≤◌, Bool, true, false, List, [], ◌∷◌, ◌++◌, length, get_or, refl, sym, ap, subst, ◌∙◌, arith, inl, inr, Option, Some, None, append_assoc, append-nil}
+use Rattle.std.specs.Prelude.{◌⊎◌, ◌↔◌, slice_get}
+use Rattle.std.specs.List.{AllPairs, Contains, flat_map, list_any}
+use Rattle.std.specs.Ordering.{nat_cmp}
+use Rattle.std.specs.Cmp.{IsTotalOrder}
+use Rattle.std.specs.Cmp.Lexicographic.{slice_cmp}
+use Rattle.std.specs.declared.cmp.Ordering.{Ordering}
+use Rattle.std.specs.declared.cmp.Ordering.TheVariants.{Less, Equal, Greater}
+use Rattle.std.specs.Str.{bytes_eq}
+use Rattle.std.proofs.lemmas.Cmp.{nat_list_cmp_total}
+use Rattle.std.proofs.lemmas.List.Elements.{Contains-append_left, Contains-append_right, Contains-append_cases}
+use Rattle.std.proofs.lemmas.Slice.Eq.{bytes_eq-Decides}
+use Rattle.std.proofs.lemmas.List.Concat.{flat_map-append}
+use Rattle.itip_message.specs.Message.{ReadsMessage, RefusesMessage}
+use Rattle.itip_message.specs.Numbers.{number_of}
+use Rattle.itip_message.specs.KeyParts.{uid_of}
+use Rattle.itip_message.specs.declared.item.Item.{Item}
+use Rattle.itip_message.specs.declared.key.Key.{Key}
+use Rattle.itip_state.specs.Kept.{SameItems, IsKept, KeepSame, Moves, AreMoved, IsBest}
+use Rattle.itip_state.proofs.Keeping.{kept_iff}
+use Rattle.itip_view.specs.declared.window.Window.{Window}
+use Rattle.itip_view.specs.declared.row.Row.{Row}
+use Rattle.itip_view.specs.Rows.{AreRows, AreTooMany, IsRow, row_limit}
+use Rattle.itip_view.specs.ListText.{IsListText, list_text}
+use Rattle.itip_desk.specs.Heard.{heard, TickStep, Ticks}
+use Rattle.itip_delta.specs.Worlds.{Histories, no_histories, with_step, Hears, EventStep, IsSpent}
+use Rattle.itip_delta.specs.Worlds.Hears.{reads, refuses}
+use Rattle.itip_delta.specs.Worlds.EventStep.{delivers}
+use Rattle.itip_delta.specs.Worlds.IsSpent.{spends}
+use Rattle.itip_delta.specs.declared.event.Event.{Event}
+use Rattle.itip_delta.specs.declared.event.Event.TheVariants.{Deliver}
+use Rattle.itip_delta.specs.declared.event.Reply.{Reply}
+use Rattle.itip_delta.specs.declared.event.Reply.TheVariants.{Taken, Refused}
+use Rattle.itip_message.specs.declared.error.Fault.{Fault}
+use Rattle.itip_message.proofs.OneMessage.{one_message, one_cause, message_apart}
+use Rattle.itip_office.specs.Orders.{Order}
+use Rattle.itip_office.specs.Script.{orders_of}
+use Rattle.itip_office.specs.Running.{Answer, refused, listed, answer_text, answer_to, is_refusal, HasTick, IsNotAnswered, Step, takes_text, takes_at_no_desk, spends_ticks, lists_rows, lists_too_many, lists_no_desk, is_refused, Runs, Writes, IsOutput}
+use Rattle.itip_office.proofs.Ascending.{IsIn, in_contained, contained_in, ascending_same_pairs}
+
+-- A text is a message of some items or is refused for some cause, and of no others.
+pub record IsReadOnce (bytes : List ℕ) : Type 0 where
+  pub items : (a b : List Item) → ReadsMessage bytes a → ReadsMessage bytes b → SameItems a b
+  pub fault : (f g : Fault) → RefusesMessage bytes f → RefusesMessage bytes g → f ≡ g
+  pub apart : (a : List Item) (f : Fault) → ReadsMessage bytes a → RefusesMessage bytes f → ⊥
+
+read_once : (bytes : List ℕ) → IsReadOnce bytes
+read_once bytes = record {
+  items = λ a b reads other item. subst (λ (all : List Item). Contains a item ↔ Contains all item) (one_message bytes a b reads other) (λ h. h, λ h. h);
+  fault = one_cause bytes;
+  apart = message_apart bytes;
+}
+
+-- ---- sets given by two lists
+
+same_back : (x y : List Item) → SameItems x y → SameItems y x
+same_back x y same item = ((same item).1, (same item).0)
+
+same_then : (x y z : List Item) → SameItems x y → SameItems y z → SameItems x z
+same_then x y z first second item = (λ h. (second item).0 ((first item).0 h), λ h. (first item).1 ((second item).1 h))
+
+half : (a b c d : List Item) → SameItems a b → SameItems c d → (item : Item) → Contains (a ++ c) item → Contains (b ++ d) item
+half a b c d first second item h = elim (Contains-append_cases a c item h) [
+  | inl k ↦ Contains-append_left b d item ((first item).0 k)
+  | inr k ↦ Contains-append_right b d item ((second item).0 k)
+]
+
+same_together : (a b c d : List Item) → SameItems a b → SameItems c d → SameItems (a ++ c) (b ++ d)
+same_together a b c d first second item = (half a b c d first second item, half b a d c (same_back a b first) (same_back c d second) item)
+
+keep_same_of : (uid : List ℕ) (a b c d : List Item) → SameItems a b → SameItems c d → KeepSame uid a c → KeepSame uid b d
+keep_same_of uid a b c d first second same item about =
+    let left = kept_iff a b first item in
+    let right = kept_iff c d second item in
+    let here = same item about in
+    (λ k. right.0 (here.0 (left.1 k)), λ k. left.0 (here.1 (right.1 k)))
+
+-- ---- histories whose steps are the same sets
+
+abbrev pub SameSteps : List (List Item) → List (List Item) → Type 0
+SameSteps [] [] = Unit {0}
+SameSteps [] (b ∷ bs) = ⊥
+SameSteps (a ∷ as') [] = ⊥
+SameSteps (a ∷ as') (b ∷ bs) = SameItems a b × SameSteps as' bs
+
+abbrev pub SameHistories : Histories → Histories → Type 0
+SameHistories [] [] = Unit {0}
+SameHistories [] (b ∷ bs) = ⊥
+SameHistories (a ∷ as') [] = ⊥
+SameHistories (a ∷ as') (b ∷ bs) = SameSteps a b × SameHistories as' bs
+
+same_heard : (a b : List (List Item)) → SameSteps a b → SameItems (heard a) (heard b)
+same_heard [] [] same = λ item. (λ h. h, λ h. h)
+same_heard [] (b ∷ bs) same = absurd same
+same_heard (a ∷ as') [] same = absurd same
+same_heard (a ∷ as') (b ∷ bs) same = same_together a b (heard as') (heard bs) same.0 (same_heard as' bs same.1)
+
+same_one_more : (a b : List (List Item)) (x y : List Item) → SameSteps a b → SameItems x y → SameSteps (a ++ x ∷ []) (b ++ y ∷ [])
+same_one_more [] [] x y same one = (one, tt)
+same_one_more [] (b ∷ bs) x y same one = absurd same
+same_one_more (a ∷ as') [] x y same one = absurd same
+same_one_more (a ∷ as') (b ∷ bs) x y same one = (same.0, same_one_more as' bs x y same.1 one)
+
+same_lengths : (a b : Histories) → SameHistories a b → length a ≡ length b
+same_lengths [] [] same = refl
+same_lengths [] (b ∷ bs) same = absurd same
+same_lengths (a ∷ as') [] same = absurd same
+same_lengths (a ∷ as') (b ∷ bs) same = ap suc (same_lengths as' bs same.1)
+
+same_at : (a b : Histories) (desk : ℕ) (x y : List (List Item)) → SameHistories a b → slice_get a desk ≡ Some x → slice_get b desk ≡ Some y → SameSteps x y
+same_at [] b desk x y same at there = absurd cc
+same_at (a ∷ as') [] desk x y same at there = absurd same
+same_at (a ∷ as') (b ∷ bs) zero x y same at there =
+    let first : a ≡ x = cc in
+    let second : b ≡ y = cc in
+    subst (λ (h : List (List Item)). SameSteps h y) first (subst (λ (h : List (List Item)). SameSteps a h) second same.0)
+same_at (a ∷ as') (b ∷ bs) (suc desk) x y same at there = same_at as' bs desk x y same.1 at there
+
+same_with_step : (a b : Histories) (desk : ℕ) (x y : List Item) → SameHistories a b → SameItems x y → SameHistories (with_step a desk x) (with_step b desk y)
+same_with_step [] [] desk x y same one = tt
+same_with_step [] (b ∷ bs) desk x y same one = absurd same
+same_with_step (a ∷ as') [] desk x y same one = absurd same
+same_with_step (a ∷ as') (b ∷ bs) zero x y same one = (same_one_more a b x y same.0 one, same.1)
+same_with_step (a ∷ as') (b ∷ bs) (suc desk) x y same one = (same.0, same_with_step as' bs desk x y same.1 one)
+
+steps_back : (a b : List (List Item)) → SameSteps a b → SameSteps b a
+steps_back [] [] same = tt
+steps_back [] (b ∷ bs) same = absurd same
+steps_back (a ∷ as') [] same = absurd same
+steps_back (a ∷ as') (b ∷ bs) same = (same_back a b same.0, steps_back as' bs same.1)
+
+histories_back : (a b : Histories) → SameHistories a b → SameHistories b a
+histories_back [] [] same = tt
+histories_back [] (b ∷ bs) same = absurd same
+histories_back (a ∷ as') [] same = absurd same
+histories_back (a ∷ as') (b ∷ bs) same = (steps_back a b same.0, histories_back as' bs same.1)
+
+pub same_start : (desks : ℕ) → SameHistories (no_histories desks) (no_histories desks)
+same_start zero = tt
+same_start (suc n) = (tt, same_start n)
+
+within_at : (a : Histories) (desk : ℕ) (x : List (List Item)) → slice_get a desk ≡ Some x → desk < length a
+within_at [] desk x at = absurd cc
+within_at (a ∷ as') zero x at = omega arith
+within_at (a ∷ as') (suc desk) x at = omega (arith, within_at as' desk x at)
+
+-- ---- ticks
+
+tick_one : (before before' step step' : List Item) (tick next next' : ℕ) → SameItems before before' → SameItems step step' → TickStep before step tick next → TickStep before' step' tick next' → next ≡ next'
+tick_one before before' step step' tick next next' same one (inl moved) (inl moved') = moved.1 ∙ sym moved'.1
+tick_one before before' step step' tick next next' same one (inr stays) (inr stays') = stays.1 ∙ sym stays'.1
+tick_one before before' step step' tick next next' same one (inl ((uid, moves), up)) (inr (keeps, stays')) =
+    absurd (moves (keep_same_of uid before' before (before' ++ step') (before ++ step) (same_back before before' same) (same_back (before ++ step) (before' ++ step') (same_together before before' step step' same one)) (keeps uid)))
+tick_one before before' step step' tick next next' same one (inr (keeps, stays)) (inl ((uid, moves), up')) =
+    absurd (moves (keep_same_of uid before before' (before ++ step) (before' ++ step') same (same_together before before' step step' same one) (keeps uid)))
+
+ticks_one : (before before' : List Item) (tick tick' : ℕ) (steps steps' : List (List Item)) (last last' : ℕ) → SameItems before before' → tick ≡ tick' → SameSteps steps steps' → Ticks before tick steps last → Ticks before' tick' steps' last' → last ≡ last'
+ticks_one before before' tick tick' [] [] last last' same equal steps at at' = at ∙ equal ∙ sym at'
+ticks_one before before' tick tick' [] (b ∷ bs) last last' same equal steps at at' = absurd steps
+ticks_one before before' tick tick' (a ∷ as') [] last last' same equal steps at at' = absurd steps
+ticks_one before before' tick tick' (a ∷ as') (b ∷ bs) last last' same equal steps at at' =
+    ticks_one (before ++ a) (before' ++ b) at.0 at'.0 as' bs last last' (same_together before before' a b same steps.0)
+    (tick_one before before' a b tick at.0 at'.0 same steps.0 at.1 (subst (λ (t : ℕ). TickStep before' b t at'.0) (sym equal) at'.1)) steps.1 at.2 at'.2
+
+-- the tick before the last step, and that step
+ticks_split : (before : List Item) (tick : ℕ) (steps : List (List Item)) (step : List Item) (last : ℕ) → Ticks before tick (steps ++ step ∷ []) last → (mid : ℕ) × Ticks before tick steps mid × TickStep (before ++ heard steps) step mid last
+ticks_split before tick [] step last at =
+    (tick, refl, subst (λ (b : List Item). TickStep b step tick last) (sym (append-nil before)) (subst (λ (n : ℕ). TickStep before step tick n) (sym at.2) at.1))
+ticks_split before tick (a ∷ as') step last at =
+    let rest = ticks_split (before ++ a) at.0 as' step last at.2 in
+    (rest.0, (at.0, at.1, rest.1), subst (λ (b : List Item). TickStep b step rest.0 last) (append_assoc before a (heard as')) rest.2)
+
+-- ---- the UIDs that move
+
+texts_apart : (x y : List ℕ) → slice_cmp nat_cmp x y ≡ Less → slice_cmp nat_cmp y x ≡ Less → ⊥
+texts_apart x y less more = let e = nat_list_cmp_total.antisymm x y in cc
+
+is_in_or_not : (xs : List (List ℕ)) (y : List ℕ) → IsIn xs y ⊎ (IsIn xs y → ⊥)
+is_in_or_not [] y = inr (λ h. h)
+is_in_or_not (x ∷ xs) y =
+    let decides = bytes_eq-Decides x y in
+    elim (bytes_eq x y) as (λ b. bytes_eq x y ≡ b → IsIn (x ∷ xs) y ⊎ (IsIn (x ∷ xs) y → ⊥)) [
+      | true ↦ λ e. inl (inl (decides.0 e))
+      | false ↦ λ e. elim (is_in_or_not xs y) [
+        | inl h ↦ inl (inr h)
+        | inr none ↦ inr (λ h. elim h [ inl same ↦ let t = decides.1 same in absurd cc | inr k ↦ none k ])
+      ]
+    ] refl
+
+moved_there : (uids uids' : List (List ℕ)) (before before' step step' : List Item) → SameItems before before' → SameItems step step' → AreMoved uids before step → AreMoved uids' before' step'
+    → (uid : List ℕ) → Contains uids uid → Contains uids' uid
+moved_there uids uids' before before' step step' same one moved moved' uid h =
+    elim (is_in_or_not uids' uid) [
+      | inl k ↦ contained_in uids' uid k
+      | inr none ↦ absurd (moved.each uid h (keep_same_of uid before' before (before' ++ step') (before ++ step) (same_back before before' same) (same_back (before ++ step) (before' ++ step') (same_together before before' step step' same one))
+          (moved'.others uid (λ k. none (in_contained uids' uid k)))))
+    ]
+
+moved_one : (uids uids' : List (List ℕ)) (before before' step step' : List Item) → SameItems before before' → SameItems step step' → AreMoved uids before step → AreMoved uids' before' step' → uids ≡ uids'
+moved_one uids uids' before before' step step' same one moved moved' =
+    ascending_same_pairs (λ a b. slice_cmp nat_cmp a b ≡ Less) texts_apart uids uids' moved.ascend moved'.ascend
+    (moved_there uids uids' before before' step step' same one moved moved')
+    (moved_there uids' uids before' before step' step (same_back before before' same) (same_back step step' one) moved' moved)
+
+-- ---- lists
+
+best_of : (a b : List Item) (key : Key) (item : Item) → SameItems a b → IsBest a key item → IsBest b key item
+best_of a b key item same best = record {
+  is_heard = (same item).0 best.is_heard;
+  about = best.about;
+  none_later = λ other h about. best.none_later other ((same other).1 h) about;
+}
+
+row_of : (a b : List Item) (window : Window) (row : Row) → SameItems a b → IsRow a window row → IsRow b window row
+row_of a b window row same is = record {
+  item = is.item;
+  best = best_of a b _ is.item same is.best;
+  live = is.live;
+  single = is.single;
+  in_window = is.in_window;
+  row_is = is.row_is;
+}
+
+rows_one : (a b : List Item) (window : Window) (rows rows' : List Row) → SameItems a b → AreRows a window rows → AreRows b window rows' → rows ≡ rows'
+rows_one a b window rows rows' same are are' =
+    ascending_same_pairs (λ (x y : Row). slice_cmp nat_cmp x.uid y.uid ≡ Less) (λ x y. texts_apart x.uid y.uid) rows rows' are.ascend are'.ascend
+    (λ row h. are'.all row (row_of a b window row same (are.each row h)))
+    (λ row h. are.all row (row_of b a window row (same_back a b same) (are'.each row h)))
+
+pub list_one : (a b : List Item) (window : Window) (text text' : List ℕ) → SameItems a b → IsListText a window text → IsListText b window text' → text ≡ text'
+list_one a b window text text' same is is' = is.text_is ∙ ap list_text (rows_one a b window is.rows is'.rows same is.are_rows is'.are_rows) ∙ sym is'.text_is
+
+pub list_or_too_many : (a b : List Item) (window : Window) (text : List ℕ) → SameItems a b → IsListText a window text → AreTooMany b window → ⊥
+list_or_too_many a b window text same is many =
+    let e = ap length (rows_one a b window is.rows many.rows same is.are_rows many.are_rows) in
+    let few = is.few in let more = many.many in
+    omega (arith, e)
+
+-- ---- one event
+
+hears_one : (h h' : List (List Item)) (bytes : List ℕ) (step step' : List Item) (reply reply' : Reply) → SameSteps h h' → IsReadOnce bytes → Hears h bytes step reply → Hears h' bytes step' reply' → (reply ≡ reply') × SameItems step step'
+hears_one h h' bytes step step' _ _ same once (reads items uids tick r s m t) (reads items' uids' tick' r' s' m' t') =
+    let one : SameItems step step' = same_then step items step' s (same_then items items' step' (once.items items items' r r') (same_back step' items' s')) in
+    let ticks : tick ≡ tick' = ticks_one [] [] 0 0 (h ++ step ∷ []) (h' ++ step' ∷ []) tick tick' (λ item. (λ k. k, λ k. k)) refl (same_one_more h h' step step' same one) t t' in
+    let moved = moved_one uids uids' (heard h) (heard h') step step' (same_heard h h' same) one m m' in
+    (ap (λ (n : ℕ). Taken n (length uids)) ticks ∙ ap (λ (us : List (List ℕ)). Taken tick' (length us)) moved, one)
+hears_one h h' bytes step step' _ _ same once (reads items uids tick r s m t) (refuses fault f e) = absurd (once.apart items fault r f)
+hears_one h h' bytes step step' _ _ same once (refuses fault f e) (reads items uids tick r s m t) = absurd (once.apart items fault r f)
+hears_one h h' bytes step step' _ _ same once (refuses fault f e) (refuses fault' f' e') =
+    (ap (λ (g : _). Refused (number_of g)) (once.fault fault fault' f f'), subst (λ (x : List Item). SameItems x step') (sym e) (subst (λ (x : List Item). SameItems [] x) (sym e') (λ item. (λ k. k, λ k. k))))
+
+event_one : (old old' : Histories) (desk : ℕ) (text : List ℕ) (reply reply' : Reply) (new new' : Histories) → SameHistories old old' → IsReadOnce text → EventStep old (Deliver desk text) reply new → EventStep old' (Deliver desk text) reply' new' → (reply ≡ reply') × SameHistories new new'
+event_one old old' desk text reply reply' _ _ same once (delivers _ _ h step _ at hears) (delivers _ _ h' step' _ at' hears') =
+    let one = hears_one h h' text step step' reply reply' (same_at old old' desk h h' same at at') once hears hears' in
+    (one.0, same_with_step old old' desk step step' same one.1)
+
+spent_step : (before before' step step' : List Item) (tick next : ℕ) (uid : List ℕ) → SameItems before before' → SameItems step step' → tick ≡ 2 ^ 64 - 1 → TickStep before step tick next → Moves before' step' uid → next < 2 ^ 64 → ⊥
+spent_step before before' step step' tick next uid same one at (inl moved) moves has = let up = moved.1 in omega (arith, at, up)
+spent_step before before' step step' tick next uid same one at (inr stays) moves has =
+    moves (keep_same_of uid before before' (before ++ step) (before' ++ step') same (same_together before before' step step' same one) (stays.0 uid))
+
+-- a step that moves a UID at the last tick leaves no tick that there is
+hears_spent : (h h' : List (List Item)) (bytes : List ℕ) (step : List Item) (reply : Reply) (items' step' : List Item) (uid : List ℕ) → SameSteps h h' → IsReadOnce bytes → Hears h bytes step reply → HasTick reply
+    → ReadsMessage bytes items' → SameItems step' items' → Ticks [] 0 h' (2 ^ 64 - 1) → Moves (heard h') step' uid → ⊥
+hears_spent h h' bytes step _ items' step' uid same once (reads items uids tick r s m t) has r' s' t' moves =
+    let one : SameItems step step' = same_then step items step' s (same_then items items' step' (once.items items items' r r') (same_back step' items' s')) in
+    let split = ticks_split [] 0 h step tick t in
+    let mid : split.0 ≡ 2 ^ 64 - 1 = ticks_one [] [] 0 0 h h' split.0 (2 ^ 64 - 1) (λ item. (λ k. k, λ k. k)) refl same split.1 t' in
+    spent_step (heard h) (heard h') step step' split.0 tick uid (same_heard h h' same) one mid split.2 moves has
+hears_spent h h' bytes step _ items' step' uid same once (refuses fault f e) has r' s' t' moves = once.apart items' fault r' f
+
+event_within : (old : Histories) (desk : ℕ) (text : List ℕ) (reply : Reply) (new : Histories) → EventStep old (Deliver desk text) reply new → desk < length old
+event_within old desk text reply _ (delivers _ _ h step _ at hears) = within_at old desk h at
+
+spent_within : (old : Histories) (desk : ℕ) (text : List ℕ) → IsSpent old (Deliver desk text) → desk < length old
+spent_within old desk text (spends _ _ h items step uid at r s t m) = within_at old desk h at
+
+event_spent : (old old' : Histories) (desk : ℕ) (text : List ℕ) (reply : Reply) (new : Histories) → SameHistories old old' → IsReadOnce text → EventStep old (Deliver desk text) reply new → HasTick reply → IsSpent old' (Deliver desk text) → ⊥
+event_spent old old' desk text reply _ same once (delivers _ _ h step _ at hears) has (spends _ _ h' items' step' uid at' r' s' t' m') =
+    hears_spent h h' text step reply items' step' uid (same_at old old' desk h h' same at at') once hears has r' s' t' m'
+
+-- ---- one command
+
+pub step_one : (window : Window) (old old' : Histories) (order : Order) (a a' : Answer) (new new' : Histories) → SameHistories old old' → ((text : List ℕ) → IsReadOnce text) → Step window old order a new → Step window old' order a' new' → (a ≡ a') × SameHistories new new'
+step_one window old old' _ _ _ _ _ same once (takes_text desk text reply new es has) (takes_text _ _ reply' new' es' has') =
+    let one = event_one old old' desk text reply reply' new new' same (once text) es es' in
+    (ap (answer_to desk) one.0, one.1)
+step_one window old old' _ _ _ _ _ same once (takes_text desk text reply new es has) (takes_at_no_desk _ _ past) =
+    absurd (omega (arith, event_within old desk text reply new es, same_lengths old old' same))
+step_one window old old' _ _ _ _ _ same once (takes_text desk text reply new es has) (spends_ticks _ _ spent) = absurd (event_spent old old' desk text reply new same (once text) es has spent)
+step_one window old old' _ _ _ _ _ same once (takes_text desk text reply new es has) (is_refused _ none) = absurd none
+step_one window old old' _ _ _ _ _ same once (takes_at_no_desk desk text past) (takes_text _ _ reply' new' es' has') =
+    absurd (omega (arith, event_within old' desk text reply' new' es', same_lengths old old' same))
+step_one window old old' _ _ _ _ _ same once (takes_at_no_desk desk text past) (takes_at_no_desk _ _ past') = (refl, same)
+step_one window old old' _ _ _ _ _ same once (takes_at_no_desk desk text past) (spends_ticks _ _ spent) = absurd (omega (arith, spent_within old' desk text spent, same_lengths old old' same))
+step_one window old old' _ _ _ _ _ same once (takes_at_no_desk desk text past) (is_refused _ none) = absurd none
+step_one window old old' _ _ _ _ _ same once (spends_ticks desk text spent) (takes_text _ _ reply' new' es' has') = absurd (event_spent old' old desk text reply' new' (histories_back old old' same) (once text) es' has' spent)
+step_one window old old' _ _ _ _ _ same once (spends_ticks desk text spent) (takes_at_no_desk _ _ past) = absurd (omega (arith, spent_within old desk text spent, same_lengths old old' same))
+step_one window old old' _ _ _ _ _ same once (spends_ticks desk text spent) (spends_ticks _ _ spent') = (refl, same)
+step_one window old old' _ _ _ _ _ same once (spends_ticks desk text spent) (is_refused _ none) = absurd none
+step_one window old old' _ _ _ _ _ same once (lists_rows desk h text at is) (lists_rows _ h' text' at' is') =
+    (ap (listed desk) (list_one (heard h) (heard h') window text text' (same_heard h h' (same_at old old' desk h h' same at at')) is is'), same)
+step_one window old old' _ _ _ _ _ same once (lists_rows desk h text at is) (lists_too_many _ h' at' many) =
+    absurd (list_or_too_many (heard h) (heard h') window text (same_heard h h' (same_at old old' desk h h' same at at')) is many)
+step_one window old old' _ _ _ _ _ same once (lists_rows desk h text at is) (lists_no_desk _ past) = absurd (omega (arith, within_at old desk h at, same_lengths old old' same))
+step_one window old old' _ _ _ _ _ same once (lists_rows desk h text at is) (is_refused _ none) = absurd none
+step_one window old old' _ _ _ _ _ same once (lists_too_many desk h at many) (lists_rows _ h' text' at' is') =
+    absurd (list_or_too_many (heard h') (heard h) window text' (same_back (heard h) (heard h') (same_heard h h' (same_at old old' desk h h' same at at'))) is' many)
+step_one window old old' _ _ _ _ _ same once (lists_too_many desk h at many) (lists_too_many _ h' at' many') = (refl, same)
+step_one window old old' _ _ _ _ _ same once (lists_too_many desk h at many) (lists_no_desk _ past) = absurd (omega (arith, within_at old desk h at, same_lengths old old' same))
+step_one window old old' _ _ _ _ _ same once (lists_too_many desk h at many) (is_refused _ none) = absurd none
+step_one window old old' _ _ _ _ _ same once (lists_no_desk desk past) (lists_rows _ h' text' at' is') = absurd (omega (arith, within_at old' desk h' at', same_lengths old old' same))
+step_one window old old' _ _ _ _ _ same once (lists_no_desk desk past) (lists_too_many _ h' at' many') = absurd (omega (arith, within_at old' desk h' at', same_lengths old old' same))
+step_one window old old' _ _ _ _ _ same once (lists_no_desk desk past) (lists_no_desk _ past') = (refl, same)
+step_one window old old' _ _ _ _ _ same once (lists_no_desk desk past) (is_refused _ none) = absurd none
+step_one window old old' _ _ _ _ _ same once (is_refused _ none) (takes_text _ _ reply' new' es' has') = absurd none
+step_one window old old' _ _ _ _ _ same once (is_refused _ none) (takes_at_no_desk _ _ past') = absurd none
+step_one window old old' _ _ _ _ _ same once (is_refused _ none) (spends_ticks _ _ spent) = absurd none
+step_one window old old' _ _ _ _ _ same once (is_refused _ none) (lists_rows _ h' text' at' is') = absurd none
+step_one window old old' _ _ _ _ _ same once (is_refused _ none) (lists_too_many _ h' at' many') = absurd none
+step_one window old old' _ _ _ _ _ same once (is_refused _ none) (lists_no_desk _ past') = absurd none
+step_one window old old' _ _ _ _ _ same once (is_refused order none) (is_refused _ none') = (refl, same)
+
+-- ---- whole runs
+
+runs_one : (window : Window) (old old' : Histories) (orders : List Order) (answers answers' : List Answer) (new new' : Histories) → SameHistories old old' → ((text : List ℕ) → IsReadOnce text) → Runs window old orders answers new → Runs window old' orders answers' new' → answers ≡ answers'
+runs_one window old old' [] [] [] new new' same once at at' = refl
+runs_one window old old' [] [] (b ∷ bs) new new' same once at at' = absurd at'
+runs_one window old old' [] (a ∷ as') bs new new' same once at at' = absurd at
+runs_one window old old' (o ∷ os) [] bs new new' same once at at' = absurd at
+runs_one window old old' (o ∷ os) (a ∷ as') [] new new' same once at at' = absurd at'
+runs_one window old old' (o ∷ os) (a ∷ as') (b ∷ bs) new new' same once at at' =
+    let one = step_one window old old' o a b at.0 at'.0 same once at.1 at'.1 in
+    let rest = runs_one window at.0 at'.0 os as' bs new new' one.1 once at.2 at'.2 in
+    ap (λ (x : Answer). x ∷ as') one.0 ∙ ap (λ (xs : List Answer). b ∷ xs) rest
+
+pub writes_one : (window : Window) (desks : ℕ) (orders : List Order) (output output' : List ℕ) (refusal refusal' : Bool) → ((text : List ℕ) → IsReadOnce text) → Writes window desks orders output refusal → Writes window desks orders output' refusal' → (output ≡ output') × (refusal ≡ refusal')
+writes_one window desks orders output output' refusal refusal' once w w' =
+    let same = runs_one window (no_histories desks) (no_histories desks) orders w.answers w'.answers w.histories w'.histories (same_start desks) once w.runs w'.runs in
+    (w.output_is ∙ ap (flat_map answer_text) same ∙ sym w'.output_is, w.refusal_is ∙ ap (list_any is_refusal) same ∙ sym w'.refusal_is)
+
+pub output_one : (window : Window) (desks : ℕ) (script output output' : List ℕ) (refusal refusal' : Bool) → IsOutput window desks script output refusal → IsOutput window desks script output' refusal' → (output ≡ output') × (refusal ≡ refusal')
+output_one window desks script output output' refusal refusal' (inl (short, w)) (inl (short', w')) = writes_one window desks (orders_of script) output output' refusal refusal' read_once w w'
+output_one window desks script output output' refusal refusal' (inl (short, w)) (inr (long, is, flag)) = absurd (omega arith)
+output_one window desks script output output' refusal refusal' (inr (long, is, flag)) (inl (short, w)) = absurd (omega arith)
+output_one window desks script output output' refusal refusal' (inr (long, is, flag)) (inr (long', is', flag')) = (is ∙ sym is', flag ∙ sym flag')
+
+-- ---- the first so many commands
+
+record Splits (window : Window) (old : Histories) (done left : List Order) (answers : List Answer) (new : Histories) : Type 0 where
+  first : List Answer
+  others : List Answer
+  mid : Histories
+  whole : answers ≡ first ++ others
+  before : Runs window old done first mid
+  after : Runs window mid left others new
+
+runs_split : (window : Window) (old : Histories) (done left : List Order) (answers : List Answer) (new : Histories) → Runs window old (done ++ left) answers new → Splits window old done left answers new
+runs_split window old [] left answers new at = record { first = []; others = answers; mid = old; whole = refl; before = refl; after = at }
+runs_split window old (o ∷ os) left [] new at = absurd at
+runs_split window old (o ∷ os) left (a ∷ as') new at =
+    let rest = runs_split window at.0 os left as' new at.2 in
+    record { first = a ∷ rest.first; others = rest.others; mid = rest.mid; whole = ap (λ (t : List Answer). a ∷ t) rest.whole; before = (at.0, at.1, rest.before); after = rest.after }
+
+pub front_one : (window : Window) (desks : ℕ) (done left : List Order) (output part : List ℕ) (refusal refusal' : Bool) → Writes window desks (done ++ left) output refusal → Writes window desks done part refusal' → (rest : List ℕ) × (output ≡ part ++ rest)
+front_one window desks done left output part refusal refusal' whole some =
+    let split = runs_split window (no_histories desks) done left whole.answers whole.histories whole.runs in
+    let same = runs_one window (no_histories desks) (no_histories desks) done split.first some.answers split.mid some.histories (same_start desks) read_once split.before some.runs in (
+      flat_map answer_text split.others,
+      whole.output_is ∙ ap (flat_map answer_text) split.whole ∙ flat_map-append answer_text split.first split.others
+          ∙ ap (λ (t : List Answer). flat_map answer_text t ++ flat_map answer_text split.others) same ∙ ap (λ (t : List ℕ). t ++ flat_map answer_text split.others) (sym some.output_is),
+    )

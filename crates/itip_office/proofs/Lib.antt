@@ -1,0 +1,10 @@
+pub mod FirstLines
+pub mod Digits
+pub mod Writing
+pub mod Stretches
+pub mod Cuttings
+pub mod Spellings
+pub mod Answering
+pub mod Runnings
+pub mod Ascending
+pub mod Determined

@@ -1,0 +1,8 @@
+-- The commands that an iterator over a script has not given yet.
+use Rattle.std.specs.Prelude.{List}
+use Rattle.itip_office.specs.declared.cut.Commands.{Commands}
+use Rattle.itip_office.specs.Orders.{Order}
+use Rattle.itip_office.specs.Script.{orders_of}
+
+abbrev pub orders_left : Commands → List Order
+orders_left left = orders_of left.rest.now

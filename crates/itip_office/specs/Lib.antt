@@ -1,0 +1,9 @@
+pub mod Lines
+pub mod Orders
+pub mod Script
+pub mod Left
+pub mod Written
+pub mod Cutting
+pub mod Spelling
+pub mod Replies
+pub mod Running

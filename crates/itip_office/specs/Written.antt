@@ -1,0 +1,22 @@
+-- What a writer holds after some of an output was written.
+use Rattle.std.specs.Prelude.{◌≡◌, ℕ, List, ◌++◌, Option}
+use Rattle.std.specs.Io.KnownBytes.{Appends}
+
+-- Known bytes grow by a front of the output.
+pub record AppendsFront (old new : Option (List ℕ)) (output : List ℕ) : Type 0 where
+  pub front : List ℕ
+  pub rest : List ℕ
+  pub whole : output ≡ front ++ rest
+  pub appended : Appends old new front
+
+-- Known bytes grow by what is written of an output, of which a rest is left.
+pub record AppendsRest (old new : Option (List ℕ)) (output rest : List ℕ) : Type 0 where
+  pub front : List ℕ
+  pub whole : output ≡ front ++ rest
+  pub appended : Appends old new front
+
+-- A front of what was kept was written, and the rest is kept.
+pub record MovesOut (old new : Option (List ℕ)) (kept rest : List ℕ) : Type 0 where
+  pub front : List ℕ
+  pub whole : kept ≡ front ++ rest
+  pub appended : Appends old new front

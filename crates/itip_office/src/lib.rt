@@ -1,0 +1,29 @@
+//! Scripts: reading one whole, cutting it into commands, and writing the replies.
+//!
+//! A script is a run of physical lines. A line that begins with `!` is a command; the lines behind a
+//! `!take` are the message that it takes, byte for byte; other lines than empty ones are out of place.
+//! The format is our own.
+#![tactic(auto)]
+
+mod answer;
+mod command;
+mod cut;
+mod fault;
+mod input;
+mod laws;
+mod line;
+mod output;
+mod reply;
+mod run;
+#[cfg(test)]
+mod tests;
+mod word;
+
+pub use command::{Command, ReportName};
+pub use cut::Commands;
+pub use fault::ScriptFault;
+pub use input::{MAX_OCTETS, MAX_READS, read_script};
+pub use laws::{one_cutting, one_output, one_spelling};
+pub use output::write_output;
+pub use run::run_script;
+pub use word::read_number;

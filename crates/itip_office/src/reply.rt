@@ -1,0 +1,79 @@
+//! The texts of replies.
+ghost use Rattle.std.specs.Prelude.{◌≡◌, ◌++◌, ◌≤◌, length, OnOk};
+ghost use Rattle.itip_office.specs.Replies.{refused_text, taken_text, listed_text, rows_in, begins_row};
+
+use crate::line::first_line;
+use std::alloc::{AllocError, Global};
+
+// The numbers of refusals, beside those of messages.
+pub(crate) const TICKS_SPENT: u32 = 21;
+
+pub(crate) const TOO_MANY_ROWS: u32 = 31;
+
+pub(crate) const NO_DESK: u32 = 50;
+
+pub(crate) const BAD_COMMAND: u32 = 60;
+
+pub(crate) const SCRIPT_TOO_LONG: u32 = 61;
+
+/// Appends `refused N`.
+pub(crate) fn append_refused(
+    alloc: Global,
+    output: &mut Vec<u8>,
+    number: u32,
+) -> Result<(), AllocError>
+    ensures { OnOk result (output.new.items ≡ output.old.items ++ refused_text number) }
+{
+    let line = format!(in alloc; "refused {number}\n")?;
+    output.extend_from_slice(line.as_bytes())
+}
+
+/// Appends what a desk says when it has taken a message.
+pub(crate) fn append_taken(
+    alloc: Global,
+    output: &mut Vec<u8>,
+    desk: u64,
+    tick: u64,
+    changed: usize,
+) -> Result<(), AllocError>
+    ensures { OnOk result (output.new.items ≡ output.old.items ++ taken_text desk tick changed) }
+{
+    let line = format!(in alloc; "take {desk} tick {tick} changed {changed}\n")?;
+    output.extend_from_slice(line.as_bytes())
+}
+
+/// Appends a list, behind the line that says how many rows it has.
+pub(crate) fn append_listed(
+    alloc: Global,
+    output: &mut Vec<u8>,
+    desk: u64,
+    text: &[u8],
+) -> Result<(), AllocError>
+    ensures { OnOk result (output.new.items ≡ output.old.items ++ listed_text desk text.now) }
+{
+    let rows = rows_in(text);
+    let line = format!(in alloc; "list {desk} rows {rows}\n")?;
+    output.extend_from_slice(line.as_bytes())?;
+    output.extend_from_slice(text)
+}
+
+/// How many lines of a list begin with `T`, as the first line of each row does.
+fn rows_in(text: &[u8]) -> usize
+    ensures { result ≡ rows_in text.now }
+{
+    let mut rest = text;
+    let mut rows = 0;
+    while let Some((line, after)) = first_line(rest) {
+        if begins_row(line) {
+            rows += 1;
+        }
+        rest = after;
+    }
+    rows
+}
+
+fn begins_row(line: &[u8]) -> bool
+    ensures { result ≡ begins_row line.now }
+{
+    matches!(line, [b'T', ..])
+}

@@ -1,0 +1,92 @@
+//! A script from its first command to its last.
+ghost use Rattle.std.specs.Prelude.{◌≡◌, ◌≢◌, ◌≤◌, true, IfOk, IfErr, OnOk, OnErr, IsErrOf, IfSome};
+ghost use Rattle.std.specs.Io.KnownBytes.{Keeps, Appends};
+ghost use Rattle.itip_office.specs.Running.{WritesAll, WritesFront, WritesCommands, WritesSome};
+ghost use Rattle.itip_office.specs.Replies.{refused_text};
+ghost use Rattle.itip_office.specs.Script.{orders_of};
+ghost use Rattle.itip_office.specs.Written.{AppendsFront, MovesOut};
+
+use crate::answer::answer_command;
+use crate::cut::Commands;
+use crate::fault::ScriptFault;
+use crate::input::read_script;
+use crate::output::write_output;
+use crate::reply::{SCRIPT_TOO_LONG, append_refused};
+use itip_delta::World;
+use itip_view::Window;
+use std::alloc::Global;
+use std::io::{Read, Write};
+
+// How many octets of replies are kept before they are written.
+const CHUNK: usize = 65_536;
+
+/// Runs a script over desks that have heard nothing, and says whether a reply was a refusal.
+///
+/// The whole script is read before anything is written. A script of more than [`MAX_OCTETS`](crate::MAX_OCTETS)
+/// is refused as a whole (61). After a fault of reading nothing was written, after another fault a front of the output.
+pub fn run_script<R: Read, W: Write>(
+    alloc: Global,
+    reader: &mut R,
+    writer: &mut W,
+    desks: usize,
+    window: Window,
+) -> Result<bool, ScriptFault>
+    requires some { 1 ≤ desks }
+    requires few { desks ≤ 8 }
+    ensures output { IfOk result (λ refusal. IfSome (R.remaining reader.old) (λ script. WritesAll window desks (W.contents writer.old) (W.contents writer.new) script refusal)) }
+    ensures front { OnErr result (IfSome (R.remaining reader.old) (λ script. WritesFront window desks (W.contents writer.old) (W.contents writer.new) script)) }
+    ensures unread { IsErrOf result ScriptFault.Read → Keeps (W.contents writer.old) (W.contents writer.new) }
+{
+    match read_script(alloc, reader)? {
+        Some(script) => run_commands(alloc, script.as_slice(), writer, desks, window),
+        None => refuse_whole(alloc, writer),
+    }
+}
+
+fn refuse_whole<W: Write>(alloc: Global, writer: &mut W) -> Result<bool, ScriptFault>
+    ensures all { IfOk result (λ refusal. (refusal ≡ true) × Appends (W.contents writer.old) (W.contents writer.new) (refused_text 61)) }
+    ensures front { OnErr result (AppendsFront (W.contents writer.old) (W.contents writer.new) (refused_text 61)) }
+    ensures fault { IfErr result (λ fault. fault ≢ ScriptFault.Read) }
+{
+    let mut reply = Vec::new(alloc);
+    append_refused(alloc, &mut reply, SCRIPT_TOO_LONG)?;
+    write_output(writer, reply.as_slice())?;
+    Ok(true)
+}
+
+fn run_commands<W: Write>(
+    alloc: Global,
+    script: &[u8],
+    writer: &mut W,
+    desks: usize,
+    window: Window,
+) -> Result<bool, ScriptFault>
+    requires some { 1 ≤ desks }
+    requires few { desks ≤ 8 }
+    ensures all { IfOk result (WritesCommands window desks (W.contents writer.old) (W.contents writer.new) (orders_of script.now)) }
+    ensures front { OnErr result (WritesSome window desks (W.contents writer.old) (W.contents writer.new) (orders_of script.now)) }
+    ensures fault { IfErr result (λ fault. fault ≢ ScriptFault.Read) }
+{
+    let mut world = World::start(alloc, desks)?;
+    let mut replies = Vec::new(alloc);
+    let mut is_refused = false;
+    for command in Commands::new(script) {
+        is_refused |= answer_command(alloc, &mut world, window, &command, &mut replies)?;
+        write_if_many(writer, &mut replies)?;
+    }
+    write_output(writer, replies.as_slice())?;
+    Ok(is_refused)
+}
+
+// Writes the replies that are kept once they are many.
+fn write_if_many<W: Write>(writer: &mut W, replies: &mut Vec<u8>) -> Result<(), ScriptFault>
+    ensures moved { OnOk result (MovesOut (W.contents writer.old) (W.contents writer.new) replies.old.items replies.new.items) }
+    ensures front { OnErr result (AppendsFront (W.contents writer.old) (W.contents writer.new) replies.old.items) }
+    ensures fault { IfErr result (λ fault. fault ≡ ScriptFault.Write) }
+{
+    if replies.len() >= CHUNK {
+        write_output(writer, replies.as_slice())?;
+        replies.clear();
+    }
+    Ok(())
+}

@@ -1,0 +1,19 @@
+//! The kept items of what was heard.
+//!
+//! Of each key the best item is kept, and the dead are left out (our own rule). A state is what is kept of a set
+//! of items; merging two states gives their least upper bound.
+#![tactic(auto)]
+
+mod alive;
+mod held;
+mod laws;
+mod plain;
+mod slot;
+mod sorted;
+mod state;
+
+pub use laws::{kept_of_kept, least_upper_bound, order_of_states, uid_by_uid};
+pub use plain::kept;
+pub use sorted::by_octets;
+pub use state::State;
+pub use std::alloc::AllocError as NoMemory;

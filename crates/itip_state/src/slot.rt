@@ -1,0 +1,142 @@
+//! Where a state holds an item.
+ghost use Rattle.std.specs.Prelude.{◌≡◌, IfOk, refl};
+ghost use Rattle.std.specs.Cmp.{partial_order_from_total, partial_equiv_from_equiv, eq_by_cmp_equiv};
+ghost use Rattle.std.specs.Ordering.{as_partial_cmp, eq_by_cmp};
+ghost use Rattle.std.specs.Option.{option_copied, option_cmp};
+ghost use Rattle.itip_moment.specs.Order.{moment_cmp};
+ghost use Rattle.itip_message.specs.KeyParts.{uid_of};
+ghost use Rattle.itip_state.specs.Slots.{rank_of, instance_of, attendee_of, key_cmp};
+
+use itip_join::{Exact, NoMemory};
+use itip_message::Key;
+use itip_moment::Moment;
+use itip_todo::Uid;
+use std::cmp::Ordering;
+
+/// The key of an item, in the order in which a state holds its items: those of a UID are neighbours, and its series item is the first of them.
+#[derive(Debug, Drop)]
+pub(crate) struct Slot {
+    pub(crate) key: Key,
+}
+
+/// The UID that a key is about.
+pub(crate) fn uid(key: &Key) -> &Uid
+    ensures { result.now ≡ uid_of key.now }
+{
+    match key {
+        Key::Series(uid)
+        | Key::Instance(uid, _)
+        | Key::Answer(uid, _, _)
+        | Key::Refresh(uid, _, _) => uid,
+    }
+}
+
+fn rank(key: &Key) -> u8
+    ensures { result ≡ rank_of key.now }
+{
+    match key {
+        Key::Series(_) => 0,
+        Key::Instance(_, _) => 1,
+        Key::Answer(_, _, _) => 2,
+        Key::Refresh(_, _, _) => 3,
+    }
+}
+
+fn instance(key: &Key) -> Option<&Moment>
+    ensures { option_copied result ≡ instance_of key.now }
+{
+    match key {
+        Key::Series(_) => None,
+        Key::Instance(_, id) => Some(id),
+        Key::Answer(_, id, _) | Key::Refresh(_, id, _) => id.as_ref(),
+    }
+}
+
+fn compare_instances(key: &Key, other: &Key) -> Ordering
+    ensures { result ≡ option_cmp moment_cmp (instance_of key.now) (instance_of other.now) }
+{
+    match (instance(key), instance(other)) {
+        (None, None) => Ordering::Equal,
+        (None, Some(_)) => Ordering::Less,
+        (Some(_), None) => Ordering::Greater,
+        (Some(id), Some(other_id)) => id.cmp(other_id),
+    }
+}
+
+fn attendee(key: &Key) -> &[u8]
+    ensures { result.now ≡ attendee_of key.now }
+{
+    match key {
+        Key::Series(_) | Key::Instance(_, _) => &[],
+        Key::Answer(_, _, attendee) | Key::Refresh(_, _, attendee) => attendee.as_str().as_bytes(),
+    }
+}
+
+/// By UID, then by kind, instance and attendee.
+pub(crate) fn compare(key: &Key, other: &Key) -> Ordering
+    ensures { result ≡ key_cmp key.now other.now }
+{
+    uid(key)
+        .cmp(uid(other))
+        .then(rank(key).cmp(&rank(other)))
+        .then(compare_instances(key, other))
+        .then_with(|| attendee(key).cmp(attendee(other)))
+}
+
+impl PartialEq for Slot {
+    ghost use Rattle.itip_state.specs.Slots.{slot_cmp, slot_total};
+
+    ghost eq = { eq_by_cmp slot_cmp };
+
+    ghost laws = { partial_equiv_from_equiv (eq_by_cmp_equiv slot_total) };
+
+    fn eq(&self, other: &Slot) -> bool {
+        self.cmp(other) == Ordering::Equal
+    }
+}
+
+impl Eq for Slot {
+    ghost use Rattle.itip_state.specs.Slots.{slot_total};
+
+    ghost laws = { eq_by_cmp_equiv slot_total };
+}
+
+impl PartialOrd for Slot {
+    ghost use Rattle.itip_state.specs.Slots.{slot_cmp, slot_total};
+
+    ghost partial_cmp = { as_partial_cmp slot_cmp };
+
+    ghost laws = { partial_order_from_total slot_total };
+
+    fn partial_cmp(&self, other: &Slot) -> Option<Ordering> {
+        Some(self.cmp(other))
+    }
+}
+
+impl Ord for Slot {
+    ghost use Rattle.itip_state.specs.Slots.{slot_cmp, slot_total};
+
+    ghost cmp = { slot_cmp };
+
+    ghost total = { slot_total };
+
+    ghost matches_partial_cmp = { λ x y. refl };
+
+    ghost matches_eq = { λ x y. refl };
+
+    fn cmp(&self, other: &Slot) -> Ordering {
+        compare(&self.key, &other.key)
+    }
+}
+
+impl Exact for Slot {
+    ghost use Rattle.itip_state.specs.Slots.{slot_exact};
+
+    ghost exact = { slot_exact };
+
+    fn copy(&self) -> Result<Slot, NoMemory> {
+        Ok(Slot {
+            key: self.key.clone()?,
+        })
+    }
+}

@@ -1,0 +1,10 @@
+pub mod Table
+pub mod Parts
+pub mod StatusText
+pub mod Written
+pub mod Lawful
+pub mod PartsOf
+pub mod Values
+pub mod Reading
+pub mod Drafts
+pub mod Participation

@@ -1,0 +1,41 @@
+-- How an attendee takes part: the first value of the first PARTSTAT, without regard to case (RFC 5545 3.2.12).
+use Rattle.std.specs.Prelude.{ℕ, nat_eq, Bool, cond, List, [], ◌∷◌, codes, map}
+use Rattle.std.specs.Cmp.Lexicographic.{pointwise}
+use Rattle.std.specs.Char.{to_ascii_lowercase}
+use Rattle.itip_lines.specs.declared.line.Param.{Param}
+use Rattle.itip_todo.specs.declared.attendee.PartStat.{PartStat}
+use Rattle.itip_todo.specs.declared.attendee.PartStat.TheVariants.{NeedsAction, Accepted, Declined, Tentative, Delegated, Completed, InProcess}
+
+abbrev pub same_text : List ℕ → List ℕ → Bool
+same_text = pointwise nat_eq
+
+-- the participation of this name in lower case; any other name is NEEDS-ACTION
+abbrev pub partstat_named : List ℕ → PartStat
+partstat_named name =
+    cond (same_text name (codes "accepted")) Accepted
+    (cond (same_text name (codes "declined")) Declined
+    (cond (same_text name (codes "tentative")) Tentative
+    (cond (same_text name (codes "delegated")) Delegated
+    (cond (same_text name (codes "completed")) Completed
+    (cond (same_text name (codes "in-process")) InProcess NeedsAction)))))
+
+abbrev pub first_value : List (List ℕ) → List ℕ
+first_value [] = []
+first_value (value ∷ values) = value
+
+-- the first value of the first parameter of this name, empty where there is none
+abbrev pub param_value : List ℕ → List Param → List ℕ
+param_value name [] = []
+param_value name (param ∷ params) = cond (same_text param.name name) (first_value param.values) (param_value name params)
+
+abbrev pub partstat_of : List Param → PartStat
+partstat_of params = partstat_named (map to_ascii_lowercase (param_value (codes "PARTSTAT") params))
+
+abbrev pub partstat_text : PartStat → List ℕ
+partstat_text NeedsAction = codes "NEEDS-ACTION"
+partstat_text Accepted = codes "ACCEPTED"
+partstat_text Declined = codes "DECLINED"
+partstat_text Tentative = codes "TENTATIVE"
+partstat_text Delegated = codes "DELEGATED"
+partstat_text Completed = codes "COMPLETED"
+partstat_text InProcess = codes "IN-PROCESS"

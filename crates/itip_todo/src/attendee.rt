@@ -1,0 +1,69 @@
+ghost use Rattle.std.specs.Prelude.{◌≡◌, ◌++◌, ◌<◌, drop, length};
+ghost use Rattle.itip_todo.specs.Participation.{partstat_of, partstat_named, partstat_text, param_value};
+
+use itip_lines::Param;
+
+/// The participation of an attendee (RFC 5545 3.2.12). Absent and unknown ones are `NeedsAction`.
+#[derive(Clone, Copy, Debug, PartialEq, Eq)]
+pub enum PartStat {
+    NeedsAction,
+    Accepted,
+    Declined,
+    Tentative,
+    Delegated,
+    Completed,
+    InProcess,
+}
+
+impl PartStat {
+    /// The name of the participation, in upper case.
+    pub fn as_str(self) -> &'static str
+        ensures { result.now ≡ partstat_text self }
+    {
+        match self {
+            PartStat::NeedsAction => "NEEDS-ACTION",
+            PartStat::Accepted => "ACCEPTED",
+            PartStat::Declined => "DECLINED",
+            PartStat::Tentative => "TENTATIVE",
+            PartStat::Delegated => "DELEGATED",
+            PartStat::Completed => "COMPLETED",
+            PartStat::InProcess => "IN-PROCESS",
+        }
+    }
+}
+
+/// The participation that an attendee's parameters give: the first value of the first PARTSTAT.
+pub fn participation(params: &[Param]) -> PartStat
+    ensures { result ≡ partstat_of params.now }
+{
+    let name = first_value("PARTSTAT", params);
+    if name.eq_ignore_ascii_case("ACCEPTED") {
+        PartStat::Accepted
+    } else if name.eq_ignore_ascii_case("DECLINED") {
+        PartStat::Declined
+    } else if name.eq_ignore_ascii_case("TENTATIVE") {
+        PartStat::Tentative
+    } else if name.eq_ignore_ascii_case("DELEGATED") {
+        PartStat::Delegated
+    } else if name.eq_ignore_ascii_case("COMPLETED") {
+        PartStat::Completed
+    } else if name.eq_ignore_ascii_case("IN-PROCESS") {
+        PartStat::InProcess
+    } else {
+        PartStat::NeedsAction
+    }
+}
+
+fn first_value<'a>(name: &str, params: &'a [Param]) -> &'a str
+    ensures { result.now ≡ param_value name.now params.now }
+{
+    for param in params {
+        if param.name.as_str() == name {
+            return match param.values.as_slice() {
+                [value, ..] => value.as_str(),
+                [] => "",
+            };
+        }
+    }
+    ""
+}

@@ -1,0 +1,29 @@
+//! To-dos (RFC 5545 3.6.2): the lines of a VTODO are read into a `Todo`, and a `Todo` is written canonically.
+//!
+//! The table of properties, with how often each may stand and what its value may be, is in
+//! `specs/Table.antt`; the canonical octets of a to-do are in `specs/Written.antt`.
+#![tactic(auto)]
+
+mod attendee;
+mod copies;
+mod draft;
+mod error;
+mod number;
+mod property;
+mod property_name;
+mod read;
+mod status;
+mod todo;
+mod uid;
+mod write;
+
+pub use attendee::{PartStat, participation};
+pub use error::{Fault, TodoError};
+pub use property::Property;
+pub use property_name::PropertyName;
+pub use read::read_todo;
+pub use status::Status;
+pub use std::alloc::AllocError as NoMemory;
+pub use todo::Todo;
+pub use uid::Uid;
+pub use write::write_todo;

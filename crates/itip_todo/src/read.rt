@@ -1,0 +1,24 @@
+//! Reading a to-do.
+ghost use Rattle.std.specs.Prelude.{IfOk, IfErr};
+ghost use Rattle.itip_todo.specs.Reading.{ReadsTodo, RefusesTodo, IfFault};
+
+use crate::draft::{Draft, add_line, finish};
+use crate::error::TodoError;
+use crate::todo::Todo;
+use itip_lines::Line;
+use std::alloc::Global;
+
+/// The to-do of the lines between BEGIN:VTODO and END:VTODO, without nested components (RFC 5545 3.6.2).
+///
+/// The first faulty line decides: a property that stands twice, then RANGE at RECURRENCE-ID, then a bad value, then too
+/// many attendees, then two of one address. After the lines UID and then DTSTAMP may be missing.
+pub fn read_todo(alloc: Global, lines: &[Line]) -> Result<Todo, TodoError>
+    ensures found { IfOk result (λ todo. ReadsTodo lines.now todo) }
+    ensures fault { IfErr result (λ e. IfFault e (RefusesTodo lines.now)) }
+{
+    let mut draft = Draft::new();
+    for line in lines {
+        add_line(&mut draft, line)?;
+    }
+    finish(alloc, draft)
+}

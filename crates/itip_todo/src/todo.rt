@@ -1,0 +1,81 @@
+//! A to-do.
+ghost use Rattle.std.specs.Prelude.{◌≡◌};
+ghost use Rattle.itip_todo.specs.Lawful.{IsLawful, IsLawful-prop};
+
+use crate::copies::{
+    copy_lines, copy_moment, copy_moments, copy_properties, copy_property, copy_texts,
+};
+use crate::property::Property;
+use crate::status::Status;
+use crate::uid::Uid;
+use itip_lines::{Line, ListOf, NoMemory, Text};
+use itip_moment::{Moment, Stamp};
+
+/// A to-do (RFC 5545 3.6.2) as it is kept: the properties that scheduling reads have fields, all others their lines.
+///
+/// A to-do is lawful: its values, their counts and their orders are those of the table of properties, no two
+/// attendees have one address, and each line that it is written as is a lawful content line.
+#[derive(Debug, Drop)]
+pub struct Todo {
+    /// UID, not empty.
+    pub uid: Uid,
+    /// DTSTAMP.
+    pub stamp: Stamp,
+    /// SEQUENCE, 0 where it is absent, at most 2,147,483,647.
+    pub seq: u32,
+    /// X-DESK-BASE, at most 2,147,483,647.
+    pub base: Option<u32>,
+    /// RECURRENCE-ID.
+    pub rid: Option<Moment>,
+    /// DTSTART.
+    pub start: Option<Moment>,
+    /// DUE.
+    pub due: Option<Moment>,
+    /// STATUS.
+    pub status: Option<Status>,
+    /// PERCENT-COMPLETE, at most 100.
+    pub percent: Option<u8>,
+    /// PRIORITY, at most 9.
+    pub priority: Option<u8>,
+    /// SUMMARY with its parameters.
+    pub summary: Option<Property>,
+    /// ORGANIZER with its parameters; the address is not empty.
+    pub organizer: Option<Property>,
+    /// ATTENDEE with its parameters, in order of appearance; no address is empty, and no two are one.
+    pub attendees: ListOf<Property>,
+    /// The values of RRULE as they stand, in order of appearance.
+    pub rule: ListOf<Text>,
+    /// The moments of RDATE, each once, in their order.
+    pub rdates: ListOf<Moment>,
+    /// The moments of EXDATE, each once, in their order.
+    pub exdates: ListOf<Moment>,
+    /// The lines of all other properties as they stand, and those of RDATE with a `/` in the value.
+    pub others: ListOf<Line>,
+    pub ghost lawful: { IsLawful (record { uid = uid; stamp = stamp; seq = seq; base = base; rid = rid; start = start; due = due; status = status; percent = percent; priority = priority; summary = summary; organizer = organizer; attendees = attendees; rule = rule; rdates = rdates; exdates = exdates; others = others }) } by { IsLawful-prop (record { uid = uid; stamp = stamp; seq = seq; base = base; rid = rid; start = start; due = due; status = status; percent = percent; priority = priority; summary = summary; organizer = organizer; attendees = attendees; rule = rule; rdates = rdates; exdates = exdates; others = others }) },
+}
+
+impl Clone for Todo {
+    ghost is_clone = { λ todo copy. copy ≡ todo };
+
+    fn clone(&self) -> Result<Todo, NoMemory> {
+        Ok(Todo {
+            uid: self.uid.clone()?,
+            stamp: self.stamp,
+            seq: self.seq,
+            base: self.base,
+            rid: copy_moment(&self.rid)?,
+            start: copy_moment(&self.start)?,
+            due: copy_moment(&self.due)?,
+            status: self.status,
+            percent: self.percent,
+            priority: self.priority,
+            summary: copy_property(&self.summary)?,
+            organizer: copy_property(&self.organizer)?,
+            attendees: copy_properties(&self.attendees)?,
+            rule: copy_texts(&self.rule)?,
+            rdates: copy_moments(&self.rdates)?,
+            exdates: copy_moments(&self.exdates)?,
+            others: copy_lines(&self.others)?,
+        })
+    }
+}

@@ -1,0 +1,102 @@
+//! The name of a to-do.
+ghost use Rattle.std.specs.Prelude.{◌≡◌, IfOk, nat_eq, refl, Some};
+ghost use Rattle.std.specs.Ordering.{nat_cmp};
+ghost use Rattle.std.specs.Cmp.Lexicographic.{pointwise, slice_cmp, nat_list_eq_equiv, nat_list_cmp_total, texts_ties, texts_po};
+ghost use Rattle.std.specs.Cmp.{partial_equiv_from_equiv};
+
+use itip_lines::{NoMemory, Text};
+use std::alloc::Global;
+use std::cmp::Ordering;
+use std::fmt;
+use std::marker::Model;
+
+/// The UID of a to-do (RFC 5545 3.8.4.7), compared by its octets.
+#[derive(Debug, Drop)]
+pub struct Uid {
+    text: Text,
+}
+
+impl Model for Uid {
+    ghost use Rattle.std.specs.Prelude.{List, ℕ};
+
+    ghost Value = { List ℕ };
+
+    ghost view = { λ uid. uid.text };
+}
+
+impl Uid {
+    /// The UID with this text, whose memory it keeps.
+    pub fn new(text: Text) -> Uid
+        ensures { result ≡ text }
+    {
+        Uid { text }
+    }
+
+    /// A UID with a copy of a text.
+    pub fn copy(alloc: Global, text: &str) -> Result<Uid, NoMemory>
+        ensures { IfOk result (λ uid. uid ≡ text.now) }
+    {
+        Ok(Uid::new(Text::copy(alloc, text)?))
+    }
+
+    /// The text.
+    pub fn as_str(&self) -> &str
+        ensures { result.now ≡ self.now }
+    {
+        self.text.as_str()
+    }
+}
+
+impl Clone for Uid {
+    ghost is_clone = { λ uid copy. copy ≡ uid };
+
+    fn clone(&self) -> Result<Uid, NoMemory> {
+        Ok(Uid::new(self.text.clone()?))
+    }
+}
+
+impl PartialEq for Uid {
+    ghost eq = { pointwise nat_eq };
+
+    ghost laws = { partial_equiv_from_equiv nat_list_eq_equiv };
+
+    fn eq(&self, other: &Self) -> bool {
+        self.text == other.text
+    }
+}
+
+impl Eq for Uid {
+    ghost laws = { nat_list_eq_equiv };
+}
+
+impl PartialOrd for Uid {
+    ghost partial_cmp = { λ x y. Some (slice_cmp nat_cmp x y) };
+
+    ghost laws = { texts_po };
+
+    fn partial_cmp(&self, other: &Self) -> Option<Ordering> {
+        Some(self.cmp(other))
+    }
+}
+
+impl Ord for Uid {
+    ghost cmp = { slice_cmp nat_cmp };
+
+    ghost total = { nat_list_cmp_total };
+
+    ghost matches_partial_cmp = { λ x y. refl };
+
+    ghost matches_eq = { texts_ties };
+
+    fn cmp(&self, other: &Self) -> Ordering {
+        self.text.cmp(&other.text)
+    }
+}
+
+impl fmt::Display for Uid {
+    ghost output = { λ uid. Some uid };
+
+    fn fmt<W: fmt::Write>(&self, f: &mut fmt::Formatter<W>) -> fmt::Result {
+        f.write_str(self.as_str())
+    }
+}

@@ -1,0 +1,3 @@
+pub mod FlatMap
+pub mod OfKept
+pub mod RowsOf

@@ -1,0 +1,6 @@
+pub use Rattle.itip_state.specs.Kept
+pub mod Window
+pub mod Rows
+pub mod InWindow
+pub mod Shown
+pub mod ListText

@@ -1,0 +1,19 @@
+//! The task list of a state: its rows in a window of days, and their text (our own rules of what is shown).
+#![tactic(auto)]
+
+mod error;
+mod laws;
+mod list;
+mod row;
+#[cfg(test)]
+mod tests;
+mod view;
+mod window;
+
+pub use error::{BadWindow, ViewError};
+pub use laws::view_of_kept;
+pub use list::{list_text, write_list};
+pub use row::{Row, RowId, ShownAttendee};
+pub use std::alloc::AllocError as NoMemory;
+pub use view::rows;
+pub use window::Window;

@@ -1,0 +1,169 @@
+//! The text of rows.
+ghost use Rattle.std.specs.Prelude.{◌≡◌, ◌++◌, ◌∷◌, [], IfOk, OnOk, OnErr, Option, Some, None};
+ghost use Rattle.std.specs.Fmt.{decimal};
+ghost use Rattle.std.specs.List.{flat_map};
+ghost use Rattle.itip_todo.specs.StatusText.{status_text};
+ghost use Rattle.itip_view.specs.ListText.{list_text, row_text, attendee_text, id_text, names_text, numbers_text, dates_text, summary_text, shown, shown_moment};
+
+use crate::row::{Row, RowId, ShownAttendee};
+use itip_lines::Text;
+use itip_moment::{Moment, write_moment};
+use itip_todo::Status;
+use std::alloc::{AllocError, Global};
+
+/// The text of rows, in the order given.
+pub fn list_text(alloc: Global, rows: &[Row]) -> Result<Vec<u8>, AllocError>
+    ensures { IfOk result (λ text. text.items ≡ list_text rows.now) }
+{
+    let mut text = Vec::new(alloc);
+    for row in rows {
+        put_row(&mut text, row)?;
+    }
+    Ok(text)
+}
+
+/// Appends the text of rows, in the order given.
+///
+/// On an error, for want of memory, the vector is as before.
+pub fn write_list(rows: &[Row], out: &mut Vec<u8>) -> Result<(), AllocError>
+    ensures ok { OnOk result (out.new.items ≡ out.old.items ++ list_text rows.now) }
+    ensures err { OnErr result (out.new.items ≡ out.old.items) }
+{
+    let text = list_text(*out.allocator(), rows)?;
+    out.extend_from_slice(&text)
+}
+
+fn put_row(out: &mut Vec<u8>, row: &Row) -> Result<(), AllocError>
+    ensures { OnOk result (out.new.items ≡ out.old.items ++ row_text row.now) }
+{
+    put_names(out, row)?;
+    put_numbers(out, row)?;
+    put_dates(out, row)?;
+    put_summary(out, row)?;
+    put_attendees(out, row.attendees.as_slice())?;
+    Ok(())
+}
+
+fn put_names(out: &mut Vec<u8>, row: &Row) -> Result<(), AllocError>
+    ensures { OnOk result (out.new.items ≡ out.old.items ++ names_text row.now) }
+{
+    put(out, "TODO ")?;
+    put(out, row.uid.as_str())?;
+    put(out, "\n  ID ")?;
+    put_id(out, &row.id)
+}
+
+fn put_attendees(out: &mut Vec<u8>, attendees: &[ShownAttendee]) -> Result<(), AllocError>
+    ensures { OnOk result (out.new.items ≡ out.old.items ++ flat_map attendee_text attendees.now) }
+{
+    for attendee in attendees {
+        put_attendee(out, attendee)?;
+    }
+    Ok(())
+}
+
+fn put_id(out: &mut Vec<u8>, id: &RowId) -> Result<(), AllocError>
+    ensures { OnOk result (out.new.items ≡ out.old.items ++ id_text id.now) }
+{
+    match id {
+        RowId::Single => put(out, "-"),
+        RowId::At(moment) => put_moment(out, moment),
+        RowId::Opaque => put(out, "opaque"),
+    }
+}
+
+fn put_numbers(out: &mut Vec<u8>, row: &Row) -> Result<(), AllocError>
+    ensures { OnOk result (out.new.items ≡ out.old.items ++ numbers_text row.now) }
+{
+    put(out, "\n  SEQ ")?;
+    put_number(out, row.seq)?;
+    put(out, " STATUS ")?;
+    put_status(out, row.status)?;
+    put(out, " PERCENT ")?;
+    put_percent(out, row.percent)?;
+    put(out, " PRIORITY ")?;
+    put_percent(out, row.priority)
+}
+
+fn put_dates(out: &mut Vec<u8>, row: &Row) -> Result<(), AllocError>
+    ensures { OnOk result (out.new.items ≡ out.old.items ++ dates_text row.now) }
+{
+    put(out, "\n  START ")?;
+    put_shown_moment(out, &row.start)?;
+    put(out, " DUE ")?;
+    put_shown_moment(out, &row.due)
+}
+
+fn put_summary(out: &mut Vec<u8>, row: &Row) -> Result<(), AllocError>
+    ensures { OnOk result (out.new.items ≡ out.old.items ++ summary_text row.now) }
+{
+    put(out, "\n  SUMMARY ")?;
+    match &row.summary {
+        Some(summary) => put(out, summary.as_str())?,
+        None => put(out, "-")?,
+    }
+    put(out, "\n")
+}
+
+fn put_attendee(out: &mut Vec<u8>, attendee: &ShownAttendee) -> Result<(), AllocError>
+    ensures { OnOk result (out.new.items ≡ out.old.items ++ attendee_text attendee.now) }
+{
+    put(out, "  ATTENDEE ")?;
+    put(out, attendee.address.as_str())?;
+    put(out, " ")?;
+    put(out, attendee.partstat.as_str())?;
+    put(out, " ")?;
+    put_percent(out, attendee.percent)?;
+    put(out, "\n")
+}
+
+fn put_shown_moment(out: &mut Vec<u8>, moment: &Option<Moment>) -> Result<(), AllocError>
+    ensures { OnOk result (out.new.items ≡ out.old.items ++ shown shown_moment moment.now) }
+{
+    match moment {
+        Some(moment) => put_moment(out, moment),
+        None => put(out, "-"),
+    }
+}
+
+fn put_moment(out: &mut Vec<u8>, moment: &Moment) -> Result<(), AllocError>
+    ensures { OnOk result (out.new.items ≡ out.old.items ++ shown_moment moment.now) }
+{
+    if let Moment::Zoned(zone, _) = moment {
+        put(out, "TZID=")?;
+        put(out, zone.as_str())?;
+        put(out, ":")?;
+    }
+    write_moment(moment, out)
+}
+
+fn put_status(out: &mut Vec<u8>, status: Option<Status>) -> Result<(), AllocError>
+    ensures { OnOk result (out.new.items ≡ out.old.items ++ shown status_text status) }
+{
+    match status {
+        Some(status) => put(out, status.as_str()),
+        None => put(out, "-"),
+    }
+}
+
+fn put_percent(out: &mut Vec<u8>, percent: Option<u8>) -> Result<(), AllocError>
+    ensures { OnOk result (out.new.items ≡ out.old.items ++ shown decimal percent) }
+{
+    match percent {
+        Some(percent) => put_number(out, percent as u32),
+        None => put(out, "-"),
+    }
+}
+
+fn put_number(out: &mut Vec<u8>, number: u32) -> Result<(), AllocError>
+    ensures { OnOk result (out.new.items ≡ out.old.items ++ decimal number) }
+{
+    let digits = number.to_string(*out.allocator())?;
+    put(out, digits.as_str())
+}
+
+fn put(out: &mut Vec<u8>, text: &str) -> Result<(), AllocError>
+    ensures { OnOk result (out.new.items ≡ out.old.items ++ text.now) }
+{
+    out.extend_from_slice(text.as_bytes())
+}

@@ -1,0 +1,42 @@
+//! A row of the list.
+use itip_lines::{ListOf, Text};
+use itip_moment::Moment;
+use itip_todo::{PartStat, Status, Uid};
+
+/// What names a row beside its UID.
+#[derive(Debug, Drop)]
+pub enum RowId {
+    /// The one row of a to-do that doesn't recur.
+    Single,
+    /// An instance or an occurrence.
+    At(Moment),
+    /// The one row of a to-do whose recurrence isn't expanded.
+    Opaque,
+}
+
+/// An attendee as a row shows him.
+#[derive(Debug, Drop)]
+pub struct ShownAttendee {
+    /// The calendar address as the line has it.
+    pub address: Text,
+    pub partstat: PartStat,
+    /// PERCENT-COMPLETE of the answer that decides.
+    pub percent: Option<u8>,
+}
+
+/// A row of the task list. Each field but the identifier is that of the item that governs the row.
+#[derive(Debug, Drop)]
+pub struct Row {
+    pub uid: Uid,
+    pub id: RowId,
+    /// SEQUENCE as it stands.
+    pub seq: u32,
+    pub status: Option<Status>,
+    pub percent: Option<u8>,
+    pub priority: Option<u8>,
+    pub start: Option<Moment>,
+    pub due: Option<Moment>,
+    /// The value of SUMMARY.
+    pub summary: Option<Text>,
+    pub attendees: ListOf<ShownAttendee>,
+}
