@@ -1,46 +1,40 @@
-//! A benchmark: it reads, takes and lists small messages that it makes itself, and prints how long each took.
+//! A benchmark: it makes its own input from a seed, and prints how long each thing took.
 //!
-//! The words are how many messages, and a seed, 1 where there is none. Without words it prints nothing.
+//! The words are a topic and a size, as `messages 1000` or `joins 100000`. Without words it prints nothing.
 #![tactic(auto)]
 
+mod joins;
 mod load;
 mod measure;
 
-use crate::measure::{BenchError, measure};
+use crate::joins::measure_joins;
+use crate::measure::{BenchError, measure_messages};
 use std::env;
 use std::process::ExitCode;
-use std::rt::Env;
+use std::rt::{Clock, Env};
 
 fn main(rt: HostRuntime) -> ExitCode {
-    match words(&rt) {
-        Ok(Some((count, seed))) => match measure(&rt, count, seed) {
-            Ok(()) => ExitCode::SUCCESS,
-            Err(error) => {
-                let _ = eprintln!(rt; "itip_bench: {error}");
-                ExitCode::FAILURE
-            }
-        },
-        Ok(None) => ExitCode::SUCCESS,
+    match run(&rt) {
+        Ok(()) => ExitCode::SUCCESS,
         Err(error) => {
             let _ = eprintln!(rt; "itip_bench: {error}");
-            ExitCode::from(2)
+            ExitCode::FAILURE
         }
     }
 }
 
-// How many messages, and the seed of what they say.
-fn words<R: AllocGlobal + Env>(rt: &R) -> Result<Option<(u64, u64)>, BenchError> {
+fn run<R: AllocGlobal + Clock + Env + Print>(rt: &R) -> Result<(), BenchError> {
     let mut words = env::args(rt).map_err(|_| BenchError::Words)?.skip(1);
-    let Some(count) = words.next() else {
-        return Ok(None);
+    let Some(topic) = words.next() else {
+        return Ok(());
     };
-    let seed = match words.next() {
-        Some(seed) => number(seed.as_str())?,
-        None => 1,
+    let Some(size) = words.next() else {
+        return Err(BenchError::Words);
     };
-    Ok(Some((number(count.as_str())?, seed)))
-}
-
-fn number(word: &str) -> Result<u64, BenchError> {
-    word.parse().map_err(|_| BenchError::Words)
+    let size = size.as_str().parse().map_err(|_| BenchError::Words)?;
+    match topic.as_str() {
+        "messages" => measure_messages(rt, size),
+        "joins" => measure_joins(rt, size),
+        _ => Err(BenchError::Words),
+    }
 }

@@ -13,7 +13,7 @@ use thiserror::Error;
 /// Why nothing more was measured.
 #[derive(Debug, Drop, Error)]
 pub(crate) enum BenchError {
-    #[error("the words are how many messages, and a seed")]
+    #[error("the words are a topic, messages or joins, and a size")]
     Words,
     #[error("no memory")]
     Memory,
@@ -41,14 +41,16 @@ impl<T: Drop> From<AllocFailed<T>> for BenchError {
     }
 }
 
+/// The seed of what the messages say.
+const SEED: u64 = 1;
+
 /// Reads so many messages, takes them one after another, lists what the desk keeps, and prints a line for each.
-pub(crate) fn measure<R: AllocGlobal + Clock + Print>(
+pub(crate) fn measure_messages<R: AllocGlobal + Clock + Print>(
     rt: &R,
     count: u64,
-    seed: u64,
 ) -> Result<(), BenchError> {
     let alloc = rt.alloc();
-    let (texts, octets) = messages(alloc, count, seed)?;
+    let (texts, octets) = messages(alloc, count)?;
     let start = Instant::now(rt)?;
     let batches = read(alloc, &texts)?;
     let time = start.elapsed(rt)?.as_millis();
@@ -68,8 +70,8 @@ pub(crate) fn measure<R: AllocGlobal + Clock + Print>(
     Ok(())
 }
 
-fn messages(alloc: Global, count: u64, seed: u64) -> Result<(Vec<String>, u64), BenchError> {
-    let mut numbers = Numbers::of_seed(seed);
+fn messages(alloc: Global, count: u64) -> Result<(Vec<String>, u64), BenchError> {
+    let mut numbers = Numbers::of_seed(SEED);
     let mut texts = Vec::new(alloc);
     let mut octets = 0u64;
     for number in 0..count {
