@@ -1,3 +1,6 @@
 pub mod FlatMap
 pub mod OfKept
 pub mod RowsOf
+pub mod Sequences
+pub mod Alike
+pub mod OneList

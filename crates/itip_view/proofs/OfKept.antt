@@ -1,5 +1,5 @@
 -- The view needs only what is kept.
-use Rattle.std.proofs.Common.{◌≡◌, ℕ, List, sym, subst, ◌↔◌, refl, [], ◌∷◌}
+use Rattle.std.proofs.Common.{◌≡◌, ℕ, List, subst, ◌↔◌, refl, [], ◌∷◌}
 use Rattle.std.specs.Prelude.{codes}
 use Rattle.itip_message.specs.declared.item.Item.{Item}
 use Rattle.itip_message.specs.declared.key.Key.{Key}
@@ -19,7 +19,7 @@ best_series : (x y : List Item) → ((item : Item) → IsKept x item ↔ IsKept 
 best_series x y same uid item best =
     subst (λ (key : Key). IsBest y key item) best.about ((same item).0 (series_kept x uid item best)).best
 
-row_of_same : (x y : List Item) → ((item : Item) → IsKept x item ↔ IsKept y item) → (window : Window) (row : Row) → IsRow x window row → IsRow y window row
+pub row_of_same : (x y : List Item) → ((item : Item) → IsKept x item ↔ IsKept y item) → (window : Window) (row : Row) → IsRow x window row → IsRow y window row
 row_of_same x y same window row is = record {
   item = is.item;
   best = best_series x y same is.item.todo.uid is.item is.best;

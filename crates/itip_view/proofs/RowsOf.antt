@@ -1,5 +1,5 @@
 -- The rows of the series items of a state are the rows of its view.
-use Rattle.std.proofs.Common.{◌≡◌, ℕ, zero, suc, ◌+◌, ◌<◌, Bool, true, false, cond, ◌&&◌, not, List, [], ◌∷◌, ◌++◌, length, take, drop, map, get_or, length-append, take-append-drop, refl, sym, ap, subst, ◌∙◌, ◌⊎◌, inl, inr, arith, Option, Some, None, ℤ, ◌≤ℤ◌, ◌<ℤ◌}
+use Rattle.std.proofs.Common.{◌≡◌, ℕ, suc, ◌+◌, ◌<◌, Bool, true, false, cond, ◌&&◌, not, List, [], ◌∷◌, ◌++◌, length, take, drop, map, get_or, length-append, take-append-drop, refl, sym, ap, subst, ◌∙◌, ◌⊎◌, inl, inr, arith, Option, Some, None, ℤ, ◌≤ℤ◌, ◌<ℤ◌}
 use Rattle.std.specs.Prelude.{int_lt}
 use Rattle.std.proofs.Math.Dec.{T}
 use lib.Signed.{lt_z_yes, lt_z_no, <ℤ-≤ℤ_trans, <ℤ_irrefl}
@@ -9,7 +9,7 @@ use Rattle.itip_todo.specs.Participation.{same_text}
 use Rattle.itip_todo.specs.Table.{name_text}
 use Rattle.itip_todo.specs.declared.property_name.PropertyName.TheVariants as name
 use Rattle.itip_todo.specs.declared.todo.Todo.{Todo}
-use Rattle.std.specs.List.{Contains, AllPairs, All, filter}
+use Rattle.std.specs.List.{Contains, AllPairs, filter}
 use Rattle.std.specs.Ordering.{nat_cmp}
 use Rattle.std.specs.Cmp.Lexicographic.{slice_cmp}
 use Rattle.std.specs.declared.cmp.Ordering.TheVariants.{Less}
@@ -25,24 +25,24 @@ use Rattle.itip_message.specs.declared.kind.Kind.TheVariants as kind
 use Rattle.itip_message.proofs.Uids.{uid_of_item}
 use Rattle.itip_state.specs.Kept.{IsBest, AreSeriesOf, IsSeries}
 use Rattle.itip_state.specs.Order.{IsState}
-use Rattle.itip_view.specs.Rows.{IsRow, AreRows, AreTooMany, IsSingle, single_row, row_limit, day_of}
+use Rattle.itip_view.specs.Rows.{AreRows, AreTooMany, IsSingle, single_row, row_limit, day_of}
 use Rattle.itip_view.specs.Shown.{is_shown, is_live, is_single, is_none, rows_of}
 use Rattle.itip_view.specs.InWindow.{is_in_window}
 use Rattle.itip_view.specs.Window.{IsInWindow}
 use Rattle.itip_view.specs.declared.row.Row.{Row}
 use Rattle.itip_view.specs.declared.window.Window.{Window}
 
-cons_cases : {A : Type 0} (x : A) (xs : List A) (y : A) → Contains (x ∷ xs) y → (x ≡ y) ⊎ Contains xs y
+pub cons_cases : {A : Type 0} (x : A) (xs : List A) (y : A) → Contains (x ∷ xs) y → (x ≡ y) ⊎ Contains xs y
 cons_cases x xs y h =
     elim (Contains-append_cases (x ∷ []) xs y h) [
       | inl first ↦ elim (Contains-push_cases [] x y first) [ inl none ↦ absurd (omega (arith, none.1)) | inr same ↦ inl same ]
       | inr other ↦ inr other
     ]
 
-first_in : {A : Type 0} (x : A) (xs : List A) → Contains (x ∷ xs) x
+pub first_in : {A : Type 0} (x : A) (xs : List A) → Contains (x ∷ xs) x
 first_in x xs = Contains-append_left (x ∷ []) xs x (Contains-push [] x)
 
-later_in : {A : Type 0} (x : A) (xs : List A) (y : A) → Contains xs y → Contains (x ∷ xs) y
+pub later_in : {A : Type 0} (x : A) (xs : List A) (y : A) → Contains xs y → Contains (x ∷ xs) y
 later_in x xs y h = Contains-append_right (x ∷ []) xs y h
 
 AllPairs-map : {A B : Type 0} (R : B → B → Type 0) (f : A → B) (xs : List A) → AllPairs (λ a b. R (f a) (f b)) xs → AllPairs R (map f xs)

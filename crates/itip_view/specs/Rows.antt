@@ -1,5 +1,5 @@
 -- The rows of a task list (our own rule): each live to-do that doesn't recur has one.
-use Rattle.std.specs.Prelude.{◌≡◌, ℕ, ℤ, ◌≤◌, ◌<◌, Bool, true, false, ◌&&◌, List, [], ◌∷◌, map, Option, Some, None, length}
+use Rattle.std.specs.Prelude.{◌≡◌, ℕ, ℤ, ◌<◌, false, List, [], map, Option, Some, None, length}
 use Rattle.std.specs.Option.{option_map}
 use Rattle.std.specs.List.{Contains, AllPairs, list_any}
 use Rattle.std.specs.Ordering.{nat_cmp}

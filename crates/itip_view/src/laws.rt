@@ -1,15 +1,42 @@
-//! The law of views, of every finite set of items. It holds with no code: the function is empty.
-ghost use Rattle.std.specs.Prelude.{List, ℕ};
+//! The laws of views, of every finite set of items. They hold with no code: each function is empty.
+ghost use Rattle.std.specs.Prelude.{List, ℕ, Option, Some, None, ◌↔◌, ◌≡◌};
 ghost use Rattle.itip_message.specs.declared.item.Item.{Item};
 ghost use Rattle.itip_state.specs.Kept.{AreKept};
-ghost use Rattle.itip_view.specs.Rows.{AreRows, AreTooMany};
+ghost use Rattle.itip_moment.specs.declared.moment.Moment.{Moment};
+ghost use Rattle.itip_message.specs.declared.key.Key.TheVariants.{Answer};
+ghost use Rattle.itip_view.specs.Standing.{Stands, Governs, IsLiveSeries};
+ghost use Rattle.itip_view.specs.Answers.{Counts};
+ghost use Rattle.itip_view.specs.Rows.{IsRow, AreRows, AreTooMany};
 ghost use Rattle.itip_view.specs.ListText.{IsListText};
 ghost use Rattle.itip_view.specs.declared.row.Row.{Row};
 ghost use Rattle.itip_view.specs.declared.window.Window.{Window};
 
+/// What stands and what governs needs only what is kept (our own rules).
+pub fn standing_of_kept()
+    ensures stands { (kept heard : List Item) → AreKept kept heard → (uid : List ℕ) (id : Moment) (item : Item) → Stands kept uid id item ↔ Stands heard uid id item }
+    ensures governs { (kept heard : List Item) → AreKept kept heard → (uid : List ℕ) (id : Option Moment) (item : Item) → Governs kept uid id item ↔ Governs heard uid id item }
+{}
+
+/// Which answers count needs only what is kept: an answer to an instance never dies, and one to the to-do as a whole that counts beside the live series isn't
+/// dead (our own rules).
+pub fn answers_of_kept()
+    ensures to_instance { (kept heard : List Item) → AreKept kept heard → (governing : Item) (uid : List ℕ) (id : Moment) (attendee : List ℕ) (answer : Item) →
+        Counts kept governing (Answer uid (Some id) attendee) answer ↔ Counts heard governing (Answer uid (Some id) attendee) answer }
+    ensures to_series { (kept heard : List Item) → AreKept kept heard → (governing : Item) (uid attendee : List ℕ) (answer : Item) → IsLiveSeries heard uid governing →
+        Counts kept governing (Answer uid None attendee) answer ↔ Counts heard governing (Answer uid None attendee) answer }
+{}
+
 /// The view of what is kept is the view of all that was heard (our own rule).
 pub fn view_of_kept()
+    ensures row { (kept heard : List Item) → AreKept kept heard → (window : Window) (row : Row) → IsRow kept window row ↔ IsRow heard window row }
     ensures rows { (kept heard : List Item) → AreKept kept heard → (window : Window) (rows : List Row) → AreRows kept window rows → AreRows heard window rows }
     ensures text { (kept heard : List Item) → AreKept kept heard → (window : Window) (text : List ℕ) → IsListText kept window text → IsListText heard window text }
     ensures many { (kept heard : List Item) → AreKept kept heard → (window : Window) → AreTooMany kept window → AreTooMany heard window }
+{}
+
+/// What was heard has one list in a window, or too many rows for one, and never both (our own rule).
+pub fn one_list()
+    ensures rows { (heard : List Item) (window : Window) (rows others : List Row) → AreRows heard window rows → AreRows heard window others → rows ≡ others }
+    ensures text { (heard : List Item) (window : Window) (text other : List ℕ) → IsListText heard window text → IsListText heard window other → text ≡ other }
+    ensures apart { (heard : List Item) (window : Window) (text : List ℕ) → IsListText heard window text → AreTooMany heard window → ⊥ }
 {}

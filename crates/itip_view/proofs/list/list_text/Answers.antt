@@ -1,4 +1,4 @@
-use Rattle.std.proofs.Common.{◌≡◌, ◌++◌, ap, sym, ◌∙◌}
+use Rattle.std.proofs.Common.{◌++◌, ap, sym, ◌∙◌}
 use Rattle.itip_view.specs.ListText.{row_text}
 use Rattle.itip_view.proofs.FlatMap.{flat_map_more}
 use Rattle.itip_view.proofs.list.list_text.Goals as goal

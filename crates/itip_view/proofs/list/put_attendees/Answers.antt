@@ -1,4 +1,4 @@
-use Rattle.std.proofs.Common.{◌≡◌, ◌++◌, ap, sym, ◌∙◌, take, append_assoc}
+use Rattle.std.proofs.Common.{◌++◌, ap, sym, ◌∙◌, take, append_assoc}
 use Rattle.std.specs.List.{flat_map}
 use Rattle.itip_view.specs.ListText.{attendee_text}
 use Rattle.itip_view.proofs.FlatMap.{flat_map_more}

@@ -1,9 +1,9 @@
-use Rattle.std.proofs.Common.{◌≡◌, ◌≢◌, ◌≤◌, ◌<◌, ◌+◌, ◌++◌, ◌∷◌, [], List, ℕ, Bool, true, false, cond, length, map, take, drop, get_or, refl, sym, ap, subst, ◌∙◌, arith, length-append, append-nil, take_all}
+use Rattle.std.proofs.Common.{◌≡◌, ◌≢◌, ◌≤◌, ◌<◌, ◌+◌, ◌++◌, ◌∷◌, [], List, cond, length, map, take, sym, ap, subst, ◌∙◌, arith, length-append, append-nil, take_all}
 use Rattle.std.proofs.lemmas.List.{length-map}
 use Rattle.std.proofs.Math.ListN.{get_or-map}
 use Rattle.itip_message.specs.declared.item.Item.{Item}
 use Rattle.itip_state.specs.Kept.{AreSeriesOf}
-use Rattle.itip_view.specs.Rows.{AreRows, AreTooMany, row_limit, single_row}
+use Rattle.itip_view.specs.Rows.{AreRows, row_limit, single_row}
 use Rattle.itip_view.specs.Shown.{is_shown, rows_of}
 use Rattle.itip_view.specs.declared.row.Row.{Row}
 use Rattle.itip_view.proofs.RowsOf.{rows_are, rows_more, too_many}

@@ -1,0 +1,67 @@
+-- Only an instance item's effective sequence may differ from its own.
+use Rattle.std.proofs.Common.{append-nil, ◌≡◌, ◌∙◌, sym, ap, refl, ℕ, List, [], ◌∷◌, map, subst, Option, Some, None}
+use Rattle.std.specs.Prelude.{Bool, true, false}
+use Rattle.std.specs.List.{AllByRecursion}
+use Rattle.std.proofs.Math.Logic.{∥∥₁_map}
+use Rattle.itip_moment.specs.declared.moment.Moment.{Moment}
+use Rattle.itip_todo.specs.Parts.{Parts}
+use Rattle.itip_todo.specs.PartsOf.{parts_of}
+use Rattle.itip_todo.specs.declared.property.Property.{Property}
+use Rattle.itip_message.specs.Items.{Draft, drafts_of, task_draft, add_drafts, answer_draft, refresh_draft, instance_sequence, kind_of, method_of}
+use Rattle.itip_message.specs.declared.item.Item.{Item}
+use Rattle.itip_message.specs.declared.key.Key.{Key}
+use Rattle.itip_message.specs.declared.key.Key.TheVariants.{Series, Instance, Answer, Refresh}
+use Rattle.itip_message.specs.declared.kind.Kind.{Kind}
+use Rattle.itip_message.specs.declared.kind.Kind.TheVariants as kind
+use Rattle.itip_message.proofs.SameItem.{Is, stable, told_numbers}
+
+abbrev is_instance : Key → Bool
+is_instance (Series uid) = false
+is_instance (Instance uid id) = true
+is_instance (Answer uid id attendee) = false
+is_instance (Refresh uid id attendee) = false
+
+abbrev IsPlain : Parts → Draft → Type 0
+IsPlain parts draft = is_instance draft.key ≡ false → draft.eff ≡ parts.seq
+
+task_plain : (k : Kind) (eff : ℕ) (rid : Option Moment) (parts : Parts) → IsPlain parts (task_draft k eff rid parts)
+task_plain k eff None parts = λ e. refl
+task_plain k eff (Some id) parts = λ e. cc
+
+added_plain : (eff : ℕ) (start : Option Moment) (parts : Parts) → AllByRecursion (IsPlain parts) (add_drafts eff start parts)
+added_plain eff None parts = tt
+added_plain eff (Some id) parts = (λ e. cc, tt)
+
+answers_plain : (k : Kind) (parts : Parts) (lines : List Property) → AllByRecursion (IsPlain parts) (map (answer_draft k parts) lines)
+answers_plain k parts [] = tt
+answers_plain k parts (line ∷ lines) = (λ e. refl, answers_plain k parts lines)
+
+refreshes_plain : (parts : Parts) (lines : List Property) → AllByRecursion (IsPlain parts) (map (refresh_draft parts) lines)
+refreshes_plain parts [] = tt
+refreshes_plain parts (line ∷ lines) = (λ e. refl, refreshes_plain parts lines)
+
+all_plain : (k : Kind) (eff : ℕ) (parts : Parts) → AllByRecursion (IsPlain parts) (drafts_of k eff parts)
+all_plain kind.Request eff parts = (task_plain kind.Request eff parts.rid parts, tt)
+all_plain kind.Cancel eff parts = (task_plain kind.Cancel eff parts.rid parts, tt)
+all_plain kind.Add eff parts = added_plain eff parts.start parts
+all_plain kind.Remove eff parts = answers_plain kind.Remove parts parts.attendees
+all_plain kind.Reply eff parts = answers_plain kind.Reply parts parts.attendees
+all_plain kind.Refresh eff parts = refreshes_plain parts parts.attendees
+
+plain_from : (item : Item) → is_instance item.key ≡ false → Is item → item.eff ≡ item.own
+plain_from item not_instance is =
+    let parts : Parts = parts_of item.todo in
+    let eff : ℕ = instance_sequence (method_of item.kind) (parts ∷ []) parts in
+    let k : Kind = kind_of (method_of item.kind) parts in
+    let one : drafts_of k eff parts ≡ is.draft ∷ [] = sym (append-nil (drafts_of k eff parts)) ∙ is.alone in
+    let plain : AllByRecursion (IsPlain parts) (is.draft ∷ []) = subst (AllByRecursion (IsPlain parts)) one (all_plain k eff parts) in
+    is.is.eff_is ∙ plain.0 (ap is_instance (sym is.is.key_is) ∙ not_instance) ∙ sym is.is.own_is
+
+eff_is_own : (item : Item) → is_instance item.key ≡ false → item.eff ≡ item.own
+eff_is_own item not_instance = stable (told_numbers _ _) (∥∥₁_map item.canonical (plain_from item not_instance))
+
+pub series_eff : (item : Item) (uid : List ℕ) → item.key ≡ Series uid → item.eff ≡ item.own
+series_eff item uid about = eff_is_own item (ap is_instance about)
+
+pub answer_eff : (item : Item) (uid : List ℕ) (id : Option Moment) (attendee : List ℕ) → item.key ≡ Answer uid id attendee → item.eff ≡ item.own
+answer_eff item uid id attendee about = eff_is_own item (ap is_instance about)

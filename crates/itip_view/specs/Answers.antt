@@ -1,0 +1,64 @@
+-- Which answers count, and what a row shows of an attendee (our own rules; a REPLY names the revision that it answers: RFC 5546 2.1.5).
+use Rattle.std.specs.Prelude.{◌≡◌, ◌⊎◌, ◌≤◌, ℕ, List, [], ◌∷◌, Option, Some, None}
+use Rattle.itip_moment.specs.declared.moment.Moment.{Moment}
+use Rattle.itip_todo.specs.Participation.{partstat_of}
+use Rattle.itip_todo.specs.Table.{attendee_key}
+use Rattle.itip_todo.specs.declared.attendee.PartStat.{PartStat}
+use Rattle.itip_todo.specs.declared.attendee.PartStat.TheVariants.{NeedsAction}
+use Rattle.itip_todo.specs.declared.property.Property.{Property}
+use Rattle.itip_message.specs.declared.item.Item.{Item}
+use Rattle.itip_message.specs.declared.key.Key.{Key}
+use Rattle.itip_message.specs.declared.key.Key.TheVariants.{Answer}
+use Rattle.itip_message.specs.declared.kind.Kind.{Kind}
+use Rattle.itip_message.specs.declared.kind.Kind.TheVariants as kind
+use Rattle.itip_state.specs.Kept.{IsBest}
+use Rattle.itip_view.specs.declared.row.ShownAttendee.{ShownAttendee}
+
+-- the answer of a key counts where its sequence is at least that of the item that governs
+pub record Counts (heard : List Item) (governing : Item) (key : Key) (answer : Item) : Type 0 where
+  pub best : IsBest heard key answer
+  pub since : governing.own ≤ answer.own
+
+abbrev pub NoneCounts : List Item → Item → Key → Type 0
+NoneCounts heard governing key = (answer : Item) → ¬ Counts heard governing key answer
+
+-- the first of these keys that has an answer that counts decides
+abbrev pub Decides : List Item → Item → List Key → Option Item → Type 0
+Decides heard governing [] None = Unit {0}
+Decides heard governing [] (Some answer) = ⊥
+Decides heard governing (key ∷ keys) None = NoneCounts heard governing key × Decides heard governing keys None
+Decides heard governing (key ∷ keys) (Some answer) = Counts heard governing key answer ⊎ (NoneCounts heard governing key × Decides heard governing keys (Some answer))
+
+-- the key of the answers of the attendee of a line
+abbrev pub answer_key : List ℕ → Option Moment → Property → Key
+answer_key uid id line = Answer uid id (attendee_key line.value)
+
+-- how the attendee of an answer takes part: by the one ATTENDEE line that it keeps
+abbrev pub partstat_in : List Property → PartStat
+partstat_in [] = NeedsAction
+partstat_in (line ∷ lines) = partstat_of line.params
+
+-- what an answer of a kind shows: one that removes the attendee leaves him out
+abbrev pub unless_removed : Kind → ShownAttendee → Option ShownAttendee
+unless_removed kind.Remove attendee = None
+unless_removed kind.Reply attendee = Some attendee
+unless_removed kind.Request attendee = Some attendee
+unless_removed kind.Add attendee = Some attendee
+unless_removed kind.Cancel attendee = Some attendee
+unless_removed kind.Refresh attendee = Some attendee
+
+-- what an ATTENDEE line shows where this answer decides; with none the line stands as it is, and no percentage
+abbrev pub shown_line : Property → Option Item → Option ShownAttendee
+shown_line line None = Some (record { address = line.value; partstat = partstat_of line.params; percent = None })
+shown_line line (Some answer) = unless_removed answer.kind (record { address = line.value; partstat = partstat_in answer.todo.attendees; percent = answer.todo.percent })
+
+abbrev pub in_front : Option ShownAttendee → List ShownAttendee → List ShownAttendee
+in_front None others = others
+in_front (Some attendee) others = attendee ∷ others
+
+-- the attendees that the lines of the governing item show, in their order, where each line's answers are looked for at these keys
+abbrev pub AreShown : List Item → Item → (Property → List Key) → List Property → List ShownAttendee → Type 0
+AreShown heard governing keys_of [] shown = shown ≡ []
+AreShown heard governing keys_of (line ∷ lines) shown =
+    (answer : Option Item) × (others : List ShownAttendee) × Decides heard governing (keys_of line) answer
+    × AreShown heard governing keys_of lines others × (shown ≡ in_front (shown_line line answer) others)
