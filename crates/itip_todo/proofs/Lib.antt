@@ -1,7 +1,7 @@
 pub mod Contents
-pub mod Drafting
-pub mod Finishing
 pub mod GoodLines
 pub mod LawfulLines
 pub mod Names
+pub mod ReadingLaws
 pub mod SameTodo
+pub mod WritingLaws

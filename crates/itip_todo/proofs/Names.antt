@@ -1,12 +1,9 @@
 -- A property that is told apart by name is spelled by that name.
 use Rattle.std.proofs.Common.{◌≡◌, ℕ, ◌==◌, Bool, true, false, cond, ◌&&◌, List, [], ◌∷◌, refl, sym, ap, ◌∙◌, ◌<◌, arith, Some, None, Option}
 use Rattle.std.specs.Prelude.{codes}
-use Rattle.std.specs.List.{filter}
 use Rattle.std.proofs.lemmas.Bool.{eqb-true}
-use Rattle.itip_lines.specs.declared.line.Line.{Line}
 use Rattle.itip_todo.specs.Participation.{same_text}
 use Rattle.itip_todo.specs.Table.{property_named, name_text, place_of, is_same, IsSpelled}
-use Rattle.itip_todo.specs.Reading.{property_of, is_named, first_named, first_of}
 use Rattle.itip_todo.specs.declared.property_name.PropertyName.{PropertyName}
 use Rattle.itip_todo.specs.declared.property_name.PropertyName.TheVariants as name
 
@@ -43,18 +40,6 @@ spelled text =
     (spelled_next text (same_text text (codes "RDATE")) name.RDate _ (text_is text (codes "RDATE"))
     (spelled_next text (same_text text (codes "EXDATE")) name.ExDate _ (text_is text (codes "EXDATE"))
     (λ few. absurd (omega (arith, few))))))))))))))))))
-
--- the first line of a property has it
-pub first_has : (p : PropertyName) (lines : List Line) (line : Line) → first_named p lines ≡ Some line → is_named p line ≡ true
-first_has p [] line e = cc
-first_has p (l ∷ ls) line e =
-    elim (is_named p l) as (λ b. is_named p l ≡ b → first_of (cond b (l ∷ filter (is_named p) ls) (filter (is_named p) ls)) ≡ Some line → is_named p line ≡ true) [
-      | true ↦ λ yes first. ap (is_named p) (sym (some_same l line first)) ∙ yes
-      | false ↦ λ _ later. first_has p ls line later
-    ] refl e
-  where
-    some_same : (a b : Line) → Some a ≡ Some b → a ≡ b
-    some_same a b e = ap (λ (o : Option Line). elim o [ None ↦ a | Some x ↦ x ]) e
 
 pub place_is : (p q : PropertyName) → is_same p q ≡ true → place_of p ≡ place_of q
 place_is p q e = eqb-true (place_of p) (place_of q) e
