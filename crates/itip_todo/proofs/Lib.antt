@@ -1,7 +1,12 @@
+pub mod Commas
 pub mod Contents
+pub mod Drafting
+pub mod Empty
 pub mod GoodLines
 pub mod LawfulLines
+pub mod Listing
 pub mod Names
+pub mod Putting
 pub mod ReadingLaws
 pub mod SameTodo
 pub mod WritingLaws

@@ -1,5 +1,5 @@
 -- What the lines so far say of a to-do, as the reader keeps it.
-use Rattle.std.specs.Prelude.{◌≡◌, ◌≤◌, ℕ, ◌||◌, cond, List, [], ◌∷◌, ◌++◌, length, map, unwrap_or, Some}
+use Rattle.std.specs.Prelude.{◌≡◌, ◌≢◌, ◌<◌, ◌≤◌, ℕ, ◌||◌, Bool, cond, slice_index, List, [], ◌∷◌, ◌++◌, length, map, unwrap_or, Some}
 use Rattle.std.specs.BTreeSet.{BTreeSet, contains, IsOrdered}
 use Rattle.std.specs.Cmp.Lexicographic.{slice_cmp}
 use Rattle.std.specs.List.{list_any, filter, IsDistinct}
@@ -18,52 +18,66 @@ use Rattle.itip_todo.specs.Table.{is_same, attendee_limit}
 use Rattle.itip_todo.specs.Values.{AreMoments}
 use Rattle.itip_todo.specs.declared.draft.Draft.{Draft}
 use Rattle.itip_todo.specs.declared.error.Fault.{Fault}
+use Rattle.itip_todo.specs.declared.property.Property.{Property}
 use Rattle.itip_todo.specs.declared.property_name.PropertyName.{PropertyName}
 use Rattle.itip_todo.specs.declared.property_name.PropertyName.TheVariants as name
+
+-- the moment is one of these
+abbrev pub is_listed : List Moment → Moment → Bool
+is_listed moments m = list_any (λ x. eq_by_cmp moment_cmp x m) moments
 
 -- the set of the moments that lines list
 pub record IsSetOf (lines : List Line) (set : BTreeSet Moment) : Type 0 where
   pub listed : List Moment
   pub list : ListMoments lines listed
-  pub ordered : IsOrdered moment_cmp set
-  pub each : (m : Moment) → contains moment_cmp set m ≡ list_any (eq_by_cmp moment_cmp m) listed
+  pub each : (m : Moment) → contains moment_cmp set m ≡ is_listed listed m
+
+-- no comma (44) stands in the text
+abbrev pub HasNoComma : List ℕ → Type 0
+HasNoComma text = (i : ℕ) → i < length text → slice_index text i ≢ 44
 
 -- the moment that the text spells beside this zone was put into the set
 pub record PutsMoment (text zone : List ℕ) (old new : BTreeSet Moment) : Type 0 where
   pub moment : Moment
   pub is : MomentText text (Some zone) moment
-  pub each : (m : Moment) → contains moment_cmp new m ≡ (contains moment_cmp old m || eq_by_cmp moment_cmp m moment)
-  pub ordered : IsOrdered moment_cmp new
+  pub each : (m : Moment) → contains moment_cmp new m ≡ (contains moment_cmp old m || eq_by_cmp moment_cmp moment m)
 
 -- the moments that the text lists beside these parameters were put into the set
 pub record PutsMoments (params : List Param) (text : List ℕ) (old new : BTreeSet Moment) : Type 0 where
   pub listed : List Moment
   pub are : AreMoments params text listed
-  pub each : (m : Moment) → contains moment_cmp new m ≡ (contains moment_cmp old m || list_any (eq_by_cmp moment_cmp m) listed)
-  pub ordered : IsOrdered moment_cmp new
+  pub each : (m : Moment) → contains moment_cmp new m ≡ (contains moment_cmp old m || is_listed listed m)
+
+-- the attendees of these lines, and their keys
+pub record HoldsAttendees (lines : List Line) (attendees : List Property) (set : BTreeSet (List ℕ)) : Type 0 where
+  pub whole : attendees ≡ map whole_property lines
+  pub few : length lines ≤ attendee_limit
+  pub distinct : IsDistinct same_text (map key_of lines)
+  pub keys : (key : List ℕ) → contains (slice_cmp nat_cmp) set key ≡ list_any (same_text key) (map key_of lines)
+
+-- what a draft holds of a property, where these are its lines
+abbrev pub Holds : Draft → PropertyName → List Line → Type 0
+Holds draft name.Uid lines = IsOptional IsUidOf (first_of lines) draft.uid
+Holds draft name.DtStamp lines = IsOptional IsStampOf (first_of lines) draft.stamp
+Holds draft name.Sequence lines = IsOptional IsSequenceOf (first_of lines) draft.seq
+Holds draft name.DeskBase lines = IsOptional IsSequenceOf (first_of lines) draft.base
+Holds draft name.RecurrenceId lines = IsOptional IsMomentOf (first_of lines) draft.rid
+Holds draft name.DtStart lines = IsOptional IsMomentOf (first_of lines) draft.start
+Holds draft name.Due lines = IsOptional IsMomentOf (first_of lines) draft.due
+Holds draft name.Status lines = IsOptional IsStatusOf (first_of lines) draft.status
+Holds draft name.PercentComplete lines = IsOptional IsPercentOf (first_of lines) draft.percent
+Holds draft name.Priority lines = IsOptional IsPriorityOf (first_of lines) draft.priority
+Holds draft name.Summary lines = IsOptional IsPropertyOf (first_of lines) draft.summary
+Holds draft name.Organizer lines = IsOptional IsOrganizerOf (first_of lines) draft.organizer
+Holds draft name.Attendee lines = HoldsAttendees lines draft.attendees.items draft.keys
+Holds draft name.RRule lines = draft.rule.items ≡ map value_of lines
+Holds draft name.RDate lines = IsSetOf lines draft.rdates
+Holds draft name.ExDate lines = IsSetOf lines draft.exdates
+Holds draft name.Others lines = draft.others.items ≡ lines
 
 -- what a draft holds, where these lines of each property stand above
-pub record IsDraftOf (above : PropertyName → List Line) (draft : Draft) : Type 0 where
-  pub uid : IsOptional IsUidOf (first_of (above name.Uid)) draft.uid
-  pub stamp : IsOptional IsStampOf (first_of (above name.DtStamp)) draft.stamp
-  pub seq : IsOptional IsSequenceOf (first_of (above name.Sequence)) draft.seq
-  pub base : IsOptional IsSequenceOf (first_of (above name.DeskBase)) draft.base
-  pub rid : IsOptional IsMomentOf (first_of (above name.RecurrenceId)) draft.rid
-  pub start : IsOptional IsMomentOf (first_of (above name.DtStart)) draft.start
-  pub due : IsOptional IsMomentOf (first_of (above name.Due)) draft.due
-  pub status : IsOptional IsStatusOf (first_of (above name.Status)) draft.status
-  pub percent : IsOptional IsPercentOf (first_of (above name.PercentComplete)) draft.percent
-  pub priority : IsOptional IsPriorityOf (first_of (above name.Priority)) draft.priority
-  pub summary : IsOptional IsPropertyOf (first_of (above name.Summary)) draft.summary
-  pub organizer : IsOptional IsOrganizerOf (first_of (above name.Organizer)) draft.organizer
-  pub attendees : draft.attendees.items ≡ map whole_property (above name.Attendee)
-  pub few : length (above name.Attendee) ≤ attendee_limit
-  pub distinct : IsDistinct same_text (map key_of (above name.Attendee))
-  pub keys : (key : List ℕ) → contains (slice_cmp nat_cmp) draft.keys key ≡ list_any (same_text key) (map key_of (above name.Attendee))
-  pub rule : draft.rule.items ≡ map value_of (above name.RRule)
-  pub rdates : IsSetOf (above name.RDate) draft.rdates
-  pub exdates : IsSetOf (above name.ExDate) draft.exdates
-  pub others : draft.others.items ≡ above name.Others
+abbrev pub IsDraftOf : (PropertyName → List Line) → Draft → Type 0
+IsDraftOf above draft = (p : PropertyName) → Holds draft p (above p)
 
 -- these lines, and one more of this property
 abbrev pub more : (PropertyName → List Line) → PropertyName → Line → PropertyName → List Line
@@ -102,4 +116,5 @@ draft_parts uid stamp draft = record {
 
 -- the to-do of a draft is lawful
 abbrev pub IsLawfulDraft : Draft → Type 0
-IsLawfulDraft draft = (uid : List ℕ) (stamp : Stamp) → draft.uid ≡ Some uid → draft.stamp ≡ Some stamp → IsLawful (draft_parts uid stamp draft)
+IsLawfulDraft draft =
+    (uid : List ℕ) (stamp : Stamp) → draft.uid ≡ Some uid → draft.stamp ≡ Some stamp → IsOrdered moment_cmp draft.rdates → IsOrdered moment_cmp draft.exdates → IsLawful (draft_parts uid stamp draft)

@@ -1,6 +1,7 @@
 //! The to-do of all lines.
-ghost use Rattle.std.specs.Prelude.{◌≡◌, [], List, IfOk, IfErr};
-ghost use Rattle.std.specs.List.Sorted.{IsStrictlySortedBy};
+ghost use Rattle.std.specs.Prelude.{◌≡◌, [], List, None, Some, IfOk, OnOk, IfErr};
+ghost use Rattle.itip_todo.specs.declared.error.Fault.TheVariants as fault;
+ghost use Rattle.std.specs.BTreeSet.{IsOrdered};
 ghost use Rattle.itip_lines.specs.declared.line.Line.{Line};
 ghost use Rattle.itip_moment.specs.Order.{moment_cmp};
 ghost use Rattle.itip_todo.specs.Drafts.{IsDraftOf, IsLawfulDraft};
@@ -21,12 +22,8 @@ pub(crate) fn finish(alloc: Global, draft: Draft) -> Result<Todo, TodoError>
     ensures found { IfOk result (λ todo. (lines : List Line) → AreGood [] lines → IsDraftOf (lines_of lines) draft → ReadsTodo lines todo) }
     ensures fault { IfErr result (λ e. IfFault e (λ f. (lines : List Line) → AreGood [] lines → IsDraftOf (lines_of lines) draft → RefusesTodo lines f)) }
 {
-    let Some(uid) = draft.uid else {
-        return Err(TodoError::Fault(Fault::Missing(PropertyName::Uid)));
-    };
-    let Some(stamp) = draft.stamp else {
-        return Err(TodoError::Fault(Fault::Missing(PropertyName::DtStamp)));
-    };
+    let uid = present(draft.uid, PropertyName::Uid)?;
+    let stamp = present(draft.stamp, PropertyName::DtStamp)?;
     let rdates = in_order(alloc, draft.rdates)?;
     let exdates = in_order(alloc, draft.exdates)?;
     Ok(Todo {
@@ -52,7 +49,18 @@ pub(crate) fn finish(alloc: Global, draft: Draft) -> Result<Todo, TodoError>
 
 /// The moments of a set, in their order.
 fn in_order(alloc: Global, set: BTreeSet<Moment>) -> Result<ListOf<Moment>, NoMemory>
-    ensures { IfOk result (λ list. list ≡ set.keys) }
+    ensures list { IfOk result (λ list. list ≡ set.keys) }
+    ensures ordered { OnOk result (IsOrdered moment_cmp set) }
 {
     Ok(ListOf::from_vec(set.into_iter().collect(alloc)?))
+}
+
+fn present<T>(field: Option<T>, property: PropertyName) -> Result<T, TodoError>
+    ensures some { IfOk result (λ value. field ≡ Some value) }
+    ensures fault { IfErr result (λ e. IfFault e (λ f. (f ≡ fault.Missing property) × (field ≡ None))) }
+{
+    match field {
+        Some(value) => Ok(value),
+        None => Err(TodoError::Fault(Fault::Missing(property))),
+    }
 }

@@ -1,9 +1,8 @@
 //! Lines of the properties that may stand more than once.
 ghost use Rattle.std.specs.Prelude.{◌≡◌, ◌≢◌, ◌++◌, ◌∷◌, List, Some, OnOk, IfOk, IfErr, MatchOption};
-ghost use Rattle.std.specs.List.{All};
 ghost use Rattle.itip_moment.specs.declared.moment.Moment.{Moment};
 ghost use Rattle.itip_moment.specs.Spelling.{MomentText};
-ghost use Rattle.itip_todo.specs.Drafts.{Takes, Refuses, PutsMoment, PutsMoments};
+ghost use Rattle.itip_todo.specs.Drafts.{Takes, Refuses, HasNoComma, PutsMoment, PutsMoments};
 ghost use Rattle.itip_todo.specs.Reading.{IfFault};
 ghost use Rattle.itip_todo.specs.Table.{attendee_key};
 ghost use Rattle.itip_todo.specs.Values.{AreMoments};
@@ -101,8 +100,8 @@ fn put_moments(
 
 /// What stands before and behind the first comma.
 fn cut_comma(text: &str) -> Option<(&str, &str)>
-    ensures { MatchOption result (All (λ c. c ≢ 44) text.now)
-        (λ p. (text.now ≡ p.0.now ++ 44 ∷ p.1.now) × All (λ c. c ≢ 44) p.0.now) }
+    ensures { MatchOption result (HasNoComma text.now)
+        (λ p. (text.now ≡ p.0.now ++ 44 ∷ p.1.now) × HasNoComma p.0.now) }
 {
     text.split_once(',')
 }

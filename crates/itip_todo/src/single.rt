@@ -1,10 +1,7 @@
 //! Lines of the properties that may stand once.
-ghost use Rattle.std.specs.Prelude.{◌≡◌, ◌≢◌, None, OnOk, IfErr, codes};
-ghost use Rattle.std.specs.List.{list_any};
-ghost use Rattle.itip_lines.specs.declared.line.Param.{Param};
-ghost use Rattle.itip_todo.specs.Participation.{same_text};
+ghost use Rattle.std.specs.Prelude.{◌≡◌, ◌≢◌, None, OnOk, IfErr};
 ghost use Rattle.itip_todo.specs.Drafts.{Takes, Refuses};
-ghost use Rattle.itip_todo.specs.Reading.{IfFault};
+ghost use Rattle.itip_todo.specs.Reading.{IfFault, has_range};
 ghost use Rattle.itip_todo.specs.declared.error.Fault.TheVariants as fault;
 ghost use Rattle.itip_todo.specs.declared.property_name.PropertyName.TheVariants as name;
 
@@ -12,7 +9,7 @@ use crate::draft::Draft;
 use crate::error::{Fault, TodoError};
 use crate::property_name::PropertyName;
 use crate::values::{moment_of, number_of, organizer_of, property_of, stamp_of, status_of, uid_of};
-use itip_lines::{Line, Param};
+use itip_lines::Line;
 use std::alloc::Global;
 
 const SEQUENCE_LIMIT: u32 = 2_147_483_647;
@@ -72,7 +69,7 @@ pub(crate) fn add_rid(alloc: Global, draft: &mut Draft, line: &Line) -> Result<(
     ensures fault { IfErr result (λ e. IfFault e (Refuses name.RecurrenceId line.now draft.old)) }
 {
     check_free(&draft.rid, PropertyName::RecurrenceId)?;
-    if has_range(line.params.as_slice()) {
+    if has_range(line) {
         return Err(TodoError::Fault(Fault::Range));
     }
     draft.rid = Some(moment_of(alloc, PropertyName::RecurrenceId, line)?);
@@ -144,8 +141,10 @@ pub(crate) fn add_organizer(draft: &mut Draft, line: &Line) -> Result<(), TodoEr
     Ok(())
 }
 
-fn has_range(params: &[Param]) -> bool
-    ensures { result ≡ list_any (λ (param : Param). same_text param.name (codes "RANGE")) params.now }
+/// Whether RECURRENCE-ID has a RANGE parameter (RFC 5545 3.2.13).
+fn has_range(line: &Line) -> bool
+    ensures { result ≡ has_range name.RecurrenceId line.now }
 {
-    params.iter().any(|param| param.name.as_str() == "RANGE")
+    let mut params = line.params.as_slice().iter();
+    params.any(|param| param.name.as_str() == "RANGE")
 }
