@@ -1,15 +1,16 @@
 -- The draft of no line.
-use Rattle.std.proofs.Common.{◌≡◌, List, [], length, refl, ap, arith, Option, None, Vec, Global}
+use Rattle.std.proofs.Common.{◌≡◌, List, [], length, refl, sym, ap, subst, arith, Option, None, Vec, Global}
 use Rattle.std.specs.BTreeMap.{is_at}
 use Rattle.std.specs.BTreeSet.{BTreeSet}
 use Rattle.std.specs.Cmp.Lexicographic.{slice_cmp}
-use Rattle.std.specs.List.{list_any, IsDistinct}
+use Rattle.std.specs.List.{list_any, AllByRecursion, IsDistinct}
 use Rattle.std.specs.Ordering.{nat_cmp}
 use Rattle.std.specs.Prelude.{ℕ}
 use Rattle.itip_lines.specs.declared.line.Line.{Line}
 use Rattle.itip_moment.specs.Order.{moment_cmp}
 use Rattle.itip_moment.specs.declared.moment.Moment.{Moment}
 use Rattle.itip_todo.specs.Drafts.{Holds, HoldsAttendees, IsSetOf}
+use Rattle.itip_todo.specs.Lawful.{HasValue}
 use Rattle.itip_todo.specs.declared.draft.Draft.{Draft}
 use Rattle.itip_todo.specs.declared.property.Property.{Property}
 use Rattle.itip_todo.specs.declared.property_name.PropertyName.{PropertyName}
@@ -20,7 +21,7 @@ no_moment set e = record { listed = []; list = refl; each = λ m. ap (λ (ks : L
 
 no_attendee : (attendees : List Property) (keys : BTreeSet (List ℕ)) → attendees ≡ [] → keys.keys ≡ [] → HoldsAttendees [] attendees keys
 unfolding IsDistinct
-no_attendee attendees keys e f = record { whole = e; few = omega arith; distinct = tt; keys = λ key. ap (λ (ks : List (List ℕ)). list_any (is_at (slice_cmp nat_cmp key)) ks) f }
+no_attendee attendees keys e f = record { whole = e; values = subst (λ (ps : List Property). AllByRecursion HasValue ps) (sym e) tt; few = omega arith; distinct = tt; keys = λ key. ap (λ (ks : List (List ℕ)). list_any (is_at (slice_cmp nat_cmp key)) ks) f }
 
 pub empty_draft : (attendees : Vec Property Global) (keys : BTreeSet (List ℕ)) (rule : Vec (List ℕ) Global) (rdates exdates : BTreeSet Moment) (others : Vec Line Global)
     → attendees.items ≡ [] → keys.keys ≡ [] → rule.items ≡ [] → rdates.keys ≡ [] → exdates.keys ≡ [] → others.items ≡ [] → (p : PropertyName)

@@ -2,6 +2,7 @@ pub mod Commas
 pub mod Contents
 pub mod Drafting
 pub mod Empty
+pub mod Finishing
 pub mod GoodLines
 pub mod LawfulLines
 pub mod Listing
@@ -9,4 +10,6 @@ pub mod Names
 pub mod Putting
 pub mod ReadingLaws
 pub mod SameTodo
+pub mod Segments
+pub mod Sets
 pub mod WritingLaws

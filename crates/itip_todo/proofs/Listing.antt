@@ -9,12 +9,13 @@ use Rattle.std.proofs.lemmas.List.Folds.{list_any-append}
 use Rattle.std.proofs.lemmas.Map.Keys.{IsDistinct-push}
 use Rattle.std.specs.BTreeSet.{BTreeSet, contains, Updates}
 use Rattle.std.specs.Cmp.Lexicographic.{slice_cmp, texts_ties}
-use Rattle.std.specs.List.{list_any, IsDistinct}
+use Rattle.std.specs.List.{list_any, AllByRecursion, IsDistinct}
 use Rattle.std.specs.Ordering.{nat_cmp, eq_by_cmp}
 use Rattle.itip_lines.specs.declared.line.Line.{Line}
 use Rattle.itip_moment.specs.Order.{moment_cmp}
 use Rattle.itip_moment.specs.declared.moment.Moment.{Moment}
 use Rattle.itip_todo.specs.Drafts.{IsDraftOf, Holds, HoldsAttendees, IsSetOf, PutsMoments, Takes, more, is_listed}
+use Rattle.itip_todo.specs.Lawful.{HasValue}
 use Rattle.itip_todo.specs.Participation.{same_text}
 use Rattle.itip_todo.specs.Reading.{IsGoodAs, ListMoments, is_too_many, is_same_attendee, whole_property, value_of, key_of}
 use Rattle.itip_todo.specs.Table.{attendee_key, attendee_limit}
@@ -47,11 +48,16 @@ keys_more lines line old new h updates key =
     ∙ ap (λ b. list_any (same_text key) (map key_of lines) || b) (sym (or-false (same_text key (key_of line))))
     ∙ sym (ap (λ (keys : List (List ℕ)). list_any (same_text key) keys) (map-append key_of lines (line ∷ [])) ∙ list_any-append (same_text key) (map key_of lines) (key_of line ∷ []))
 
-pub attendees_more : (lines : List Line) (line : Line) (old new : List Property) (before after : BTreeSet (List ℕ)) → HoldsAttendees lines old before → length old < 500 → list_any (same_text (key_of line)) (map key_of lines) ≡ false
+values_more : (old : List Property) (one : Property) → AllByRecursion HasValue old → HasValue one → AllByRecursion HasValue (old ++ one ∷ [])
+values_more [] one h some = (some, tt)
+values_more (p ∷ ps) one h some = (h.0, values_more ps one h.1 some)
+
+pub attendees_more : (lines : List Line) (line : Line) (old new : List Property) (before after : BTreeSet (List ℕ)) → HoldsAttendees lines old before → 0 < length line.value → length old < 500 → list_any (same_text (key_of line)) (map key_of lines) ≡ false
     → Updates (slice_cmp nat_cmp) before after (key_of line) true → new ≡ old ++ whole_property line ∷ [] → HoldsAttendees (lines ++ line ∷ []) new after
-attendees_more lines line old new before after h few free updates is =
+attendees_more lines line old new before after h some few free updates is =
     let count : length old ≡ length lines = ap length h.whole ∙ length-map lines whole_property in record {
       whole = is ∙ ap (λ (ps : List Property). ps ++ whole_property line ∷ []) h.whole ∙ sym (map-append whole_property lines (line ∷ []));
+      values = subst (λ (ps : List Property). AllByRecursion HasValue ps) (sym is) (values_more old (whole_property line) h.values some);
       few = omega (arith, few, count, length-append lines (line ∷ []));
       distinct = subst (λ (keys : List (List ℕ)). IsDistinct same_text keys) (sym (map-append key_of lines (line ∷ []))) (IsDistinct-push nat_list_eq_equiv (map key_of lines) (key_of line) h.distinct free);
       keys = keys_more lines line before after h.keys updates;
@@ -95,5 +101,5 @@ takes_attendee line d new some few free updates is same = record {
 }
   where
     each : (above : PropertyName → List Line) → IsDraftOf above d → (p : PropertyName) → Holds (record d { attendees = new.attendees; keys = new.keys }) p (more above name.Attendee line p)
-    each above h name.Attendee = attendees_more (above name.Attendee) line d.attendees.items new.attendees.items d.keys new.keys (h name.Attendee) few (sym ((h name.Attendee).keys (key_of line)) ∙ free) updates is
+    each above h name.Attendee = attendees_more (above name.Attendee) line d.attendees.items new.attendees.items d.keys new.keys (h name.Attendee) some few (sym ((h name.Attendee).keys (key_of line)) ∙ free) updates is
     each above h p = h p

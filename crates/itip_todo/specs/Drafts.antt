@@ -2,7 +2,7 @@
 use Rattle.std.specs.Prelude.{◌≡◌, ◌≢◌, ◌<◌, ◌≤◌, ℕ, ◌||◌, Bool, cond, slice_index, List, [], ◌∷◌, ◌++◌, length, map, unwrap_or, Some}
 use Rattle.std.specs.BTreeSet.{BTreeSet, contains, IsOrdered}
 use Rattle.std.specs.Cmp.Lexicographic.{slice_cmp}
-use Rattle.std.specs.List.{list_any, filter, IsDistinct}
+use Rattle.std.specs.List.{list_any, AllByRecursion, IsDistinct}
 use Rattle.std.specs.Ordering.{nat_cmp, eq_by_cmp}
 use Rattle.itip_lines.specs.declared.line.Line.{Line}
 use Rattle.itip_lines.specs.declared.line.Param.{Param}
@@ -10,7 +10,7 @@ use Rattle.itip_moment.specs.Order.{moment_cmp}
 use Rattle.itip_moment.specs.Spelling.{MomentText}
 use Rattle.itip_moment.specs.declared.moment.Moment.{Moment}
 use Rattle.itip_moment.specs.declared.stamp.Stamp.{Stamp}
-use Rattle.itip_todo.specs.Lawful.{IsLawful, keys_of}
+use Rattle.itip_todo.specs.Lawful.{IsLawful, HasValue}
 use Rattle.itip_todo.specs.Participation.{same_text}
 use Rattle.itip_todo.specs.Parts.{Parts}
 use Rattle.itip_todo.specs.Reading.{IsGoodAs, HasFaultAs, IsOptional, IsUidOf, IsStampOf, IsSequenceOf, IsPercentOf, IsPriorityOf, IsMomentOf, IsStatusOf, IsPropertyOf, IsOrganizerOf, whole_property, value_of, ListMoments, first_of, key_of}
@@ -51,6 +51,7 @@ pub record PutsMoments (params : List Param) (text : List ℕ) (old new : BTreeS
 -- the attendees of these lines, and their keys
 pub record HoldsAttendees (lines : List Line) (attendees : List Property) (set : BTreeSet (List ℕ)) : Type 0 where
   pub whole : attendees ≡ map whole_property lines
+  pub values : AllByRecursion HasValue attendees
   pub few : length lines ≤ attendee_limit
   pub distinct : IsDistinct same_text (map key_of lines)
   pub keys : (key : List ℕ) → contains (slice_cmp nat_cmp) set key ≡ list_any (same_text key) (map key_of lines)
