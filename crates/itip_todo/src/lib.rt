@@ -22,6 +22,7 @@ mod todo;
 mod uid;
 mod values;
 mod write;
+mod write_moment;
 
 pub use attendee::{PartStat, participation};
 pub use error::{Fault, TodoError};
