@@ -1,99 +1,59 @@
--- The octets of lines one after another, and the lines of a to-do of which few properties are there.
-use Rattle.std.proofs.Common.{◌≡◌, ℕ, Bool, true, false, ◌&&◌, List, [], ◌∷◌, ◌++◌, refl, sym, ap, ◌∙◌, append_assoc, append-nil, Option, Some, None, map}
-use Rattle.std.specs.Option.{is_none}
-use Rattle.std.specs.Fmt.{decimal}
-use Rattle.itip_lines.specs.declared.line.Line.{Line}
-use Rattle.itip_moment.specs.declared.moment.Moment.{Moment}
+-- The octets of lines one after another.
+use Rattle.std.proofs.Common.{◌≡◌, ℕ, ◌+◌, ◌<◌, List, [], ◌∷◌, ◌++◌, length, take, get_or, map, refl, sym, ap, ◌∙◌, append_assoc}
+use Rattle.std.proofs.lemmas.List.{map-append, take_more}
+use Rattle.std.specs.Prelude.{codes}
 use Rattle.itip_todo.specs.Parts.{Parts}
-use Rattle.itip_todo.specs.StatusText.{status_text}
-use Rattle.itip_todo.specs.Lawful.{is_bare, is_empty}
-use Rattle.itip_todo.specs.Written.{Content, content_octets, contents_octets, content_of, plain, moment_line, property_line, optional, head_contents, parts_contents}
-use Rattle.itip_todo.specs.declared.property.Property.{Property}
-use Rattle.itip_todo.specs.declared.property_name.PropertyName.TheVariants as name
-use Rattle.itip_todo.specs.declared.status.Status.{Status}
+use Rattle.itip_todo.specs.Written.{Content, content_octets, contents_octets, head_contents, parts_contents, todo_contents, bare}
+use Rattle.itip_todo.proofs.Segments.{base_lines, base_on, rid_lines, rid_on, start_lines, start_on, due_lines, due_on, status_lines, status_on, percent_lines, percent_on, priority_lines, priority_on, summary_lines, summary_on, organizer_lines, organizer_on, attendee_lines, attendee_on, rule_lines, rule_on, rdate_lines, rdate_on, exdate_lines, exdate_on, other_lines, other_on}
 
-pub then_more : {A : Type 0} (old mid new front back : List A) → mid ≡ old ++ front → new ≡ mid ++ back → new ≡ old ++ (front ++ back)
-then_more old mid new front back first second = second ∙ ap (λ m. m ++ back) first ∙ append_assoc old front back
-
-pub contents_octets-append : (xs ys : List Content) → contents_octets (xs ++ ys) ≡ contents_octets xs ++ contents_octets ys
+contents_octets-append : (xs ys : List Content) → contents_octets (xs ++ ys) ≡ contents_octets xs ++ contents_octets ys
 contents_octets-append [] ys = refl
 contents_octets-append (x ∷ xs) ys = ap (λ rest. content_octets x ++ rest) (contents_octets-append xs ys) ∙ sym (append_assoc (content_octets x) (contents_octets xs) (contents_octets ys))
 
-both : (a b : Bool) → (a && b) ≡ true → (a ≡ true) × (b ≡ true)
-both true b e = (refl, e)
-both false b e = cc
+-- lines behind lines
+pub then_lines : (old mid new : List ℕ) (xs ys : List Content) → mid ≡ old ++ contents_octets xs → new ≡ mid ++ contents_octets ys → new ≡ old ++ contents_octets (xs ++ ys)
+then_lines old mid new xs ys first second =
+    second ∙ ap (λ (m : List ℕ). m ++ contents_octets ys) first ∙ append_assoc old (contents_octets xs) (contents_octets ys) ∙ ap (λ (rest : List ℕ). old ++ rest) (sym (contents_octets-append xs ys))
 
-none_is : {A : Type 0} (o : Option A) → is_none o ≡ true → o ≡ None
-none_is None e = refl
-none_is (Some x) e = cc
+-- the line of one more element
+pub one_more : {A : Type 0} (f : A → Content) (xs : List A) (i : ℕ) (x : A) (old mid new : List ℕ) → i < length xs → x ≡ get_or xs i x → mid ≡ old ++ contents_octets (map f (take i xs)) → new ≡ mid ++ contents_octets (f x ∷ [])
+    → new ≡ old ++ contents_octets (map f (take (i + 1) xs))
+one_more {A} f xs i x old mid new less is first second =
+    then_lines old mid new (map f (take i xs)) (f x ∷ []) first second
+    ∙ ap (λ (cs : List Content). old ++ contents_octets cs) (sym (map-append f (take i xs) (x ∷ [])) ∙ ap (map f) (sym (take_more xs i x less ∙ ap (λ (y : A). take i xs ++ y ∷ []) (sym is))))
 
-empty_is : {A : Type 0} (xs : List A) → is_empty xs ≡ true → xs ≡ []
-empty_is [] e = refl
-empty_is (x ∷ xs) e = cc
-
--- what is not there
-pub record Bare (parts : Parts) : Type 0 where
-  pub base : parts.base ≡ None
-  pub rid : parts.rid ≡ None
-  pub start : parts.start ≡ None
-  pub due : parts.due ≡ None
-  pub status : parts.status ≡ None
-  pub percent : parts.percent ≡ None
-  pub priority : parts.priority ≡ None
-  pub organizer : parts.organizer ≡ None
-  pub attendees : parts.attendees ≡ []
-  pub rule : parts.rule ≡ []
-  pub rdates : parts.rdates ≡ []
-  pub exdates : parts.exdates ≡ []
-  pub others : parts.others ≡ []
-
-pub bare_is : (parts : Parts) → is_bare parts ≡ true → Bare parts
-bare_is parts e0 =
-    let p0 = both (is_none parts.base && is_none parts.rid && is_none parts.start && is_none parts.due && is_none parts.status && is_none parts.percent && is_none parts.priority && is_none parts.organizer && is_empty parts.attendees && is_empty parts.rule && is_empty parts.rdates && is_empty parts.exdates) (is_empty parts.others) e0 in
-    let p1 = both (is_none parts.base && is_none parts.rid && is_none parts.start && is_none parts.due && is_none parts.status && is_none parts.percent && is_none parts.priority && is_none parts.organizer && is_empty parts.attendees && is_empty parts.rule && is_empty parts.rdates) (is_empty parts.exdates) p0.0 in
-    let p2 = both (is_none parts.base && is_none parts.rid && is_none parts.start && is_none parts.due && is_none parts.status && is_none parts.percent && is_none parts.priority && is_none parts.organizer && is_empty parts.attendees && is_empty parts.rule) (is_empty parts.rdates) p1.0 in
-    let p3 = both (is_none parts.base && is_none parts.rid && is_none parts.start && is_none parts.due && is_none parts.status && is_none parts.percent && is_none parts.priority && is_none parts.organizer && is_empty parts.attendees) (is_empty parts.rule) p2.0 in
-    let p4 = both (is_none parts.base && is_none parts.rid && is_none parts.start && is_none parts.due && is_none parts.status && is_none parts.percent && is_none parts.priority && is_none parts.organizer) (is_empty parts.attendees) p3.0 in
-    let p5 = both (is_none parts.base && is_none parts.rid && is_none parts.start && is_none parts.due && is_none parts.status && is_none parts.percent && is_none parts.priority) (is_none parts.organizer) p4.0 in
-    let p6 = both (is_none parts.base && is_none parts.rid && is_none parts.start && is_none parts.due && is_none parts.status && is_none parts.percent) (is_none parts.priority) p5.0 in
-    let p7 = both (is_none parts.base && is_none parts.rid && is_none parts.start && is_none parts.due && is_none parts.status) (is_none parts.percent) p6.0 in
-    let p8 = both (is_none parts.base && is_none parts.rid && is_none parts.start && is_none parts.due) (is_none parts.status) p7.0 in
-    let p9 = both (is_none parts.base && is_none parts.rid && is_none parts.start) (is_none parts.due) p8.0 in
-    let p10 = both (is_none parts.base && is_none parts.rid) (is_none parts.start) p9.0 in
-    let p11 = both (is_none parts.base) (is_none parts.rid) p10.0 in
-    record {
-      base = none_is parts.base p11.0;
-      rid = none_is parts.rid p11.1;
-      start = none_is parts.start p10.1;
-      due = none_is parts.due p9.1;
-      status = none_is parts.status p8.1;
-      percent = none_is parts.percent p7.1;
-      priority = none_is parts.priority p6.1;
-      organizer = none_is parts.organizer p5.1;
-      attendees = empty_is parts.attendees p4.1;
-      rule = empty_is parts.rule p3.1;
-      rdates = empty_is parts.rdates p2.1;
-      exdates = empty_is parts.exdates p1.1;
-      others = empty_is parts.others p0.1;
-    }
-
--- the lines of a to-do of which only UID, DTSTAMP, SEQUENCE and SUMMARY are there
-pub few_contents : (parts : Parts) → is_bare parts ≡ true → parts_contents parts ≡ head_contents parts ++ optional (property_line name.Summary) parts.summary
-few_contents parts e =
-    let b = bare_is parts e in
-    (λ i. head_contents parts
-    ++ (optional (λ n. plain name.DeskBase (decimal n)) (b.base i)
-    ++ (optional (moment_line name.RecurrenceId) (b.rid i)
-    ++ (optional (moment_line name.DtStart) (b.start i)
-    ++ (optional (moment_line name.Due) (b.due i)
-    ++ (optional (λ s. plain name.Status (status_text s)) (b.status i)
-    ++ (optional (λ n. plain name.PercentComplete (decimal n)) (b.percent i)
-    ++ (optional (λ n. plain name.Priority (decimal n)) (b.priority i)
-    ++ (optional (property_line name.Summary) parts.summary
-    ++ (optional (property_line name.Organizer) (b.organizer i)
-    ++ (map (property_line name.Attendee) (b.attendees i)
-    ++ (map (plain name.RRule) (b.rule i)
-    ++ (map (moment_line name.RDate) (b.rdates i)
-    ++ (map (moment_line name.ExDate) (b.exdates i)
-    ++ map content_of (b.others i)))))))))))))))
-    ∙ ap (λ rest. head_contents parts ++ rest) (append-nil (optional (property_line name.Summary) parts.summary))
+-- all lines of a to-do, one part after the other
+pub all_written : (parts : Parts) (o0 begun headed o1 o2 o3 o4 o5 o6 o7 o8 o9 o10 o11 o12 o13 o14 ended : List ℕ) → begun ≡ o0 ++ contents_octets (bare (codes "BEGIN") (codes "VTODO") ∷ []) → headed ≡ begun ++ contents_octets (head_contents parts)
+    → o1 ≡ headed ++ contents_octets (base_lines parts)
+    → o2 ≡ o1 ++ contents_octets (rid_lines parts)
+    → o3 ≡ o2 ++ contents_octets (start_lines parts)
+    → o4 ≡ o3 ++ contents_octets (due_lines parts)
+    → o5 ≡ o4 ++ contents_octets (status_lines parts)
+    → o6 ≡ o5 ++ contents_octets (percent_lines parts)
+    → o7 ≡ o6 ++ contents_octets (priority_lines parts)
+    → o8 ≡ o7 ++ contents_octets (summary_lines parts)
+    → o9 ≡ o8 ++ contents_octets (organizer_lines parts)
+    → o10 ≡ o9 ++ contents_octets (attendee_lines parts)
+    → o11 ≡ o10 ++ contents_octets (rule_lines parts)
+    → o12 ≡ o11 ++ contents_octets (rdate_lines parts)
+    → o13 ≡ o12 ++ contents_octets (exdate_lines parts)
+    → o14 ≡ o13 ++ contents_octets (other_lines parts)
+    → ended ≡ o14 ++ contents_octets (bare (codes "END") (codes "VTODO") ∷ []) → ended ≡ o0 ++ contents_octets (todo_contents parts)
+all_written parts o0 begun headed o1 o2 o3 o4 o5 o6 o7 o8 o9 o10 o11 o12 o13 o14 ended eb eh e1 e2 e3 e4 e5 e6 e7 e8 e9 e10 e11 e12 e13 e14 ee =
+    then_lines o0 begun ended (bare (codes "BEGIN") (codes "VTODO") ∷ []) (parts_contents parts ++ bare (codes "END") (codes "VTODO") ∷ []) eb
+    (then_lines begun o14 ended (parts_contents parts) (bare (codes "END") (codes "VTODO") ∷ [])
+    (then_lines begun headed o14 (head_contents parts) (base_on parts) eh
+    (then_lines headed o1 o14 (base_lines parts) (rid_on parts) e1
+    (then_lines o1 o2 o14 (rid_lines parts) (start_on parts) e2
+    (then_lines o2 o3 o14 (start_lines parts) (due_on parts) e3
+    (then_lines o3 o4 o14 (due_lines parts) (status_on parts) e4
+    (then_lines o4 o5 o14 (status_lines parts) (percent_on parts) e5
+    (then_lines o5 o6 o14 (percent_lines parts) (priority_on parts) e6
+    (then_lines o6 o7 o14 (priority_lines parts) (summary_on parts) e7
+    (then_lines o7 o8 o14 (summary_lines parts) (organizer_on parts) e8
+    (then_lines o8 o9 o14 (organizer_lines parts) (attendee_on parts) e9
+    (then_lines o9 o10 o14 (attendee_lines parts) (rule_on parts) e10
+    (then_lines o10 o11 o14 (rule_lines parts) (rdate_on parts) e11
+    (then_lines o11 o12 o14 (rdate_lines parts) (exdate_on parts) e12
+    (then_lines o12 o13 o14 (exdate_lines parts) (other_on parts) e13 e14))))))))))))))
+    ee)

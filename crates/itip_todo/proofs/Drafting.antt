@@ -1,173 +1,157 @@
--- One more line of a property that stood in none before.
-use Rattle.std.proofs.Common.{◌≡◌, ◌≢◌, ℕ, ◌==◌, Bool, true, false, cond, List, [], ◌∷◌, ◌++◌, refl, sym, ap, subst, ◌∙◌, append-nil, Option, Some, None}
-use Rattle.std.specs.List.{filter}
-use Rattle.std.proofs.lemmas.List.Elements.{filter-append}
+-- One more line of a property that may stand once, and of which none stood above.
+use Rattle.std.proofs.Common.{◌≡◌, ◌≢◌, ℕ, ◌<◌, Bool, true, false, List, [], ◌∷◌, ◌++◌, length, refl, sym, subst, Option, Some, None}
+use Rattle.std.specs.Option.{is_some}
 use Rattle.itip_lines.specs.declared.line.Line.{Line}
+use Rattle.itip_moment.specs.declared.moment.Moment.{Moment}
 use Rattle.itip_moment.specs.declared.stamp.Stamp.{Stamp}
-use Rattle.itip_todo.specs.Table.{place_of, is_same}
-use Rattle.itip_todo.specs.Values.{IsGoodValue}
-use Rattle.itip_todo.specs.Reading.{property_of, is_named, first_named, first_of, IsOptional, IsGood, HasFault, IsUidOf, IsStampOf, IsSequenceOf, IsPropertyOf}
-use Rattle.itip_todo.specs.Drafts.{IsDraftOf, is_read}
+use Rattle.itip_todo.specs.Reading.{IsOptional, IsUidOf, IsStampOf, IsSequenceOf, IsMomentOf, IsStatusOf, IsPercentOf, IsPriorityOf, IsPropertyOf, IsOrganizerOf, HasFaultAs, is_twice, has_range, first_of}
+use Rattle.itip_todo.specs.Drafts.{IsDraftOf, Holds, Takes, more}
 use Rattle.itip_todo.specs.declared.draft.Draft.{Draft}
+use Rattle.itip_todo.specs.Values.{IsGoodValue}
+use Rattle.itip_todo.specs.declared.error.Fault.{Fault}
+use Rattle.itip_todo.specs.declared.error.Fault.TheVariants as fault
 use Rattle.itip_todo.specs.declared.property.Property.{Property}
 use Rattle.itip_todo.specs.declared.property_name.PropertyName.{PropertyName}
 use Rattle.itip_todo.specs.declared.property_name.PropertyName.TheVariants as name
+use Rattle.itip_todo.specs.declared.status.Status.{Status}
 
-none_first : (lines : List Line) → first_of lines ≡ None → lines ≡ []
-none_first [] e = refl
-none_first (line ∷ lines) e = cc
+-- an absent value is of no line, and a value that is there is of one
+pub free : {A : Type 0} (P : Line → A → Type 0) (o : Option Line) (v : Option A) → IsOptional P o v → v ≡ None → is_some o ≡ false
+free P None v h e = refl
+free P (Some line) None h e = absurd h
+free P (Some line) (Some a) h e = absurd cc
 
-pub first_other : (p : PropertyName) (above : List Line) (line : Line) → is_named p line ≡ false → first_named p (above ++ line ∷ []) ≡ first_named p above
-first_other p above line e =
-    ap first_of (filter-append (is_named p) above (line ∷ []) ∙ ap (λ b. filter (is_named p) above ++ cond b (line ∷ []) []) e ∙ append-nil (filter (is_named p) above))
-
-pub first_new : (p : PropertyName) (above : List Line) (line : Line) → is_named p line ≡ true → first_named p above ≡ None → first_named p (above ++ line ∷ []) ≡ Some line
-first_new p above line e none =
-    ap first_of (filter-append (is_named p) above (line ∷ []) ∙ ap (λ b. filter (is_named p) above ++ cond b (line ∷ []) []) e ∙ ap (λ front. front ++ line ∷ []) (none_first (filter (is_named p) above) none))
-
--- a line of one property is not of another
-apart : (p q : PropertyName) (line : Line) → property_of line ≡ q → is_same q p ≡ false → is_named p line ≡ false
-apart p q line is isnt = ap (λ (r : PropertyName). is_same r p) is ∙ isnt
-
--- an absent value is of no line
-absent : {A : Type 0} (P : Line → A → Type 0) (o : Option Line) (v : Option A) → IsOptional P o v → v ≡ None → o ≡ None
-absent P None v h e = refl
-absent P (Some line) v h e = absurd (subst (λ w. IsOptional P (Some line) w) e h)
-
-present : {A : Type 0} (P : Line → A → Type 0) (o : Option Line) (v : Option A) → IsOptional P o v → v ≢ None → o ≢ None
-present P o None h some = absurd (some refl)
-present P None (Some a) h some = absurd h
-present P (Some line) (Some a) h some = λ e. cc
-
--- a value that another line's property leaves alone
-kept : {A : Type 0} (P : Line → A → Type 0) (p : PropertyName) (above : List Line) (line : Line) (v : Option A) → is_named p line ≡ false → IsOptional P (first_named p above) v → IsOptional P (first_named p (above ++ line ∷ [])) v
-kept P p above line v other h = subst (λ o. IsOptional P o v) (sym (first_other p above line other)) h
+pub taken : {A : Type 0} (P : Line → A → Type 0) (o : Option Line) (v : Option A) → IsOptional P o v → v ≢ None → is_some o ≡ true
+taken P o None h some = absurd (some refl)
+taken P None (Some a) h some = absurd h
+taken P (Some line) (Some a) h some = refl
 
 -- the value of a line whose property stood in none above
-put : {A : Type 0} (P : Line → A → Type 0) (p : PropertyName) (above : List Line) (line : Line) (old : Option A) (a : A) → property_of line ≡ p → is_same p p ≡ true → IsOptional P (first_named p above) old → old ≡ None → P line a → IsOptional P (first_named p (above ++ line ∷ [])) (Some a)
-put P p above line old a is same h none here =
-    subst (λ o. IsOptional P o (Some a)) (sym (first_new p above line (ap (λ (r : PropertyName). is_same r p) is ∙ same) (absent P (first_named p above) old h none))) here
+pub put : {A : Type 0} (P : Line → A → Type 0) (lines : List Line) (line : Line) (old : Option A) (a : A) → IsOptional P (first_of lines) old → old ≡ None → P line a → IsOptional P (first_of (lines ++ line ∷ [])) (Some a)
+put P [] line old a h e here = here
+put P (l ∷ lines) line None a h e here = absurd h
+put P (l ∷ lines) line (Some b) a h e here = absurd cc
 
--- a line of a property that is read leaves the others out
-no_other_more : (above : List Line) (line : Line) (q : PropertyName) → property_of line ≡ q → ((p : PropertyName) → is_read p ≡ false → is_same q p ≡ false) → ((p : PropertyName) → is_read p ≡ false → first_named p above ≡ None)
-    → (p : PropertyName) → is_read p ≡ false → first_named p (above ++ line ∷ []) ≡ None
-no_other_more above line q is apart_all none p isnt = first_other p above line (apart p q line is (apart_all p isnt)) ∙ none p isnt
+-- the value of a line of which no property stood above is bad
+pub bad : (above : PropertyName → List Line) (p : PropertyName) (line : Line) (f : Fault) → f ≡ fault.BadValue p → is_twice above p ≡ false → has_range p line ≡ false → (IsGoodValue p line → ⊥) → HasFaultAs above p line f
+bad above p line f e once no_range none = subst (λ (g : Fault). HasFaultAs above p line g) (sym e) (refl, once, no_range, none)
 
-other_than_uid : (p : PropertyName) → is_read p ≡ false → is_same name.Uid p ≡ false
-other_than_uid name.Uid isnt = cc
-other_than_uid name.DtStamp isnt = cc
-other_than_uid name.Sequence isnt = cc
-other_than_uid name.DeskBase isnt = refl
-other_than_uid name.RecurrenceId isnt = refl
-other_than_uid name.DtStart isnt = refl
-other_than_uid name.Due isnt = refl
-other_than_uid name.Status isnt = refl
-other_than_uid name.PercentComplete isnt = refl
-other_than_uid name.Priority isnt = refl
-other_than_uid name.Summary isnt = cc
-other_than_uid name.Organizer isnt = refl
-other_than_uid name.Attendee isnt = refl
-other_than_uid name.RRule isnt = refl
-other_than_uid name.RDate isnt = refl
-other_than_uid name.ExDate isnt = refl
-other_than_uid name.Others isnt = refl
-
-other_than_dtstamp : (p : PropertyName) → is_read p ≡ false → is_same name.DtStamp p ≡ false
-other_than_dtstamp name.Uid isnt = cc
-other_than_dtstamp name.DtStamp isnt = cc
-other_than_dtstamp name.Sequence isnt = cc
-other_than_dtstamp name.DeskBase isnt = refl
-other_than_dtstamp name.RecurrenceId isnt = refl
-other_than_dtstamp name.DtStart isnt = refl
-other_than_dtstamp name.Due isnt = refl
-other_than_dtstamp name.Status isnt = refl
-other_than_dtstamp name.PercentComplete isnt = refl
-other_than_dtstamp name.Priority isnt = refl
-other_than_dtstamp name.Summary isnt = cc
-other_than_dtstamp name.Organizer isnt = refl
-other_than_dtstamp name.Attendee isnt = refl
-other_than_dtstamp name.RRule isnt = refl
-other_than_dtstamp name.RDate isnt = refl
-other_than_dtstamp name.ExDate isnt = refl
-other_than_dtstamp name.Others isnt = refl
-
-other_than_sequence : (p : PropertyName) → is_read p ≡ false → is_same name.Sequence p ≡ false
-other_than_sequence name.Uid isnt = cc
-other_than_sequence name.DtStamp isnt = cc
-other_than_sequence name.Sequence isnt = cc
-other_than_sequence name.DeskBase isnt = refl
-other_than_sequence name.RecurrenceId isnt = refl
-other_than_sequence name.DtStart isnt = refl
-other_than_sequence name.Due isnt = refl
-other_than_sequence name.Status isnt = refl
-other_than_sequence name.PercentComplete isnt = refl
-other_than_sequence name.Priority isnt = refl
-other_than_sequence name.Summary isnt = cc
-other_than_sequence name.Organizer isnt = refl
-other_than_sequence name.Attendee isnt = refl
-other_than_sequence name.RRule isnt = refl
-other_than_sequence name.RDate isnt = refl
-other_than_sequence name.ExDate isnt = refl
-other_than_sequence name.Others isnt = refl
-
-other_than_summary : (p : PropertyName) → is_read p ≡ false → is_same name.Summary p ≡ false
-other_than_summary name.Uid isnt = cc
-other_than_summary name.DtStamp isnt = cc
-other_than_summary name.Sequence isnt = cc
-other_than_summary name.DeskBase isnt = refl
-other_than_summary name.RecurrenceId isnt = refl
-other_than_summary name.DtStart isnt = refl
-other_than_summary name.Due isnt = refl
-other_than_summary name.Status isnt = refl
-other_than_summary name.PercentComplete isnt = refl
-other_than_summary name.Priority isnt = refl
-other_than_summary name.Summary isnt = cc
-other_than_summary name.Organizer isnt = refl
-other_than_summary name.Attendee isnt = refl
-other_than_summary name.RRule isnt = refl
-other_than_summary name.RDate isnt = refl
-other_than_summary name.ExDate isnt = refl
-other_than_summary name.Others isnt = refl
-
-pub with_uid : (above : List Line) (line : Line) (d : Draft) (value : List ℕ) → IsDraftOf above d → property_of line ≡ name.Uid → d.uid ≡ None → IsUidOf line value → IsDraftOf (above ++ line ∷ []) (record d { uid = Some value })
-with_uid above line d value is of none here = record {
-  uid = put IsUidOf name.Uid above line d.uid value of refl is.uid none here;
-  stamp = kept IsStampOf name.DtStamp above line d.stamp (apart name.DtStamp name.Uid line of refl) is.stamp;
-  seq = kept IsSequenceOf name.Sequence above line d.seq (apart name.Sequence name.Uid line of refl) is.seq;
-  summary = kept IsPropertyOf name.Summary above line d.summary (apart name.Summary name.Uid line of refl) is.summary;
-  no_other = no_other_more above line name.Uid of other_than_uid is.no_other;
+pub takes_uid : (line : Line) (d : Draft) (a : List ℕ) → d.uid ≡ None → IsUidOf line a → Takes name.Uid line d (record d { uid = Some a })
+takes_uid line d a none here = record {
+  good = λ above is. record { once = free IsUidOf (first_of (above name.Uid)) d.uid (is name.Uid) none; no_range = refl; value = here.1; few = refl; new = refl };
+  draft = λ above is. each above is;
 }
+  where
+    each : (above : PropertyName → List Line) → IsDraftOf above d → (p : PropertyName) → Holds (record d { uid = Some a }) p (more above name.Uid line p)
+    each above is name.Uid = put IsUidOf (above name.Uid) line d.uid a (is name.Uid) none here
+    each above is p = is p
 
-pub with_stamp : (above : List Line) (line : Line) (d : Draft) (value : Stamp) → IsDraftOf above d → property_of line ≡ name.DtStamp → d.stamp ≡ None → IsStampOf line value → IsDraftOf (above ++ line ∷ []) (record d { stamp = Some value })
-with_stamp above line d value is of none here = record {
-  uid = kept IsUidOf name.Uid above line d.uid (apart name.Uid name.DtStamp line of refl) is.uid;
-  stamp = put IsStampOf name.DtStamp above line d.stamp value of refl is.stamp none here;
-  seq = kept IsSequenceOf name.Sequence above line d.seq (apart name.Sequence name.DtStamp line of refl) is.seq;
-  summary = kept IsPropertyOf name.Summary above line d.summary (apart name.Summary name.DtStamp line of refl) is.summary;
-  no_other = no_other_more above line name.DtStamp of other_than_dtstamp is.no_other;
+pub takes_stamp : (line : Line) (d : Draft) (a : Stamp) → d.stamp ≡ None → IsStampOf line a → Takes name.DtStamp line d (record d { stamp = Some a })
+takes_stamp line d a none here = record {
+  good = λ above is. record { once = free IsStampOf (first_of (above name.DtStamp)) d.stamp (is name.DtStamp) none; no_range = refl; value = (a, here); few = refl; new = refl };
+  draft = λ above is. each above is;
 }
+  where
+    each : (above : PropertyName → List Line) → IsDraftOf above d → (p : PropertyName) → Holds (record d { stamp = Some a }) p (more above name.DtStamp line p)
+    each above is name.DtStamp = put IsStampOf (above name.DtStamp) line d.stamp a (is name.DtStamp) none here
+    each above is p = is p
 
-pub with_seq : (above : List Line) (line : Line) (d : Draft) (value : ℕ) → IsDraftOf above d → property_of line ≡ name.Sequence → d.seq ≡ None → IsSequenceOf line value → IsDraftOf (above ++ line ∷ []) (record d { seq = Some value })
-with_seq above line d value is of none here = record {
-  uid = kept IsUidOf name.Uid above line d.uid (apart name.Uid name.Sequence line of refl) is.uid;
-  stamp = kept IsStampOf name.DtStamp above line d.stamp (apart name.DtStamp name.Sequence line of refl) is.stamp;
-  seq = put IsSequenceOf name.Sequence above line d.seq value of refl is.seq none here;
-  summary = kept IsPropertyOf name.Summary above line d.summary (apart name.Summary name.Sequence line of refl) is.summary;
-  no_other = no_other_more above line name.Sequence of other_than_sequence is.no_other;
+pub takes_seq : (line : Line) (d : Draft) (a : ℕ) → d.seq ≡ None → IsSequenceOf line a → Takes name.Sequence line d (record d { seq = Some a })
+takes_seq line d a none here = record {
+  good = λ above is. record { once = free IsSequenceOf (first_of (above name.Sequence)) d.seq (is name.Sequence) none; no_range = refl; value = (a, here); few = refl; new = refl };
+  draft = λ above is. each above is;
 }
+  where
+    each : (above : PropertyName → List Line) → IsDraftOf above d → (p : PropertyName) → Holds (record d { seq = Some a }) p (more above name.Sequence line p)
+    each above is name.Sequence = put IsSequenceOf (above name.Sequence) line d.seq a (is name.Sequence) none here
+    each above is p = is p
 
-pub with_summary : (above : List Line) (line : Line) (d : Draft) (value : Property) → IsDraftOf above d → property_of line ≡ name.Summary → d.summary ≡ None → IsPropertyOf line value → IsDraftOf (above ++ line ∷ []) (record d { summary = Some value })
-with_summary above line d value is of none here = record {
-  uid = kept IsUidOf name.Uid above line d.uid (apart name.Uid name.Summary line of refl) is.uid;
-  stamp = kept IsStampOf name.DtStamp above line d.stamp (apart name.DtStamp name.Summary line of refl) is.stamp;
-  seq = kept IsSequenceOf name.Sequence above line d.seq (apart name.Sequence name.Summary line of refl) is.seq;
-  summary = put IsPropertyOf name.Summary above line d.summary value of refl is.summary none here;
-  no_other = no_other_more above line name.Summary of other_than_summary is.no_other;
+pub takes_base : (line : Line) (d : Draft) (a : ℕ) → d.base ≡ None → IsSequenceOf line a → Takes name.DeskBase line d (record d { base = Some a })
+takes_base line d a none here = record {
+  good = λ above is. record { once = free IsSequenceOf (first_of (above name.DeskBase)) d.base (is name.DeskBase) none; no_range = refl; value = (a, here); few = refl; new = refl };
+  draft = λ above is. each above is;
 }
+  where
+    each : (above : PropertyName → List Line) → IsDraftOf above d → (p : PropertyName) → Holds (record d { base = Some a }) p (more above name.DeskBase line p)
+    each above is name.DeskBase = put IsSequenceOf (above name.DeskBase) line d.base a (is name.DeskBase) none here
+    each above is p = is p
 
--- the property of a line stood in none above, where its field is free
-pub free_above : {A : Type 0} (P : Line → A → Type 0) (p : PropertyName) (above : List Line) (line : Line) (v : Option A) → property_of line ≡ p → IsOptional P (first_named p above) v → v ≡ None → first_named (property_of line) above ≡ None
-free_above P p above line v is h none = ap (λ (q : PropertyName). first_named q above) is ∙ absent P (first_named p above) v h none
+pub takes_rid : (line : Line) (d : Draft) (a : Moment) → d.rid ≡ None → (has_range name.RecurrenceId line ≡ false) → IsMomentOf line a → Takes name.RecurrenceId line d (record d { rid = Some a })
+takes_rid line d a none range here = record {
+  good = λ above is. record { once = free IsMomentOf (first_of (above name.RecurrenceId)) d.rid (is name.RecurrenceId) none; no_range = range; value = (a, here); few = refl; new = refl };
+  draft = λ above is. each above is;
+}
+  where
+    each : (above : PropertyName → List Line) → IsDraftOf above d → (p : PropertyName) → Holds (record d { rid = Some a }) p (more above name.RecurrenceId line p)
+    each above is name.RecurrenceId = put IsMomentOf (above name.RecurrenceId) line d.rid a (is name.RecurrenceId) none here
+    each above is p = is p
 
-pub taken_above : {A : Type 0} (P : Line → A → Type 0) (p : PropertyName) (above : List Line) (line : Line) (v : Option A) → property_of line ≡ p → IsOptional P (first_named p above) v → v ≢ None → first_named (property_of line) above ≢ None
-taken_above P p above line v is h some = λ e. present P (first_named p above) v h some (sym (ap (λ (q : PropertyName). first_named q above) is) ∙ e)
+pub takes_start : (line : Line) (d : Draft) (a : Moment) → d.start ≡ None → IsMomentOf line a → Takes name.DtStart line d (record d { start = Some a })
+takes_start line d a none here = record {
+  good = λ above is. record { once = free IsMomentOf (first_of (above name.DtStart)) d.start (is name.DtStart) none; no_range = refl; value = (a, here); few = refl; new = refl };
+  draft = λ above is. each above is;
+}
+  where
+    each : (above : PropertyName → List Line) → IsDraftOf above d → (p : PropertyName) → Holds (record d { start = Some a }) p (more above name.DtStart line p)
+    each above is name.DtStart = put IsMomentOf (above name.DtStart) line d.start a (is name.DtStart) none here
+    each above is p = is p
+
+pub takes_due : (line : Line) (d : Draft) (a : Moment) → d.due ≡ None → IsMomentOf line a → Takes name.Due line d (record d { due = Some a })
+takes_due line d a none here = record {
+  good = λ above is. record { once = free IsMomentOf (first_of (above name.Due)) d.due (is name.Due) none; no_range = refl; value = (a, here); few = refl; new = refl };
+  draft = λ above is. each above is;
+}
+  where
+    each : (above : PropertyName → List Line) → IsDraftOf above d → (p : PropertyName) → Holds (record d { due = Some a }) p (more above name.Due line p)
+    each above is name.Due = put IsMomentOf (above name.Due) line d.due a (is name.Due) none here
+    each above is p = is p
+
+pub takes_status : (line : Line) (d : Draft) (a : Status) → d.status ≡ None → IsStatusOf line a → Takes name.Status line d (record d { status = Some a })
+takes_status line d a none here = record {
+  good = λ above is. record { once = free IsStatusOf (first_of (above name.Status)) d.status (is name.Status) none; no_range = refl; value = (a, here); few = refl; new = refl };
+  draft = λ above is. each above is;
+}
+  where
+    each : (above : PropertyName → List Line) → IsDraftOf above d → (p : PropertyName) → Holds (record d { status = Some a }) p (more above name.Status line p)
+    each above is name.Status = put IsStatusOf (above name.Status) line d.status a (is name.Status) none here
+    each above is p = is p
+
+pub takes_percent : (line : Line) (d : Draft) (a : ℕ) → d.percent ≡ None → IsPercentOf line a → Takes name.PercentComplete line d (record d { percent = Some a })
+takes_percent line d a none here = record {
+  good = λ above is. record { once = free IsPercentOf (first_of (above name.PercentComplete)) d.percent (is name.PercentComplete) none; no_range = refl; value = (a, here); few = refl; new = refl };
+  draft = λ above is. each above is;
+}
+  where
+    each : (above : PropertyName → List Line) → IsDraftOf above d → (p : PropertyName) → Holds (record d { percent = Some a }) p (more above name.PercentComplete line p)
+    each above is name.PercentComplete = put IsPercentOf (above name.PercentComplete) line d.percent a (is name.PercentComplete) none here
+    each above is p = is p
+
+pub takes_priority : (line : Line) (d : Draft) (a : ℕ) → d.priority ≡ None → IsPriorityOf line a → Takes name.Priority line d (record d { priority = Some a })
+takes_priority line d a none here = record {
+  good = λ above is. record { once = free IsPriorityOf (first_of (above name.Priority)) d.priority (is name.Priority) none; no_range = refl; value = (a, here); few = refl; new = refl };
+  draft = λ above is. each above is;
+}
+  where
+    each : (above : PropertyName → List Line) → IsDraftOf above d → (p : PropertyName) → Holds (record d { priority = Some a }) p (more above name.Priority line p)
+    each above is name.Priority = put IsPriorityOf (above name.Priority) line d.priority a (is name.Priority) none here
+    each above is p = is p
+
+pub takes_summary : (line : Line) (d : Draft) (a : Property) → d.summary ≡ None → IsPropertyOf line a → Takes name.Summary line d (record d { summary = Some a })
+takes_summary line d a none here = record {
+  good = λ above is. record { once = free IsPropertyOf (first_of (above name.Summary)) d.summary (is name.Summary) none; no_range = refl; value = tt; few = refl; new = refl };
+  draft = λ above is. each above is;
+}
+  where
+    each : (above : PropertyName → List Line) → IsDraftOf above d → (p : PropertyName) → Holds (record d { summary = Some a }) p (more above name.Summary line p)
+    each above is name.Summary = put IsPropertyOf (above name.Summary) line d.summary a (is name.Summary) none here
+    each above is p = is p
+
+pub takes_organizer : (line : Line) (d : Draft) (a : Property) → d.organizer ≡ None → IsOrganizerOf line a → Takes name.Organizer line d (record d { organizer = Some a })
+takes_organizer line d a none here = record {
+  good = λ above is. record { once = free IsOrganizerOf (first_of (above name.Organizer)) d.organizer (is name.Organizer) none; no_range = refl; value = here.1; few = refl; new = refl };
+  draft = λ above is. each above is;
+}
+  where
+    each : (above : PropertyName → List Line) → IsDraftOf above d → (p : PropertyName) → Holds (record d { organizer = Some a }) p (more above name.Organizer line p)
+    each above is name.Organizer = put IsOrganizerOf (above name.Organizer) line d.organizer a (is name.Organizer) none here
+    each above is p = is p

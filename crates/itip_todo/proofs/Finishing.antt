@@ -1,139 +1,175 @@
 -- From the draft of all lines to the to-do.
-use Rattle.std.proofs.Common.{◌≡◌, ◌≢◌, ℕ, ◌<◌, ◌≤◌, Bool, true, false, List, [], ◌∷◌, ◌++◌, length, refl, sym, ap, subst, ◌∙◌, ◌⊎◌, inl, inr, arith, Option, Some, None, get_or}
-use Rattle.std.specs.Prelude.{codes, unwrap_or}
+use Rattle.std.proofs.Common.{◌≡◌, true, ◌&&◌, ℕ, ◌+◌, ◌<◌, ◌≤◌, List, [], ◌∷◌, ◌++◌, length, map, refl, sym, ap, subst, ◌∙◌, inl, inr, arith, length-append, Option, Some, None}
+use Rattle.std.specs.BTreeSet.{BTreeSet, IsOrdered}
+use Rattle.std.specs.Fmt.{decimal}
+use Rattle.std.specs.List.{AllByRecursion, Contains, IsDistinct, list_all}
+use Rattle.std.specs.List.Sorted.{IsStrictlySortedBy}
+use Rattle.std.specs.Prelude.{◌↔◌, codes, unwrap_or, IsTrue}
+use Rattle.std.proofs.lemmas.List.{length-map}
 use Rattle.itip_lines.specs.Lawful as line
 use Rattle.itip_lines.specs.declared.line.Line.{Line}
+use Rattle.itip_lines.specs.declared.line.Param.{Param}
 use Rattle.itip_lines.proofs.LawfulLemmas.{lawful_without_params}
+use Rattle.itip_moment.specs.Order.{moment_cmp}
+use Rattle.itip_moment.specs.Written.{moment_text}
+use Rattle.itip_moment.specs.declared.moment.Moment.{Moment}
 use Rattle.itip_moment.specs.declared.stamp.Stamp.{Stamp}
-use Rattle.itip_todo.specs.Table.{name_text, place_of, is_same, sequence_limit}
-use Rattle.itip_todo.specs.Parts.{Parts}
-use Rattle.itip_todo.specs.Lawful.{IsLawful}
-use Rattle.itip_todo.specs.Reading.{property_of, is_named, first_named, IsOptional, IsUidOf, IsStampOf, IsSequenceOf, IsPropertyOf}
-use Rattle.itip_todo.specs.Drafts.{IsDraftOf, IsLawfulDraft}
+use Rattle.itip_todo.specs.Drafts.{IsDraftOf, IsLawfulDraft, HoldsAttendees, IsSetOf, draft_parts}
+use Rattle.itip_todo.specs.Lawful.{IsLawful, IsLawfulContent, HasValue, keys_of}
+use Rattle.itip_todo.specs.Participation.{same_text}
+use Rattle.itip_todo.specs.Reading.{IsOptional, IsOrNought, IsUidOf, IsStampOf, IsSequenceOf, IsPercentOf, IsPriorityOf, IsMomentOf, IsStatusOf, IsPropertyOf, IsOrganizerOf, AreMomentsOf, ListMoments, lines_of, first_of, whole_property, value_of, key_of}
+use Rattle.itip_todo.specs.StatusText.{status_text}
+use Rattle.itip_todo.specs.Table.{name_text, place_of, is_same, property_of, is_other, sequence_limit, percent_limit, priority_limit, attendee_limit}
+use Rattle.itip_todo.specs.Values.{IsNumberUpTo, IsMomentText, AreMoments}
+use Rattle.itip_todo.specs.Written.{Content, content_of, plain, moment_line, moment_params, property_line, parts_contents}
 use Rattle.itip_todo.specs.declared.draft.Draft.{Draft}
 use Rattle.itip_todo.specs.declared.property.Property.{Property}
 use Rattle.itip_todo.specs.declared.property_name.PropertyName.{PropertyName}
 use Rattle.itip_todo.specs.declared.property_name.PropertyName.TheVariants as name
-use Rattle.itip_todo.proofs.Names.{spelled, first_has, place_is}
-use Rattle.itip_todo.proofs.LawfulLines.{stamp_lawful, sequence_lawful}
+use Rattle.itip_todo.specs.declared.status.Status.{Status}
+use Rattle.itip_todo.proofs.LawfulLines.{stamp_lawful, number_lawful, status_lawful, moment_lawful}
+use Rattle.itip_todo.proofs.Names.{all_named, first_named_is, has_name}
+use Rattle.itip_todo.proofs.Segments.{all_append, all_optional, all_map, all_parts}
+use Rattle.itip_todo.proofs.Sets.{all_of_set, same_members}
 
 -- a value that is there has a line
-pub found : {A : Type 0} (P : Line → A → Type 0) (o : Option Line) (v : Option A) (a : A) → IsOptional P o v → v ≡ Some a → (line : Line) × (o ≡ Some line) × P line a
-found P None None a h e = cc
+found : {A : Type 0} (P : Line → A → Type 0) (o : Option Line) (v : Option A) (a : A) → IsOptional P o v → v ≡ Some a → (l : Line) × (o ≡ Some l) × P l a
+found P None None a h e = absurd cc
 found P None (Some b) a h e = absurd h
-found P (Some line) None a h e = absurd h
-found {A} P (Some line) (Some b) a h e = (line, refl, subst (λ (x : A). P line x) (some_same b a e) h)
-  where
-    some_same : (x y : A) → Some x ≡ Some y → x ≡ y
-    some_same x y e = ap (λ (o : Option A). elim o [ None ↦ x | Some z ↦ z ]) e
+found P (Some l) None a h e = absurd h
+found {A} P (Some l) (Some b) a h e = let same : b ≡ a = cc in (l, refl, subst (λ (x : A). P l x) same h)
 
-uid_at : (p : PropertyName) → place_of p ≡ 0 → p ≡ name.Uid
-uid_at name.Uid e = refl
-uid_at name.DtStamp e = absurd (omega (arith, e))
-uid_at name.Sequence e = absurd (omega (arith, e))
-uid_at name.DeskBase e = absurd (omega (arith, e))
-uid_at name.RecurrenceId e = absurd (omega (arith, e))
-uid_at name.DtStart e = absurd (omega (arith, e))
-uid_at name.Due e = absurd (omega (arith, e))
-uid_at name.Status e = absurd (omega (arith, e))
-uid_at name.PercentComplete e = absurd (omega (arith, e))
-uid_at name.Priority e = absurd (omega (arith, e))
-uid_at name.Summary e = absurd (omega (arith, e))
-uid_at name.Organizer e = absurd (omega (arith, e))
-uid_at name.Attendee e = absurd (omega (arith, e))
-uid_at name.RRule e = absurd (omega (arith, e))
-uid_at name.RDate e = absurd (omega (arith, e))
-uid_at name.ExDate e = absurd (omega (arith, e))
-uid_at name.Others e = absurd (omega (arith, e))
+pub or_nought : (P : Line → ℕ → Type 0) (o : Option Line) (v : Option ℕ) → IsOptional P o v → IsOrNought P o (unwrap_or v 0)
+or_nought P None None h = refl
+or_nought P None (Some n) h = absurd h
+or_nought P (Some l) None h = absurd h
+or_nought P (Some l) (Some n) h = h
 
-summary_at : (p : PropertyName) → place_of p ≡ 10 → p ≡ name.Summary
-summary_at name.Summary e = refl
-summary_at name.Uid e = absurd (omega (arith, e))
-summary_at name.DtStamp e = absurd (omega (arith, e))
-summary_at name.Sequence e = absurd (omega (arith, e))
-summary_at name.DeskBase e = absurd (omega (arith, e))
-summary_at name.RecurrenceId e = absurd (omega (arith, e))
-summary_at name.DtStart e = absurd (omega (arith, e))
-summary_at name.Due e = absurd (omega (arith, e))
-summary_at name.Status e = absurd (omega (arith, e))
-summary_at name.PercentComplete e = absurd (omega (arith, e))
-summary_at name.Priority e = absurd (omega (arith, e))
-summary_at name.Organizer e = absurd (omega (arith, e))
-summary_at name.Attendee e = absurd (omega (arith, e))
-summary_at name.RRule e = absurd (omega (arith, e))
-summary_at name.RDate e = absurd (omega (arith, e))
-summary_at name.ExDate e = absurd (omega (arith, e))
-summary_at name.Others e = absurd (omega (arith, e))
+small : (limit : ℕ) (text : List ℕ) (n : ℕ) → IsNumberUpTo limit text n → n ≤ limit
+small limit text n (inl (noughts, e)) = omega (arith, e)
+small limit text n (inr digits) = digits.small
 
-uid_named : (l : Line) → is_named name.Uid l ≡ true → l.name ≡ codes "UID"
-uid_named l e =
-    let at : place_of (property_of l) ≡ 0 = place_is (property_of l) name.Uid e in
-    spelled l.name (omega (arith, at)) ∙ ap name_text (uid_at (property_of l) at)
+at_most : (P : Line → ℕ → Type 0) (limit : ℕ) → ((l : Line) (n : ℕ) → P l n → n ≤ limit) → (o : Option Line) (v : Option ℕ) (n : ℕ) → IsOptional P o v → v ≡ Some n → n ≤ limit
+at_most P limit below o v n h e = let at = found P o v n h e in below at.0 n at.2
 
-summary_named : (l : Line) → is_named name.Summary l ≡ true → l.name ≡ codes "SUMMARY"
-summary_named l e =
-    let at : place_of (property_of l) ≡ 10 = place_is (property_of l) name.Summary e in
-    spelled l.name (omega (arith, at)) ∙ ap name_text (summary_at (property_of l) at)
+-- the line of a property, under its name
+lawful_line : (l : Line) (p : PropertyName) → property_of l ≡ p → place_of p < 16 → line.IsLawful (name_text p) l.params l.value
+lawful_line l p e few = subst (λ (n : List ℕ). line.IsLawful n l.params l.value) (has_name l p e few) l.lawful
+
+lawful_plain : (l : Line) (p : PropertyName) → property_of l ≡ p → place_of p < 16 → line.IsLawful (name_text p) [] l.value
+lawful_plain l p e few = lawful_without_params (name_text p) l.params l.value (lawful_line l p e few)
+
+-- the moment of a property that may stand once
+one_moment : (lines : List Line) (p : PropertyName) (v : Option Moment) → place_of p < 16 → length (name_text p) ≤ 100 → IsOptional IsMomentOf (first_of (lines_of lines p)) v → (m : Moment) → v ≡ Some m → IsLawfulContent (moment_line p m)
+one_moment lines p v few short h m e =
+    let at = found IsMomentOf (first_of (lines_of lines p)) v m h e in
+    moment_lawful (name_text p) at.0.params at.0.value at.0.value m (lawful_line at.0 p (first_named_is lines p at.0 at.1) few) short at.2 (omega arith)
+
+-- the property of which the whole line is kept
+one_property : (P : Line → Property → Type 0) → ((l : Line) (x : Property) → P l x → x ≡ whole_property l) → (lines : List Line) (p : PropertyName) (v : Option Property) → place_of p < 16 → IsOptional P (first_of (lines_of lines p)) v
+    → (x : Property) → v ≡ Some x → IsLawfulContent (property_line p x)
+one_property P whole lines p v few h x e =
+    let at = found P (first_of (lines_of lines p)) v x h e in
+    subst (λ (y : Property). IsLawfulContent (property_line p y)) (sym (whole at.0 x at.2)) (lawful_line at.0 p (first_named_is lines p at.0 at.1) few)
+
+-- moments that are listed
+text_moments : (p : PropertyName) (params : List Param) (value : List ℕ) → line.IsLawful (name_text p) params value → length (name_text p) ≤ 100 → (text : List ℕ) (ms : List Moment) → AreMoments params text ms → length text ≤ length value
+    → AllByRecursion (λ m. IsLawfulContent (moment_line p m)) ms
+text_moments p params value h short text [] is within = absurd is
+text_moments p params value h short text (m ∷ []) is within = (moment_lawful (name_text p) params value text m h short is within, tt)
+text_moments p params value h short text (m ∷ (n ∷ ns)) is within =
+    let long : length text ≡ length is.0 + length (44 ∷ is.1) = ap length is.2 ∙ length-append is.0 (44 ∷ is.1) in (
+      moment_lawful (name_text p) params value is.0 m h short is.3 (omega (arith, long)),
+      text_moments p params value h short is.1 (n ∷ ns) is.4 (omega (arith, long)),
+    )
+
+listed_moments : (p : PropertyName) → place_of p < 16 → length (name_text p) ≤ 100 → (lines : List Line) (ms : List Moment) → AllByRecursion (λ (l : Line). property_of l ≡ p) lines → ListMoments lines ms → AllByRecursion (λ m. IsLawfulContent (moment_line p m)) ms
+listed_moments p few short [] ms named is = subst (λ (xs : List Moment). AllByRecursion (λ m. IsLawfulContent (moment_line p m)) xs) (sym is) tt
+listed_moments p few short (l ∷ lines) ms named is =
+    subst (λ (xs : List Moment). AllByRecursion (λ m. IsLawfulContent (moment_line p m)) xs) (sym is.2)
+    (all_append (λ m. IsLawfulContent (moment_line p m)) is.0 is.1 (text_moments p l.params l.value (lawful_line l p named.0 few) short l.value is.0 is.3 (omega arith)) (listed_moments p few short lines is.1 named.1 is.4))
+
+set_moments : (lines : List Line) (p : PropertyName) (set : BTreeSet Moment) → place_of p < 16 → length (name_text p) ≤ 100 → IsSetOf (lines_of lines p) set → AllByRecursion IsLawfulContent (map (moment_line p) set.keys)
+set_moments lines p set few short is =
+    all_map IsLawfulContent (moment_line p) set.keys (all_of_set (λ m. IsLawfulContent (moment_line p m)) set is.listed is.each (listed_moments p few short (lines_of lines p) is.listed (all_named lines p) is.list))
+
+-- attendees, rules and the others, as their lines
+whole_lines : (lines : List Line) → AllByRecursion (λ (l : Line). property_of l ≡ name.Attendee) lines → AllByRecursion IsLawfulContent (map (property_line name.Attendee) (map whole_property lines))
+whole_lines [] h = tt
+whole_lines (l ∷ lines) h = (lawful_line l name.Attendee h.0 (omega arith), whole_lines lines h.1)
+
+rule_lines : (lines : List Line) → AllByRecursion (λ (l : Line). property_of l ≡ name.RRule) lines → AllByRecursion IsLawfulContent (map (plain name.RRule) (map value_of lines))
+rule_lines [] h = tt
+rule_lines (l ∷ lines) h = (lawful_plain l name.RRule h.0 (omega arith), rule_lines lines h.1)
+
+other_lines : (lines : List Line) → AllByRecursion IsLawfulContent (map content_of lines)
+other_lines [] = tt
+other_lines (l ∷ lines) = (l.lawful, other_lines lines)
+
+all_others : (lines : List Line) → AllByRecursion (λ (l : Line). property_of l ≡ name.Others) lines → list_all is_other lines ≡ true
+all_others [] h = refl
+all_others (l ∷ lines) h = λ i. is_same (h.0 i) name.Others && all_others lines h.1 i
+
+keys_whole : (lines : List Line) → keys_of (map whole_property lines) ≡ map key_of lines
+keys_whole [] = refl
+keys_whole (l ∷ lines) = ap (λ (ks : List (List ℕ)). key_of l ∷ ks) (keys_whole lines)
+
+draft_contents : (lines : List Line) (d : Draft) (uid : List ℕ) (stamp : Stamp) → IsDraftOf (lines_of lines) d → d.uid ≡ Some uid → unwrap_or d.seq 0 ≤ sequence_limit → AllByRecursion IsLawfulContent (parts_contents (draft_parts uid stamp d))
+draft_contents lines d uid stamp is known seq =
+    let uid_at = found IsUidOf (first_of (lines_of lines name.Uid)) d.uid uid (is name.Uid) known in
+    let uid_lawful : line.IsLawful (codes "UID") [] uid = subst (λ (u : List ℕ). line.IsLawful (codes "UID") [] u) (sym uid_at.2.0) (lawful_plain uid_at.0 name.Uid (first_named_is lines name.Uid uid_at.0 uid_at.1) (omega arith)) in
+    let P : Content → Type 0 = IsLawfulContent in
+    all_parts P (draft_parts uid stamp d) (record {
+      head = (uid_lawful, (stamp_lawful stamp, (number_lawful (codes "SEQUENCE") (record { some = omega arith; upper = refl }) (omega arith) (unwrap_or d.seq 0) seq, tt)));
+      base = all_optional P (λ n. plain name.DeskBase (decimal n)) d.base (λ n e. number_lawful (codes "X-DESK-BASE") (record { some = omega arith; upper = refl }) (omega arith) n (at_most IsSequenceOf sequence_limit (λ l. small sequence_limit l.value) (first_of (lines_of lines name.DeskBase)) d.base n (is name.DeskBase) e));
+      rid = all_optional P (moment_line name.RecurrenceId) d.rid (one_moment lines name.RecurrenceId d.rid (omega arith) (omega arith) (is name.RecurrenceId));
+      start = all_optional P (moment_line name.DtStart) d.start (one_moment lines name.DtStart d.start (omega arith) (omega arith) (is name.DtStart));
+      due = all_optional P (moment_line name.Due) d.due (one_moment lines name.Due d.due (omega arith) (omega arith) (is name.Due));
+      status = all_optional P (λ s. plain name.Status (status_text s)) d.status (λ s e. status_lawful s);
+      percent = all_optional P (λ n. plain name.PercentComplete (decimal n)) d.percent (λ n e. number_lawful (codes "PERCENT-COMPLETE") (record { some = omega arith; upper = refl }) (omega arith) n (let below : n ≤ 100 = at_most IsPercentOf percent_limit (λ l. small percent_limit l.value) (first_of (lines_of lines name.PercentComplete)) d.percent n (is name.PercentComplete) e in omega arith));
+      priority = all_optional P (λ n. plain name.Priority (decimal n)) d.priority (λ n e. number_lawful (codes "PRIORITY") (record { some = omega arith; upper = refl }) (omega arith) n (let below : n ≤ 9 = at_most IsPriorityOf priority_limit (λ l. small priority_limit l.value) (first_of (lines_of lines name.Priority)) d.priority n (is name.Priority) e in omega arith));
+      summary = all_optional P (property_line name.Summary) d.summary (one_property IsPropertyOf (λ l x h. h) lines name.Summary d.summary (omega arith) (is name.Summary));
+      organizer = all_optional P (property_line name.Organizer) d.organizer (one_property IsOrganizerOf (λ l x h. h.0) lines name.Organizer d.organizer (omega arith) (is name.Organizer));
+      attendee = subst (λ (ps : List Property). AllByRecursion P (map (property_line name.Attendee) ps)) (sym (is name.Attendee).whole) (whole_lines (lines_of lines name.Attendee) (all_named lines name.Attendee));
+      rule = subst (λ (vs : List (List ℕ)). AllByRecursion P (map (plain name.RRule) vs)) (sym (is name.RRule)) (rule_lines (lines_of lines name.RRule) (all_named lines name.RRule));
+      rdate = set_moments lines name.RDate d.rdates (omega arith) (omega arith) (is name.RDate);
+      exdate = set_moments lines name.ExDate d.exdates (omega arith) (omega arith) (is name.ExDate);
+      other = subst (λ (ls : List Line). AllByRecursion P (map content_of ls)) (sym (is name.Others)) (other_lines (lines_of lines name.Others));
+    })
 
 -- the draft of lines, which are lawful, is
-pub lawful_draft : (lines : List Line) (draft : Draft) → IsDraftOf lines draft → IsLawfulDraft draft
-lawful_draft lines draft is = record {
-  uid = λ uid e.
-      let at = found IsUidOf (first_named name.Uid lines) draft.uid uid is.uid e in
-      let l : Line = at.0 in
-      let named : l.name ≡ codes "UID" = uid_named l (first_has name.Uid lines l at.1) in
-      let lawful : line.IsLawful (codes "UID") [] l.value = subst (λ (n : List ℕ). line.IsLawful n [] l.value) named (lawful_without_params l.name l.params l.value l.lawful) in
-      (subst (λ (u : List ℕ). 0 < length u) (sym at.2.0) at.2.1, subst (λ (u : List ℕ). line.IsLawful (codes "UID") [] u) (sym at.2.0) lawful);
-  seq = λ seq e. let at = found IsSequenceOf (first_named name.Sequence lines) draft.seq seq is.seq e in small at.0 seq at.2;
-  summary = λ p e.
-      let at = found IsPropertyOf (first_named name.Summary lines) draft.summary p is.summary e in
-      let l : Line = at.0 in
-      let named : l.name ≡ codes "SUMMARY" = summary_named l (first_has name.Summary lines l at.1) in
-      let lawful : line.IsLawful (codes "SUMMARY") l.params l.value = subst (λ (n : List ℕ). line.IsLawful n l.params l.value) named l.lawful in
-      subst (λ (q : Property). line.IsLawful (codes "SUMMARY") q.params q.value) (sym at.2) lawful;
-}
+pub lawful_draft : (lines : List Line) (d : Draft) → IsDraftOf (lines_of lines) d → IsLawfulDraft d
+lawful_draft lines d is = λ uid stamp known _ rdates exdates.
+    let uid_at = found IsUidOf (first_of (lines_of lines name.Uid)) d.uid uid (is name.Uid) known in
+    let seq : unwrap_or d.seq 0 ≤ sequence_limit = small_or (first_of (lines_of lines name.Sequence)) d.seq (is name.Sequence) in
+    record {
+      uid = subst (λ (u : List ℕ). 0 < length u) (sym uid_at.2.0) uid_at.2.1;
+      seq = seq;
+      base = λ n. at_most IsSequenceOf sequence_limit (λ l. small sequence_limit l.value) (first_of (lines_of lines name.DeskBase)) d.base n (is name.DeskBase);
+      percent = λ n. at_most IsPercentOf percent_limit (λ l. small percent_limit l.value) (first_of (lines_of lines name.PercentComplete)) d.percent n (is name.PercentComplete);
+      priority = λ n. at_most IsPriorityOf priority_limit (λ l. small priority_limit l.value) (first_of (lines_of lines name.Priority)) d.priority n (is name.Priority);
+      organizer = λ p e.
+          let at = found IsOrganizerOf (first_of (lines_of lines name.Organizer)) d.organizer p (is name.Organizer) e in
+          subst (λ (x : Property). HasValue x) (sym at.2.0) at.2.1;
+      attendee_count = subst (λ (ps : List Property). length ps ≤ attendee_limit) (sym (is name.Attendee).whole) (omega (arith, (is name.Attendee).few, length-map (lines_of lines name.Attendee) whole_property));
+      attendee_values = (is name.Attendee).values;
+      attendee_keys = subst (λ (ps : List Property). IsDistinct same_text (keys_of ps)) (sym (is name.Attendee).whole) (subst (λ (ks : List (List ℕ)). IsDistinct same_text ks) (sym (keys_whole (lines_of lines name.Attendee))) (is name.Attendee).distinct);
+      rdates = rdates;
+      exdates = exdates;
+      others = subst (λ (ls : List Line). IsTrue (list_all is_other ls)) (sym (is name.Others)) (all_others (lines_of lines name.Others) (all_named lines name.Others));
+      lines = draft_contents lines d uid stamp is known seq;
+    }
   where
-    small : (l : Line) (n : ℕ) → IsSequenceOf l n → n ≤ sequence_limit
-    small l n (inl (noughts, e)) = omega (arith, e)
-    small l n (inr digits) = digits.small
+    small_or : (o : Option Line) (v : Option ℕ) → IsOptional IsSequenceOf o v → unwrap_or v 0 ≤ sequence_limit
+    small_or o None h = omega arith
+    small_or None (Some n) h = absurd h
+    small_or (Some l) (Some n) h = small sequence_limit l.value n h
 
--- the parts of a to-do of which only these are there
-abbrev pub bare_parts : List ℕ → Stamp → ℕ → Option Property → Parts
-bare_parts uid stamp seq summary = record {
-  uid = uid;
-  stamp = stamp;
-  seq = seq;
-  base = None;
-  rid = None;
-  start = None;
-  due = None;
-  status = None;
-  percent = None;
-  priority = None;
-  summary = summary;
-  organizer = None;
-  attendees = [];
-  rule = [];
-  rdates = [];
-  exdates = [];
-  others = [];
+-- the moments of the set, in their order
+pub moments_of : (lines : List Line) (set : BTreeSet Moment) (moments : List Moment) → IsSetOf lines set → moments ≡ set.keys → IsOrdered moment_cmp set → AreMomentsOf lines moments
+moments_of lines set moments is same ordered = record {
+  listed = is.listed;
+  list = is.list;
+  ascending = subst (λ (ms : List Moment). IsStrictlySortedBy moment_cmp ms) (sym same) ordered;
+  each = λ m. subst (λ (ms : List Moment). Contains ms m ↔ Contains is.listed m) (sym same) (same_members set is.listed is.each m);
 }
-
-pub bare_lawful : (uid : List ℕ) (stamp : Stamp) (seq : ℕ) (summary : Option Property) → 0 < length uid → line.IsLawful (codes "UID") [] uid → seq ≤ sequence_limit
-    → ((p : Property) → summary ≡ Some p → line.IsLawful (codes "SUMMARY") p.params p.value) → IsLawful (bare_parts uid stamp seq summary)
-bare_lawful uid stamp seq None some lawful small with_summary = record {
-  bare = refl;
-  uid = some;
-  seq = small;
-  lines = (lawful, (stamp_lawful stamp, (sequence_lawful seq small, tt)));
-}
-bare_lawful uid stamp seq (Some p) some lawful small with_summary = record {
-  bare = refl;
-  uid = some;
-  seq = small;
-  lines = (lawful, (stamp_lawful stamp, (sequence_lawful seq small, (with_summary p refl, tt))));
-}
-
-pub small_seq : (seq : Option ℕ) → ((n : ℕ) → seq ≡ Some n → n ≤ sequence_limit) → unwrap_or seq 0 ≤ sequence_limit
-small_seq None small = omega arith
-small_seq (Some n) small = small n refl

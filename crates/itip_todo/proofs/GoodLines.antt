@@ -1,8 +1,13 @@
 -- One more line after good ones.
-use Rattle.std.proofs.Common.{◌≡◌, ℕ, ◌+◌, ◌<◌, List, [], ◌∷◌, ◌++◌, length, take, drop, get_or, refl, sym, ap, subst, ◌∙◌, inl, inr, append_assoc, append-nil, take-append-drop}
+use Rattle.std.proofs.Common.{◌≡◌, true, false, cond, ℕ, ◌+◌, ◌<◌, List, [], ◌∷◌, ◌++◌, length, take, drop, get_or, refl, sym, ap, subst, ◌∙◌, inl, inr, append_assoc, append-nil, take-append-drop}
 use Rattle.std.proofs.lemmas.List.{take_more}
+use Rattle.std.proofs.lemmas.List.Elements.{filter-append}
 use Rattle.itip_lines.specs.declared.line.Line.{Line}
-use Rattle.itip_todo.specs.Reading.{AreGood, IsGood, HasFault, FirstFault, IfFault}
+use Rattle.itip_todo.specs.Reading.{AreGood, IsGood, HasFault, FirstFault, IfFault, lines_of}
+use Rattle.itip_todo.specs.Drafts.{Holds, IsDraftOf, more}
+use Rattle.itip_todo.specs.Table.{is_same, property_of}
+use Rattle.itip_todo.specs.declared.draft.Draft.{Draft}
+use Rattle.itip_todo.specs.declared.property_name.PropertyName.{PropertyName}
 use Rattle.itip_todo.specs.declared.error.TodoError.{TodoError}
 use Rattle.itip_todo.specs.declared.error.TodoError.TheVariants as error
 use Rattle.itip_todo.specs.declared.error.Fault.{Fault}
@@ -27,3 +32,14 @@ parted lines i line lt is =
 pub IfFault-weaker : (e : TodoError) (P Q : Fault → Type 0) → ((f : Fault) → P f → Q f) → IfFault e P → IfFault e Q
 IfFault-weaker error.NoMemory P Q more h = tt
 IfFault-weaker (error.Fault f) P Q more h = more f h
+
+-- the lines of each property, with one more
+lines_more : (above : List Line) (line : Line) (p : PropertyName) → more (lines_of above) (property_of line) line p ≡ lines_of (above ++ line ∷ []) p
+lines_more above line p =
+    (elim (is_same (property_of line) p) as (λ b. cond b (lines_of above p ++ line ∷ []) (lines_of above p) ≡ lines_of above p ++ cond b (line ∷ []) []) [
+      | true ↦ refl
+      | false ↦ sym (append-nil (lines_of above p))
+    ]) ∙ sym (filter-append (λ (l : Line). is_same (property_of l) p) above (line ∷ []))
+
+pub draft_more : (above : List Line) (line : Line) (d : Draft) → IsDraftOf (more (lines_of above) (property_of line) line) d → IsDraftOf (lines_of (above ++ line ∷ [])) d
+draft_more above line d is p = subst (λ (ls : List Line). Holds d p ls) (lines_more above line p) (is p)

@@ -1,6 +1,6 @@
 -- The lines that a read to-do is written as are lawful.
-use Rattle.std.proofs.Common.{◌≡◌, ℕ, ◌+◌, ◌/◌, ◌%◌, ◌<◌, ◌≤◌, ◌^◌, Bool, true, false, ◌&&◌, ◌||◌, ◌==◌, not, List, [], ◌∷◌, ◌++◌, length, length-append, get_or, zero, suc, refl, sym, ap, subst, ◌∙◌, arith, Option, Some, None, IsTrue}
-use Rattle.std.specs.Prelude.{codes, nat_le}
+use Rattle.std.proofs.Common.{◌≡◌, ◌≢◌, cond, ℕ, ◌+◌, ◌/◌, ◌%◌, ◌<◌, ◌≤◌, ◌^◌, Bool, true, false, ◌&&◌, ◌||◌, ◌==◌, not, List, [], ◌∷◌, ◌++◌, length, length-append, get_or, zero, suc, refl, sym, ap, subst, ◌∙◌, arith, Option, Some, None, IsTrue}
+use Rattle.std.specs.Prelude.{codes, ℤ, nat_le}
 use Rattle.std.specs.Option.{ForSome}
 use Rattle.std.specs.Fmt.{decimal}
 use Rattle.std.specs.List.{list_all, AllByRecursion}
@@ -15,7 +15,22 @@ use Rattle.itip_lines.proofs.LawfulLemmas.{lawful_without_params}
 use Rattle.itip_moment.specs.Written.{stamp_text}
 use Rattle.itip_moment.specs.declared.stamp.Stamp.{Stamp}
 use Rattle.itip_moment.proofs.WrittenOctets.{is_stamp_octet, stamp_text_octets}
+use Rattle.itip_lines.specs.Lawful.{params_text}
+use Rattle.itip_lines.specs.declared.line.Param.{Param}
+use Rattle.itip_moment.specs.Spelling.{IsDateText, IsLocalText}
+use Rattle.itip_moment.specs.Written.{date_text, clock_text, local_text, moment_text}
+use Rattle.itip_moment.specs.declared.day.Day.{Day}
+use Rattle.itip_moment.specs.declared.moment.Moment.{Moment}
+use Rattle.itip_moment.specs.declared.moment.Moment.TheVariants.{Date, Floating, Utc, Zoned}
+use Rattle.itip_moment.proofs.ValueLaws.{date_text-IsDateText, local_text-IsLocalText}
+use Rattle.itip_todo.specs.Participation.{same_text, param_value, first_value}
+use Rattle.itip_todo.specs.StatusText.{status_text}
 use Rattle.itip_todo.specs.Table.{sequence_limit}
+use Rattle.itip_todo.specs.Values.{IsMomentText}
+use Rattle.itip_todo.specs.Written.{moment_params}
+use Rattle.itip_todo.specs.declared.status.Status.{Status}
+use Rattle.itip_todo.specs.declared.status.Status.TheVariants as status
+use Rattle.itip_todo.proofs.Names.{text_is}
 
 stamp_value_octet : (b : ℕ) → is_stamp_octet b ≡ true → (is_value_octet b ≡ true) × (b < 128)
 stamp_value_octet b e = grind (arith, nat_tests)
@@ -66,8 +81,120 @@ decimal_octets : (n : ℕ) → n < 2 ^ 64 → list_all is_stamp_octet (decimal n
 decimal_octets = decimal_by_steps (λ n ds. list_all is_stamp_octet ds ≡ true) (λ n h. one_octet (48 + n) (digit_octet n h))
     (λ n ds h before. all_append ds ((48 + n % 10) ∷ []) before (one_octet (48 + n % 10) (digit_octet (n % 10) (omega arith))))
 
-pub sequence_lawful : (n : ℕ) → n ≤ sequence_limit → line.IsLawful (codes "SEQUENCE") [] (decimal n)
-sequence_lawful n small =
+pub number_lawful : (name : List ℕ) → line.IsName name → length name ≤ 100 → (n : ℕ) → n ≤ sequence_limit → line.IsLawful name [] (decimal n)
+number_lawful name named short_name n small =
     let fits : n < 2 ^ 64 = omega (arith, small) in
     let short : length (decimal n) ≤ 20 = length-decimal-le 20 n (omega arith) (omega (arith, small)) fits in
-    plain_lawful (codes "SEQUENCE") (decimal n) (record { some = omega arith; upper = refl }) (omega arith) (decimal_octets n fits) (omega (arith, short))
+    plain_lawful name (decimal n) named short_name (decimal_octets n fits) (omega (arith, short))
+
+pub status_lawful : (s : Status) → line.IsLawful (codes "STATUS") [] (status_text s)
+unfolding lib.Utf8.encode
+status_lawful status.NeedsAction = record { named = record { some = omega arith; upper = refl }; each_param = tt; octets = refl; utf8 = (codes "NEEDS-ACTION", (refl, refl)); short = omega arith }
+status_lawful status.Completed = record { named = record { some = omega arith; upper = refl }; each_param = tt; octets = refl; utf8 = (codes "COMPLETED", (refl, refl)); short = omega arith }
+status_lawful status.InProcess = record { named = record { some = omega arith; upper = refl }; each_param = tt; octets = refl; utf8 = (codes "IN-PROCESS", (refl, refl)); short = omega arith }
+status_lawful status.Cancelled = record { named = record { some = omega arith; upper = refl }; each_param = tt; octets = refl; utf8 = (codes "CANCELLED", (refl, refl)); short = omega arith }
+
+-- the text of a moment is digits, and perhaps T and Z
+
+front_octets : (xs ys : List ℕ) → list_all is_stamp_octet (xs ++ ys) ≡ true → list_all is_stamp_octet xs ≡ true
+front_octets [] ys e = refl
+front_octets (x ∷ xs) ys e = let parts = both (is_stamp_octet x) (list_all is_stamp_octet (xs ++ ys)) e in both_hold (is_stamp_octet x) (list_all is_stamp_octet xs) parts.0 (front_octets xs ys parts.1)
+
+local_octets : (at : Stamp) → list_all is_stamp_octet (local_text at.day at.second) ≡ true
+local_octets at = front_octets (local_text at.day at.second) (90 ∷ []) (stamp_text_octets at).0
+
+date_octets : (day : Day) → list_all is_stamp_octet (date_text day.number) ≡ true
+date_octets day =
+    let at : Stamp = record { day = day.number; second = 0; in_years = day.in_years; in_day = omega arith } in
+    front_octets (date_text day.number) (84 ∷ clock_text 0) (local_octets at)
+
+moment_octets : (m : Moment) → list_all is_stamp_octet (moment_text m) ≡ true
+moment_octets (Date day) = date_octets day
+moment_octets (Floating at) = local_octets at
+moment_octets (Utc at) = (stamp_text_octets at).0
+moment_octets (Zoned zone at) = local_octets at
+
+moment_utf8 : (m : Moment) → IsUtf8 (moment_text m)
+moment_utf8 m = IsUtf8-from_ascii (moment_text m) (plain_ascii (moment_text m) (moment_octets m))
+
+date_length : (text : List ℕ) (day : ℤ) → IsDateText text day → length text ≡ 8
+date_length text day is = ap length is.spelt
+
+local_length : (text : List ℕ) (day : ℤ) (second : ℕ) → IsLocalText text day second → length text ≡ 15
+local_length text day second is =
+    let clock : length is.clock ≡ 6 = ap length is.clock_is.spelt in
+    let whole : length text ≡ length (is.date ++ 84 ∷ is.clock) = ap length is.parts in
+    omega (arith, date_length is.date day is.date_is, length-append is.date (84 ∷ is.clock))
+
+-- the zone that the parameters name is a lawful value, and no longer than they are
+zone_value : (params : List Param) (zone : List ℕ) → param_value (codes "TZID") params ≡ zone → zone ≢ [] → AllByRecursion line.IsLawfulParam params
+    → line.IsParamValue zone × (length (line.value_text zone) + 6 ≤ length (line.params_text params))
+zone_value [] zone e some h = absurd (some (sym e))
+zone_value (p ∷ ps) zone e some h =
+    elim (same_text p.name (codes "TZID")) as
+    (λ b. same_text p.name (codes "TZID") ≡ b → cond b (first_value p.values) (param_value (codes "TZID") ps) ≡ zone → line.IsParamValue zone × (length (line.value_text zone) + 6 ≤ length (line.params_text (p ∷ ps)))) [
+      | true ↦ λ named first. here p.name p.values (text_is p.name (codes "TZID") named) h.0.values first
+      | false ↦ λ _ later. let rec = zone_value ps zone later some h.1 in (rec.0, omega (arith, rec.1, length-append (line.param_text p) (line.params_text ps)))
+    ] refl e
+  where
+    here : (name : List ℕ) (values : List (List ℕ)) → name ≡ codes "TZID" → AllByRecursion line.IsParamValue values → first_value values ≡ zone
+        → line.IsParamValue zone × (length (line.value_text zone) + 6 ≤ length ((59 ∷ (name ++ 61 ∷ line.values_text values)) ++ line.params_text ps))
+    here name [] same all first = absurd (some (sym first))
+    here name (v ∷ []) same all first =
+        let long : length name ≡ 4 = ap length same in
+        (subst (λ (z : List ℕ). line.IsParamValue z) first all.0, omega (arith, long, ap (λ (z : List ℕ). length (line.value_text z)) first, length-append (59 ∷ (name ++ 61 ∷ line.value_text v)) (line.params_text ps), length-append name (61 ∷ line.value_text v)))
+    here name (v ∷ (w ∷ vs)) same all first =
+        let long : length name ≡ 4 = ap length same in (
+          subst (λ (z : List ℕ). line.IsParamValue z) first all.0,
+          omega (
+            arith,
+            long,
+            ap (λ (z : List ℕ). length (line.value_text z)) first,
+            length-append (59 ∷ (name ++ 61 ∷ (line.value_text v ++ 44 ∷ line.values_text (w ∷ vs)))) (line.params_text ps),
+            length-append name (61 ∷ (line.value_text v ++ 44 ∷ line.values_text (w ∷ vs))),
+            length-append (line.value_text v) (44 ∷ line.values_text (w ∷ vs)),
+          ),
+        )
+
+date_param : line.IsLawfulParam (record { name = codes "VALUE"; values = codes "DATE" ∷ [] })
+unfolding lib.Utf8.encode
+date_param = record { named = record { some = omega arith; upper = refl }; some = omega arith; values = (record { octets = refl; utf8 = (codes "DATE", (refl, refl)) }, tt) }
+
+-- the line of a moment that a lawful line spells is lawful
+pub moment_lawful : (name : List ℕ) (params : List Param) (value text : List ℕ) (m : Moment) → line.IsLawful name params value → length name ≤ 100 → IsMomentText params text m → length text ≤ length value
+    → line.IsLawful name (moment_params m) (moment_text m)
+moment_lawful name params value text (Date day) h short_name is within = record {
+  named = h.named;
+  each_param = (date_param, tt);
+  octets = plain_octets (date_text day.number) (date_octets day);
+  utf8 = moment_utf8 (Date day);
+  short = omega (arith, short_name, date_length (date_text day.number) day.number (date_text-IsDateText day.number day.in_years), length-append name (params_text (moment_params (Date day)) ++ 58 ∷ date_text day.number));
+}
+moment_lawful name params value text (Floating at) h short_name is within = record {
+  named = h.named;
+  each_param = tt;
+  octets = plain_octets (local_text at.day at.second) (local_octets at);
+  utf8 = moment_utf8 (Floating at);
+  short = omega (arith, short_name, local_length (local_text at.day at.second) at.day at.second (local_text-IsLocalText at), length-append name (58 ∷ local_text at.day at.second));
+}
+moment_lawful name params value text (Utc at) h short_name is within = record {
+  named = h.named;
+  each_param = tt;
+  octets = plain_octets (stamp_text at) (stamp_text_octets at).0;
+  utf8 = moment_utf8 (Utc at);
+  short = omega (arith, short_name, (stamp_text_octets at).1, length-append name (58 ∷ stamp_text at));
+}
+moment_lawful name params value text (Zoned zone at) h short_name is within =
+    let value_is = zone_value params zone.bytes (some_same (param_value (codes "TZID") params) zone.bytes is.1) zone.not_empty h.each_param in
+    let long : length (local_text at.day at.second) ≡ 15 = local_length (local_text at.day at.second) at.day at.second (local_text-IsLocalText at) in
+    let read : length text ≡ 15 = local_length text at.day at.second is.0 in
+    record {
+      named = h.named;
+      each_param = (record { named = record { some = omega arith; upper = refl }; some = omega arith; values = (value_is.0, tt) }, tt);
+      octets = plain_octets (local_text at.day at.second) (local_octets at);
+      utf8 = moment_utf8 (Zoned zone at);
+      short = omega (arith, value_is.1, long, read, within, h.short, length-append name (params_text params ++ 58 ∷ value), length-append (params_text params) (58 ∷ value), length-append name (params_text (moment_params (Zoned zone at)) ++ 58 ∷ local_text at.day at.second), length-append (params_text (moment_params (Zoned zone at))) (58 ∷ local_text at.day at.second), length-append (line.value_text zone.bytes) []);
+    }
+  where
+    some_same : (a b : List ℕ) → Some a ≡ Some b → a ≡ b
+    some_same a b e = cc

@@ -1,43 +1,121 @@
 -- What the lines so far say of a to-do, as the reader keeps it.
-use Rattle.std.specs.Prelude.{◌≡◌, ◌<◌, ◌≤◌, ℕ, Bool, true, false, List, [], length, codes, Some, None}
+use Rattle.std.specs.Prelude.{◌≡◌, ◌≢◌, ◌<◌, ◌≤◌, ℕ, ◌||◌, Bool, cond, slice_index, List, [], ◌∷◌, ◌++◌, length, map, unwrap_or, Some}
+use Rattle.std.specs.BTreeSet.{BTreeSet, contains, IsOrdered}
+use Rattle.std.specs.Cmp.Lexicographic.{slice_cmp}
+use Rattle.std.specs.List.{list_any, AllByRecursion, IsDistinct}
+use Rattle.std.specs.Ordering.{nat_cmp, eq_by_cmp}
 use Rattle.itip_lines.specs.declared.line.Line.{Line}
-use Rattle.itip_lines.specs.Lawful.{IsLawful}
-use Rattle.itip_todo.specs.Table.{sequence_limit}
-use Rattle.itip_todo.specs.declared.property.Property.{Property}
-use Rattle.itip_todo.specs.Reading.{IsOptional, IsUidOf, IsStampOf, IsSequenceOf, IsPropertyOf, first_named}
+use Rattle.itip_lines.specs.declared.line.Param.{Param}
+use Rattle.itip_moment.specs.Order.{moment_cmp}
+use Rattle.itip_moment.specs.Spelling.{MomentText}
+use Rattle.itip_moment.specs.declared.moment.Moment.{Moment}
+use Rattle.itip_moment.specs.declared.stamp.Stamp.{Stamp}
+use Rattle.itip_todo.specs.Lawful.{IsLawful, HasValue}
+use Rattle.itip_todo.specs.Participation.{same_text}
+use Rattle.itip_todo.specs.Parts.{Parts}
+use Rattle.itip_todo.specs.Reading.{IsGoodAs, HasFaultAs, IsOptional, IsUidOf, IsStampOf, IsSequenceOf, IsPercentOf, IsPriorityOf, IsMomentOf, IsStatusOf, IsPropertyOf, IsOrganizerOf, whole_property, value_of, ListMoments, first_of, key_of}
+use Rattle.itip_todo.specs.Table.{is_same, attendee_limit}
+use Rattle.itip_todo.specs.Values.{AreMoments}
 use Rattle.itip_todo.specs.declared.draft.Draft.{Draft}
+use Rattle.itip_todo.specs.declared.error.Fault.{Fault}
+use Rattle.itip_todo.specs.declared.property.Property.{Property}
 use Rattle.itip_todo.specs.declared.property_name.PropertyName.{PropertyName}
 use Rattle.itip_todo.specs.declared.property_name.PropertyName.TheVariants as name
 
--- the properties that are read
-abbrev pub is_read : PropertyName → Bool
-is_read name.Uid = true
-is_read name.DtStamp = true
-is_read name.Sequence = true
-is_read name.Summary = true
-is_read name.DeskBase = false
-is_read name.RecurrenceId = false
-is_read name.DtStart = false
-is_read name.Due = false
-is_read name.Status = false
-is_read name.PercentComplete = false
-is_read name.Priority = false
-is_read name.Organizer = false
-is_read name.Attendee = false
-is_read name.RRule = false
-is_read name.RDate = false
-is_read name.ExDate = false
-is_read name.Others = false
+-- the moment is one of these
+abbrev pub is_listed : List Moment → Moment → Bool
+is_listed moments m = list_any (λ x. eq_by_cmp moment_cmp x m) moments
 
-pub record IsDraftOf (lines : List Line) (draft : Draft) : Type 0 where
-  pub uid : IsOptional IsUidOf (first_named name.Uid lines) draft.uid
-  pub stamp : IsOptional IsStampOf (first_named name.DtStamp lines) draft.stamp
-  pub seq : IsOptional IsSequenceOf (first_named name.Sequence lines) draft.seq
-  pub summary : IsOptional IsPropertyOf (first_named name.Summary lines) draft.summary
-  pub no_other : (p : PropertyName) → is_read p ≡ false → first_named p lines ≡ None
+-- the set of the moments that lines list
+pub record IsSetOf (lines : List Line) (set : BTreeSet Moment) : Type 0 where
+  pub listed : List Moment
+  pub list : ListMoments lines listed
+  pub each : (m : Moment) → contains moment_cmp set m ≡ is_listed listed m
 
--- what is needed of a draft, so that the to-do of it is lawful
-pub record IsLawfulDraft (draft : Draft) : Type 0 where
-  pub uid : (uid : List ℕ) → draft.uid ≡ Some uid → (0 < length uid) × IsLawful (codes "UID") [] uid
-  pub seq : (seq : ℕ) → draft.seq ≡ Some seq → seq ≤ sequence_limit
-  pub summary : (p : Property) → draft.summary ≡ Some p → IsLawful (codes "SUMMARY") p.params p.value
+-- no comma (44) stands in the text
+abbrev pub HasNoComma : List ℕ → Type 0
+HasNoComma text = (i : ℕ) → i < length text → slice_index text i ≢ 44
+
+-- the moment that the text spells beside this zone was put into the set
+pub record PutsMoment (text zone : List ℕ) (old new : BTreeSet Moment) : Type 0 where
+  pub moment : Moment
+  pub is : MomentText text (Some zone) moment
+  pub each : (m : Moment) → contains moment_cmp new m ≡ (contains moment_cmp old m || eq_by_cmp moment_cmp moment m)
+
+-- the moments that the text lists beside these parameters were put into the set
+pub record PutsMoments (params : List Param) (text : List ℕ) (old new : BTreeSet Moment) : Type 0 where
+  pub listed : List Moment
+  pub are : AreMoments params text listed
+  pub each : (m : Moment) → contains moment_cmp new m ≡ (contains moment_cmp old m || is_listed listed m)
+
+-- the attendees of these lines, and their keys
+pub record HoldsAttendees (lines : List Line) (attendees : List Property) (set : BTreeSet (List ℕ)) : Type 0 where
+  pub whole : attendees ≡ map whole_property lines
+  pub values : AllByRecursion HasValue attendees
+  pub few : length lines ≤ attendee_limit
+  pub distinct : IsDistinct same_text (map key_of lines)
+  pub keys : (key : List ℕ) → contains (slice_cmp nat_cmp) set key ≡ list_any (same_text key) (map key_of lines)
+
+-- what a draft holds of a property, where these are its lines
+abbrev pub Holds : Draft → PropertyName → List Line → Type 0
+Holds draft name.Uid lines = IsOptional IsUidOf (first_of lines) draft.uid
+Holds draft name.DtStamp lines = IsOptional IsStampOf (first_of lines) draft.stamp
+Holds draft name.Sequence lines = IsOptional IsSequenceOf (first_of lines) draft.seq
+Holds draft name.DeskBase lines = IsOptional IsSequenceOf (first_of lines) draft.base
+Holds draft name.RecurrenceId lines = IsOptional IsMomentOf (first_of lines) draft.rid
+Holds draft name.DtStart lines = IsOptional IsMomentOf (first_of lines) draft.start
+Holds draft name.Due lines = IsOptional IsMomentOf (first_of lines) draft.due
+Holds draft name.Status lines = IsOptional IsStatusOf (first_of lines) draft.status
+Holds draft name.PercentComplete lines = IsOptional IsPercentOf (first_of lines) draft.percent
+Holds draft name.Priority lines = IsOptional IsPriorityOf (first_of lines) draft.priority
+Holds draft name.Summary lines = IsOptional IsPropertyOf (first_of lines) draft.summary
+Holds draft name.Organizer lines = IsOptional IsOrganizerOf (first_of lines) draft.organizer
+Holds draft name.Attendee lines = HoldsAttendees lines draft.attendees.items draft.keys
+Holds draft name.RRule lines = draft.rule.items ≡ map value_of lines
+Holds draft name.RDate lines = IsSetOf lines draft.rdates
+Holds draft name.ExDate lines = IsSetOf lines draft.exdates
+Holds draft name.Others lines = draft.others.items ≡ lines
+
+-- what a draft holds, where these lines of each property stand above
+abbrev pub IsDraftOf : (PropertyName → List Line) → Draft → Type 0
+IsDraftOf above draft = (p : PropertyName) → Holds draft p (above p)
+
+-- these lines, and one more of this property
+abbrev pub more : (PropertyName → List Line) → PropertyName → Line → PropertyName → List Line
+more above p line q = cond (is_same p q) (above q ++ line ∷ []) (above q)
+
+-- a good line, which is read as p, is taken into the draft
+pub record Takes (p : PropertyName) (line : Line) (old new : Draft) : Type 0 where
+  pub good : (above : PropertyName → List Line) → IsDraftOf above old → IsGoodAs above p line
+  pub draft : (above : PropertyName → List Line) → IsDraftOf above old → IsDraftOf (more above p line) new
+
+-- a line that is read as p has this fault
+abbrev pub Refuses : PropertyName → Line → Draft → Fault → Type 0
+Refuses p line old f = (above : PropertyName → List Line) → IsDraftOf above old → HasFaultAs above p line f
+
+-- the parts of a draft with this UID and DTSTAMP
+abbrev pub draft_parts : List ℕ → Stamp → Draft → Parts
+draft_parts uid stamp draft = record {
+  uid = uid;
+  stamp = stamp;
+  seq = unwrap_or draft.seq 0;
+  base = draft.base;
+  rid = draft.rid;
+  start = draft.start;
+  due = draft.due;
+  status = draft.status;
+  percent = draft.percent;
+  priority = draft.priority;
+  summary = draft.summary;
+  organizer = draft.organizer;
+  attendees = draft.attendees.items;
+  rule = draft.rule.items;
+  rdates = draft.rdates.keys;
+  exdates = draft.exdates.keys;
+  others = draft.others.items;
+}
+
+-- the to-do of a draft is lawful
+abbrev pub IsLawfulDraft : Draft → Type 0
+IsLawfulDraft draft =
+    (uid : List ℕ) (stamp : Stamp) → draft.uid ≡ Some uid → draft.stamp ≡ Some stamp → IsOrdered moment_cmp draft.rdates → IsOrdered moment_cmp draft.exdates → IsLawful (draft_parts uid stamp draft)

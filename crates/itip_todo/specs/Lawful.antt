@@ -1,32 +1,45 @@
 -- What a to-do keeps of itself: the values, counts and orders of the table of properties (RFC 5545 3.6.2; the limits and orders are our own).
-use Rattle.std.specs.Prelude.{◌≤◌, ◌<◌, Bool, true, false, ◌&&◌, List, [], ◌∷◌, length, IsTrue}
-use Rattle.std.specs.Option.{is_none}
-use Rattle.std.specs.List.{AllByRecursion}
+use Rattle.std.specs.Prelude.{◌≡◌, ◌≤◌, ◌<◌, ℕ, List, length, map, IsTrue, Some}
+use Rattle.std.specs.List.{AllByRecursion, IsDistinct, list_all}
+use Rattle.std.specs.List.Sorted.{IsStrictlySortedBy}
 use Rattle.std.proofs.Props.{props}
+use Rattle.std.proofs.lemmas.Map.Keys.{IsDistinct-prop, IsStrictlySortedBy-prop}
 use Rattle.itip_lines.specs.Lawful as line
+use Rattle.itip_moment.specs.Order.{moment_cmp}
+use Rattle.itip_todo.specs.Participation.{same_text}
 use Rattle.itip_todo.specs.Parts.{Parts}
 use Rattle.itip_todo.specs.Written.{Content, parts_contents}
-use Rattle.itip_todo.specs.Table.{sequence_limit}
+use Rattle.itip_todo.specs.Table.{sequence_limit, percent_limit, priority_limit, attendee_limit, attendee_key, is_other}
+use Rattle.itip_todo.specs.declared.property.Property.{Property}
 
 abbrev pub IsLawfulContent : Content → Type 0
 IsLawfulContent content = line.IsLawful content.name content.params content.value
 
-abbrev pub is_empty : {A : Type 0} → List A → Bool
-is_empty [] = true
-is_empty (x ∷ xs) = false
+abbrev pub HasValue : Property → Type 0
+HasValue property = 0 < length property.value
 
--- only UID, DTSTAMP, SEQUENCE and SUMMARY are there: no other property is read as yet
-abbrev pub is_bare : Parts → Bool
-is_bare parts =
-    is_none parts.base && is_none parts.rid && is_none parts.start && is_none parts.due && is_none parts.status && is_none parts.percent && is_none parts.priority && is_none parts.organizer
-    && is_empty parts.attendees && is_empty parts.rule && is_empty parts.rdates && is_empty parts.exdates && is_empty parts.others
+-- the keys of attendees
+abbrev pub keys_of : List Property → List (List ℕ)
+keys_of attendees = map (λ p. attendee_key p.value) attendees
 
 pub record IsLawful (parts : Parts) : Type 0 where
-  pub bare : IsTrue (is_bare parts)
   pub uid : 0 < length parts.uid
   pub seq : parts.seq ≤ sequence_limit
+  pub base : (n : ℕ) → parts.base ≡ Some n → n ≤ sequence_limit
+  pub percent : (n : ℕ) → parts.percent ≡ Some n → n ≤ percent_limit
+  pub priority : (n : ℕ) → parts.priority ≡ Some n → n ≤ priority_limit
+  pub organizer : (p : Property) → parts.organizer ≡ Some p → HasValue p
+  pub attendee_count : length parts.attendees ≤ attendee_limit
+  pub attendee_values : AllByRecursion HasValue parts.attendees
+  -- no two attendees are one
+  pub attendee_keys : IsDistinct same_text (keys_of parts.attendees)
+  -- each moment once, in their order
+  pub rdates : IsStrictlySortedBy moment_cmp parts.rdates
+  pub exdates : IsStrictlySortedBy moment_cmp parts.exdates
+  -- a line of no property of the table, or of RDATE with `/` in its value
+  pub others : IsTrue (list_all is_other parts.others)
   -- each line that it is written as is a lawful content line
   pub lines : AllByRecursion IsLawfulContent (parts_contents parts)
 
 pub IsLawful-prop : (parts : Parts) → IsProp (IsLawful parts)
-IsLawful-prop parts = hlevel (props, line.IsLawful-prop)
+IsLawful-prop parts = hlevel (props, line.IsLawful-prop, IsDistinct-prop, IsStrictlySortedBy-prop)

@@ -1,28 +1,31 @@
 -- What the lines between BEGIN:VTODO and END:VTODO read as: a to-do, or its first fault (RFC 5545 3.6.2; the order of faults is our own).
-use Rattle.std.specs.Prelude.{◌≡◌, ◌≢◌, ◌<◌, ◌≤◌, ℕ, ◌⊎◌, Bool, true, false, ◌&&◌, List, [], ◌∷◌, ◌++◌, length, Option, Some, None, unwrap_or}
-use Rattle.std.specs.List.{list_any, filter}
+use Rattle.std.specs.Prelude.{◌≡◌, ◌≢◌, ◌<◌, ◌↔◌, ℕ, ◌⊎◌, Bool, false, ◌&&◌, nat_le, IsTrue, List, [], ◌∷◌, ◌++◌, length, map, codes, Option, Some, None}
+use Rattle.std.specs.Option.{is_some}
+use Rattle.std.specs.List.{list_any, filter, Contains}
+use Rattle.std.specs.List.Sorted.{IsStrictlySortedBy}
 use Rattle.itip_lines.specs.declared.line.Line.{Line}
+use Rattle.itip_lines.specs.declared.line.Param.{Param}
+use Rattle.itip_moment.specs.Order.{moment_cmp}
 use Rattle.itip_moment.specs.Spelling.{IsStampText}
+use Rattle.itip_moment.specs.declared.moment.Moment.{Moment}
 use Rattle.itip_moment.specs.declared.stamp.Stamp.{Stamp}
-use Rattle.itip_todo.specs.Table.{property_named, is_same, sequence_limit}
-use Rattle.itip_todo.specs.Values.{IsNumberUpTo, IsGoodValue}
-use Rattle.itip_todo.specs.Parts.{Parts}
-use Rattle.itip_todo.specs.PartsOf.{parts_of}
+use Rattle.itip_todo.specs.Participation.{same_text}
+use Rattle.itip_todo.specs.StatusText.{status_of}
+use Rattle.itip_todo.specs.Table.{property_of, is_same, stands_once, attendee_key, attendee_limit, sequence_limit, percent_limit, priority_limit}
+use Rattle.itip_todo.specs.Values.{IsNumberUpTo, IsMomentText, AreMoments, IsGoodValue}
 use Rattle.itip_todo.specs.declared.property.Property.{Property}
 use Rattle.itip_todo.specs.declared.property_name.PropertyName.{PropertyName}
 use Rattle.itip_todo.specs.declared.property_name.PropertyName.TheVariants as name
+use Rattle.itip_todo.specs.declared.status.Status.{Status}
 use Rattle.itip_todo.specs.declared.todo.Todo.{Todo}
 use Rattle.itip_todo.specs.declared.error.Fault.{Fault}
 use Rattle.itip_todo.specs.declared.error.Fault.TheVariants as fault
 use Rattle.itip_todo.specs.declared.error.TodoError.{TodoError}
 use Rattle.itip_todo.specs.declared.error.TodoError.TheVariants as error
 
--- the property of a line; names are in upper case
-abbrev pub property_of : Line → PropertyName
-property_of line = property_named line.name
-
-abbrev pub is_named : PropertyName → Line → Bool
-is_named p line = is_same (property_of line) p
+-- the lines of a property, in order
+abbrev pub lines_of : List Line → PropertyName → List Line
+lines_of lines p = filter (λ line. is_same (property_of line) p) lines
 
 abbrev pub first_of : List Line → Option Line
 first_of [] = None
@@ -30,25 +33,52 @@ first_of (line ∷ lines) = Some line
 
 -- the first line of a property
 abbrev pub first_named : PropertyName → List Line → Option Line
-first_named p lines = first_of (filter (is_named p) lines)
+first_named p lines = first_of (lines_of lines p)
 
--- the property of the line stands above already
-abbrev pub stands_above : List Line → Line → Option Line
-stands_above above line = first_named (property_of line) above
+-- the property may stand once, and stands above already
+abbrev pub is_twice : (PropertyName → List Line) → PropertyName → Bool
+is_twice above p = stands_once p && is_some (first_of (above p))
+
+-- RECURRENCE-ID with a RANGE parameter
+abbrev pub has_range : PropertyName → Line → Bool
+has_range p line = is_same p name.RecurrenceId && list_any (λ (param : Param). same_text param.name (codes "RANGE")) line.params
+
+-- one ATTENDEE too many
+abbrev pub is_too_many : (PropertyName → List Line) → PropertyName → Bool
+is_too_many above p = is_same p name.Attendee && nat_le attendee_limit (length (above name.Attendee))
+
+abbrev pub key_of : Line → List ℕ
+key_of line = attendee_key line.value
+
+-- an ATTENDEE with the key of one above
+abbrev pub is_same_attendee : (PropertyName → List Line) → PropertyName → Line → Bool
+is_same_attendee above p line = is_same p name.Attendee && list_any (same_text (key_of line)) (map key_of (above name.Attendee))
+
+-- a line that is read as p has no fault, where these lines of each property stand above it
+pub record IsGoodAs (above : PropertyName → List Line) (p : PropertyName) (line : Line) : Type 0 where
+  pub once : is_twice above p ≡ false
+  pub no_range : has_range p line ≡ false
+  pub value : IsGoodValue p line
+  pub few : is_too_many above p ≡ false
+  pub new : is_same_attendee above p line ≡ false
+
+-- the fault of a line that is read as p: the first of twice, RANGE, a bad value, too many, and one attendee twice
+abbrev pub HasFaultAs : (PropertyName → List Line) → PropertyName → Line → Fault → Type 0
+HasFaultAs above p line (fault.Missing q) = ⊥
+HasFaultAs above p line (fault.Twice q) = (q ≡ p) × IsTrue (is_twice above p)
+HasFaultAs above p line fault.Range = (is_twice above p ≡ false) × IsTrue (has_range p line)
+HasFaultAs above p line (fault.BadValue q) = (q ≡ p) × (is_twice above p ≡ false) × (has_range p line ≡ false) × (¬ IsGoodValue p line)
+HasFaultAs above p line fault.TooMany = (is_twice above p ≡ false) × (has_range p line ≡ false) × IsGoodValue p line × IsTrue (is_too_many above p)
+HasFaultAs above p line fault.SameAttendee =
+    (is_twice above p ≡ false) × (has_range p line ≡ false) × IsGoodValue p line × (is_too_many above p ≡ false) × IsTrue (is_same_attendee above p line)
 
 -- a line has no fault, where these stand above it
-pub record IsGood (above : List Line) (line : Line) : Type 0 where
-  pub once : stands_above above line ≡ None
-  pub value : IsGoodValue (property_of line) line
+abbrev pub IsGood : List Line → Line → Type 0
+IsGood above line = IsGoodAs (lines_of above) (property_of line) line
 
--- the fault of a line, where these stand above it: twice, then the value
+-- the fault of a line, where these stand above it
 abbrev pub HasFault : List Line → Line → Fault → Type 0
-HasFault above line (fault.Missing p) = ⊥
-HasFault above line (fault.Twice p) = (p ≡ property_of line) × (stands_above above line ≢ None)
-HasFault above line (fault.BadValue p) = (p ≡ property_of line) × (stands_above above line ≡ None) × (¬ IsGoodValue (property_of line) line)
-HasFault above line fault.Range = ⊥
-HasFault above line fault.TooMany = ⊥
-HasFault above line fault.SameAttendee = ⊥
+HasFault above line f = HasFaultAs (lines_of above) (property_of line) line f
 
 -- no line has a fault
 abbrev pub AreGood : List Line → List Line → Type 0
@@ -67,6 +97,11 @@ IsOptional P None (Some value) = ⊥
 IsOptional P (Some line) None = ⊥
 IsOptional P (Some line) (Some value) = P line value
 
+-- a number that counts as 0 where it is absent
+abbrev pub IsOrNought : (Line → ℕ → Type 0) → Option Line → ℕ → Type 0
+IsOrNought P None n = n ≡ 0
+IsOrNought P (Some line) n = P line n
+
 abbrev pub IsUidOf : Line → List ℕ → Type 0
 IsUidOf line uid = (uid ≡ line.value) × (0 < length line.value)
 
@@ -76,44 +111,62 @@ IsStampOf line stamp = IsStampText line.value stamp
 abbrev pub IsSequenceOf : Line → ℕ → Type 0
 IsSequenceOf line n = IsNumberUpTo sequence_limit line.value n
 
-abbrev pub IsPropertyOf : Line → Property → Type 0
-IsPropertyOf line p = p ≡ record { params = line.params; value = line.value }
+abbrev pub IsPercentOf : Line → ℕ → Type 0
+IsPercentOf line n = IsNumberUpTo percent_limit line.value n
 
--- the fields of a to-do, and no others
-pub record HasFields (todo : Todo) (uid : List ℕ) (stamp : Stamp) (seq : ℕ) (summary : Option Property) : Type 0 where
-  pub parts : parts_of todo ≡ record {
-    uid = uid;
-    stamp = stamp;
-    seq = seq;
-    base = None;
-    rid = None;
-    start = None;
-    due = None;
-    status = None;
-    percent = None;
-    priority = None;
-    summary = summary;
-    organizer = None;
-    attendees = [];
-    rule = [];
-    rdates = [];
-    exdates = [];
-    others = [];
-  }
+abbrev pub IsPriorityOf : Line → ℕ → Type 0
+IsPriorityOf line n = IsNumberUpTo priority_limit line.value n
+
+abbrev pub IsMomentOf : Line → Moment → Type 0
+IsMomentOf line m = IsMomentText line.params line.value m
+
+abbrev pub IsStatusOf : Line → Status → Type 0
+IsStatusOf line s = status_of line.value ≡ Some s
+
+abbrev pub whole_property : Line → Property
+whole_property line = record { params = line.params; value = line.value }
+
+abbrev pub IsPropertyOf : Line → Property → Type 0
+IsPropertyOf line p = p ≡ whole_property line
+
+abbrev pub IsOrganizerOf : Line → Property → Type 0
+IsOrganizerOf line p = (p ≡ whole_property line) × (0 < length line.value)
+
+abbrev pub value_of : Line → List ℕ
+value_of line = line.value
+
+-- the moments that these lines list, in order of appearance
+abbrev pub ListMoments : List Line → List Moment → Type 0
+ListMoments [] moments = moments ≡ []
+ListMoments (line ∷ lines) moments = (here : List Moment) × (later : List Moment) × (moments ≡ here ++ later) × AreMoments line.params line.value here × ListMoments lines later
+
+-- these moments, each once and in their order, are those that the lines list
+pub record AreMomentsOf (lines : List Line) (moments : List Moment) : Type 0 where
+  pub listed : List Moment
+  pub list : ListMoments lines listed
+  pub ascending : IsStrictlySortedBy moment_cmp moments
+  pub each : (m : Moment) → Contains moments m ↔ Contains listed m
 
 -- the lines are this to-do
 pub record ReadsTodo (lines : List Line) (todo : Todo) : Type 0 where
   pub good : AreGood [] lines
-  pub uid : List ℕ
-  pub stamp : Stamp
-  -- SEQUENCE counts as 0 where it is absent
-  pub seq : Option ℕ
-  pub summary : Option Property
-  pub uid_is : IsOptional IsUidOf (first_named name.Uid lines) (Some uid)
-  pub stamp_is : IsOptional IsStampOf (first_named name.DtStamp lines) (Some stamp)
-  pub seq_is : IsOptional IsSequenceOf (first_named name.Sequence lines) seq
-  pub summary_is : IsOptional IsPropertyOf (first_named name.Summary lines) summary
-  pub fields : HasFields todo uid stamp (unwrap_or seq 0) summary
+  pub uid : IsOptional IsUidOf (first_named name.Uid lines) (Some todo.uid)
+  pub stamp : IsOptional IsStampOf (first_named name.DtStamp lines) (Some todo.stamp)
+  pub seq : IsOrNought IsSequenceOf (first_named name.Sequence lines) todo.seq
+  pub base : IsOptional IsSequenceOf (first_named name.DeskBase lines) todo.base
+  pub rid : IsOptional IsMomentOf (first_named name.RecurrenceId lines) todo.rid
+  pub start : IsOptional IsMomentOf (first_named name.DtStart lines) todo.start
+  pub due : IsOptional IsMomentOf (first_named name.Due lines) todo.due
+  pub status : IsOptional IsStatusOf (first_named name.Status lines) todo.status
+  pub percent : IsOptional IsPercentOf (first_named name.PercentComplete lines) todo.percent
+  pub priority : IsOptional IsPriorityOf (first_named name.Priority lines) todo.priority
+  pub summary : IsOptional IsPropertyOf (first_named name.Summary lines) todo.summary
+  pub organizer : IsOptional IsOrganizerOf (first_named name.Organizer lines) todo.organizer
+  pub attendees : todo.attendees ≡ map whole_property (lines_of lines name.Attendee)
+  pub rule : todo.rule ≡ map value_of (lines_of lines name.RRule)
+  pub rdates : AreMomentsOf (lines_of lines name.RDate) todo.rdates
+  pub exdates : AreMomentsOf (lines_of lines name.ExDate) todo.exdates
+  pub others : todo.others ≡ lines_of lines name.Others
 
 -- the lines are no to-do, for this fault: that of the first faulty line, and then what is missing
 abbrev pub RefusesTodo : List Line → Fault → Type 0

@@ -1,6 +1,8 @@
 -- The names of the properties of a to-do, and how often each may stand (RFC 5545 3.6.2; X-DESK-BASE is our own).
-use Rattle.std.specs.Prelude.{◌≡◌, ◌<◌, ℕ, ◌==◌, Bool, cond, List, [], codes, map}
+use Rattle.std.specs.Prelude.{◌≡◌, ◌<◌, ℕ, ◌==◌, Bool, cond, ◌&&◌, nat_lt, List, [], codes, map}
 use Rattle.std.specs.Char.{to_ascii_lowercase}
+use Rattle.std.specs.List.{list_any}
+use Rattle.itip_lines.specs.declared.line.Line.{Line}
 use Rattle.itip_todo.specs.Participation.{same_text}
 use Rattle.itip_todo.specs.declared.property_name.PropertyName.{PropertyName}
 use Rattle.itip_todo.specs.declared.property_name.PropertyName.TheVariants.{Uid, DtStamp, Sequence, DeskBase, RecurrenceId, DtStart, Due, Status, PercentComplete, Priority, Summary, Organizer, Attendee, RRule, RDate, ExDate, Others}
@@ -68,9 +70,32 @@ place_of Others = 16
 abbrev pub is_same : PropertyName → PropertyName → Bool
 is_same p q = place_of p == place_of q
 
+-- one line of the property may stand, and no more: of ATTENDEE, RRULE, RDATE, EXDATE and the others there may be several
+abbrev pub stands_once : PropertyName → Bool
+stands_once p = nat_lt (place_of p) 12
+
+-- the property that a line of this name and value is read as: RDATE with `/` (47) in its value is one of the others (our own rule)
+abbrev pub read_as : List ℕ → List ℕ → PropertyName
+read_as name value = cond (is_same (property_named name) RDate && list_any (λ c. c == 47) value) Others (property_named name)
+
+-- the property of a line; names are in upper case
+unfoldable pub property_of : Line → PropertyName
+property_of line = read_as line.name line.value
+
+abbrev pub is_other : Line → Bool
+is_other line = is_same (property_of line) Others
+
 -- the greatest SEQUENCE and X-DESK-BASE (our own limit)
 abbrev pub sequence_limit : ℕ
 sequence_limit = 2147483647
+
+-- the greatest PERCENT-COMPLETE (RFC 5545 3.8.1.8)
+abbrev pub percent_limit : ℕ
+percent_limit = 100
+
+-- the greatest PRIORITY (RFC 5545 3.8.1.9)
+abbrev pub priority_limit : ℕ
+priority_limit = 9
 
 -- the most attendees of a to-do (our own limit)
 abbrev pub attendee_limit : ℕ

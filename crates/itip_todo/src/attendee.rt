@@ -54,7 +54,8 @@ pub fn participation(params: &[Param]) -> PartStat
     }
 }
 
-fn first_value<'a>(name: &str, params: &'a [Param]) -> &'a str
+/// The first value of the first parameter of this name, empty where there is none.
+pub(crate) fn first_value<'a>(name: &str, params: &'a [Param]) -> &'a str
     ensures { result.now ≡ param_value name.now params.now }
 {
     for param in params {

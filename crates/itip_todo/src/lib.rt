@@ -4,21 +4,29 @@
 //! `specs/Table.antt`; the canonical octets of a to-do are in `specs/Written.antt`.
 #![tactic(auto)]
 
+mod add;
 mod attendee;
 mod copies;
 mod draft;
 mod error;
+mod finish;
+mod laws;
+mod list;
 mod number;
 mod property;
 mod property_name;
 mod read;
+mod single;
 mod status;
 mod todo;
 mod uid;
+mod values;
 mod write;
+mod write_moment;
 
 pub use attendee::{PartStat, participation};
 pub use error::{Fault, TodoError};
+pub use laws::{reading_laws, writing_laws};
 pub use property::Property;
 pub use property_name::PropertyName;
 pub use read::read_todo;

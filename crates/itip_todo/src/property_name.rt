@@ -1,4 +1,7 @@
-ghost use Rattle.std.specs.Prelude.{◌≡◌};
+ghost use Rattle.std.specs.Prelude.{◌≡◌, ◌==◌};
+ghost use Rattle.std.specs.List.{list_any};
+
+use itip_lines::Line;
 
 /// The properties of a to-do that are told apart by name, in canonical order (RFC 5545 3.8; `X-DESK-BASE` is our own).
 #[derive(Clone, Copy, Debug, PartialEq, Eq)]
@@ -25,7 +28,44 @@ pub enum PropertyName {
 }
 
 impl PropertyName {
-    ghost use Rattle.itip_todo.specs.Table.{property_named, IsSpelled};
+    ghost use Rattle.itip_todo.specs.Table.{property_named, property_of, name_text, IsSpelled};
+
+    /// The property that a line is read as. RDATE with a `/` in its value is one of the others (our own rule).
+    #[tactic(auto, unfolding(crate::specs::Table::property_of))]
+    pub(crate) fn of_line(line: &Line) -> PropertyName
+        ensures { result ≡ property_of line.now }
+    {
+        let property = PropertyName::named(line.name.as_str());
+        if property == PropertyName::RDate && has_slash(line.value.as_str()) {
+            return PropertyName::Others;
+        }
+        property
+    }
+
+    /// The name as it is written; that of the others is empty.
+    pub(crate) fn as_str(self) -> &'static str
+        ensures { result.now ≡ name_text self }
+    {
+        match self {
+            PropertyName::Uid => "UID",
+            PropertyName::DtStamp => "DTSTAMP",
+            PropertyName::Sequence => "SEQUENCE",
+            PropertyName::DeskBase => "X-DESK-BASE",
+            PropertyName::RecurrenceId => "RECURRENCE-ID",
+            PropertyName::DtStart => "DTSTART",
+            PropertyName::Due => "DUE",
+            PropertyName::Status => "STATUS",
+            PropertyName::PercentComplete => "PERCENT-COMPLETE",
+            PropertyName::Priority => "PRIORITY",
+            PropertyName::Summary => "SUMMARY",
+            PropertyName::Organizer => "ORGANIZER",
+            PropertyName::Attendee => "ATTENDEE",
+            PropertyName::RRule => "RRULE",
+            PropertyName::RDate => "RDATE",
+            PropertyName::ExDate => "EXDATE",
+            PropertyName::Others => "",
+        }
+    }
 
     /// The property of a name in upper case.
     pub fn named(name: &str) -> PropertyName
@@ -68,4 +108,10 @@ impl PropertyName {
             PropertyName::Others
         }
     }
+}
+
+fn has_slash(text: &str) -> bool
+    ensures { result ≡ list_any (λ c. c == 47) text.now }
+{
+    text.as_bytes().iter().any(|c| *c == b'/')
 }

@@ -2,8 +2,10 @@
 ghost use Rattle.std.specs.Prelude.{IfOk, IfErr};
 ghost use Rattle.itip_todo.specs.Reading.{ReadsTodo, RefusesTodo, IfFault};
 
-use crate::draft::{Draft, add_line, finish};
+use crate::add::add_line;
+use crate::draft::Draft;
 use crate::error::TodoError;
+use crate::finish::finish;
 use crate::todo::Todo;
 use itip_lines::Line;
 use std::alloc::Global;
@@ -16,9 +18,9 @@ pub fn read_todo(alloc: Global, lines: &[Line]) -> Result<Todo, TodoError>
     ensures found { IfOk result (λ todo. ReadsTodo lines.now todo) }
     ensures fault { IfErr result (λ e. IfFault e (RefusesTodo lines.now)) }
 {
-    let mut draft = Draft::new();
+    let mut draft = Draft::new(alloc);
     for line in lines {
-        add_line(&mut draft, line)?;
+        add_line(alloc, &mut draft, line)?;
     }
     finish(alloc, draft)
 }

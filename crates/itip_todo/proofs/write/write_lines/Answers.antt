@@ -1,31 +1,34 @@
-use Rattle.std.proofs.Common.{◌≡◌, ℕ, List, [], ◌∷◌, ◌++◌, ap, ◌∙◌, append-nil, append_assoc, sym}
+use Rattle.std.proofs.Common.{◌≡◌, ◌∙◌, ◌++◌, ◌∷◌, ℕ, List, [], map, ap}
+use Rattle.std.proofs.lemmas.Result.{on_ok_weaker}
 use Rattle.std.specs.Prelude.{codes}
-use Rattle.itip_todo.specs.Parts.{Parts}
+use Rattle.itip_lines.specs.declared.line.Line.{Line}
+use Rattle.itip_moment.specs.declared.moment.Moment.{Moment}
 use Rattle.itip_todo.specs.PartsOf.{parts_of}
-use Rattle.itip_todo.specs.Written.{Content, contents_octets, content_octets, head_contents, parts_contents, optional, property_line, bare, todo_contents}
+use Rattle.itip_todo.specs.Written.{contents_octets, content_of, plain, moment_line, property_line, bare}
+use Rattle.itip_todo.specs.declared.property.Property.{Property}
 use Rattle.itip_todo.specs.declared.property_name.PropertyName.TheVariants as name
-use Rattle.itip_todo.proofs.Contents.{then_more, contents_octets-append, few_contents}
+use Rattle.itip_todo.proofs.Contents.{all_written}
 use Rattle.itip_todo.proofs.write.write_lines.Goals as goal
 
-pub returns-clause-ok : goal.returns-clause-ok
-returns-clause-ok c =
-    let parts : Parts = parts_of c.args.todo.now in
-    let out : List ℕ = c.args.out.now.items in
-    let one : List ℕ = c.write_value.new.out.items in
-    let two : List ℕ = c.write_head.new.out.items in
-    let three : List ℕ = c.write_summary.new.out.items in
-    let four : List ℕ = c.write_value-2.new.out.items in
-    let begin : List ℕ = content_octets (bare (codes "BEGIN") (codes "VTODO")) in
-    let head : List ℕ = contents_octets (head_contents parts) in
-    let summary : List ℕ = contents_octets (optional (property_line name.Summary) parts.summary) in
-    let end : List ℕ = content_octets (bare (codes "END") (codes "VTODO")) in
-    let first : one ≡ out ++ begin = c.in_ok-write_value.ensures.ok in
-    let second : two ≡ one ++ head = c.in_ok-write_head.ensures.ok in
-    let third : three ≡ two ++ summary = c.in_ok-write_summary.ensures.ok in
-    let fourth : four ≡ three ++ end = c.in_ok-write_value-2.ensures.ok in
-    let all : four ≡ out ++ (begin ++ (head ++ (summary ++ end))) = then_more out one four begin (head ++ (summary ++ end)) first (then_more one two four head (summary ++ end) second (then_more two three four summary end third fourth)) in
-    let inner : contents_octets (parts_contents parts ++ bare (codes "END") (codes "VTODO") ∷ []) ≡ head ++ (summary ++ end) =
-    contents_octets-append (parts_contents parts) (bare (codes "END") (codes "VTODO") ∷ [])
-    ∙ ap (λ front. front ++ (end ++ [])) (ap contents_octets (few_contents parts c.args.todo.now.lawful.bare) ∙ contents_octets-append (head_contents parts) (optional (property_line name.Summary) parts.summary))
-    ∙ append_assoc head summary (end ++ []) ∙ ap (λ rest. head ++ (summary ++ rest)) (append-nil end) in
-    all ∙ ap (λ rest. out ++ (begin ++ rest)) (sym inner)
+pub returns : goal.returns
+returns c =
+    on_ok_weaker c.write_value-2.result
+    (λ (last : c.write_value-2.new.out.items ≡ c.write_others.new.out.items ++ contents_octets (bare (codes "END") (codes "VTODO") ∷ [])).
+    all_written (parts_of c.args.todo.now) c.args.out.now.items c.write_value.new.out.items c.write_head.new.out.items c.write_count.new.out.items c.write_optional_moment.new.out.items c.write_optional_moment-2.new.out.items c.write_optional_moment-3.new.out.items c.write_status.new.out.items c.write_small.new.out.items c.write_small-2.new.out.items c.write_optional_whole.new.out.items c.write_optional_whole-2.new.out.items c.write_attendees.new.out.items c.write_rule.new.out.items c.write_moments.new.out.items c.write_moments-2.new.out.items c.write_others.new.out.items c.write_value-2.new.out.items
+    c.in_ok-write_value.ensures c.in_ok-write_head.ensures
+    c.in_ok-write_count.ensures
+    c.in_ok-write_optional_moment.ensures
+    c.in_ok-write_optional_moment-2.ensures
+    c.in_ok-write_optional_moment-3.ensures
+    c.in_ok-write_status.ensures
+    c.in_ok-write_small.ensures
+    c.in_ok-write_small-2.ensures
+    c.in_ok-write_optional_whole.ensures
+    c.in_ok-write_optional_whole-2.ensures
+    (c.in_ok-write_attendees.ensures ∙ ap (λ (xs : List Property). c.write_optional_whole-2.new.out.items ++ contents_octets (map (property_line name.Attendee) xs)) c.as_slice.ensures)
+    (c.in_ok-write_rule.ensures ∙ ap (λ (xs : List (List ℕ)). c.write_attendees.new.out.items ++ contents_octets (map (plain name.RRule) xs)) c.as_slice-2.ensures)
+    (c.in_ok-write_moments.ensures ∙ ap (λ (xs : List Moment). c.write_rule.new.out.items ++ contents_octets (map (moment_line name.RDate) xs)) c.as_slice-3.ensures)
+    (c.in_ok-write_moments-2.ensures ∙ ap (λ (xs : List Moment). c.write_moments.new.out.items ++ contents_octets (map (moment_line name.ExDate) xs)) c.as_slice-4.ensures)
+    (c.in_ok-write_others.ensures ∙ ap (λ (xs : List Line). c.write_moments-2.new.out.items ++ contents_octets (map content_of xs)) c.as_slice-5.ensures)
+    last)
+    c.write_value-2.ensures

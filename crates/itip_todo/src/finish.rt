@@ -1,0 +1,66 @@
+//! The to-do of all lines.
+ghost use Rattle.std.specs.Prelude.{◌≡◌, [], List, None, Some, IfOk, OnOk, IfErr};
+ghost use Rattle.itip_todo.specs.declared.error.Fault.TheVariants as fault;
+ghost use Rattle.std.specs.BTreeSet.{IsOrdered};
+ghost use Rattle.itip_lines.specs.declared.line.Line.{Line};
+ghost use Rattle.itip_moment.specs.Order.{moment_cmp};
+ghost use Rattle.itip_todo.specs.Drafts.{IsDraftOf, IsLawfulDraft};
+ghost use Rattle.itip_todo.specs.Reading.{IfFault, AreGood, ReadsTodo, RefusesTodo, lines_of};
+
+use crate::draft::Draft;
+use crate::error::{Fault, TodoError};
+use crate::property_name::PropertyName;
+use crate::todo::Todo;
+use itip_lines::{ListOf, NoMemory};
+use itip_moment::Moment;
+use std::alloc::Global;
+use std::collections::BTreeSet;
+
+/// The to-do of the lines.
+pub(crate) fn finish(alloc: Global, draft: Draft) -> Result<Todo, TodoError>
+    requires { IsLawfulDraft draft }
+    ensures found { IfOk result (λ todo. (lines : List Line) → AreGood [] lines → IsDraftOf (lines_of lines) draft → ReadsTodo lines todo) }
+    ensures fault { IfErr result (λ e. IfFault e (λ f. (lines : List Line) → AreGood [] lines → IsDraftOf (lines_of lines) draft → RefusesTodo lines f)) }
+{
+    let uid = present(draft.uid, PropertyName::Uid)?;
+    let stamp = present(draft.stamp, PropertyName::DtStamp)?;
+    let rdates = in_order(alloc, draft.rdates)?;
+    let exdates = in_order(alloc, draft.exdates)?;
+    Ok(Todo {
+        uid,
+        stamp,
+        seq: draft.seq.unwrap_or(0),
+        base: draft.base,
+        rid: draft.rid,
+        start: draft.start,
+        due: draft.due,
+        status: draft.status,
+        percent: draft.percent,
+        priority: draft.priority,
+        summary: draft.summary,
+        organizer: draft.organizer,
+        attendees: ListOf::from_vec(draft.attendees),
+        rule: ListOf::from_vec(draft.rule),
+        rdates,
+        exdates,
+        others: ListOf::from_vec(draft.others),
+    })
+}
+
+/// The moments of a set, in their order.
+fn in_order(alloc: Global, set: BTreeSet<Moment>) -> Result<ListOf<Moment>, NoMemory>
+    ensures list { IfOk result (λ list. list ≡ set.keys) }
+    ensures ordered { OnOk result (IsOrdered moment_cmp set) }
+{
+    Ok(ListOf::from_vec(set.into_iter().collect(alloc)?))
+}
+
+fn present<T>(field: Option<T>, property: PropertyName) -> Result<T, TodoError>
+    ensures some { IfOk result (λ value. field ≡ Some value) }
+    ensures fault { IfErr result (λ e. IfFault e (λ f. (f ≡ fault.Missing property) × (field ≡ None))) }
+{
+    match field {
+        Some(value) => Ok(value),
+        None => Err(TodoError::Fault(Fault::Missing(property))),
+    }
+}

@@ -1,0 +1,124 @@
+//! Lines of the properties that may stand more than once.
+ghost use Rattle.std.specs.Prelude.{◌≡◌, ◌≢◌, ◌++◌, ◌∷◌, List, Some, OnOk, IfOk, IfErr, MatchOption};
+ghost use Rattle.itip_moment.specs.declared.moment.Moment.{Moment};
+ghost use Rattle.itip_moment.specs.Spelling.{MomentText};
+ghost use Rattle.itip_todo.specs.Drafts.{Takes, Refuses, HasNoComma, PutsMoment, PutsMoments};
+ghost use Rattle.itip_todo.specs.Reading.{IfFault};
+ghost use Rattle.itip_todo.specs.Table.{attendee_key};
+ghost use Rattle.itip_todo.specs.Values.{AreMoments};
+ghost use Rattle.itip_todo.specs.declared.error.Fault.TheVariants as fault;
+ghost use Rattle.itip_todo.specs.declared.property_name.PropertyName.TheVariants as name;
+
+use crate::attendee::first_value;
+use crate::draft::Draft;
+use crate::error::{Fault, TodoError};
+use crate::property_name::PropertyName;
+use crate::values::{bad_value, property_of};
+use itip_lines::{Line, Text};
+use itip_moment::{Moment, read_moment};
+use std::alloc::Global;
+use std::collections::BTreeSet;
+
+const ATTENDEE_LIMIT: usize = 500;
+
+pub(crate) fn add_attendee(alloc: Global, draft: &mut Draft, line: &Line) -> Result<(), TodoError>
+    ensures taken { OnOk result (Takes name.Attendee line.now draft.old draft.new) }
+    ensures fault { IfErr result (λ e. IfFault e (Refuses name.Attendee line.now draft.old)) }
+{
+    if line.value.as_str().is_empty() {
+        return Err(bad_value(PropertyName::Attendee));
+    }
+    if draft.attendees.len() >= ATTENDEE_LIMIT {
+        return Err(TodoError::Fault(Fault::TooMany));
+    }
+    let key = key_of(alloc, line)?;
+    if !draft.keys.insert(key)? {
+        return Err(TodoError::Fault(Fault::SameAttendee));
+    }
+    let property = property_of(line)?;
+    draft.attendees.push(property)?;
+    Ok(())
+}
+
+fn key_of(alloc: Global, line: &Line) -> Result<Text, TodoError>
+    ensures key { IfOk result (λ key. key ≡ attendee_key line.now.value) }
+    ensures fault { IfErr result (λ e. IfFault e (λ f. ⊥)) }
+{
+    Ok(Text::new(line.value.as_str().to_ascii_lowercase(alloc)?))
+}
+
+pub(crate) fn add_rule(draft: &mut Draft, line: &Line) -> Result<(), TodoError>
+    ensures taken { OnOk result (Takes name.RRule line.now draft.old draft.new) }
+    ensures fault { IfErr result (λ e. IfFault e (Refuses name.RRule line.now draft.old)) }
+{
+    let value = line.value.clone()?;
+    draft.rule.push(value)?;
+    Ok(())
+}
+
+pub(crate) fn add_rdate(alloc: Global, draft: &mut Draft, line: &Line) -> Result<(), TodoError>
+    ensures taken { OnOk result (Takes name.RDate line.now draft.old draft.new) }
+    ensures fault { IfErr result (λ e. IfFault e (Refuses name.RDate line.now draft.old)) }
+{
+    put_moments(alloc, PropertyName::RDate, line, &mut draft.rdates)
+}
+
+pub(crate) fn add_exdate(alloc: Global, draft: &mut Draft, line: &Line) -> Result<(), TodoError>
+    ensures taken { OnOk result (Takes name.ExDate line.now draft.old draft.new) }
+    ensures fault { IfErr result (λ e. IfFault e (Refuses name.ExDate line.now draft.old)) }
+{
+    put_moments(alloc, PropertyName::ExDate, line, &mut draft.exdates)
+}
+
+pub(crate) fn add_other(draft: &mut Draft, line: &Line) -> Result<(), TodoError>
+    ensures taken { OnOk result (Takes name.Others line.now draft.old draft.new) }
+    ensures fault { IfErr result (λ e. IfFault e (Refuses name.Others line.now draft.old)) }
+{
+    let line = line.clone()?;
+    draft.others.push(line)?;
+    Ok(())
+}
+
+/// Puts the moments of a line into a set; where the value is bad, perhaps a part of them.
+fn put_moments(
+    alloc: Global,
+    property: PropertyName,
+    line: &Line,
+    set: &mut BTreeSet<Moment>,
+) -> Result<(), TodoError>
+    ensures put { OnOk result (PutsMoments line.now.params line.now.value set.old set.new) }
+    ensures fault { IfErr result (λ e. IfFault e (λ f. (f ≡ fault.BadValue property) × ((ms : List Moment) → AreMoments line.now.params line.now.value ms → ⊥))) }
+{
+    let zone = first_value("TZID", line.params.as_slice());
+    let mut rest = line.value.as_str();
+    while let Some((front, after)) = cut_comma(rest) {
+        put_moment(alloc, property, front, zone, set)?;
+        rest = after;
+    }
+    put_moment(alloc, property, rest, zone, set)
+}
+
+/// What stands before and behind the first comma.
+fn cut_comma(text: &str) -> Option<(&str, &str)>
+    ensures { MatchOption result (HasNoComma text.now)
+        (λ p. (text.now ≡ p.0.now ++ 44 ∷ p.1.now) × HasNoComma p.0.now) }
+{
+    text.split_once(',')
+}
+
+fn put_moment(
+    alloc: Global,
+    property: PropertyName,
+    text: &str,
+    zone: &str,
+    set: &mut BTreeSet<Moment>,
+) -> Result<(), TodoError>
+    ensures put { OnOk result (PutsMoment text.now zone.now set.old set.new) }
+    ensures fault { IfErr result (λ e. IfFault e (λ f. (f ≡ fault.BadValue property) × ((m : Moment) → MomentText text.now (Some zone.now) m → ⊥))) }
+{
+    let Some(moment) = read_moment(alloc, text, Some(zone))? else {
+        return Err(bad_value(property));
+    };
+    set.insert(moment)?;
+    Ok(())
+}
