@@ -13,13 +13,14 @@ use Rattle.itip_message.specs.Faults.{of_lines, of_todo}
 use Rattle.itip_message.specs.Frame.{frame, todos}
 use Rattle.itip_message.specs.Head.{head}
 use Rattle.itip_message.specs.Items.{Draft, drafts, IsWithinLimits, canonical_octets}
-use Rattle.itip_message.specs.Message.{method_fault, ReadsComponent, RefusesComponent, AreComponents, FirstRefused, IsItemOf, AreItemsOf, HasHead, ReadsMessage, RefusesMessage, at_lines, at_frame, at_head, at_component, at_canonical_form}
+use Rattle.itip_message.specs.Needs.{method_fault}
+use Rattle.itip_message.specs.Message.{ReadsComponent, RefusesComponent, AreComponents, FirstRefused, IsItemOf, AreItemsOf, HasHead, ReadsMessage, RefusesMessage, at_lines, at_frame, at_head, at_component, at_canonical_form}
 use Rattle.itip_message.specs.declared.frame.Placed.{Placed}
 use Rattle.itip_message.specs.declared.item.Item.{Item}
 use Rattle.itip_message.specs.declared.kind.Method.{Method}
 use Rattle.itip_message.specs.declared.error.Fault.{Fault}
 use Rattle.itip_message.specs.declared.error.Fault.TheVariants as fault
-use Rattle.itip_message.proofs.OneTodo.{one_todo, one_todo_fault, todo_apart}
+use Rattle.itip_todo.proofs.ReadingLaws.{one_todo, one_fault, read_or_refused}
 use Rattle.itip_message.proofs.SameItem.{same_item}
 
 -- components
@@ -28,17 +29,17 @@ one_component : (m : Method) (ls : List Line) (a b : Todo) → ReadsComponent m 
 one_component m ls a b h k = one_todo ls a b h.reads k.reads
 
 component_apart : (m : Method) (ls : List Line) (todo : Todo) (f : Fault) → ReadsComponent m ls todo → RefusesComponent m ls f → ⊥
-component_apart m ls todo f h (inl k) = todo_apart ls todo k.0 h.reads k.1
+component_apart m ls todo f h (inl k) = read_or_refused ls todo k.0 h.reads k.1
 component_apart m ls todo f h (inr k) =
     let same : todo ≡ k.0 = one_todo ls todo k.0 h.reads k.1 in
-    let two : None ≡ Some f = sym h.fits ∙ ap (λ (t : Todo). method_fault m ls (parts_of t)) same ∙ k.2 in
+    let two : None ≡ Some f = sym h.fits ∙ ap (λ (t : Todo). method_fault m (parts_of t)) same ∙ k.2 in
     cc
 
 one_component_fault : (m : Method) (ls : List Line) (f g : Fault) → RefusesComponent m ls f → RefusesComponent m ls g → f ≡ g
-one_component_fault m ls f g (inl h) (inl k) = h.2 ∙ ap of_todo (one_todo_fault ls h.0 k.0 h.1 k.1) ∙ sym k.2
-one_component_fault m ls f g (inl h) (inr k) = absurd (todo_apart ls k.0 h.0 k.1 h.1)
-one_component_fault m ls f g (inr h) (inl k) = absurd (todo_apart ls h.0 k.0 h.1 k.1)
-one_component_fault m ls f g (inr h) (inr k) = same_Some f g (sym h.2 ∙ ap (λ (t : Todo). method_fault m ls (parts_of t)) (one_todo ls h.0 k.0 h.1 k.1) ∙ k.2)
+one_component_fault m ls f g (inl h) (inl k) = h.2 ∙ ap of_todo (one_fault ls h.0 k.0 h.1 k.1) ∙ sym k.2
+one_component_fault m ls f g (inl h) (inr k) = absurd (read_or_refused ls k.0 h.0 k.1 h.1)
+one_component_fault m ls f g (inr h) (inl k) = absurd (read_or_refused ls h.0 k.0 h.1 k.1)
+one_component_fault m ls f g (inr h) (inr k) = same_Some f g (sym h.2 ∙ ap (λ (t : Todo). method_fault m (parts_of t)) (one_todo ls h.0 k.0 h.1 k.1) ∙ k.2)
 
 one_list : (m : Method) (all : List (List Line)) (a b : List Todo) → AreComponents m all a → AreComponents m all b → a ≡ b
 one_list m [] [] [] h k = refl

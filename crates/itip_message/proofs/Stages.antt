@@ -9,6 +9,7 @@ use Rattle.itip_todo.specs.declared.todo.Todo.{Todo}
 use Rattle.itip_message.specs.Faults.{IfFault, line_gives}
 use Rattle.itip_message.specs.Frame.{frame, calendar_lines, todos}
 use Rattle.itip_message.specs.Head.{head, head_of}
+use Rattle.itip_message.specs.Items.{drafts}
 use Rattle.itip_message.specs.Message.{HasHead, AreComponents, FirstRefused, GivesItems, IsOver, ReadsMessage, RefusesMessage, at_lines, at_frame, at_head, at_component, at_canonical_form}
 use Rattle.itip_message.specs.declared.frame.Placed.{Placed}
 use Rattle.itip_message.specs.declared.item.Item.{Item}
@@ -51,17 +52,17 @@ component_refused error.NoMemory bytes m components has h = tt
 component_refused (error.Fault f) bytes m components has h = at_component m components f has h
 
 over_refused : (e : ReadError) (bytes : List ℕ) (m : Method) (components : List (List Line)) (all : List Todo) → HasHead bytes m components → AreComponents m components all
-    → IfFault e (IsOver m (map parts_of all) (map parts_of all)) → IfFault e (RefusesMessage bytes)
+    → IfFault e (IsOver (drafts m (map parts_of all))) → IfFault e (RefusesMessage bytes)
 over_refused error.NoMemory bytes m components all has are h = tt
 over_refused (error.Fault f) bytes m components all has are h =
     subst (RefusesMessage bytes) (sym h.fault_is) (at_canonical_form (record { method_is = m; components = components; all = all; begins = has; read = are; over = h.over }))
 
 pub items_refused : {X : Type 0} (r : Result X ReadError) (bytes : List ℕ) (m : Method) (components : List (List Line)) (all : List Todo) → HasHead bytes m components → AreComponents m components all
-    → IfErr r (λ e. IfFault e (IsOver m (map parts_of all) (map parts_of all))) → IfErr r (λ e. IfFault e (RefusesMessage bytes))
+    → IfErr r (λ e. IfFault e (IsOver (drafts m (map parts_of all)))) → IfErr r (λ e. IfFault e (RefusesMessage bytes))
 items_refused (Ok x) bytes m components all has are h = tt
 items_refused (Err e) bytes m components all has are h = over_refused e bytes m components all has are h
 
 pub items_given : {X : Type 0} (items : X → List Item) (r : Result X ReadError) (bytes : List ℕ) (m : Method) (components : List (List Line)) (all : List Todo) → HasHead bytes m components → AreComponents m components all
-    → IfOk r (λ x. GivesItems m (map parts_of all) (map parts_of all) (items x)) → IfOk r (λ x. ReadsMessage bytes (items x))
+    → IfOk r (λ x. GivesItems (drafts m (map parts_of all)) (items x)) → IfOk r (λ x. ReadsMessage bytes (items x))
 items_given items (Err e) bytes m components all has are h = tt
 items_given items (Ok x) bytes m components all has are h = record { method_is = m; components = components; all = all; begins = has; read = are; within = h.within; items_are = h.items_are }

@@ -12,6 +12,7 @@ use Rattle.itip_todo.specs.Written.{Content, contents_octets, parts_contents}
 use Rattle.itip_todo.specs.PartsOf.{parts_of}
 use Rattle.itip_todo.specs.declared.property.Property.{Property}
 use Rattle.itip_todo.specs.declared.todo.Todo.{Todo}
+use Rattle.itip_message.specs.Needs.{Suits}
 use Rattle.itip_message.specs.declared.key.Key.{Key}
 use Rattle.itip_message.specs.declared.key.Key.TheVariants as key
 use Rattle.itip_message.specs.declared.kind.Kind.{Kind}
@@ -55,6 +56,10 @@ canonical_contents k parts =
 abbrev pub canonical_octets : Kind → Parts → List ℕ
 canonical_octets k parts = contents_octets (canonical_contents k parts)
 
+abbrev pub one_if : Bool → ℕ
+one_if true = 1
+one_if false = 0
+
 -- an item as data: what it speaks of, its kind, its effective sequence, its to-do in canonical form
 pub record Draft : Type 0 where
   pub key : Key
@@ -93,9 +98,13 @@ abbrev pub series_sequence : Method → List ℕ → List Parts → ℕ
 series_sequence m uid [] = 0
 series_sequence m uid (parts ∷ all) = max (cond (is_series m parts && pointwise nat_eq parts.uid uid) parts.seq 0) (series_sequence m uid all)
 
+-- the greatest of a to-do's SEQUENCE, its X-DESK-BASE, and this
+abbrev pub raised : Parts → ℕ → ℕ
+raised parts above = max parts.seq (max (unwrap_or parts.base 0) above)
+
 -- the effective sequence of an instance item (our own rule): the greatest of its own SEQUENCE, its X-DESK-BASE and those of the series components of its UID beside it
 abbrev pub instance_sequence : Method → List Parts → Parts → ℕ
-instance_sequence m all parts = max parts.seq (max (unwrap_or parts.base 0) (series_sequence m parts.uid all))
+instance_sequence m all parts = raised parts (series_sequence m parts.uid all)
 
 -- X-DESK-BASE in canonical form: the effective sequence, where it exceeds the own one
 abbrev pub canonical_base : ℕ → ℕ → Option ℕ
@@ -132,11 +141,21 @@ only_of attendee parts = record {
   others = [];
 }
 
-abbrev pub answer_draft : Kind → Parts → Property → Draft
-answer_draft k parts attendee = record { key = key.Answer parts.uid parts.rid (attendee_key attendee.value); kind = k; eff = parts.seq; parts = only_of attendee parts }
+-- an attendee's wish for the newest revision, and no answer
+abbrev pub refreshes : Kind → Bool
+refreshes kind.Request = false
+refreshes kind.Add = false
+refreshes kind.Remove = false
+refreshes kind.Cancel = false
+refreshes kind.Reply = false
+refreshes kind.Refresh = true
 
-abbrev pub refresh_draft : Parts → Property → Draft
-refresh_draft parts attendee = record { key = key.Refresh parts.uid parts.rid (attendee_key attendee.value); kind = kind.Refresh; eff = parts.seq; parts = only_of attendee parts }
+-- the key of what an attendee answers, or wants
+abbrev pub attendee_key_of : Kind → Parts → Property → Key
+attendee_key_of k parts attendee = cond (refreshes k) (key.Refresh parts.uid parts.rid (attendee_key attendee.value)) (key.Answer parts.uid parts.rid (attendee_key attendee.value))
+
+abbrev pub attendee_draft : Kind → Parts → Property → Draft
+attendee_draft k parts attendee = record { key = attendee_key_of k parts attendee; kind = k; eff = parts.seq; parts = only_of attendee parts }
 
 -- of the series, or of the instance that RECURRENCE-ID names
 abbrev pub task_draft : Kind → ℕ → Option Moment → Parts → Draft
@@ -153,9 +172,9 @@ abbrev pub drafts_of : Kind → ℕ → Parts → List Draft
 drafts_of kind.Request eff parts = task_draft kind.Request eff parts.rid parts ∷ []
 drafts_of kind.Cancel eff parts = task_draft kind.Cancel eff parts.rid parts ∷ []
 drafts_of kind.Add eff parts = add_drafts eff parts.start parts
-drafts_of kind.Remove eff parts = map (answer_draft kind.Remove parts) parts.attendees
-drafts_of kind.Reply eff parts = map (answer_draft kind.Reply parts) parts.attendees
-drafts_of kind.Refresh eff parts = map (refresh_draft parts) parts.attendees
+drafts_of kind.Remove eff parts = map (attendee_draft kind.Remove parts) parts.attendees
+drafts_of kind.Reply eff parts = map (attendee_draft kind.Reply parts) parts.attendees
+drafts_of kind.Refresh eff parts = map (attendee_draft kind.Refresh parts) parts.attendees
 
 -- the items of a message as data, by to-do and then by ATTENDEE line
 abbrev pub drafts : Method → List Parts → List Draft
@@ -176,9 +195,23 @@ pub record IsOfDraft (draft : Draft) (key : Key) (own eff : ℕ) (stamp : Stamp)
   pub stamp_is : stamp ≡ parts.stamp
   pub bytes_are : bytes ≡ canonical_octets kind parts
 
+-- a to-do gives items of this kind under the method of the kind, and may be sent alone
+pub record Sends (k : Kind) (parts : Parts) : Type 0 where
+  pub kind_is : kind_of (method_of k) parts ≡ k
+  pub suits : Suits (method_of k) parts
+
+-- A draft is in canonical form: its to-do alone, under the method of its kind, gives this draft and no other.
+pub record IsCanonical (draft : Draft) : Type 0 where
+  pub alone : drafts (method_of draft.kind) (draft.parts ∷ []) ≡ draft ∷ []
+  pub suits : Suits (method_of draft.kind) draft.parts
+
+abbrev pub draft_of : Key → ℕ → Todo → Kind → Draft
+draft_of key eff todo kind = record { key = key; kind = kind; eff = eff; parts = parts_of todo }
+
 -- An item is the one that its to-do alone, in canonical form, gives under the method of its kind.
 pub record IsItem (key : Key) (own eff : ℕ) (stamp : Stamp) (bytes : List ℕ) (todo : Todo) (kind : Kind) : Type 0 where
-  pub draft : Draft
-  pub alone : drafts (method_of kind) (parts_of todo ∷ []) ≡ draft ∷ []
-  pub within : IsWithinLimits draft
-  pub is : IsOfDraft draft key own eff stamp bytes (parts_of todo) kind
+  pub is_canonical : IsCanonical (draft_of key eff todo kind)
+  pub within : IsWithinLimits (draft_of key eff todo kind)
+  pub own_is : own ≡ todo.seq
+  pub stamp_is : stamp ≡ todo.stamp
+  pub bytes_are : bytes ≡ canonical_octets kind (parts_of todo)

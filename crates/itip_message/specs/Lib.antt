@@ -1,4 +1,5 @@
 pub mod KeyParts
+pub mod Needs
 pub mod Items
 pub mod Later
 pub mod Faults

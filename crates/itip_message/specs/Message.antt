@@ -1,68 +1,36 @@
 -- Reading a message in six stages: length, lines, frame, head, components, canonical forms (RFC 5546 3.4; the order of causes is our own).
-use Rattle.std.specs.Prelude.{◌≡◌, ℕ, ◌⊎◌, Bool, true, false, ◌||◌, List, [], ◌∷◌, map, Option, Some, None, Ok, Err}
-use Rattle.std.specs.List.{AllByRecursion, Any, list_any, flat_map}
-use Rattle.itip_todo.specs.declared.property.Property.{Property}
+use Rattle.std.specs.Prelude.{◌≡◌, ℕ, ◌⊎◌, List, [], ◌∷◌, ◌++◌, map, Some, None, Ok, Err}
+use Rattle.std.specs.List.{AllByRecursion, Any, flat_map}
 use Rattle.itip_lines.specs.Reading as lines
 use Rattle.itip_lines.specs.declared.error.Fault as line_fault
 use Rattle.itip_lines.specs.declared.line.Line.{Line}
 use Rattle.itip_todo.specs.Parts.{Parts}
 use Rattle.itip_todo.specs.PartsOf.{parts_of}
 use Rattle.itip_todo.specs.Reading.{ReadsTodo, RefusesTodo}
-use Rattle.itip_todo.specs.Table.{name_text}
 use Rattle.itip_todo.specs.declared.error.Fault as todo_fault
-use Rattle.itip_todo.specs.declared.property_name.PropertyName.TheVariants as name
 use Rattle.itip_todo.specs.declared.todo.Todo.{Todo}
-use Rattle.itip_message.specs.Frame.{frame, todos, same_text}
+use Rattle.itip_message.specs.Frame.{frame, todos}
 use Rattle.itip_message.specs.declared.frame.Placed.{Placed}
 use Rattle.itip_message.specs.Faults.{of_lines, of_todo}
 pub use Rattle.itip_message.specs.Faults.{IfFault}
 use Rattle.itip_message.specs.Head.{head}
+use Rattle.itip_message.specs.Needs.{method_fault}
 use Rattle.itip_message.specs.Items.{Draft, drafts, drafts_of, kind_of, instance_sequence, IsWithinLimits, IsOfDraft}
 use Rattle.itip_message.specs.declared.item.Item.{Item}
 use Rattle.itip_message.specs.declared.kind.Method.{Method}
-use Rattle.itip_message.specs.declared.kind.Method.TheVariants as method
 use Rattle.itip_message.specs.declared.error.Fault.{Fault}
 use Rattle.itip_message.specs.declared.error.Fault.TheVariants as fault
-
--- some line of RRULE or RDATE stands there, or RECURRENCE-ID does: an added instance has neither
-abbrev pub recurs : List Line → Bool
-recurs lines = list_any (λ (line : Line). same_text line.name (name_text name.RecurrenceId) || same_text line.name (name_text name.RRule) || same_text line.name (name_text name.RDate)) lines
-
-abbrev pub when : Bool → Fault → Option Fault
-when true f = Some f
-when false f = None
-
-abbrev pub missing_in : {A : Type 0} → Option A → Fault → Option Fault → Option Fault
-missing_in None f others = Some f
-missing_in (Some x) f others = others
-
-abbrev pub wants_one : List Property → Option Fault
-wants_one [] = Some (fault.Missing name.Attendee)
-wants_one (attendee ∷ []) = None
-wants_one (attendee ∷ other ∷ others) = Some (fault.Twice name.Attendee)
-
-abbrev pub wants_some : List Property → Option Fault
-wants_some [] = Some (fault.Missing name.Attendee)
-wants_some (attendee ∷ attendees) = None
-
--- the fault of a to-do that is not what its method needs beside UID and DTSTAMP (our own rule)
-abbrev pub method_fault : Method → List Line → Parts → Option Fault
-method_fault method.Request lines parts = None
-method_fault method.Add lines parts = missing_in parts.start (fault.Missing name.DtStart) (when (recurs lines) fault.AddForm)
-method_fault method.Cancel lines parts = None
-method_fault method.Reply lines parts = wants_some parts.attendees
-method_fault method.Refresh lines parts = wants_one parts.attendees
 
 -- the lines are this to-do, and it is what the method needs
 pub record ReadsComponent (m : Method) (lines : List Line) (todo : Todo) : Type 0 where
   pub reads : ReadsTodo lines todo
-  pub fits : method_fault m lines (parts_of todo) ≡ None
+  pub fits : method_fault m (parts_of todo) ≡ None
 
 -- the lines are no to-do that the method may have, for this fault
 abbrev pub RefusesComponent : Method → List Line → Fault → Type 0
 RefusesComponent m lines f =
     ((of : todo_fault.Fault) × RefusesTodo lines of × (f ≡ of_todo of))
-    ⊎ ((todo : Todo) × ReadsTodo lines todo × (method_fault m lines (parts_of todo) ≡ Some f))
+    ⊎ ((todo : Todo) × ReadsTodo lines todo × (method_fault m (parts_of todo) ≡ Some f))
 
 -- these components are these to-dos
 abbrev pub AreComponents : Method → List (List Line) → List Todo → Type 0
@@ -90,15 +58,25 @@ AreItemsOf (draft ∷ drafts) (item ∷ items) = IsItemOf draft item × AreItems
 abbrev pub drafts_among : Method → List Parts → List Parts → List Draft
 drafts_among m all rest = flat_map (λ parts. drafts_of (kind_of m parts) (instance_sequence m all parts) parts) rest
 
--- the items of to-dos, each within the limits
-pub record GivesItems (m : Method) (all rest : List Parts) (items : List Item) : Type 0 where
-  pub within : AllByRecursion IsWithinLimits (drafts_among m all rest)
-  pub items_are : AreItemsOf (drafts_among m all rest) items
+-- the items of drafts, each within the limits
+pub record GivesItems (given : List Draft) (items : List Item) : Type 0 where
+  pub within : AllByRecursion IsWithinLimits given
+  pub items_are : AreItemsOf given items
 
--- a canonical form of some to-do is too large
-pub record IsOver (m : Method) (all rest : List Parts) (f : Fault) : Type 0 where
+-- the canonical form of some draft is too large
+pub record IsOver (given : List Draft) (f : Fault) : Type 0 where
   pub fault_is : f ≡ fault.TooMany
-  pub over : Any (λ draft. ¬ IsWithinLimits draft) (drafts_among m all rest)
+  pub over : Any (λ draft. ¬ IsWithinLimits draft) given
+
+-- an item is that of a draft, within the limits
+abbrev pub Gives : Draft → Item → Type 0
+Gives draft item = IsItemOf draft item × IsWithinLimits draft
+
+-- the items of drafts stand behind those that were there
+pub record Adds (given : List Draft) (old new : List Item) : Type 0 where
+  pub added : List Item
+  pub whole : new ≡ old ++ added
+  pub gives : GivesItems given added
 
 -- the octets are lines, framed and with a head
 pub record HasHead (bytes : List ℕ) (m : Method) (components : List (List Line)) : Type 0 where

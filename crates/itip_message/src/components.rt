@@ -3,10 +3,11 @@ ghost use Rattle.std.specs.Prelude.{IfOk, IfErr};
 ghost use Rattle.itip_message.specs.Faults.{IfFault};
 ghost use Rattle.itip_message.specs.Message.{ReadsComponent, RefusesComponent, AreComponents, FirstRefused};
 
-use crate::error::{Fault, ReadError};
+use crate::error::ReadError;
 use crate::kind::Method;
+use crate::needs::method_fault;
 use itip_lines::{Line, ListOf};
-use itip_todo::{PropertyName, Todo, read_todo};
+use itip_todo::{Todo, read_todo};
 use std::alloc::Global;
 
 /// The to-dos of these components in order, or the fault of the first that has one.
@@ -26,18 +27,13 @@ pub(crate) fn read_components(
 }
 
 /// The to-do of a component, where it is what the method needs.
-///
-/// No attendees and no DTSTART are read as yet, so ADD, REPLY and REFRESH always lack them.
 fn read_component(alloc: Global, method: Method, lines: &[Line]) -> Result<Todo, ReadError>
     ensures found { IfOk result (ReadsComponent method lines.now) }
     ensures fault { IfErr result (λ e. IfFault e (RefusesComponent method lines.now)) }
 {
     let todo = read_todo(alloc, lines)?;
-    match method {
-        Method::Request | Method::Cancel => Ok(todo),
-        Method::Add => Err(ReadError::Fault(Fault::Missing(PropertyName::DtStart))),
-        Method::Reply | Method::Refresh => {
-            Err(ReadError::Fault(Fault::Missing(PropertyName::Attendee)))
-        }
+    match method_fault(method, &todo) {
+        Some(fault) => Err(ReadError::Fault(fault)),
+        None => Ok(todo),
     }
 }

@@ -1,119 +1,153 @@
-//! The items of a message's to-dos, and their canonical octets.
-ghost use Rattle.std.specs.Prelude.{◌≡◌, ◌≢◌, MatchOption, IfOk, IfErr, map, codes, true, ◌≤◌, ◌<◌, length};
+//! The items of a message's to-dos.
+ghost use Rattle.std.specs.Prelude.{◌≡◌, ◌≢◌, ◌≤◌, ◌∷◌, [], map, true, false, IfOk, IfErr, OnOk};
+ghost use Rattle.std.specs.List.{AllByRecursion};
+ghost use Rattle.itip_moment.specs.declared.moment.Moment.{Moment};
+ghost use Rattle.itip_todo.specs.Lawful.{IsLawful};
 ghost use Rattle.itip_todo.specs.PartsOf.{parts_of};
 ghost use Rattle.itip_message.specs.Faults.{IfFault};
-ghost use Rattle.itip_message.specs.Items.{canonical_octets, series_draft, is_task, IsWithinLimits, bare, method_of, method_text};
-ghost use Rattle.itip_todo.specs.Written.{content_octets};
-ghost use Rattle.itip_message.specs.Message.{GivesItems, IsOver, IsItemOf};
-ghost use Rattle.itip_message.specs.declared.key.Key.TheVariants as key;
-ghost use Rattle.itip_message.specs.declared.kind.Method.TheVariants as methods;
-ghost use Rattle.itip_message.specs.declared.error.Fault.TheVariants as fault;
+ghost use Rattle.itip_message.specs.Needs.{Suits};
+ghost use Rattle.itip_message.specs.Items.{drafts, drafts_of, kind_of, raised, task_draft, instance_draft, attendee_draft, canonical_base, is_task, Sends, IsCanonical};
+ghost use Rattle.itip_message.specs.Message.{GivesItems, IsOver, Adds, Gives};
+ghost use Rattle.itip_message.specs.declared.kind.Kind.TheVariants as kinds;
 
-use crate::error::{Fault, ReadError};
+use crate::attendee::{attendee_key, only_of};
+use crate::canonical::finish_item;
+use crate::error::ReadError;
 use crate::item::Item;
 use crate::key::Key;
 use crate::kind::{Kind, Method};
-use itip_lines::{Bytes, NoMemory};
-use itip_todo::{Todo, write_todo};
+use crate::sequences::{kind_of, sequence_in, series_sequences};
+use itip_moment::Moment;
+use itip_todo::{Property, Todo};
 use std::alloc::Global;
 
-/// The most octets of an item's canonical form (our own limit).
-const OCTETS_LIMIT: usize = 262_144;
-
-/// The items of the to-dos of a message, in their order.
+/// The items of the to-dos of a message, by to-do and then by ATTENDEE line.
 pub(crate) fn make_items(
     alloc: Global,
     method: Method,
     all: Vec<Todo>,
 ) -> Result<Vec<Item>, ReadError>
-    ensures found { IfOk result (λ items. GivesItems method (map parts_of all.items) (map parts_of all.items) items.items) }
-    ensures fault { IfErr result (λ e. IfFault e (IsOver method (map parts_of all.items) (map parts_of all.items))) }
+    requires { AllByRecursion (Suits method) (map parts_of all.items) }
+    ensures found { IfOk result (λ items. GivesItems (drafts method (map parts_of all.items)) items.items) }
+    ensures fault { IfErr result (λ e. IfFault e (IsOver (drafts method (map parts_of all.items)))) }
 {
+    let greatest = series_sequences(alloc, method, &all)?;
     let mut items = Vec::new(alloc);
-    let Some(kind) = series_kind(method) else {
-        return Ok(items);
-    };
     for todo in all {
-        items.push(series_item(alloc, kind, todo)?)?;
+        let above = sequence_in(&greatest, &todo.uid);
+        add_items(alloc, method, above, todo, &mut items)?;
     }
     Ok(items)
 }
 
-/// The kind of the items of a method.
-///
-/// No attendees and no DTSTART are read as yet, so the to-dos of ADD, REPLY and REFRESH give no items.
-fn series_kind(method: Method) -> Option<Kind>
-    ensures { MatchOption result ((method ≢ methods.Request) × (method ≢ methods.Cancel)) (λ kind. (method_of kind ≡ method) × (is_task kind ≡ true)) }
+/// Adds the items of one to-do, where `above` is the greatest SEQUENCE of the series to-dos of its UID beside it.
+fn add_items(
+    alloc: Global,
+    method: Method,
+    above: u32,
+    todo: Todo,
+    items: &mut Vec<Item>,
+) -> Result<(), ReadError>
+    requires { Suits method (parts_of todo) × (above ≤ 2147483647) }
+    ensures found { OnOk result (Adds (drafts_of (kind_of method (parts_of todo)) (raised (parts_of todo) above) (parts_of todo)) items.old.items items.new.items) }
+    ensures fault { IfErr result (λ e. IfFault e (IsOver (drafts_of (kind_of method (parts_of todo)) (raised (parts_of todo) above) (parts_of todo)))) }
 {
-    match method {
-        Method::Request => Some(Kind::Request),
-        Method::Cancel => Some(Kind::Cancel),
-        Method::Add | Method::Reply | Method::Refresh => None,
-    }
-}
-
-/// The item of the series that a to-do is.
-fn series_item(alloc: Global, kind: Kind, todo: Todo) -> Result<Item, ReadError>
-    requires { is_task kind ≡ true }
-    ensures found { IfOk result (λ item. IsItemOf (series_draft kind (parts_of todo)) item × IsWithinLimits (series_draft kind (parts_of todo))) }
-    ensures fault { IfErr result (λ e. IfFault e (λ f. (f ≡ fault.TooMany) × ¬ IsWithinLimits (series_draft kind (parts_of todo)))) }
-{
-    let (key, bytes) = key_and_octets(alloc, kind, &todo)?;
-    Ok(Item {
-        key,
-        own: todo.seq,
-        eff: todo.seq,
-        stamp: todo.stamp,
-        bytes,
-        todo,
-        kind,
-    })
-}
-
-/// The key of the series that a to-do is, and its canonical octets, where they are within the limit.
-fn key_and_octets(alloc: Global, kind: Kind, todo: &Todo) -> Result<(Key, Bytes), ReadError>
-    ensures found { IfOk result (λ parts. (parts.0 ≡ key.Series todo.now.uid) × (parts.1 ≡ canonical_octets kind (parts_of todo.now))
-        × (length (canonical_octets kind (parts_of todo.now)) ≤ 262144)) }
-    ensures fault { IfErr result (λ e. IfFault e (λ f. (f ≡ fault.TooMany) × (262144 < length (canonical_octets kind (parts_of todo.now))))) }
-{
-    let octets = write_canonical(alloc, kind, todo)?;
-    if octets.len() > OCTETS_LIMIT {
-        return Err(ReadError::Fault(Fault::TooMany));
-    }
-    let key = Key::Series(todo.uid.clone()?);
-    Ok((key, Bytes::new(octets)))
-}
-
-/// The canonical octets of an item: a message of this to-do alone.
-pub fn write_item(alloc: Global, item: &Item) -> Result<Vec<u8>, NoMemory>
-    ensures { IfOk result (λ octets. octets.items ≡ item.now.bytes) }
-{
-    Vec::from_slice(alloc, item.bytes.as_slice())
-}
-
-/// The canonical octets of a to-do under the method of a kind.
-fn write_canonical(alloc: Global, kind: Kind, todo: &Todo) -> Result<Vec<u8>, NoMemory>
-    ensures { IfOk result (λ octets. octets.items ≡ canonical_octets kind (parts_of todo.now)) }
-{
-    let mut octets = Vec::from_slice(
-        alloc,
-        b"BEGIN:VCALENDAR\r\nPRODID:-//itipdesk//1//EN\r\nVERSION:2.0\r\n",
-    )?;
-    octets.extend_from_slice(method_line(kind))?;
-    write_todo(todo, &mut octets)?;
-    octets.extend_from_slice(b"END:VCALENDAR\r\n")?;
-    Ok(octets)
-}
-
-/// The METHOD line of the items of a kind.
-fn method_line(kind: Kind) -> &'static [u8]
-    ensures { result.now ≡ content_octets (bare (codes "METHOD") (method_text (method_of kind))) }
-{
+    let kind = kind_of(method, &todo);
     match kind {
-        Kind::Request => b"METHOD:REQUEST\r\n",
-        Kind::Add => b"METHOD:ADD\r\n",
-        Kind::Remove | Kind::Cancel => b"METHOD:CANCEL\r\n",
-        Kind::Reply => b"METHOD:REPLY\r\n",
-        Kind::Refresh => b"METHOD:REFRESH\r\n",
+        Kind::Request | Kind::Cancel => {
+            items.push(task_item(alloc, kind, above, todo)?)?;
+        }
+        Kind::Add => {
+            if let Some(start) = &todo.start {
+                let id = start.clone()?;
+                items.push(instance_item(alloc, kind, id, above, todo)?)?;
+            }
+        }
+        Kind::Remove | Kind::Reply | Kind::Refresh => {
+            add_attendees(alloc, kind, &todo, items)?;
+        }
     }
+    Ok(())
+}
+
+/// The item of the series, or of the instance that RECURRENCE-ID names.
+fn task_item(alloc: Global, kind: Kind, above: u32, todo: Todo) -> Result<Item, ReadError>
+    requires { Sends kind (parts_of todo) × (is_task kind ≡ true) × (above ≤ 2147483647) }
+    ensures found { IfOk result (Gives (task_draft kind (raised (parts_of todo) above) todo.rid (parts_of todo))) }
+    ensures fault { IfErr result (λ e. IfFault e (IsOver (task_draft kind (raised (parts_of todo) above) todo.rid (parts_of todo) ∷ []))) }
+{
+    if let Some(id) = &todo.rid {
+        let id = id.clone()?;
+        return instance_item(alloc, kind, id, above, todo);
+    }
+    let mut todo = todo;
+    todo.base = None;
+    let key = Key::Series(todo.uid.clone()?);
+    finish_item(alloc, kind, key, todo.seq, todo)
+}
+
+/// The item of an instance. X-DESK-BASE gets its canonical form.
+fn instance_item(
+    alloc: Global,
+    kind: Kind,
+    id: Moment,
+    above: u32,
+    todo: Todo,
+) -> Result<Item, ReadError>
+    requires { IsCanonical (instance_draft kind (raised (parts_of todo) above) id (parts_of todo)) × (above ≤ 2147483647) }
+    ensures found { IfOk result (Gives (instance_draft kind (raised (parts_of todo) above) id (parts_of todo))) }
+    ensures fault { IfErr result (λ e. IfFault e (IsOver (instance_draft kind (raised (parts_of todo) above) id (parts_of todo) ∷ []))) }
+{
+    let eff = raised(&todo, above);
+    let mut todo = todo;
+    todo.base = canonical_base(todo.seq, eff);
+    let key = Key::Instance(todo.uid.clone()?, id);
+    finish_item(alloc, kind, key, eff, todo)
+}
+
+/// The greatest of a to-do's SEQUENCE, its X-DESK-BASE, and this.
+fn raised(todo: &Todo, above: u32) -> u32
+    ensures { result ≡ raised (parts_of todo.now) above }
+{
+    todo.seq.max(todo.base.unwrap_or(0).max(above))
+}
+
+/// X-DESK-BASE in canonical form: the effective sequence, where it exceeds the own one.
+fn canonical_base(own: u32, eff: u32) -> Option<u32>
+    ensures { result ≡ canonical_base own eff }
+{
+    if own < eff { Some(eff) } else { None }
+}
+
+/// Adds one item for each ATTENDEE line.
+fn add_attendees(
+    alloc: Global,
+    kind: Kind,
+    todo: &Todo,
+    items: &mut Vec<Item>,
+) -> Result<(), ReadError>
+    requires { Sends kind (parts_of todo.now) × (is_task kind ≡ false) × (kind ≢ kinds.Add) }
+    ensures found { OnOk result (Adds (map (attendee_draft kind (parts_of todo.now)) todo.now.attendees) items.old.items items.new.items) }
+    ensures fault { IfErr result (λ e. IfFault e (IsOver (map (attendee_draft kind (parts_of todo.now)) todo.now.attendees))) }
+{
+    for attendee in todo.attendees.as_slice() {
+        items.push(attendee_item(alloc, kind, todo, attendee)?)?;
+    }
+    Ok(())
+}
+
+/// The item of one attendee, with what an answer or a refresh keeps of its to-do.
+fn attendee_item(
+    alloc: Global,
+    kind: Kind,
+    todo: &Todo,
+    attendee: &Property,
+) -> Result<Item, ReadError>
+    requires { IsCanonical (attendee_draft kind (parts_of todo.now) attendee.now) × IsLawful (attendee_draft kind (parts_of todo.now) attendee.now).parts }
+    ensures found { IfOk result (Gives (attendee_draft kind (parts_of todo.now) attendee.now)) }
+    ensures fault { IfErr result (λ e. IfFault e (IsOver (attendee_draft kind (parts_of todo.now) attendee.now ∷ []))) }
+{
+    let key = attendee_key(kind, todo, attendee)?;
+    let only = only_of(alloc, attendee, todo)?;
+    finish_item(alloc, kind, key, todo.seq, only)
 }

@@ -1,55 +1,99 @@
-use Rattle.std.proofs.Common.{◌≡◌, sym, ap, List, [], ◌++◌, map, subst, append-nil, length, arith, true}
+use Rattle.std.proofs.Common.{◌≡◌, ◌∙◌, sym, ap, ℕ, ◌≤◌, List, [], ◌∷◌, ◌++◌, map, subst, length, zero, suc, arith, refl}
+use Rattle.std.specs.List.{AllByRecursion}
 use Rattle.std.proofs.lemmas.Result.{err_from_is_err_and}
 use Rattle.std.specs.Vec.Iter.{into_iter_items}
+use Rattle.itip_todo.specs.Parts.{Parts}
 use Rattle.itip_todo.specs.PartsOf.{parts_of}
 use Rattle.itip_todo.specs.declared.todo.Todo.{Todo}
-use Rattle.itip_message.specs.Items.{is_task, method_of}
-use Rattle.itip_message.specs.Faults.{IfFault}
-use Rattle.itip_message.specs.Message.{GivesItems, IsOver}
+use Rattle.itip_message.specs.Items.{Draft, drafts, drafts_of, kind_of, raised, series_sequence}
+use Rattle.itip_message.specs.Message.{Adds, GivesItems, IsOver, drafts_among}
+use Rattle.itip_message.specs.Needs.{Suits}
 use Rattle.itip_message.specs.declared.item.Item.{Item}
-use Rattle.itip_message.specs.declared.kind.Kind.{Kind}
-use Rattle.itip_message.proofs.Making.{none_given, item_more, over_more, over_here, nothing_given, none_matches}
+use Rattle.itip_message.specs.declared.kind.Method.{Method}
+use Rattle.itip_message.specs.declared.error.Fault.{Fault}
+use Rattle.itip_message.proofs.Adding.{adds_both, adds_none, adds_all, over_here, over_later, if_fault}
+use Rattle.itip_message.proofs.Lawfulness.{series_small}
 use Rattle.itip_message.proofs.items.make_items.Goals as goal
 
-pub returns-in_default-clause-found : goal.returns-in_default-clause-found
-returns-in_default-clause-found c =
-    let others = none_matches (λ (k : Kind). (method_of k ≡ c.args.method) × (is_task k ≡ true)) c.series_kind.result c.in_default.not-Some c.series_kind.ensures in
-    subst (λ (items : List Item). GivesItems c.args.method (map parts_of c.args.all.items) (map parts_of c.args.all.items) items) (sym c.new-items.ensures.items)
-    (none_given c.args.method (map parts_of c.args.all.items) c.args.all.items others.0 others.1)
+-- the drafts of the first to-do, where the greatest series sequence of its UID is known
+abbrev own : Method → ℕ → Todo → List Draft
+own m above todo = drafts_of (kind_of m (parts_of todo)) (raised (parts_of todo) above) (parts_of todo)
 
-pub returns-in_err-series_item-clause-fault : goal.returns-in_err-series_item-clause-fault
-returns-in_err-series_item-clause-fault c =
-    let p = err_from_is_err_and c.from_residual.result c.from_residual.ensures.1 in
-    let h = c.in-Some.ensures in
-    let same : into_iter_items c.into_iter-todo-iterator.result ≡ c.args.all.items = c.into_iter-todo-iterator.ensures.into_iter_gives.0 in
-    let all = map parts_of (into_iter_items c.into_iter-todo-iterator.result) in
-    rw (p.1, p.2) (subst (λ (ts : List Todo). IfFault c.in_err-series_item.field-0.0 (IsOver c.args.method (map parts_of ts) (map parts_of ts))) same
-    (over_here c.in_err-series_item.field-0.0 c.in-Some.kind c.args.method all (into_iter_items c.loop-todo.todo-iterator) (into_iter_items c.next.new.self) c.in-Some-todo.todo h.0 h.1 c.in-Some-todo.ensures.steps.0 c.loop-todo.invariant.over c.in_err-series_item.ensures.fault))
+among_more : (m : Method) (all : List Parts) (left rest : List Todo) (todo : Todo) (above : ℕ) → left ≡ todo ∷ rest → above ≡ series_sequence m todo.uid all
+    → drafts_among m all (map parts_of left) ≡ own m above todo ++ drafts_among m all (map parts_of rest)
+among_more m all left rest todo above e is =
+    ap (λ (ts : List Todo). drafts_among m all (map parts_of ts)) e ∙ ap (λ (n : ℕ). own m n todo ++ drafts_among m all (map parts_of rest)) (sym is)
+
+none_left : (m : Method) (all : List Parts) (rest : List Todo) → length rest ≡ 0 → drafts_among m all (map parts_of rest) ≡ []
+none_left m all [] h = refl
+none_left m all (todo ∷ rest) h = absurd (omega (arith, h))
+
+first_suits : (m : Method) (left rest : List Todo) (todo : Todo) → left ≡ todo ∷ rest → AllByRecursion (Suits m) (map parts_of left) → Suits m (parts_of todo) × AllByRecursion (Suits m) (map parts_of rest)
+first_suits m left rest todo e h = subst (λ (ts : List Todo). AllByRecursion (Suits m) (map parts_of ts)) e h
+
+small : (m : Method) (uid : List ℕ) (all : List Todo) (above : ℕ) → above ≡ series_sequence m uid (map parts_of all) → above ≤ 2147483647
+small m uid all above is = subst (λ (n : ℕ). n ≤ 2147483647) (sym is) (series_small m uid all)
+
+pub add_items-requires : goal.add_items-requires
+add_items-requires c =
+    let m : Method = c.args.method in
+    let todo : Todo = c.in-Some.todo in
+    let above : c.sequence_in-above.result ≡ series_sequence m todo.uid (map parts_of c.deref.result.now) = c.sequence_in-above.ensures ∙ c.in_ok-greatest.ensures todo.uid in (
+      (first_suits m (into_iter_items c.loop-todo.todo-iterator) (into_iter_items c.next.new.self) todo c.in-Some.ensures.steps.0 c.loop-todo.invariant.suits).0,
+      small m todo.uid c.deref.result.now c.sequence_in-above.result above,
+    )
+
+pub returns-in_err-add_items-clause-fault : goal.returns-in_err-add_items-clause-fault
+returns-in_err-add_items-clause-fault c =
+    let p = err_from_is_err_and c.from_residual-in_err-add_items.result c.from_residual-in_err-add_items.ensures.1 in
+    let m : Method = c.args.method in
+    let todo : Todo = c.in-Some.todo in
+    let whole : List Todo = into_iter_items c.into_iter-todo-iterator.result in
+    let all : List Parts = map parts_of whole in
+    let same : whole ≡ c.args.all.items = c.into_iter-todo-iterator.ensures.into_iter_gives.0 in
+    let above : c.sequence_in-above.result ≡ series_sequence m todo.uid all =
+    c.sequence_in-above.ensures ∙ c.in_ok-greatest.ensures todo.uid ∙ ap (λ (ts : List Todo). series_sequence m todo.uid (map parts_of ts)) (c.deref.ensures.value ∙ sym same) in
+    let rest : List Todo = into_iter_items c.next.new.self in
+    let more = among_more m all (into_iter_items c.loop-todo.todo-iterator) rest todo c.sequence_in-above.result c.in-Some.ensures.steps.0 above in
+    rw (p.1, p.2) (if_fault c.in_err-add_items.field-0.0 (λ f h.
+    subst (λ (ts : List Todo). IsOver (drafts m (map parts_of ts)) f) same
+    (c.loop-todo.invariant.over f (subst (λ (ds : List Draft). IsOver ds f) (sym more) (over_here f (own m c.sequence_in-above.result todo) (drafts_among m all (map parts_of rest)) h)))) c.in_err-add_items.ensures.fault)
 
 pub loop-todo-preserved : goal.loop-todo-preserved
 loop-todo-preserved c =
+    let m : Method = c.args.method in
+    let todo : Todo = c.in-Some.todo in
+    let whole : List Todo = into_iter_items c.into_iter-todo-iterator.result in
+    let all : List Parts = map parts_of whole in
+    let same : whole ≡ c.args.all.items = c.into_iter-todo-iterator.ensures.into_iter_gives.0 in
+    let above : c.sequence_in-above.result ≡ series_sequence m todo.uid all =
+    c.sequence_in-above.ensures ∙ c.in_ok-greatest.ensures todo.uid ∙ ap (λ (ts : List Todo). series_sequence m todo.uid (map parts_of ts)) (c.deref.ensures.value ∙ sym same) in
+    let left : List Todo = into_iter_items c.loop-todo.todo-iterator in
+    let rest : List Todo = into_iter_items c.next.new.self in
+    let e : left ≡ todo ∷ rest = c.in-Some.ensures.steps.0 in
+    let more = among_more m all left rest todo c.sequence_in-above.result e above in
     let was = c.loop-todo.invariant.length_is in
-    let gone = c.in-Some-todo.ensures.steps.1 in
-    let short = ap length c.in-Some-todo.ensures.steps.0 in
-    let h = c.in-Some.ensures in
-    let m = c.args.method in
-    let all = map parts_of (into_iter_items c.into_iter-todo-iterator.result) in
-    let left = into_iter_items c.loop-todo.todo-iterator in
-    let rest = into_iter_items c.next.new.self in
-    let todo = c.in-Some-todo.todo in
-    let item = c.in_ok-series_item.field-0 in record {
+    let gone = c.in-Some.ensures.steps.1 in
+    let short = ap length e in
+    let first : List Draft = own m c.sequence_in-above.result todo in
+    let later : List Draft = drafts_among m all (map parts_of rest) in
+    let old : List Item = c.loop-todo.items.items in
+    let mid : List Item = c.add_items.new.items.items in record {
       length_is = omega arith;
-      found = λ more k. subst (λ (items : List Item). GivesItems m all all (items ++ more)) (sym c.in_ok-push.ensures.items)
-          (item_more c.in-Some.kind m all left rest c.loop-todo.items.items todo item h.0 h.1 c.in-Some-todo.ensures.steps.0 c.loop-todo.invariant.found c.in_ok-series_item.ensures.found.0 c.in_ok-series_item.ensures.found.1 more k);
-      over = λ f k. over_more c.in-Some.kind m all left rest todo h.0 h.1 c.in-Some-todo.ensures.steps.0 c.loop-todo.invariant.over f k;
+      suits = (first_suits m left rest todo e c.loop-todo.invariant.suits).1;
+      found = λ new h. c.loop-todo.invariant.found new (subst (λ (ds : List Draft). Adds ds old new) (sym more) (adds_both first later old mid new c.in_ok-add_items.ensures.found h));
+      over = λ f h. c.loop-todo.invariant.over f (subst (λ (ds : List Draft). IsOver ds f) (sym more) (over_later f first later h));
     }
 
 pub returns-clause-found : goal.returns-clause-found
 returns-clause-found c =
-    let same : into_iter_items c.into_iter-todo-iterator.result ≡ c.args.all.items = c.into_iter-todo-iterator.ensures.into_iter_gives.0 in
+    let m : Method = c.args.method in
+    let whole : List Todo = into_iter_items c.into_iter-todo-iterator.result in
+    let all : List Parts = map parts_of whole in
+    let same : whole ≡ c.args.all.items = c.into_iter-todo-iterator.ensures.into_iter_gives.0 in
     let was = c.loop-todo.invariant.length_is in
-    let none = c.in-None.ensures.steps.0 in
-    let all = map parts_of (into_iter_items c.into_iter-todo-iterator.result) in
-    let given : GivesItems c.args.method all all (c.loop-todo.items.items ++ []) = c.loop-todo.invariant.found [] (nothing_given c.args.method all (into_iter_items c.loop-todo.todo-iterator) (omega arith)) in
-    subst (λ (ts : List Todo). GivesItems c.args.method (map parts_of ts) (map parts_of ts) c.loop-todo.items.items) same
-    (subst (λ (items : List Item). GivesItems c.args.method all all items) (append-nil c.loop-todo.items.items) given)
+    let gone = c.in-None.ensures.steps.0 in
+    let none : drafts_among m all (map parts_of (into_iter_items c.loop-todo.todo-iterator)) ≡ [] = none_left m all (into_iter_items c.loop-todo.todo-iterator) (omega arith) in
+    let items : List Item = c.loop-todo.items.items in
+    subst (λ (ts : List Todo). GivesItems (drafts m (map parts_of ts)) items) same
+    (adds_all (drafts m all) items (c.loop-todo.invariant.found items (subst (λ (ds : List Draft). Adds ds items items) (sym none) (adds_none items))))

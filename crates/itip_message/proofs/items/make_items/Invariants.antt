@@ -1,7 +1,9 @@
-use Rattle.std.proofs.Common.{◌≡◌, List, ◌++◌, length, map}
+use Rattle.std.proofs.Common.{◌≡◌, List, [], length, map}
 use Rattle.std.specs.Vec.Iter.{into_iter_items, into_iter_len}
+use Rattle.std.specs.List.{AllByRecursion}
 use Rattle.itip_todo.specs.PartsOf.{parts_of}
-use Rattle.itip_message.specs.Message.{GivesItems, IsOver}
+use Rattle.itip_message.specs.Message.{Adds, IsOver, drafts_among}
+use Rattle.itip_message.specs.Needs.{Suits}
 use Rattle.itip_message.specs.declared.item.Item.{Item}
 use Rattle.itip_message.specs.declared.error.Fault.{Fault}
 use Rattle.itip_message.proofs.items.make_items.Given as goal
@@ -12,6 +14,7 @@ invariant-loop-todo l =
     let rest = map parts_of (into_iter_items l.todo-iterator) in
     record {
       length_is : into_iter_len l.todo-iterator ≡ length (into_iter_items l.todo-iterator);
-      found : (more : List Item) → GivesItems l.fn.method all rest more → GivesItems l.fn.method all all (l.items.items ++ more);
-      over : (f : Fault) → IsOver l.fn.method all rest f → IsOver l.fn.method all all f;
+      suits : AllByRecursion (Suits l.fn.method) rest;
+      found : (new : List Item) → Adds (drafts_among l.fn.method all rest) l.items.items new → Adds (drafts_among l.fn.method all all) [] new;
+      over : (f : Fault) → IsOver (drafts_among l.fn.method all rest) f → IsOver (drafts_among l.fn.method all all) f;
     }

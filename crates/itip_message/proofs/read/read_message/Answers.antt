@@ -4,6 +4,7 @@ use Rattle.itip_message.specs.Message.{FirstRefused, AreComponents}
 use Rattle.itip_message.specs.Faults.{IfFault}
 use Rattle.itip_lines.specs.declared.line.Line.{Line}
 use Rattle.itip_message.proofs.Stages.{lines_refused, frame_refused, head_refused, headed, component_refused, items_refused, items_given}
+use Rattle.itip_message.proofs.Properties.{framed_suit}
 use Rattle.itip_message.proofs.read.read_message.Goals as goal
 
 pub returns-in_err-lines-clause-fault : goal.returns-in_err-lines-clause-fault
@@ -42,3 +43,9 @@ returns-clause-found c =
     let has = headed c.args.text.now c.in_ok-method.method c.in_ok-lines.lines.items c.in_ok-placed.placed.items c.deref.result.now c.in_ok-calendar.components.items c.len.result c.in_ok-lines.ensures.found c.in_ok-placed.ensures.found (c.deref.ensures.value ∙ c.in_ok-calendar.ensures.0) c.in_ok-calendar.ensures.1 count c.in_ok-method.ensures.found in
     let are = subst (λ (ls : List (List Line)). AreComponents c.in_ok-method.method ls c.in_ok-all.all.items) c.deref-2.ensures.value c.in_ok-all.ensures.found in
     items_given (λ (v : _). v.items) c.make_items.result c.args.text.now c.in_ok-method.method c.in_ok-calendar.components.items c.in_ok-all.all.items has are c.make_items.ensures.found
+
+pub make_items-requires : goal.make_items-requires
+make_items-requires c =
+    let are = subst (λ (ls : List (List Line)). AreComponents c.in_ok-method.method ls c.in_ok-all.all.items) c.deref-2.ensures.value c.in_ok-all.ensures.found in
+    let in_message = subst (λ (ls : List (List Line)). AreComponents c.in_ok-method.method ls c.in_ok-all.all.items) c.in_ok-calendar.ensures.1 are in
+    framed_suit c.in_ok-method.method c.in_ok-lines.lines.items c.in_ok-placed.placed.items c.in_ok-all.all.items c.in_ok-placed.ensures.found in_message

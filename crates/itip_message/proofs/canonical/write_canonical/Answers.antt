@@ -1,7 +1,7 @@
 use Rattle.std.proofs.Common.{◌∙◌, ap, ◌++◌, List, ℕ}
 use Rattle.itip_todo.specs.PartsOf.{parts_of}
 use Rattle.itip_message.proofs.Composing.{canonical_is}
-use Rattle.itip_message.proofs.items.write_canonical.Goals as goal
+use Rattle.itip_message.proofs.canonical.write_canonical.Goals as goal
 
 pub returns : goal.returns
 returns c =

@@ -1,0 +1,89 @@
+//! What an answer or a refresh keeps of its to-do.
+ghost use Rattle.std.specs.Prelude.{◌≡◌, IfOk};
+ghost use Rattle.itip_todo.specs.Lawful.{IsLawful};
+ghost use Rattle.itip_todo.specs.PartsOf.{parts_of};
+ghost use Rattle.itip_todo.specs.Table as table;
+ghost use Rattle.itip_message.specs.Items.{only_of, attendee_key_of, refreshes};
+
+use crate::key::Key;
+use crate::kind::Kind;
+use itip_lines::{ListOf, NoMemory, Text};
+use itip_moment::Moment;
+use itip_todo::{Property, Todo};
+use std::alloc::Global;
+
+/// The one attendee that it is of, and few properties (our own rule).
+pub(crate) fn only_of(alloc: Global, attendee: &Property, todo: &Todo) -> Result<Todo, NoMemory>
+    requires { IsLawful (only_of attendee.now (parts_of todo.now)) }
+    ensures { IfOk result (λ only. parts_of only ≡ only_of attendee.now (parts_of todo.now)) }
+{
+    let mut attendees = Vec::new(alloc);
+    attendees.push(attendee.clone()?)?;
+    Ok(Todo {
+        uid: todo.uid.clone()?,
+        stamp: todo.stamp,
+        seq: todo.seq,
+        base: None,
+        rid: copy_moment(&todo.rid)?,
+        start: None,
+        due: None,
+        status: todo.status,
+        percent: todo.percent,
+        priority: None,
+        summary: None,
+        organizer: copy_property(&todo.organizer)?,
+        attendees: ListOf::from_vec(attendees),
+        rule: ListOf::new(alloc),
+        rdates: ListOf::new(alloc),
+        exdates: ListOf::new(alloc),
+        others: ListOf::new(alloc),
+    })
+}
+
+/// The key of what an attendee answers, or wants.
+pub(crate) fn attendee_key(kind: Kind, todo: &Todo, attendee: &Property) -> Result<Key, NoMemory>
+    ensures { IfOk result (λ key. key ≡ attendee_key_of kind (parts_of todo.now) attendee.now) }
+{
+    let uid = todo.uid.clone()?;
+    let rid = copy_moment(&todo.rid)?;
+    let name = lower_case(&attendee.value)?;
+    if refreshes(kind) {
+        Ok(Key::Refresh(uid, rid, name))
+    } else {
+        Ok(Key::Answer(uid, rid, name))
+    }
+}
+
+/// Whether an item of this kind is an attendee's wish for the newest revision.
+fn refreshes(kind: Kind) -> bool
+    ensures { result ≡ refreshes kind }
+{
+    kind == Kind::Refresh
+}
+
+/// The key of an attendee: the address with ASCII letters in lower case.
+fn lower_case(address: &Text) -> Result<Text, NoMemory>
+    ensures { IfOk result (λ name. name ≡ table.attendee_key address.now) }
+{
+    let mut name = address.clone()?.into_string();
+    name.make_ascii_lowercase();
+    Ok(Text::new(name))
+}
+
+fn copy_moment(moment: &Option<Moment>) -> Result<Option<Moment>, NoMemory>
+    ensures { IfOk result (λ copy. copy ≡ moment.now) }
+{
+    match moment {
+        Some(moment) => Ok(Some(moment.clone()?)),
+        None => Ok(None),
+    }
+}
+
+fn copy_property(property: &Option<Property>) -> Result<Option<Property>, NoMemory>
+    ensures { IfOk result (λ copy. copy ≡ property.now) }
+{
+    match property {
+        Some(property) => Ok(Some(property.clone()?)),
+        None => Ok(None),
+    }
+}

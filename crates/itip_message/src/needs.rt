@@ -1,0 +1,71 @@
+//! What a method needs of a to-do beside UID and DTSTAMP.
+ghost use Rattle.std.specs.Prelude.{◌≡◌};
+ghost use Rattle.std.specs.List.{list_any};
+ghost use Rattle.itip_todo.specs.PartsOf.{parts_of};
+ghost use Rattle.itip_message.specs.Needs.{method_fault, recurs, is_rdate, has_some, wants_some, wants_one};
+
+use crate::error::Fault;
+use crate::kind::Method;
+use itip_lines::{Line, ListOf};
+use itip_todo::{Property, PropertyName, Todo};
+
+/// The fault of a to-do that is not what its method needs (our own rule).
+pub(crate) fn method_fault(method: Method, todo: &Todo) -> Option<Fault>
+    ensures { result ≡ method_fault method (parts_of todo.now) }
+{
+    match method {
+        Method::Request | Method::Cancel => None,
+        Method::Add => {
+            if todo.start.is_none() {
+                Some(Fault::Missing(PropertyName::DtStart))
+            } else if recurs(todo) {
+                Some(Fault::AddForm)
+            } else {
+                None
+            }
+        }
+        Method::Reply => wants_some(todo.attendees.as_slice()),
+        Method::Refresh => wants_one(todo.attendees.as_slice()),
+    }
+}
+
+/// Whether a to-do is of an instance or recurs. RDATE with `/` in its value stands among the others.
+fn recurs(todo: &Todo) -> bool
+    ensures { result ≡ recurs (parts_of todo.now) }
+{
+    todo.rid.is_some()
+        || has_some(&todo.rule)
+        || has_some(&todo.rdates)
+        || has_rdate(todo.others.as_slice())
+}
+
+fn has_some<T>(list: &ListOf<T>) -> bool
+    ensures { result ≡ has_some list.now }
+{
+    !list.is_empty()
+}
+
+fn has_rdate(lines: &[Line]) -> bool
+    ensures { result ≡ list_any is_rdate lines.now }
+{
+    lines.iter().any(|line| line.name.as_str() == "RDATE")
+}
+
+fn wants_some(attendees: &[Property]) -> Option<Fault>
+    ensures { result ≡ wants_some attendees.now }
+{
+    match attendees {
+        [] => Some(Fault::Missing(PropertyName::Attendee)),
+        [_, ..] => None,
+    }
+}
+
+fn wants_one(attendees: &[Property]) -> Option<Fault>
+    ensures { result ≡ wants_one attendees.now }
+{
+    match attendees {
+        [] => Some(Fault::Missing(PropertyName::Attendee)),
+        [_] => None,
+        [_, _, ..] => Some(Fault::Twice(PropertyName::Attendee)),
+    }
+}
