@@ -29,19 +29,41 @@ pub(crate) fn message(
     number: u64,
     numbers: &mut Numbers,
 ) -> Result<String, AllocError> {
+    let mut text = String::from_str(alloc, HEAD)?;
+    add_todo(number, numbers, &mut text)?;
+    text.push_str("END:VCALENDAR\r\n")?;
+    Ok(text)
+}
+
+/// One REQUEST about so many to-dos.
+pub(crate) fn large_message(
+    alloc: Global,
+    count: u64,
+    numbers: &mut Numbers,
+) -> Result<String, AllocError> {
+    let mut text = String::from_str(alloc, HEAD)?;
+    for number in 0..count {
+        add_todo(number, numbers, &mut text)?;
+    }
+    text.push_str("END:VCALENDAR\r\n")?;
+    Ok(text)
+}
+
+const HEAD: &str = "BEGIN:VCALENDAR\r\nVERSION:2.0\r\nMETHOD:REQUEST\r\n";
+
+fn add_todo(number: u64, numbers: &mut Numbers, text: &mut String) -> Result<(), AllocError> {
+    let alloc = *text.allocator();
     let sequence = numbers.next() % 10;
     let minute = numbers.next() % 60;
     let summary = numbers.next();
-    let mut text = String::from_str(
-        alloc,
-        "BEGIN:VCALENDAR\r\nVERSION:2.0\r\nMETHOD:REQUEST\r\nBEGIN:VTODO\r\n",
+    let about = format!(in alloc;
+        "BEGIN:VTODO\r\nUID:to-do-{number}@example.com\r\nSEQUENCE:{sequence}\r\n"
     )?;
-    let about = format!(in alloc; "UID:to-do-{number}@example.com\r\nSEQUENCE:{sequence}\r\n")?;
     let said = format!(in alloc;
         "DTSTAMP:20260101T09{minute:02}00Z\r\nSUMMARY:Task {number} of project {summary}, as it was agreed\r\n"
     )?;
     text.push_str(about.as_str())?;
     text.push_str(said.as_str())?;
-    text.push_str("END:VTODO\r\nEND:VCALENDAR\r\n")?;
-    Ok(text)
+    text.push_str("END:VTODO\r\n")?;
+    Ok(())
 }

@@ -1,4 +1,4 @@
-//! A benchmark: it reads, takes and lists small messages that it makes itself, and prints how long each took.
+//! A benchmark: it reads, takes and lists messages that it makes itself, and prints how long each took.
 //!
 //! The words are how many messages, and a seed, 1 where there is none. Without words it prints nothing.
 #![tactic(auto)]
