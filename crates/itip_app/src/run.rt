@@ -1,9 +1,10 @@
-//! One run of the program: its words, then its script.
+//! One run of the program: its words, then its script or its message.
 ghost use Rattle.std.specs.Prelude.{◌≡◌};
 ghost use Rattle.itip_app.specs.Words.{AreDesks};
 
-use crate::words::{Call, NoCall, read_words};
-use itip_office::run_script;
+use crate::check::check;
+use crate::words::{Call, NoCall, Task, read_words};
+use itip_office::{ScriptFault, run_script};
 use std::fmt::Display;
 use std::rt::Env;
 use std::{env, io};
@@ -18,7 +19,8 @@ pub(crate) fn status<R: AllocGlobal + Env + Input + Print + Eprint>(rt: &R) -> u
         Err(error) => return no_words(rt, &error),
     };
     match read_words(rt.alloc(), words.as_slice()) {
-        Ok(call) => run(rt, call),
+        Ok(Task::Run(call)) => run(rt, call),
+        Ok(Task::Check) => check_message(rt),
         Err(NoCall::Help(help)) => match help.print(rt) {
             Ok(()) => 0,
             Err(_) => complain(rt, &"write failed", FAULT),
@@ -42,7 +44,20 @@ fn run<R: AllocGlobal + Input + Print + Eprint>(rt: &R, call: Call) -> u8
     let mut reader = rt.reader();
     let mut writer = io::writer(rt);
     let desks = call.desks as usize;
-    match run_script(rt.alloc(), &mut reader, &mut writer, desks, call.window) {
+    let done = run_script(rt.alloc(), &mut reader, &mut writer, desks, call.window);
+    ended(rt, done)
+}
+
+fn check_message<R: AllocGlobal + Input + Print + Eprint>(rt: &R) -> u8 {
+    let mut reader = rt.reader();
+    let mut writer = io::writer(rt);
+    let done = check(rt.alloc(), &mut reader, &mut writer);
+    ended(rt, done)
+}
+
+/// The status of what was done: 1 where a refusal was written.
+fn ended<R: Eprint>(rt: &R, done: Result<bool, ScriptFault>) -> u8 {
+    match done {
         Ok(false) => 0,
         Ok(true) => 1,
         Err(fault) => complain(rt, &fault, FAULT),

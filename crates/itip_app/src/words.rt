@@ -1,6 +1,7 @@
 //! The words that the program is called with.
 ghost use Rattle.std.specs.Prelude.{◌≡◌, ℕ, IfOk, IfSome, IfNone};
 ghost use Rattle.itip_app.specs.Words.{AreDesks, desks_of, IsWindowOf, IsCallOf};
+ghost use Rattle.itip_app.specs.Tasks.{IfRun};
 ghost use Rattle.itip_app.specs.declared.words.NoCall.TheVariants.{NoMemory};
 ghost use Rattle.itip_view.specs.declared.window.Window.{Window};
 
@@ -14,7 +15,16 @@ use std::alloc::{AllocError, Global};
 /// The most desks of a run.
 const MAX_DESKS: u64 = 8;
 
-/// What a call of the program asks for: a script with so many desks, and lists of the days of a window.
+/// What a call of the program asks for.
+#[derive(Clone, Copy)]
+pub(crate) enum Task {
+    /// A script is run.
+    Run(Call),
+    /// A message is read, and its items are shown.
+    Check,
+}
+
+/// How a script is run: with so many desks, and lists of the days of a window.
 #[derive(Clone, Copy)]
 pub(crate) struct Call {
     pub(crate) desks: u64,
@@ -49,14 +59,17 @@ impl From<Error> for NoCall {
 }
 
 /// Reads the words, the first of which is the program's name.
-pub(crate) fn read_words(alloc: Global, words: &[String]) -> Result<Call, NoCall>
-    ensures desks { IfOk result (λ call. AreDesks call.desks) }
+pub(crate) fn read_words(alloc: Global, words: &[String]) -> Result<Task, NoCall>
+    ensures desks { IfOk result (IfRun (λ call. AreDesks call.desks)) }
 {
     let matches = command(alloc)?.try_get_matches_from(words)?;
-    matches
-        .subcommand_matches("run")
-        .and_then(call_of)
-        .ok_or(NoCall::BadWords)
+    if matches.subcommand_matches("check").is_some() {
+        return Ok(Task::Check);
+    }
+    match matches.subcommand_matches("run").and_then(call_of) {
+        Some(call) => Ok(Task::Run(call)),
+        None => Err(NoCall::BadWords),
+    }
 }
 
 fn command<'a>(alloc: Global) -> Result<Command<'a>, AllocError> {
@@ -80,11 +93,15 @@ fn command<'a>(alloc: Global) -> Result<Command<'a>, AllocError> {
         .arg(desks)?
         .arg(from)?
         .arg(to)?;
+    let check = Command::new(alloc, "check").about(
+        "Reads a message from standard input and shows its items",
+    );
     Command::new(alloc, "itipdesk")
         .bin_name("itipdesk")?
         .about("A desk for to-dos under iTIP (RFC 5546)")
         .subcommand_required(true)
-        .subcommand(run)
+        .subcommand(run)?
+        .subcommand(check)
 }
 
 fn call_of(matches: &ArgMatches<'_>) -> Option<Call>

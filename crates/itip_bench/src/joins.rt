@@ -1,6 +1,6 @@
 //! Joins of a small map into a large one and into a small one.
 
-use crate::measure::BenchError;
+use crate::error::BenchError;
 use itip_join::{Greatest, Join, Keyed, NoMemory};
 use std::alloc::Global;
 use std::rt::Clock;

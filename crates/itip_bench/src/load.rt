@@ -23,8 +23,26 @@ impl Numbers {
     }
 }
 
+/// The seed of what the messages say.
+pub(crate) const SEED: u64 = 1;
+
 /// A small REQUEST about a to-do of its own.
 pub(crate) fn message(
+    alloc: Global,
+    number: u64,
+    numbers: &mut Numbers,
+) -> Result<String, AllocError> {
+    let mut text = String::from_str(
+        alloc,
+        "BEGIN:VCALENDAR\r\nVERSION:2.0\r\nMETHOD:REQUEST\r\n",
+    )?;
+    text.push_str(to_do(alloc, number, numbers)?.as_str())?;
+    text.push_str("END:VCALENDAR\r\n")?;
+    Ok(text)
+}
+
+/// A small to-do.
+pub(crate) fn to_do(
     alloc: Global,
     number: u64,
     numbers: &mut Numbers,
@@ -32,16 +50,13 @@ pub(crate) fn message(
     let sequence = numbers.next() % 10;
     let minute = numbers.next() % 60;
     let summary = numbers.next();
-    let mut text = String::from_str(
-        alloc,
-        "BEGIN:VCALENDAR\r\nVERSION:2.0\r\nMETHOD:REQUEST\r\nBEGIN:VTODO\r\n",
-    )?;
+    let mut text = String::from_str(alloc, "BEGIN:VTODO\r\n")?;
     let about = format!(in alloc; "UID:to-do-{number}@example.com\r\nSEQUENCE:{sequence}\r\n")?;
     let said = format!(in alloc;
         "DTSTAMP:20260101T09{minute:02}00Z\r\nSUMMARY:Task {number} of project {summary}, as it was agreed\r\n"
     )?;
     text.push_str(about.as_str())?;
     text.push_str(said.as_str())?;
-    text.push_str("END:VTODO\r\nEND:VCALENDAR\r\n")?;
+    text.push_str("END:VTODO\r\n")?;
     Ok(text)
 }

@@ -3,15 +3,22 @@
 //! The words are a topic and a size, as `messages 1000` or `joins 100000`. Without words it prints nothing.
 #![tactic(auto)]
 
+mod attendees;
+mod error;
 mod joins;
 mod load;
-mod measure;
+mod messages;
+mod threads;
 
+use crate::attendees::measure_attendees;
+use crate::error::BenchError;
 use crate::joins::measure_joins;
-use crate::measure::{BenchError, measure_messages};
+use crate::messages::measure_messages;
+use crate::threads::measure_threads;
 use std::env;
 use std::process::ExitCode;
 use std::rt::{Clock, Env};
+use std::thread::Threads;
 
 fn main(rt: HostRuntime) -> ExitCode {
     match run(&rt) {
@@ -23,7 +30,7 @@ fn main(rt: HostRuntime) -> ExitCode {
     }
 }
 
-fn run<R: AllocGlobal + Clock + Env + Print>(rt: &R) -> Result<(), BenchError> {
+fn run<R: AllocGlobal + Clock + Env + Print + Threads + Sync>(rt: &R) -> Result<(), BenchError> {
     let mut words = env::args(rt).map_err(|_| BenchError::Words)?.skip(1);
     let Some(topic) = words.next() else {
         return Ok(());
@@ -35,6 +42,8 @@ fn run<R: AllocGlobal + Clock + Env + Print>(rt: &R) -> Result<(), BenchError> {
     match topic.as_str() {
         "messages" => measure_messages(rt, size),
         "joins" => measure_joins(rt, size),
+        "attendees" => measure_attendees(rt, size),
+        "threads" => measure_threads(rt, size),
         _ => Err(BenchError::Words),
     }
 }

@@ -1,48 +1,13 @@
-//! What is measured.
+//! Reading, taking and listing small messages.
 
-use crate::load::{Numbers, message};
-use itip_desk::{Batch, Desk, DeskError};
-use itip_message::{ReadError, read_message};
-use itip_view::{BadWindow, ViewError, Window};
-use std::alloc::{AllocError, AllocFailed, Global};
-use std::io;
+use crate::error::BenchError;
+use crate::load::{Numbers, SEED, message};
+use itip_desk::{Batch, Desk};
+use itip_message::read_message;
+use itip_view::Window;
+use std::alloc::Global;
 use std::rt::Clock;
 use std::time::Instant;
-use thiserror::Error;
-
-/// Why nothing more was measured.
-#[derive(Debug, Drop, Error)]
-pub(crate) enum BenchError {
-    #[error("the words are a topic, messages or joins, and a size")]
-    Words,
-    #[error("no memory")]
-    Memory,
-    #[error("{0}")]
-    Io(#[from] io::Error),
-    #[error("{0}")]
-    Read(#[from] ReadError),
-    #[error("{0}")]
-    Desk(#[from] DeskError),
-    #[error("{0}")]
-    Window(#[from] BadWindow),
-    #[error("{0}")]
-    View(#[from] ViewError),
-}
-
-impl From<AllocError> for BenchError {
-    fn from(_: AllocError) -> BenchError {
-        BenchError::Memory
-    }
-}
-
-impl<T: Drop> From<AllocFailed<T>> for BenchError {
-    fn from(_: AllocFailed<T>) -> BenchError {
-        BenchError::Memory
-    }
-}
-
-/// The seed of what the messages say.
-const SEED: u64 = 1;
 
 /// Reads so many messages, takes them one after another, lists what the desk keeps, and prints a line for each.
 pub(crate) fn measure_messages<R: AllocGlobal + Clock + Print>(

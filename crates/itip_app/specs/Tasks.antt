@@ -1,0 +1,9 @@
+-- What a call of the program asks for.
+use Rattle.itip_app.specs.declared.words.Call.{Call}
+use Rattle.itip_app.specs.declared.words.Task.{Task}
+use Rattle.itip_app.specs.declared.words.Task.TheVariants.{Run, Check}
+
+-- of a task: nothing where a message is read, and otherwise P of how the script is run
+abbrev pub IfRun : (Call → Type 0) → Task → Type 0
+IfRun P (Run call) = P call
+IfRun P Check = Unit {0}

@@ -1,0 +1,51 @@
+//! Reading many messages at once, and one message of many to-dos.
+
+use crate::error::BenchError;
+use crate::load::{Numbers, SEED, message, to_do};
+use itip_message::{read_all, read_message};
+use std::alloc::{AllocError, Global};
+use std::rt::Clock;
+use std::thread::Threads;
+use std::time::Instant;
+
+/// How many to-dos a message may have.
+const TO_DOS: u64 = 1000;
+
+/// Reads so many messages in as many threads as there are processors, and then one message of 1,000 to-dos.
+pub(crate) fn measure_threads<R: AllocGlobal + Clock + Print + Threads + Sync>(
+    rt: &R,
+    count: u64,
+) -> Result<(), BenchError> {
+    let alloc = rt.alloc();
+    let mut numbers = Numbers::of_seed(SEED);
+    let mut texts = Vec::new(alloc);
+    let mut octets = 0u64;
+    for number in 0..count {
+        let text = message(alloc, number, &mut numbers)?;
+        octets = octets.saturating_add(text.len() as u64);
+        texts.push(text.into_bytes())?;
+    }
+    let start = Instant::now(rt)?;
+    let read = read_all(rt, alloc, &texts)?.len();
+    let time = start.elapsed(rt)?.as_millis();
+    println!(rt; "read_all {read} messages {octets} bytes {time} ms")?;
+    let text = large(alloc, &mut numbers)?;
+    let start = Instant::now(rt)?;
+    let items = read_message(alloc, text.as_bytes())?.len();
+    let time = start.elapsed(rt)?.as_micros();
+    let octets = text.len();
+    println!(rt; "read 1 message of {items} to-dos {octets} bytes {time} us")?;
+    Ok(())
+}
+
+fn large(alloc: Global, numbers: &mut Numbers) -> Result<String, AllocError> {
+    let mut text = String::from_str(
+        alloc,
+        "BEGIN:VCALENDAR\r\nVERSION:2.0\r\nMETHOD:REQUEST\r\n",
+    )?;
+    for number in 0..TO_DOS {
+        text.push_str(to_do(alloc, number, numbers)?.as_str())?;
+    }
+    text.push_str("END:VCALENDAR\r\n")?;
+    Ok(text)
+}
