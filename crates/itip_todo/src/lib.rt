@@ -8,6 +8,7 @@ mod attendee;
 mod copies;
 mod draft;
 mod error;
+mod exact;
 mod number;
 mod property;
 mod property_name;

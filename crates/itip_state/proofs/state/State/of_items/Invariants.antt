@@ -1,6 +1,0 @@
-use Rattle.std.proofs.Common.{take}
-use Rattle.itip_state.specs.Held.{HoldBest}
-use Rattle.itip_state.proofs.state.State.of_items.Given as goal
-
-abbrev pub invariant-loop-item : goal.invariant-loop-item
-invariant-loop-item l = HoldBest (take l.item-index l.items) l.map
