@@ -74,41 +74,40 @@ module _ {K V : Type 0} {cmp : K → K → Ordering} (total : IsTotalOrder cmp) 
     combined_sorted xs [] s = s
     combined_sorted xs (e ∷ ys) s = combined_sorted (put cmp e.0 (greater (value_at cmp xs e.0) e.1) xs) ys (sorted_put e.0 (greater (value_at cmp xs e.0) e.1) xs s)
 
+    module _ (xs : List (K × V)) (e : K × V) (ys : List (K × V)) (t : IsStrictlySortedBy cmp (keys_of (e ∷ ys))) (q : K) where
+      abbrev w : V
+      w = greater (value_at cmp xs e.0) e.1
+
+      abbrev c : Option V
+      c = value_at cmp (combined (put cmp e.0 w xs) ys) q
+
+      only_w : (o : Option V) → IsGreater (Some w) None o → o ≡ Some w
+      only_w o g = elim g.one [ inl f ↦ f | inr f ↦ absurd (subst (IsBelowAt le (Some w)) f g.above_first) ]
+
+      apart : IsGreater (value_at cmp (put cmp e.0 w xs) q) (value_at cmp ys q) c → is_eq (cmp q e.0) ≡ false → IsGreater (value_at cmp xs q) (value_at cmp (e ∷ ys) q) c
+      apart rest n =
+          let first : value_at cmp (put cmp e.0 w xs) q ≡ value_at cmp xs q = put_at e.0 w xs q ∙ ap (λ b. cond b (Some w) (value_at cmp xs q)) n in
+          let second : value_at cmp (e ∷ ys) q ≡ value_at cmp ys q = at_other total exact e ys q n in
+          subst (λ (a : Option V). IsGreater a (value_at cmp (e ∷ ys) q) c) first (subst (λ (b : Option V). IsGreater (value_at cmp (put cmp e.0 w xs) q) b c) (sym second) rest)
+
+      here : IsGreater (value_at cmp (put cmp e.0 w xs) q) (value_at cmp ys q) c → is_eq (cmp q e.0) ≡ true → IsGreater (value_at cmp xs q) (value_at cmp (e ∷ ys) q) c
+      here rest k =
+          let key : q ≡ e.0 = one_key total exact q e.0 k in
+          let first : value_at cmp (put cmp e.0 w xs) q ≡ Some w = put_at e.0 w xs q ∙ ap (λ b. cond b (Some w) (value_at cmp xs q)) k in
+          let second : value_at cmp ys q ≡ None = none_in_tail total exact e ys q t k in
+          let theirs : value_at cmp (e ∷ ys) q ≡ Some e.1 = ap (value_at cmp (e ∷ ys)) key ∙ at_head total exact e ys in
+          let mine : value_at cmp xs q ≡ value_at cmp xs e.0 = ap (value_at cmp xs) key in
+          let of_w : IsGreater (Some w) None c = subst (λ (b : Option V). IsGreater (Some w) b c) second (subst (λ (a : Option V). IsGreater a (value_at cmp ys q) c) first rest) in
+          let is : IsGreater (value_at cmp xs e.0) (Some e.1) (Some w) = greater_is (value_at cmp xs e.0) e.1 in
+          subst (λ (a : Option V). IsGreater a (value_at cmp (e ∷ ys) q) c) (sym mine)
+          (subst (λ (b : Option V). IsGreater (value_at cmp xs e.0) b c) (sym theirs) (subst (IsGreater (value_at cmp xs e.0) (Some e.1)) (sym (only_w c of_w)) is))
+
     combined_at : (xs ys : List (K × V)) → IsStrictlySortedBy cmp (keys_of ys) → (q : K) → IsGreater (value_at cmp xs q) (value_at cmp ys q) (value_at cmp (combined xs ys) q)
     unfolding combined
     combined_at xs [] t q = record { above_first = IsBelowAt-refl le reflexive (value_at cmp xs q); above_second = tt; one = inl refl }
-    combined_at xs (e ∷ ys) t q = by_bool (is_eq (cmp q e.0)) (IsGreater (value_at cmp xs q) (value_at cmp (e ∷ ys) q) (value_at cmp (combined xs (e ∷ ys)) q)) here apart
-      where
-        w : V
-        w = greater (value_at cmp xs e.0) e.1
-
-        rest : IsGreater (value_at cmp (put cmp e.0 w xs) q) (value_at cmp ys q) (value_at cmp (combined (put cmp e.0 w xs) ys) q)
-        rest = combined_at (put cmp e.0 w xs) ys (sorted_tail cmp e.0 (keys_of ys) t) q
-
-        c : Option V
-        c = value_at cmp (combined (put cmp e.0 w xs) ys) q
-
-        apart : is_eq (cmp q e.0) ≡ false → IsGreater (value_at cmp xs q) (value_at cmp (e ∷ ys) q) c
-        apart n =
-            let first : value_at cmp (put cmp e.0 w xs) q ≡ value_at cmp xs q = put_at e.0 w xs q ∙ ap (λ b. cond b (Some w) (value_at cmp xs q)) n in
-            let second : value_at cmp (e ∷ ys) q ≡ value_at cmp ys q = at_other total exact e ys q n in
-            subst (λ (a : Option V). IsGreater a (value_at cmp (e ∷ ys) q) c) first (subst (λ (b : Option V). IsGreater (value_at cmp (put cmp e.0 w xs) q) b c) (sym second) rest)
-
-        here : is_eq (cmp q e.0) ≡ true → IsGreater (value_at cmp xs q) (value_at cmp (e ∷ ys) q) c
-        here k =
-            let key : q ≡ e.0 = one_key total exact q e.0 k in
-            let first : value_at cmp (put cmp e.0 w xs) q ≡ Some w = put_at e.0 w xs q ∙ ap (λ b. cond b (Some w) (value_at cmp xs q)) k in
-            let second : value_at cmp ys q ≡ None = none_in_tail total exact e ys q t k in
-            let theirs : value_at cmp (e ∷ ys) q ≡ Some e.1 = ap (value_at cmp (e ∷ ys)) key ∙ at_head total exact e ys in
-            let mine : value_at cmp xs q ≡ value_at cmp xs e.0 = ap (value_at cmp xs) key in
-            let of_w : IsGreater (Some w) None c = subst (λ (b : Option V). IsGreater (Some w) b c) second (subst (λ (a : Option V). IsGreater a (value_at cmp ys q) c) first rest) in
-            let is : IsGreater (value_at cmp xs e.0) (Some e.1) (Some w) = greater_is (value_at cmp xs e.0) e.1 in
-            let same : c ≡ Some w = only_w c of_w in
-            subst (λ (a : Option V). IsGreater a (value_at cmp (e ∷ ys) q) c) (sym mine)
-            (subst (λ (b : Option V). IsGreater (value_at cmp xs e.0) b c) (sym theirs) (subst (IsGreater (value_at cmp xs e.0) (Some e.1)) (sym same) is))
-          where
-            only_w : (o : Option V) → IsGreater (Some w) None o → o ≡ Some w
-            only_w o g = elim g.one [ inl e ↦ e | inr e ↦ absurd (subst (IsBelowAt le (Some w)) e g.above_first) ]
+    combined_at xs (e ∷ ys) t q =
+        let rest = combined_at (put cmp e.0 (greater (value_at cmp xs e.0) e.1) xs) ys (sorted_tail cmp e.0 (keys_of ys) t) q in
+        by_bool (is_eq (cmp q e.0)) (IsGreater (value_at cmp xs q) (value_at cmp (e ∷ ys) q) (value_at cmp (combined xs (e ∷ ys)) q)) (here xs e ys t q rest) (apart xs e ys t q rest)
 
     pub combined_first : (xs ys : List (K × V)) → IsStrictlySortedBy cmp (keys_of ys) → (q : K) → IsBelowAt le (value_at cmp xs q) (value_at cmp (combined xs ys) q)
     combined_first xs ys t q = (combined_at xs ys t q).above_first

@@ -77,13 +77,13 @@ module _ (uid : List ℕ) (a b : Shape) (sound_a : IsSound uid a) (sound_b : IsS
           (λ t. let y : true ≡ false = sym t ∙ sym (ap (λ (r : Lift Best). kills r i.key i) e) ∙ n in cc)
           (λ f. not_later_itself i (later_transitive i j i (greater_eff i j (high s.value.item parts.0 parts.1 f)) later))
         where
+          less_than : (m n : ℕ) → j.eff < n → nat_lt m n ≡ false → j.eff < m
+          less_than m n low over = grind (arith, nat_tests)
+
           high : (t : Item) → can_die j.key ≡ true → j.eff < t.eff → kills (Known (best t)) i.key i ≡ false → j.eff < i.eff
           high t c low f = by_bool (nat_lt i.eff t.eff) (j.eff < i.eff)
               (λ under. let y : true ≡ false = sym (kill t i.key i (ap can_die (sym same) ∙ c) (less_from i.eff t.eff under)) ∙ f in absurd (cc))
               (λ over. less_than i.eff t.eff low over)
-
-          less_than : (m n : ℕ) → j.eff < n → nat_lt m n ≡ false → j.eff < m
-          less_than m n low over = grind (arith, nat_tests)
 
   -- a series item that is told has one above it
   told_series : IsShapeBelow a b → (t : Item) → Contains (x ++ z) t → t.key ≡ Series uid → (s : Item) × Contains z s × (s.key ≡ Series uid) × (t.eff ≤ s.eff)

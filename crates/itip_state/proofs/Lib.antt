@@ -10,6 +10,5 @@ pub mod Shapes
 pub mod Comparing
 pub mod Combine
 pub mod Joining
-pub mod Ordered
 pub mod Maps
-pub mod Reading
+pub mod Merging

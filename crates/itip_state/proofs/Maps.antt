@@ -200,41 +200,43 @@ module _ {V : Type 0} (series : V → Lift Best) (entries : V → List (Slot × 
   pub all_placed : (es : List (List ℕ × V)) → AreInOrder es → ((uid : List ℕ) → IsPlacedAt shape whole uid (at es uid)) → ArePlaced (shapes es series entries)
   all_placed es s p = placed_each es (all_from_values nat_list_cmp_total exact_bytes (λ f. IsPlacedAt shape whole f.0 (Some f.1)) es s (λ uid v e. subst (IsPlacedAt shape whole uid) e (p uid)))
 
+  module _ (e : List ℕ × V) (es : List (List ℕ × V)) (s : AreInOrder (e ∷ es)) (p : ArePlaced (shapes (e ∷ es) series entries)) (uid : List ℕ)
+      (rest : ArePart uid (items_at shape whole (at es uid)) (all_items es)) (i : Item) where
+    of_first : Contains (shape_items (shape e.1)) i → uid_of i.key ≡ e.0
+    of_first h = about e.0 (shape e.1) (record { placed = p.0.0; whole = whole e.1 }) i h
+
+    here : is_eq (uid_cmp uid e.0) ≡ true → Contains (items_at shape whole (at (e ∷ es) uid)) i ↔ (Contains (all_items (e ∷ es)) i × (uid_of i.key ≡ uid))
+    here k =
+        let key : uid ≡ e.0 = one_key nat_list_cmp_total exact_bytes uid e.0 k in
+        let found : at (e ∷ es) uid ≡ Some e.1 = ap (at (e ∷ es)) key ∙ at_head nat_list_cmp_total exact_bytes e es in
+        let none : at es uid ≡ None = none_in_tail nat_list_cmp_total exact_bytes e es uid s k in (
+          λ h. let g : Contains (shape_items (shape e.1)) i = subst (λ (o : Option V). Contains (items_at shape whole o) i) found h in
+              (Contains-append_left (shape_items (shape e.1)) (all_items es) i g, of_first g ∙ sym key),
+          λ h. subst (λ (o : Option V). Contains (items_at shape whole o) i) (sym found) (elim (Contains-append_cases (shape_items (shape e.1)) (all_items es) i h.0) [
+            | inl left ↦ left
+            | inr right ↦ absurd (none_in i (subst (λ (o : Option V). Contains (items_at shape whole o) i) none ((rest i).1 (right, h.1))))
+          ]),
+        )
+
+    apart : is_eq (uid_cmp uid e.0) ≡ false → Contains (items_at shape whole (at (e ∷ es) uid)) i ↔ (Contains (all_items (e ∷ es)) i × (uid_of i.key ≡ uid))
+    apart k =
+        let found : at (e ∷ es) uid ≡ at es uid = at_other nat_list_cmp_total exact_bytes e es uid k in (
+          λ h. let r = (rest i).0 (subst (λ (o : Option V). Contains (items_at shape whole o) i) found h) in (Contains-append_right (shape_items (shape e.1)) (all_items es) i r.0, r.1),
+          λ h. subst (λ (o : Option V). Contains (items_at shape whole o) i) (sym found) (elim (Contains-append_cases (shape_items (shape e.1)) (all_items es) i h.0) [
+            | inl left ↦ let same : is_eq (uid_cmp uid e.0) ≡ true = itself_by (sym h.1 ∙ of_first left) in let x : true ≡ false = sym same ∙ k in absurd (cc)
+            | inr right ↦ (rest i).1 (right, h.1)
+          ]),
+        )
+      where
+        itself_by : uid ≡ e.0 → is_eq (uid_cmp uid e.0) ≡ true
+        itself_by same = ap (λ (u : List ℕ). is_eq (uid_cmp u e.0)) same ∙ itself nat_list_cmp_total exact_bytes e.0
+
   pub part_at : (es : List (List ℕ × V)) → AreInOrder es → ArePlaced (shapes es series entries) → (uid : List ℕ) → ArePart uid (items_at shape whole (at es uid)) (all_items es)
   part_at [] s p uid i = (λ h. absurd (none_in i h), λ h. h.0)
-  part_at (e ∷ es) s p uid i = by_bool (is_eq (uid_cmp uid e.0)) (Contains (items_at shape whole (at (e ∷ es) uid)) i ↔ (Contains (all_items (e ∷ es)) i × (uid_of i.key ≡ uid))) here apart
-    where
-      rest : ArePart uid (items_at shape whole (at es uid)) (all_items es)
-      rest = part_at es (sorted_tail uid_cmp e.0 (keys_of es) s) p.1 uid
-
-      of_first : Contains (shape_items (shape e.1)) i → uid_of i.key ≡ e.0
-      of_first h = about e.0 (shape e.1) (record { placed = p.0.0; whole = whole e.1 }) i h
-
-      here : is_eq (uid_cmp uid e.0) ≡ true → Contains (items_at shape whole (at (e ∷ es) uid)) i ↔ (Contains (all_items (e ∷ es)) i × (uid_of i.key ≡ uid))
-      here k =
-          let key : uid ≡ e.0 = one_key nat_list_cmp_total exact_bytes uid e.0 k in
-          let found : at (e ∷ es) uid ≡ Some e.1 = ap (at (e ∷ es)) key ∙ at_head nat_list_cmp_total exact_bytes e es in
-          let none : at es uid ≡ None = none_in_tail nat_list_cmp_total exact_bytes e es uid s k in (
-            λ h. let g : Contains (shape_items (shape e.1)) i = subst (λ (o : Option V). Contains (items_at shape whole o) i) found h in
-                (Contains-append_left (shape_items (shape e.1)) (all_items es) i g, of_first g ∙ sym key),
-            λ h. subst (λ (o : Option V). Contains (items_at shape whole o) i) (sym found) (elim (Contains-append_cases (shape_items (shape e.1)) (all_items es) i h.0) [
-              | inl left ↦ left
-              | inr right ↦ absurd (none_in i (subst (λ (o : Option V). Contains (items_at shape whole o) i) none ((rest i).1 (right, h.1))))
-            ]),
-          )
-
-      apart : is_eq (uid_cmp uid e.0) ≡ false → Contains (items_at shape whole (at (e ∷ es) uid)) i ↔ (Contains (all_items (e ∷ es)) i × (uid_of i.key ≡ uid))
-      apart k =
-          let found : at (e ∷ es) uid ≡ at es uid = at_other nat_list_cmp_total exact_bytes e es uid k in (
-            λ h. let r = (rest i).0 (subst (λ (o : Option V). Contains (items_at shape whole o) i) found h) in (Contains-append_right (shape_items (shape e.1)) (all_items es) i r.0, r.1),
-            λ h. subst (λ (o : Option V). Contains (items_at shape whole o) i) (sym found) (elim (Contains-append_cases (shape_items (shape e.1)) (all_items es) i h.0) [
-              | inl left ↦ let same : is_eq (uid_cmp uid e.0) ≡ true = itself_by (sym h.1 ∙ of_first left) in let x : true ≡ false = sym same ∙ k in absurd (cc)
-              | inr right ↦ (rest i).1 (right, h.1)
-            ]),
-          )
-        where
-          itself_by : uid ≡ e.0 → is_eq (uid_cmp uid e.0) ≡ true
-          itself_by same = ap (λ (u : List ℕ). is_eq (uid_cmp u e.0)) same ∙ itself nat_list_cmp_total exact_bytes e.0
+  part_at (e ∷ es) s p uid i =
+      let rest = part_at es (sorted_tail uid_cmp e.0 (keys_of es) s) p.1 uid in
+      by_bool (is_eq (uid_cmp uid e.0)) (Contains (items_at shape whole (at (e ∷ es) uid)) i ↔ (Contains (all_items (e ∷ es)) i × (uid_of i.key ≡ uid)))
+      (here e es s p uid rest i) (apart e es s p uid rest i)
 
   module _ (xs zs : List (List ℕ × V)) (s : AreInOrder xs) (t : AreInOrder zs) (p : ArePlaced (shapes xs series entries)) (r : ArePlaced (shapes zs series entries)) where
     both_parts : (uid : List ℕ) → ArePart uid (items_at shape whole (at xs uid) ++ items_at shape whole (at zs uid)) (all_items xs ++ all_items zs)
