@@ -12,3 +12,4 @@ pub mod Combine
 pub mod Joining
 pub mod Maps
 pub mod Merging
+pub mod Hearing

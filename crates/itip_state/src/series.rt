@@ -1,6 +1,7 @@
 //! What a state holds of one UID.
-ghost use Rattle.std.specs.Prelude.{◌≡◌, IfOk, Option, Some, None, true, false, cond};
-ghost use Rattle.itip_state.specs.Held.{kills as series_kills, alone, Shape};
+ghost use Rattle.std.specs.Prelude.{◌≡◌, [], IfOk};
+ghost use Rattle.itip_join.specs.declared.lift.Lift.TheVariants.{Nothing};
+ghost use Rattle.itip_state.specs.Held.{kills as series_kills, alone};
 ghost use Rattle.itip_state.specs.Dying.{kills_below, kills_more};
 
 use crate::NoMemory;
@@ -29,6 +30,17 @@ impl Guard<Slot, Best> for Lift<Best> {
                 can_die(&key.key) && value.value.item.eff < series.value.item.eff
             }
         }
+    }
+}
+
+/// No item.
+pub(crate) fn of_nothing(alloc: Global) -> SeriesState
+    ensures series { result.guard ≡ Nothing }
+    ensures entries { result.entries.map ≡ [] }
+{
+    Guarded {
+        guard: Lift::Nothing,
+        entries: Keyed::empty(alloc),
     }
 }
 

@@ -12,7 +12,7 @@ ghost use Rattle.itip_state.specs.Below.{IsShapeBelow};
 
 use crate::NoMemory;
 use crate::revision::Best;
-use crate::series::{SeriesState, of_item};
+use crate::series::{SeriesState, of_item, of_nothing};
 use crate::slot::{Slot, compare, uid};
 use crate::sorted::by_octets;
 use itip_join::{Join, Keyed, Lift};
@@ -21,13 +21,18 @@ use itip_todo::Uid;
 use std::alloc::Global;
 use std::marker::Model;
 
-/// Joins in what is kept of one item.
+/// Joins in what is kept of one item. What is held of its UID is taken out for this, so that no copy of it is made; a refusal may leave it out.
 fn hear(held: &mut Keyed<Uid, SeriesState>, alloc: Global, item: &Item) -> Result<(), NoMemory>
     ensures { OnOk result ((heard : List Item) → HoldKept heard (shapes held.old.map (λ v. v.guard) (λ v. v.entries.map))
         → HoldKept (heard ++ item.now ∷ []) (shapes held.new.map (λ v. v.guard) (λ v. v.entries.map))) }
 {
+    let uid = uid(&item.key);
     let one = of_item(alloc, item)?;
-    held.join(&Keyed::of_one(alloc, uid(&item.key).clone()?, one)?)
+    let before = held.insert(uid.clone()?, of_nothing(alloc))?;
+    let mut series = before.unwrap_or(of_nothing(alloc));
+    series.join(&one)?;
+    held.insert(uid.clone()?, series)?;
+    Ok(())
 }
 
 /// Whether what is held of a UID tells all that `theirs` tells of it.
