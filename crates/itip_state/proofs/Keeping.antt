@@ -166,6 +166,10 @@ are_kept_by kept x y iff are i = (λ h. (iff i).0 ((are i).0 h), λ k. (are i).1
 pub below_itself : (x : List Item) → IsState x → IsBelow x x
 below_itself x is = are_kept_same x x (x ++ x) (λ i. (Contains-append_left x x i, (same_absorbed x x (λ j h. h) i).0)) is
 
+-- a state with the same items is above
+pub below_from_same : (x z : List Item) → IsState z → SameItems x z → IsBelow x z
+below_from_same x z is same = are_kept_same z z (x ++ z) (λ i. let two = same_absorbed x z (λ j. (same j).0) i in (two.1, two.0)) is
+
 -- z is what is kept of x and z, where it is what is kept of x, y and z
 below_by_more : (x y z : List Item) → IsState x → IsBelow y z → AreKept z (x ++ (y ++ z)) → IsBelow x z
 below_by_more x y z is below all = are_kept_by z (x ++ (y ++ z)) (x ++ z) (λ i. let two = kept_of_kept_lem x (y ++ z) x z is below i in (two.1, two.0)) all

@@ -13,3 +13,5 @@ pub mod Joining
 pub mod Maps
 pub mod Merging
 pub mod Hearing
+pub mod Ordered
+pub mod Reading

@@ -7,13 +7,14 @@ use Rattle.itip_join.specs.Bounds.{IsJoinOf}
 use Rattle.itip_join.specs.KeyByKey.{value_at, IsMapBelow}
 use Rattle.itip_join.specs.Optional.{IsBelowAt}
 use Rattle.itip_message.specs.declared.item.Item.{Item}
-use Rattle.itip_state.specs.Kept.{AreKept}
+use Rattle.itip_state.specs.Kept.{AreKept, SameItems}
 use Rattle.itip_state.specs.Order.{IsBelow}
 use Rattle.itip_state.specs.Held.{Best, Shape, shapes, ArePlaced}
 use Rattle.itip_state.specs.declared.slot.Slot.{Slot}
+use Rattle.itip_state.proofs.Keeping.{below_both_ways, below_from_same}
 use Rattle.itip_state.proofs.Lookups.{joined_at}
 use Rattle.itip_state.proofs.Shapes.{IsWhole}
-use Rattle.itip_state.proofs.Maps.{uid_cmp, IsHeldBelow, shape, all_items, AreInOrder, at, map_below_kept, map_kept_below, joined_placed, joined_kept}
+use Rattle.itip_state.proofs.Maps.{uid_cmp, IsHeldBelow, shape, all_items, AreInOrder, at, map_below_kept, map_kept_below, map_state, joined_placed, joined_kept}
 
 -- maps with their order beside them
 module _ {V : Type 0} (series : V → Lift Best) (entries : V → List (Slot × Best)) (whole : (v : V) → IsWhole (record { series = series v; entries = entries v }))
@@ -51,3 +52,9 @@ module _ {V : Type 0} (series : V → Lift Best) (entries : V → List (Slot × 
 
     pub map_from_below : IsBelow (items x) (items z) → IsMapBelowMap x z
     map_from_below = map_kept_below series entries whole (map_of x) (map_of z) (ordered x) (ordered z) p r
+
+    pub map_from_same : SameItems (items x) (items z) → IsMapBelowMap x z
+    map_from_same same = map_from_below (below_from_same (items x) (items z) (map_state series entries whole (map_of z) (ordered z) r) same)
+
+  pub same_from_both : (x z : T) → IsPlacedMap x → IsPlacedMap z → IsMapBelowMap x z → IsMapBelowMap z x → SameItems (items x) (items z)
+  same_from_both x z p r up down = below_both_ways (items x) (items z) (below_from_map x z p r up) (below_from_map z x r p down)

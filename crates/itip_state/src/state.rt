@@ -171,7 +171,8 @@ impl State {
     {
         let shown = self.shown()?;
         let mut items = Vec::new(self.alloc);
-        for item in shown {
+        for item in &shown {
+            let item: &Item = item;
             items.push(item.clone()?)?;
         }
         by_octets(items)
@@ -223,9 +224,10 @@ impl State {
         ensures ordered { IfOk result (λ items. AscendKeys (map (λ item. item.now) items.items)) }
     {
         let mut items = Vec::new(self.alloc);
-        if let Some(series) = self.held.get(uid) {
-            show(series, &mut items)?;
-        }
+        let Some(series) = self.held.get(uid) else {
+            return Ok(items);
+        };
+        show(series, &mut items)?;
         Ok(items)
     }
 

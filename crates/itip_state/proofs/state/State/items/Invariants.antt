@@ -1,0 +1,5 @@
+use Rattle.std.proofs.Common.{◌≡◌, map, take}
+use Rattle.itip_state.proofs.state.State.items.Given as goal
+
+abbrev pub invariant-loop-item : goal.invariant-loop-item
+invariant-loop-item l = l.items.items ≡ map (λ item. item.now) (take l.item-index l.item-items)
