@@ -15,3 +15,5 @@ pub mod Merging
 pub mod Hearing
 pub mod Ordered
 pub mod Reading
+pub mod Selecting
+pub mod Moving

@@ -1,8 +1,8 @@
 -- What is read of a map by UID.
 use Rattle.std.proofs.Common.{◌≡◌, ℕ, List, [], ◌∷◌, ◌+◌, ◌++◌, refl, sym, ◌∙◌, ap, subst, length, arith, suc, Bool, true, false, Option, Some, None, append-nil}
-use Rattle.std.specs.Prelude.{cond, filter}
+use Rattle.std.specs.Prelude.{cond, filter, MatchOption}
 use Rattle.std.proofs.Math.ListN.{length-append}
-use Rattle.std.specs.List.{AllByRecursion}
+use Rattle.std.specs.List.{Contains, AllByRecursion}
 use Rattle.std.specs.List.Sorted.{IsStrictlySortedBy}
 use Rattle.std.specs.Map.{keys_of}
 use Rattle.std.specs.Ordering.{nat_cmp, is_eq}
@@ -13,9 +13,14 @@ use Rattle.itip_join.specs.KeyByKey.{value_at}
 use Rattle.itip_message.specs.declared.item.Item.{Item}
 use Rattle.itip_state.specs.Kept.{ArePart, AreSeriesOf, HasEachOnce, AscendKeys}
 use Rattle.itip_state.specs.Order.{IsState}
-use Rattle.itip_state.specs.Held.{Best, Shape, is_series, series_items, entry_items, shape_items, shapes, items_of, IsEntryAt, IsSeriesAt, ArePlaced}
+use Rattle.itip_state.specs.Held.{Best, Shape, best, is_series, series_items, entry_items, shape_items, shapes, items_of, IsEntryAt, IsSeriesAt, ArePlaced}
 use Rattle.itip_state.specs.declared.slot.Slot.{Slot}
-use Rattle.itip_state.proofs.Shapes.{IsWhole, IsSound}
+use Rattle.std.proofs.lemmas.List.Elements.{Contains-append_cases, Contains-append_right}
+use Rattle.itip_message.specs.KeyParts.{uid_of}
+use Rattle.itip_message.specs.declared.key.Key.{Key}
+use Rattle.itip_message.specs.declared.key.Key.TheVariants.{Series}
+use Rattle.itip_state.proofs.Members.{none_in}
+use Rattle.itip_state.proofs.Shapes.{IsWhole, IsSound, series_is, series_held, known_key, known_items}
 use Rattle.itip_state.proofs.Ordered.{AreSound, shape_ascends, items_ascend, once_from_ascending, series_list, series_of}
 use Rattle.itip_state.proofs.Maps.{uid_cmp, shape, items_at, IsPlacedAt, AreInOrder, placed_at, part_at, map_state}
 
@@ -32,7 +37,7 @@ module _ {V : Type 0} (series : V → Lift Best) (entries : V → List (Slot × 
   keys_of_shapes [] = refl
   keys_of_shapes (e ∷ es) = ap (λ ks. e.0 ∷ ks) (keys_of_shapes es)
 
-  in_order : (es : List (List ℕ × V)) → AreInOrder series entries whole es → IsStrictlySortedBy (slice_cmp nat_cmp) (keys_of (shapes es series entries))
+  pub in_order : (es : List (List ℕ × V)) → AreInOrder series entries whole es → IsStrictlySortedBy (slice_cmp nat_cmp) (keys_of (shapes es series entries))
   in_order es s = subst (IsStrictlySortedBy (slice_cmp nat_cmp)) (sym (keys_of_shapes es)) s
 
   pub held_once : (es : List (List ℕ × V)) → AreInOrder series entries whole es → ArePlaced (shapes es series entries) → HasEachOnce (items_of (shapes es series entries))
@@ -124,3 +129,45 @@ series_filtered (e ∷ es) s =
     ∙ (λ x. (filter_both (λ (i : Item). is_series i.key) (series_items e.1.series) (entry_items e.1.entries)
     ∙ (λ y. one_passes e.0 e.1.series s.0.placed.series y ++ none_pass e.0 e.1.entries s.0.placed.entries y)
     ∙ append-nil (series_items e.1.series)) x ++ series_filtered es s.1 x)
+
+-- ---- by key
+module _ {V : Type 0} (series : V → Lift Best) (entries : V → List (Slot × Best)) (whole : (v : V) → IsWhole (record { series = series v; entries = entries v }))
+    (es : List (List ℕ × V)) (s : AreInOrder series entries whole es) (p : ArePlaced (shapes es series entries)) (key : Key) where
+  pub no_item_about : value_at uid_cmp es (uid_of key) ≡ None → (i : Item) → Contains (items_of (shapes es series entries)) i → i.key ≡ key → ⊥
+  no_item_about e i h same = none_in i ((held_no_part series entries whole es s p (uid_of key) e i).1 (h, ap uid_of same))
+
+  module _ (v : V) (e : value_at uid_cmp es (uid_of key) ≡ Some v) where
+    abbrev sh : Shape
+    sh = record { series = series v; entries = entries v }
+
+    sound : IsSound (uid_of key) sh
+    sound = held_sound series entries whole es p (uid_of key) v e
+
+    in_shape : (i : Item) → Contains (items_of (shapes es series entries)) i → i.key ≡ key → Contains (shape_items sh) i
+    in_shape i h same = (held_part series entries whole es s p (uid_of key) v e i).1 (h, ap uid_of same)
+
+    from_shape : (i : Item) → Contains (shape_items sh) i → Contains (items_of (shapes es series entries)) i
+    from_shape i h = ((held_part series entries whole es s p (uid_of key) v e i).0 h).0
+
+    pub no_series : (uid : List ℕ) → key ≡ Series uid → series v ≡ Nothing → (i : Item) → Contains (items_of (shapes es series entries)) i → i.key ≡ key → ⊥
+    no_series uid is none i h same =
+        let known : series v ≡ Known (best i) = series_is (uid_of key) sh sound i (in_shape i h same) (ap is_series (same ∙ is)) in
+        let x : Nothing ≡ Known (best i) = sym none ∙ known in cc
+
+    pub the_series : (uid : List ℕ) → key ≡ Series uid → (b : Best) → series v ≡ Known b → Contains (items_of (shapes es series entries)) b.value.item × (b.value.item.key ≡ key)
+    the_series uid is b known = (
+      from_shape b.value.item (series_held (uid_of key) sh sound b.value.item known),
+      known_key (uid_of key) sh sound b.value.item known ∙ ap Series (ap uid_of is) ∙ sym is,
+    )
+
+    no_other : ((uid : List ℕ) → key ≡ Series uid → ⊥) → ((i : Item) → Contains (entry_items (entries v)) i → i.key ≡ key → ⊥) → (i : Item) → Contains (items_of (shapes es series entries)) i → i.key ≡ key → ⊥
+    no_other not none i h same = elim (Contains-append_cases (series_items (series v)) (entry_items (entries v)) i (in_shape i h same)) [
+      | inl first ↦ not (uid_of key) (sym same ∙ known_key (uid_of key) sh sound i (known_items (series v) i first))
+      | inr other ↦ none i other same
+    ]
+
+    pub the_other : ((uid : List ℕ) → key ≡ Series uid → ⊥) → (o : Option Item)
+        → MatchOption o ((i : Item) → Contains (entry_items (entries v)) i → i.key ≡ key → ⊥) (λ i. Contains (entry_items (entries v)) i × (i.key ≡ key))
+        → MatchOption o ((i : Item) → Contains (items_of (shapes es series entries)) i → i.key ≡ key → ⊥) (λ i. Contains (items_of (shapes es series entries)) i × (i.key ≡ key))
+    the_other not None h = no_other not h
+    the_other not (Some i) h = (from_shape i (Contains-append_right (series_items (series v)) (entry_items (entries v)) i h.0), h.1)

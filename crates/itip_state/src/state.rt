@@ -1,14 +1,14 @@
 //! The state of a desk.
-ghost use Rattle.std.specs.Prelude.{◌≡◌, ◌↔◌, List, [], ◌∷◌, ◌++◌, Some, IsTrue, IfOk, OnOk, OnErr, IsOk, MatchOption, length, min, map};
+ghost use Rattle.std.specs.Prelude.{◌≡◌, ◌↔◌, ℕ, List, [], ◌∷◌, ◌++◌, Some, cond, IsTrue, IfOk, OnOk, OnErr, IsOk, MatchOption, length, min, map};
 ghost use Rattle.std.specs.List.{Contains};
-ghost use Rattle.std.specs.Ordering.{nat_cmp};
+ghost use Rattle.std.specs.Ordering.{nat_cmp, is_eq};
 ghost use Rattle.std.specs.Cmp.Lexicographic.{slice_cmp};
 ghost use Rattle.std.specs.Option.{option_copied};
 ghost use Rattle.itip_message.specs.declared.item.Item.{Item};
 ghost use Rattle.itip_join.specs.KeyByKey.{value_at};
 ghost use Rattle.itip_join.specs.Optional.{IsBelowAt};
 ghost use Rattle.itip_state.specs.Held.{shapes, shape_items, entry_items, HoldKept, Shape};
-ghost use Rattle.itip_state.specs.Below.{IsShapeBelow};
+ghost use Rattle.itip_state.specs.Below.{IsShapeBelow, AreNews};
 
 use crate::NoMemory;
 use crate::revision::Best;
@@ -44,6 +44,34 @@ fn knows(held: &Keyed<Uid, SeriesState>, uid: &Uid, theirs: &SeriesState) -> boo
         None => false,
         Some(mine) => theirs.below(mine),
     }
+}
+
+/// The UIDs of which `theirs` tells more than is held, by octets.
+fn news(
+    alloc: Global,
+    held: &Keyed<Uid, SeriesState>,
+    theirs: &Keyed<Uid, SeriesState>,
+) -> Result<Vec<Uid>, NoMemory>
+    ensures { IfOk result (λ uids. AreNews (shapes held.now.map (λ v. v.guard) (λ v. v.entries.map)) (shapes theirs.now.map (λ v. v.guard) (λ v. v.entries.map)) uids.items) }
+{
+    let mut uids = Vec::new(alloc);
+    for (uid, series) in theirs.map.iter() {
+        if knows(held, uid, series) {
+            continue;
+        }
+        uids.push(uid.clone()?)?;
+    }
+    Ok(uids)
+}
+
+/// Puts in a copy of what another map holds of a UID.
+fn put(held: &mut Keyed<Uid, SeriesState>, uid: &Uid, series: &SeriesState) -> Result<(), NoMemory>
+    ensures { OnOk result ((q : List ℕ) → value_at (slice_cmp nat_cmp) held.new.map q
+        ≡ cond (is_eq (slice_cmp nat_cmp uid.now q)) (Some series.now) (value_at (slice_cmp nat_cmp) held.old.map q)) }
+{
+    let copy = series.copy()?;
+    held.insert(uid.clone()?, copy)?;
+    Ok(())
 }
 
 /// Shows the items of one UID, the series item first.
@@ -141,9 +169,10 @@ impl State {
     {
         let mut held = Keyed::empty(self.alloc);
         for uid in uids {
-            if let Some(series) = self.held.get(uid) {
-                held.insert(uid.clone()?, series.copy()?)?;
-            }
+            let Some(series) = self.held.get(uid) else {
+                continue;
+            };
+            put(&mut held, uid, series)?;
         }
         Ok(State {
             alloc: self.alloc,
@@ -156,13 +185,7 @@ impl State {
         ensures uids { IfOk result (λ uids. AreMoved uids.items self.now other.now) }
         ensures state { OnOk result (IsState self.now) }
     {
-        let mut uids = Vec::new(self.alloc);
-        for (uid, theirs) in other.held.map.iter() {
-            if !knows(&self.held, uid, theirs) {
-                uids.push(uid.clone()?)?;
-            }
-        }
-        Ok(uids)
+        news(self.alloc, &self.held, &other.held)
     }
 
     /// The kept items by canonical octets, each once.
@@ -208,7 +231,9 @@ impl State {
         ensures { MatchOption (option_copied result) ((item : Item) → Contains self.now item → item.key ≡ key.now → ⊥)
             (λ item. Contains self.now item × (item.key ≡ key.now)) }
     {
-        let series = self.held.get(uid(key))?;
+        let Some(series) = self.held.get(uid(key)) else {
+            return None;
+        };
         match key {
             Key::Series(_) => match &series.guard {
                 Lift::Nothing => None,
