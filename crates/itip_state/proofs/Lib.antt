@@ -17,3 +17,4 @@ pub mod Ordered
 pub mod Reading
 pub mod Selecting
 pub mod Moving
+pub mod Parting

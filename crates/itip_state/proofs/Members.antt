@@ -56,3 +56,7 @@ on_ok_then (Err e) f p = tt
 pub if_ok_then : {A E : Type 0} (P Q : A → Type 0) (r : Result A E) → ((a : A) → P a → Q a) → IfOk r P → IfOk r Q
 if_ok_then P Q (Ok a) f p = f a p
 if_ok_then P Q (Err e) f p = tt
+
+pub on_ok_always : {A E P : Type 0} (r : Result A E) → P → OnOk r P
+on_ok_always (Ok x) p = p
+on_ok_always (Err e) p = tt

@@ -1,5 +1,5 @@
 -- What is read of a map by UID.
-use Rattle.std.proofs.Common.{◌≡◌, ℕ, List, [], ◌∷◌, ◌+◌, ◌++◌, refl, sym, ◌∙◌, ap, subst, length, arith, suc, Bool, true, false, Option, Some, None, append-nil}
+use Rattle.std.proofs.Common.{◌≡◌, ℕ, List, [], ◌∷◌, ◌+◌, ◌++◌, refl, sym, ◌∙◌, ap, subst, length, arith, suc, Bool, true, false, Option, Some, None, append-nil, inl, inr}
 use Rattle.std.specs.Prelude.{cond, filter, MatchOption}
 use Rattle.std.proofs.Math.ListN.{length-append}
 use Rattle.std.specs.List.{Contains, AllByRecursion}

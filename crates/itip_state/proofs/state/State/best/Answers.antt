@@ -24,7 +24,7 @@ returns-in-Known c = subst (λ (v : List Item). Contains v c.in-Known.best.value
     (the_series (λ v. v.guard) (λ v. v.entries.map) (λ v. record { sorted = v.entries.ordered; alive = v.no_dead_entry }) c.self.inside.held.map c.self.inside.held.ordered c.self.invariant c.args.key.now c.in-Some.series.now
     (sym (ap (value_at (slice_cmp nat_cmp) c.self.inside.held.map) c.uid.ensures) ∙ sym c.in-Some.ensures) c.in-Series.field-0 c.in-Series.is c.in-Known.best c.in-Known.is)
 
-pub returns-in_default-2 : goal.returns-in_default-2
-returns-in_default-2 c = subst (λ (v : List Item). MatchOption (option_copied c.find.result) ((i : Item) → Contains v i → i.key ≡ c.args.key.now → ⊥) (λ i. Contains v i × (i.key ≡ c.args.key.now))) c.self.view_is
+pub returns-in_default-key : goal.returns-in_default-key
+returns-in_default-key c = subst (λ (v : List Item). MatchOption (option_copied c.find.result) ((i : Item) → Contains v i → i.key ≡ c.args.key.now → ⊥) (λ i. Contains v i × (i.key ≡ c.args.key.now))) c.self.view_is
     (the_other (λ v. v.guard) (λ v. v.entries.map) (λ v. record { sorted = v.entries.ordered; alive = v.no_dead_entry }) c.self.inside.held.map c.self.inside.held.ordered c.self.invariant c.args.key.now c.in-Some.series.now
-    (sym (ap (value_at (slice_cmp nat_cmp) c.self.inside.held.map) c.uid.ensures) ∙ sym c.in-Some.ensures) c.in_default-2.not-Series (option_copied c.find.result) c.find.ensures.found)
+    (sym (ap (value_at (slice_cmp nat_cmp) c.self.inside.held.map) c.uid.ensures) ∙ sym c.in-Some.ensures) c.in_default-key.not-Series (option_copied c.find.result) c.find.ensures.found)
