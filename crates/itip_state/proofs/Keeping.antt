@@ -166,11 +166,15 @@ are_kept_by kept x y iff are i = (λ h. (iff i).0 ((are i).0 h), λ k. (are i).1
 pub below_itself : (x : List Item) → IsState x → IsBelow x x
 below_itself x is = are_kept_same x x (x ++ x) (λ i. (Contains-append_left x x i, (same_absorbed x x (λ j h. h) i).0)) is
 
+-- a state with the same items is above
+pub below_from_same : (x z : List Item) → IsState z → SameItems x z → IsBelow x z
+below_from_same x z is same = are_kept_same z z (x ++ z) (λ i. let two = same_absorbed x z (λ j. (same j).0) i in (two.1, two.0)) is
+
 -- z is what is kept of x and z, where it is what is kept of x, y and z
 below_by_more : (x y z : List Item) → IsState x → IsBelow y z → AreKept z (x ++ (y ++ z)) → IsBelow x z
 below_by_more x y z is below all = are_kept_by z (x ++ (y ++ z)) (x ++ z) (λ i. let two = kept_of_kept_lem x (y ++ z) x z is below i in (two.1, two.0)) all
 
-more_by_below : (x y z : List Item) → IsState x → IsBelow x z → IsBelow y z → AreKept z (x ++ (y ++ z))
+pub more_by_below : (x y z : List Item) → IsState x → IsBelow x z → IsBelow y z → AreKept z (x ++ (y ++ z))
 more_by_below x y z is below_x below_y = are_kept_by z (x ++ z) (x ++ (y ++ z)) (kept_of_kept_lem x (y ++ z) x z is below_y) below_x
 
 pub below_transitive : (x y z : List Item) → IsState x → IsState z → IsBelow x y → IsBelow y z → IsBelow x z
@@ -198,39 +202,38 @@ least_upper x y bound is_x is_y are = record {
       (subst (λ (w : List Item). AreKept z w) (sym (append_assoc x y z)) (more_by_below x y z is_x xz yz));
 }
 
-pub kept_by_uid : (uid : List ℕ) (part whole kept_part_of kept_whole : List Item) → ArePart uid part whole → AreKept kept_part_of part → AreKept kept_whole whole → ArePart uid kept_part_of kept_whole
-kept_by_uid uid part whole kept_part_of kept_whole is are_part are_whole i = (up, down)
+-- what is kept of a UID depends on its items alone
+pub kept_in_part : (uid : List ℕ) (part whole : List Item) → ArePart uid part whole → (i : Item) → uid_of i.key ≡ uid → IsKept part i ↔ IsKept whole i
+kept_in_part uid part whole is i of_uid = (up, λ kept. kept_part whole part i among kept ((is i).1 (kept.best.is_heard, of_uid)))
   where
     among : AreAmong part whole
     among j h = ((is j).0 h).0
 
-    here : (j k : Item) → Contains whole j → uid_of j.key ≡ uid_of k.key → uid_of k.key ≡ uid → Contains part j
-    here j k h same about = (is j).1 (h, same ∙ about)
+    here : (j : Item) → Contains whole j → uid_of j.key ≡ uid_of i.key → Contains part j
+    here j h same = (is j).1 (h, same ∙ of_uid)
 
-    up : Contains kept_part_of i → Contains kept_whole i × (uid_of i.key ≡ uid)
-    up h =
-        let kept : IsKept part i = (are_part i).0 h in
-        let of_uid : uid_of i.key ≡ uid = ((is i).0 kept.best.is_heard).1 in (
-          (are_whole i).1 (record {
-            best = record {
-              is_heard = among i kept.best.is_heard;
-              about = refl;
-              none_later = λ j at same. kept.best.none_later j (here j i at (ap uid_of same) of_uid) same;
-            };
-            alive = λ dead. kept.alive (record {
-              can_die = dead.can_die;
-              series = dead.series;
-              best = best_part whole part (Series (uid_of i.key)) dead.series among dead.best (here dead.series i dead.best.is_heard (ap uid_of dead.best.about) of_uid);
-              below = dead.below;
-            });
-          }),
-          of_uid,
-        )
+    up : IsKept part i → IsKept whole i
+    up kept = record {
+      best = record {
+        is_heard = among i kept.best.is_heard;
+        about = refl;
+        none_later = λ j at same. kept.best.none_later j (here j at (ap uid_of same)) same;
+      };
+      alive = λ dead. kept.alive (record {
+        can_die = dead.can_die;
+        series = dead.series;
+        best = best_part whole part (Series (uid_of i.key)) dead.series among dead.best (here dead.series dead.best.is_heard (ap uid_of dead.best.about));
+        below = dead.below;
+      });
+    }
 
-    down : Contains kept_whole i × (uid_of i.key ≡ uid) → Contains kept_part_of i
-    down (h, of_uid) =
-        let kept : IsKept whole i = (are_whole i).0 h in
-        (are_part i).1 (kept_part whole part i among kept ((is i).1 (kept.best.is_heard, of_uid)))
+pub kept_by_uid : (uid : List ℕ) (part whole kept_part_of kept_whole : List Item) → ArePart uid part whole → AreKept kept_part_of part → AreKept kept_whole whole → ArePart uid kept_part_of kept_whole
+kept_by_uid uid part whole kept_part_of kept_whole is are_part are_whole i = (
+  λ h. let kept : IsKept part i = (are_part i).0 h in
+      let of_uid : uid_of i.key ≡ uid = ((is i).0 kept.best.is_heard).1 in
+      ((are_whole i).1 ((kept_in_part uid part whole is i of_uid).0 kept), of_uid),
+  λ h. (are_part i).1 ((kept_in_part uid part whole is i h.1).1 ((are_whole i).0 h.0)),
+)
 
 -- what is kept of what is kept
 pub kept_again : (kept x : List Item) → AreKept kept x → (i : Item) → IsKept kept i ↔ IsKept x i

@@ -17,9 +17,8 @@ use Rattle.itip_state.specs.Kept.{IsKept, AreKept}
 use Rattle.itip_state.specs.Slots.{key_cmp, key_total, key_exact}
 use Rattle.itip_state.specs.Held.{is_series, is_below}
 use Rattle.itip_state.specs.Plain.{outdates, kills, keeps}
-use Rattle.itip_state.proofs.Lookups.{by_bool}
-use Rattle.itip_state.proofs.Reading.{cons_cases, cons_first, cons_later}
-use Rattle.itip_state.proofs.Walking.{both, dead_below, below_dead}
+use Rattle.itip_state.proofs.Members.{by_bool, cons_cases, cons_first, cons_later}
+use Rattle.itip_state.proofs.Tests.{both, dead_below, below_dead}
 
 -- ---- some item passes a test
 any_found : (p : Item → Bool) (xs : List Item) → list_any p xs ≡ true → (x : Item) × Contains xs x × (p x ≡ true)

@@ -3,13 +3,11 @@ use Rattle.std.proofs.Common.{◌≡◌, refl, sym, ◌∙◌, ap, subst, true, 
 use Rattle.std.specs.Ordering.{is_lt, is_gt, ordering_reverse}
 use Rattle.std.specs.declared.cmp.Ordering.{Ordering}
 use Rattle.std.specs.declared.cmp.Ordering.TheVariants.{Less, Equal, Greater}
-use Rattle.itip_join.specs.Bounds.{IsJoinOf}
 use Rattle.itip_join.specs.Ranked.{IsUpTo, IsUpTo-refl, IsUpTo-tie}
 use Rattle.itip_message.specs.Later.{revision_cmp, IsLater}
 use Rattle.itip_message.specs.declared.item.Item.{Item}
 use Rattle.itip_message.proofs.Revisions.{revisions_total}
 use Rattle.itip_state.specs.Revisions.{revision_exact}
-use Rattle.itip_state.specs.declared.held.Held.{Held}
 
 less_of : (r s : Ordering) → r ≡ ordering_reverse s → is_lt r ≡ true → is_gt s ≡ false → ⊥
 less_of Less Less e l g = let x : Less ≡ Greater = e in cc
@@ -35,22 +33,6 @@ not_greater Greater n = absurd (n refl)
 
 pub less_not_up_to : (x y : Item) (o : Ordering) → o ≡ revision_cmp x y → is_lt o ≡ true → IsUpTo revision_cmp y x → ⊥
 less_not_up_to x y o e l up = less_of (revision_cmp x y) (revision_cmp y x) (revisions_total.antisymm x y) (ap is_lt (sym e) ∙ l) up
-
-pub join_up : (x y : Held) (z : Item) (o : Ordering) → z ≡ y.item → o ≡ revision_cmp x.item y.item → is_lt o ≡ true
-    → IsJoinOf (λ (a b : Held). IsUpTo revision_cmp a.item b.item) x y (record { item = z })
-join_up x y z o same e l = record {
-  above_first = subst (λ i. IsUpTo revision_cmp x.item i) (sym same) (down_of (revision_cmp x.item y.item) (ap is_lt (sym e) ∙ l));
-  above_second = subst (λ i. IsUpTo revision_cmp y.item i) (sym same) (IsUpTo-refl revisions_total y.item);
-  least = λ b p q. subst (λ i. IsUpTo revision_cmp i b.item) (sym same) q;
-}
-
-pub join_stays : (x y : Held) (o : Ordering) → o ≡ revision_cmp x.item y.item → is_lt o ≡ false
-    → IsJoinOf (λ (a b : Held). IsUpTo revision_cmp a.item b.item) x y x
-join_stays x y o e l = record {
-  above_first = IsUpTo-refl revisions_total x.item;
-  above_second = up_of (revision_cmp x.item y.item) (revision_cmp y.item x.item) (revisions_total.antisymm x.item y.item) (ap is_lt (sym e) ∙ l);
-  least = λ b p q. p;
-}
 
 -- up to, and not later, are one
 pub up_to_not_later : (x y : Item) → IsUpTo revision_cmp x y → ¬ IsLater x y

@@ -1,11 +1,20 @@
+pub mod Members
 pub mod Best
-pub mod Keeping
 pub mod Later
+pub mod Keeping
+pub mod Ascending
 pub mod Lookups
-pub mod Holding
-pub mod Walking
-pub mod Merging
-mod Ascending
-pub mod Reading
-pub mod Equal
+pub mod Tests
 pub mod KeptOnes
+pub mod Shapes
+pub mod Comparing
+pub mod Combine
+pub mod Joining
+pub mod Maps
+pub mod Merging
+pub mod Hearing
+pub mod Ordered
+pub mod Reading
+pub mod Selecting
+pub mod Moving
+pub mod Parting

@@ -1,5 +1,5 @@
 -- Entries found by their keys, and the join of two maps key by key.
-use Rattle.std.proofs.Common.{◌≡◌, sym, ◌∙◌, ap, subst, refl, Bool, true, false, List, [], ◌∷◌, Option, Some, None, ◌⊎◌, inl, inr}
+use Rattle.std.proofs.Common.{◌≡◌, sym, ◌∙◌, ap, subst, refl, Bool, true, false, List, [], ◌∷◌, Option, Some, None}
 use Rattle.std.specs.Prelude.{cond, not, filter}
 use Rattle.std.specs.List.{AllByRecursion}
 use Rattle.std.specs.Map.{keys_of}
@@ -12,12 +12,10 @@ use Rattle.std.proofs.lemmas.Map.{lookup-none}
 use Rattle.std.proofs.lemmas.Map.Entries.{none_past_head}
 use Rattle.std.proofs.lemmas.Map.Keys.{IsDistinct-from_sorted, sorted_tail}
 use Rattle.std.proofs.lemmas.List.Kept.{IsStrictlySortedBy-filter}
-use Rattle.itip_join.specs.Optional.{IsBelowAt, IsBelowAt-refl, IsBelowAt-antisym}
+use Rattle.itip_join.specs.Bounds.{IsJoinOf}
+use Rattle.itip_join.specs.Optional.{IsBelowAt}
 use Rattle.itip_join.specs.KeyByKey.{value_at, IsMapBelow}
-
-pub by_bool : (b : Bool) (G : Type 0) → (b ≡ true → G) → (b ≡ false → G) → G
-by_bool true G p q = p refl
-by_bool false G p q = q refl
+use Rattle.itip_state.proofs.Members.{by_bool}
 
 module _ {K : Type 0} {cmp : K → K → Ordering} (total : IsTotalOrder cmp) (exact : (x y : K) → cmp x y ≡ Equal → x ≡ y) where
   pub one_key : (q k : K) → is_eq (cmp q k) ≡ true → q ≡ k
@@ -116,43 +114,33 @@ module _ {K V : Type 0} {cmp : K → K → Ordering} (total : IsTotalOrder cmp) 
     | false ↦ λ k. ap (λ o. cond (is_eq (cmp r e.0)) (Some e.1) o) (without_apart q r es n)
   ] refl
 
-  -- ---- the join of two maps in a chain, at a key
-  module _ (le : V → V → Type 0) (reflexive : (x : V) → le x x) (antisymmetric : (x y : V) → le x y → le y x → x ≡ y) (chain : (x y : V) → le x y ⊎ le y x) where
-    comparable_at : (a b : Option V) → IsBelowAt le a b ⊎ IsBelowAt le b a
-    comparable_at None b = inl tt
-    comparable_at (Some x) None = inr tt
-    comparable_at (Some x) (Some y) = chain x y
+  -- ---- the join of two maps, at a key
+  module _ (le : V → V → Type 0) (xs ys zs : List (K × V)) (sorted : IsStrictlySortedBy cmp (keys_of zs)) (above_xs : IsMapBelow cmp le xs zs) (above_ys : IsMapBelow cmp le ys zs)
+      (least : (bound : List (K × V)) → IsStrictlySortedBy cmp (keys_of bound) → IsMapBelow cmp le xs bound → IsMapBelow cmp le ys bound → IsMapBelow cmp le zs bound) where
+    -- at q a map that has o there and the join's values elsewhere is no less than the join
+    pub least_at : (q : K) (o : Option V) → IsBelowAt le (value_at cmp xs q) o → IsBelowAt le (value_at cmp ys q) o → IsBelowAt le (value_at cmp zs q) o
+    least_at q None p r = subst (λ (c : Option V). IsBelowAt le (value_at cmp zs q) c) (without_here q zs)
+        (least (without q zs) (subst (IsStrictlySortedBy cmp) (sym (keys_without q zs)) (IsStrictlySortedBy-filter cmp (λ k. not (is_eq (cmp q k))) (keys_of zs) sorted))
+        (bounded xs p above_xs) (bounded ys r above_ys) q)
+      where
+        bounded : (es : List (K × V)) → IsBelowAt le (value_at cmp es q) None → IsMapBelow cmp le es zs → IsMapBelow cmp le es (without q zs)
+        bounded es b all k = by_bool (is_eq (cmp k q)) (IsBelowAt le (value_at cmp es k) (value_at cmp (without q zs) k))
+            (λ e. subst (λ (k : K). IsBelowAt le (value_at cmp es k) (value_at cmp (without q zs) k)) (sym (one_key total exact k q e))
+            (subst (λ (c : Option V). IsBelowAt le (value_at cmp es q) c) (sym (without_here q zs)) b))
+            (λ e. subst (λ (c : Option V). IsBelowAt le (value_at cmp es k) c) (sym (without_apart q k zs e)) (all k))
+    least_at q (Some w) p r = by_value (value_at cmp zs q) refl
+      where
+        bounded : (es : List (K × V)) (v : V) → value_at cmp zs q ≡ Some v → IsBelowAt le (value_at cmp es q) (Some w) → IsMapBelow cmp le es zs → IsMapBelow cmp le es (raised q w zs)
+        bounded es v there b all k = by_bool (is_eq (cmp k q)) (IsBelowAt le (value_at cmp es k) (value_at cmp (raised q w zs) k))
+            (λ e. subst (λ (k : K). IsBelowAt le (value_at cmp es k) (value_at cmp (raised q w zs) k)) (sym (one_key total exact k q e))
+            (subst (λ (c : Option V). IsBelowAt le (value_at cmp es q) c) (sym (raised_here q w v zs there)) b))
+            (λ e. subst (λ (c : Option V). IsBelowAt le (value_at cmp es k) c) (sym (raised_apart q w k zs e)) (all k))
 
-    module _ (xs ys zs : List (K × V)) (sorted : IsStrictlySortedBy cmp (keys_of zs)) (above_xs : IsMapBelow cmp le xs zs) (above_ys : IsMapBelow cmp le ys zs)
-        (least : (bound : List (K × V)) → IsStrictlySortedBy cmp (keys_of bound) → IsMapBelow cmp le xs bound → IsMapBelow cmp le ys bound → IsMapBelow cmp le zs bound) where
-      -- at q a map that has o there and the join's values elsewhere is no less than the join
-      least_at : (q : K) (o : Option V) → IsBelowAt le (value_at cmp xs q) o → IsBelowAt le (value_at cmp ys q) o → IsBelowAt le (value_at cmp zs q) o
-      least_at q None p r = subst (λ (c : Option V). IsBelowAt le (value_at cmp zs q) c) (without_here q zs)
-          (least (without q zs) (subst (IsStrictlySortedBy cmp) (sym (keys_without q zs)) (IsStrictlySortedBy-filter cmp (λ k. not (is_eq (cmp q k))) (keys_of zs) sorted))
-          (bounded xs p above_xs) (bounded ys r above_ys) q)
-        where
-          bounded : (es : List (K × V)) → IsBelowAt le (value_at cmp es q) None → IsMapBelow cmp le es zs → IsMapBelow cmp le es (without q zs)
-          bounded es b all k = by_bool (is_eq (cmp k q)) (IsBelowAt le (value_at cmp es k) (value_at cmp (without q zs) k))
-              (λ e. subst (λ (k : K). IsBelowAt le (value_at cmp es k) (value_at cmp (without q zs) k)) (sym (one_key total exact k q e))
-              (subst (λ (c : Option V). IsBelowAt le (value_at cmp es q) c) (sym (without_here q zs)) b))
-              (λ e. subst (λ (c : Option V). IsBelowAt le (value_at cmp es k) c) (sym (without_apart q k zs e)) (all k))
-      least_at q (Some w) p r = by_value (value_at cmp zs q) refl
-        where
-          bounded : (es : List (K × V)) (v : V) → value_at cmp zs q ≡ Some v → IsBelowAt le (value_at cmp es q) (Some w) → IsMapBelow cmp le es zs → IsMapBelow cmp le es (raised q w zs)
-          bounded es v there b all k = by_bool (is_eq (cmp k q)) (IsBelowAt le (value_at cmp es k) (value_at cmp (raised q w zs) k))
-              (λ e. subst (λ (k : K). IsBelowAt le (value_at cmp es k) (value_at cmp (raised q w zs) k)) (sym (one_key total exact k q e))
-              (subst (λ (c : Option V). IsBelowAt le (value_at cmp es q) c) (sym (raised_here q w v zs there)) b))
-              (λ e. subst (λ (c : Option V). IsBelowAt le (value_at cmp es k) c) (sym (raised_apart q w k zs e)) (all k))
+        by_value : (o : Option V) → value_at cmp zs q ≡ o → IsBelowAt le (value_at cmp zs q) (Some w)
+        by_value None e = subst (λ (c : Option V). IsBelowAt le c (Some w)) (sym e) tt
+        by_value (Some v) e = subst (λ (c : Option V). IsBelowAt le (value_at cmp zs q) c) (raised_here q w v zs e)
+            (least (raised q w zs) (subst (IsStrictlySortedBy cmp) (sym (keys_raised q w zs)) sorted) (bounded xs v e p above_xs) (bounded ys v e r above_ys) q)
 
-          by_value : (o : Option V) → value_at cmp zs q ≡ o → IsBelowAt le (value_at cmp zs q) (Some w)
-          by_value None e = subst (λ (c : Option V). IsBelowAt le c (Some w)) (sym e) tt
-          by_value (Some v) e = subst (λ (c : Option V). IsBelowAt le (value_at cmp zs q) c) (raised_here q w v zs e)
-              (least (raised q w zs) (subst (IsStrictlySortedBy cmp) (sym (keys_raised q w zs)) sorted) (bounded xs v e p above_xs) (bounded ys v e r above_ys) q)
-
-      -- the join has the one map's value there or the other's
-      pub joined_is_one : (q : K) → (value_at cmp zs q ≡ value_at cmp xs q) ⊎ (value_at cmp zs q ≡ value_at cmp ys q)
-      joined_is_one q = by (comparable_at (value_at cmp xs q) (value_at cmp ys q))
-        where
-          by : IsBelowAt le (value_at cmp xs q) (value_at cmp ys q) ⊎ IsBelowAt le (value_at cmp ys q) (value_at cmp xs q) → (value_at cmp zs q ≡ value_at cmp xs q) ⊎ (value_at cmp zs q ≡ value_at cmp ys q)
-          by (inl p) = inr (IsBelowAt-antisym le antisymmetric _ _ (least_at q (value_at cmp ys q) p (IsBelowAt-refl le reflexive (value_at cmp ys q))) (above_ys q))
-          by (inr p) = inl (IsBelowAt-antisym le antisymmetric _ _ (least_at q (value_at cmp xs q) (IsBelowAt-refl le reflexive (value_at cmp xs q)) p) (above_xs q))
+    -- at each key the join of the maps has the join of what they have
+    pub joined_at : (q : K) → IsJoinOf (IsBelowAt le) (value_at cmp xs q) (value_at cmp ys q) (value_at cmp zs q)
+    joined_at q = record { above_first = above_xs q; above_second = above_ys q; least = λ o p r. least_at q o p r }

@@ -1,63 +1,60 @@
 -- What is held once two states have met.
-use Rattle.std.proofs.Common.{◌≡◌, List, ◌++◌, sym, subst, Ok, Err, Result}
-use Rattle.std.specs.Prelude.{OnOk, OnErr}
+use Rattle.std.proofs.Common.{◌≡◌, ℕ, List, ◌++◌, sym, subst}
+use Rattle.std.proofs.lemmas.Cmp.{nat_list_cmp_total}
+use Rattle.std.proofs.lemmas.Map.Lookups.{exact_bytes}
+use Rattle.itip_join.specs.declared.lift.Lift.{Lift}
 use Rattle.itip_join.specs.Bounds.{IsJoinOf}
-use Rattle.itip_join.specs.Ranked.{IsUpTo, IsUpTo-refl, IsUpTo-tie, IsUpTo-comparable}
-use Rattle.itip_join.specs.KeyByKey.{IsMapBelow}
-use Rattle.itip_message.specs.Later.{revision_cmp}
+use Rattle.itip_join.specs.KeyByKey.{value_at, IsMapBelow}
+use Rattle.itip_join.specs.Optional.{IsBelowAt}
 use Rattle.itip_message.specs.declared.item.Item.{Item}
-use Rattle.itip_message.proofs.Revisions.{revisions_total}
-use Rattle.itip_state.specs.Kept.{AreKept}
-use Rattle.itip_state.specs.Revisions.{revision_exact}
-use Rattle.itip_state.specs.Slots.{slot_cmp, slot_total, slot_exact}
-use Rattle.itip_state.specs.Held.{items_of, AreInPlace, HoldBest, alive}
+use Rattle.itip_state.specs.Kept.{AreKept, SameItems}
+use Rattle.itip_state.specs.Order.{IsBelow}
+use Rattle.itip_state.specs.Held.{Best, Shape, shapes, ArePlaced}
 use Rattle.itip_state.specs.declared.slot.Slot.{Slot}
-use Rattle.itip_state.specs.declared.held.Held.{Held}
-use Rattle.itip_state.proofs.Keeping.{are_kept_by, kept_of_kept_lem}
-use Rattle.itip_state.proofs.Lookups.{joined_is_one}
-use Rattle.itip_state.proofs.Holding.{AreSorted, hold_themselves, hold_both, in_place, kept_held}
-use Rattle.itip_state.proofs.Walking.{kept_of_alive}
-
--- no later revision than
-abbrev pub IsNoLater : Held → Held → Type 0
-IsNoLater x y = IsUpTo revision_cmp x.item y.item
-
-no_later_both : (x y : Held) → IsNoLater x y → IsNoLater y x → x ≡ y
-no_later_both x y p q = λ i. record { item = revision_exact x.item y.item (IsUpTo-tie revisions_total x.item y.item p q) i }
-
--- what is kept of what holds the best of a set
-pub alive_of_best : (heard : List Item) (es : List (Slot × Held)) → HoldBest heard es → AreKept (alive es) heard
-alive_of_best heard es holds = are_kept_by (alive es) (items_of es) heard (kept_held heard es holds) (kept_of_alive es holds.sorted (in_place heard es holds))
+use Rattle.itip_state.proofs.Keeping.{below_both_ways, below_from_same}
+use Rattle.itip_state.proofs.Lookups.{joined_at}
+use Rattle.itip_state.proofs.Shapes.{IsWhole}
+use Rattle.itip_state.proofs.Maps.{uid_cmp, IsHeldBelow, shape, all_items, AreInOrder, at, map_below_kept, map_kept_below, map_state, joined_placed, joined_kept}
 
 -- maps with their order beside them
-module _ {T : Type 0} (map_of : T → List (Slot × Held)) (sorted : (t : T) → AreSorted (map_of t)) (make : (es : List (Slot × Held)) → AreSorted es → T)
-    (made : (es : List (Slot × Held)) (s : AreSorted es) → map_of (make es s) ≡ es) (x y z : T) (p : AreInPlace (map_of x)) (q : AreInPlace (map_of y))
-    (joined : IsJoinOf (λ (a b : T). IsMapBelow slot_cmp IsNoLater (map_of a) (map_of b)) x y z) where
-  least : (bound : List (Slot × Held)) → AreSorted bound → IsMapBelow slot_cmp IsNoLater (map_of x) bound → IsMapBelow slot_cmp IsNoLater (map_of y) bound → IsMapBelow slot_cmp IsNoLater (map_of z) bound
-  least bound s a b = subst (IsMapBelow slot_cmp IsNoLater (map_of z)) (made bound s)
-      (joined.least (make bound s) (subst (IsMapBelow slot_cmp IsNoLater (map_of x)) (sym (made bound s)) a) (subst (IsMapBelow slot_cmp IsNoLater (map_of y)) (sym (made bound s)) b))
+module _ {V : Type 0} (series : V → Lift Best) (entries : V → List (Slot × Best)) (whole : (v : V) → IsWhole (record { series = series v; entries = entries v }))
+    {T : Type 0} (map_of : T → List (List ℕ × V)) (ordered : (t : T) → AreInOrder series entries whole (map_of t)) where
+  abbrev pub items : T → List Item
+  items t = all_items series entries whole (map_of t)
 
-  pub joined_holds : HoldBest (items_of (map_of x) ++ items_of (map_of y)) (map_of z)
-  joined_holds = hold_both (items_of (map_of x)) (items_of (map_of y)) (map_of x) (map_of y) (map_of z)
-      (hold_themselves (map_of x) (sorted x) p) (hold_themselves (map_of y) (sorted y) q) (sorted z)
-      (joined_is_one slot_total slot_exact IsNoLater (λ h. IsUpTo-refl revisions_total h.item) no_later_both (λ h k. IsUpTo-comparable revisions_total h.item k.item)
-      (map_of x) (map_of y) (map_of z) (sorted z) joined.above_first joined.above_second least)
-      joined.above_first joined.above_second
+  abbrev pub IsPlacedMap : T → Type 0
+  IsPlacedMap t = ArePlaced (shapes (map_of t) series entries)
 
-  pub joined_in_place : AreInPlace (map_of z)
-  joined_in_place = in_place (items_of (map_of x) ++ items_of (map_of y)) (map_of z) joined_holds
+  abbrev pub IsMapBelowMap : T → T → Type 0
+  IsMapBelowMap a b = IsMapBelow uid_cmp (IsHeldBelow (shape series entries whole) whole) (map_of a) (map_of b)
 
-  pub joined_kept : AreKept (alive (map_of z)) (alive (map_of x) ++ alive (map_of y))
-  joined_kept = are_kept_by (alive (map_of z)) (items_of (map_of x) ++ items_of (map_of y)) (alive (map_of x) ++ alive (map_of y))
-      (λ i. let two = kept_of_kept_lem (items_of (map_of x)) (items_of (map_of y)) (alive (map_of x)) (alive (map_of y))
-      (kept_of_alive (map_of x) (sorted x) p) (kept_of_alive (map_of y) (sorted y) q) i in (two.1, two.0))
-      (alive_of_best (items_of (map_of x) ++ items_of (map_of y)) (map_of z) joined_holds)
+  module _ (pack : (es : List (List ℕ × V)) → AreInOrder series entries whole es → T) (packed : (es : List (List ℕ × V)) (s : AreInOrder series entries whole es) → map_of (pack es s) ≡ es)
+      (make : (sh : Shape) → IsWhole sh → V) (made : (sh : Shape) (w : IsWhole sh) → shape series entries whole (make sh w) ≡ sh)
+      (x y z : T) (p : IsPlacedMap x) (q : IsPlacedMap y) (joined : IsJoinOf IsMapBelowMap x y z) where
+    least : (bound : List (List ℕ × V)) → AreInOrder series entries whole bound → IsMapBelow uid_cmp (IsHeldBelow (shape series entries whole) whole) (map_of x) bound
+        → IsMapBelow uid_cmp (IsHeldBelow (shape series entries whole) whole) (map_of y) bound → IsMapBelow uid_cmp (IsHeldBelow (shape series entries whole) whole) (map_of z) bound
+    least bound s a b = subst (IsMapBelow uid_cmp (IsHeldBelow (shape series entries whole) whole) (map_of z)) (packed bound s)
+        (joined.least (pack bound s) (subst (IsMapBelow uid_cmp (IsHeldBelow (shape series entries whole) whole) (map_of x)) (sym (packed bound s)) a)
+        (subst (IsMapBelow uid_cmp (IsHeldBelow (shape series entries whole) whole) (map_of y)) (sym (packed bound s)) b))
 
--- a fact at either end of a call
-pub on_both : {A E P Q R : Type 0} (r : Result A E) → (P → R) → (Q → R) → OnOk r P → OnErr r Q → R
-on_both (Ok x) f g p q = f p
-on_both (Err e) f g p q = g q
+    each : (uid : List ℕ) → IsJoinOf (IsBelowAt (IsHeldBelow (shape series entries whole) whole)) (value_at uid_cmp (map_of x) uid) (value_at uid_cmp (map_of y) uid) (value_at uid_cmp (map_of z) uid)
+    each = joined_at nat_list_cmp_total exact_bytes (IsHeldBelow (shape series entries whole) whole) (map_of x) (map_of y) (map_of z) (ordered z) joined.above_first joined.above_second least
 
-pub on_ok_then : {A E P Q : Type 0} (r : Result A E) → (P → Q) → OnOk r P → OnOk r Q
-on_ok_then (Ok x) f p = f p
-on_ok_then (Err e) f p = tt
+    pub merged_placed : IsPlacedMap z
+    merged_placed = joined_placed series entries whole make made (map_of x) (map_of y) (map_of z) (ordered x) (ordered y) (ordered z) p q each
+
+    pub merged_kept : AreKept (items z) (items x ++ items y)
+    merged_kept = joined_kept series entries whole make made (map_of x) (map_of y) (map_of z) (ordered x) (ordered y) (ordered z) p q each
+
+  module _ (x z : T) (p : IsPlacedMap x) (r : IsPlacedMap z) where
+    pub below_from_map : IsMapBelowMap x z → IsBelow (items x) (items z)
+    below_from_map = map_below_kept series entries whole (map_of x) (map_of z) (ordered x) (ordered z) p r
+
+    pub map_from_below : IsBelow (items x) (items z) → IsMapBelowMap x z
+    map_from_below = map_kept_below series entries whole (map_of x) (map_of z) (ordered x) (ordered z) p r
+
+    pub map_from_same : SameItems (items x) (items z) → IsMapBelowMap x z
+    map_from_same same = map_from_below (below_from_same (items x) (items z) (map_state series entries whole (map_of z) (ordered z) r) same)
+
+  pub same_from_both : (x z : T) → IsPlacedMap x → IsPlacedMap z → IsMapBelowMap x z → IsMapBelowMap z x → SameItems (items x) (items z)
+  same_from_both x z p r up down = below_both_ways (items x) (items z) (below_from_map x z p r up) (below_from_map z x r p down)

@@ -1,39 +1,27 @@
--- What a state holds: of each key the best item heard. The kept items are those held that are not dead (our own rule).
-use Rattle.std.specs.Prelude.{◌≡◌, List, [], ◌∷◌, Option, Some, None, Bool, true, false, cond, not, ◌&&◌, nat_lt}
-use Rattle.std.specs.List.{Contains, AllByRecursion}
-use Rattle.std.specs.List.Sorted.{IsStrictlySortedBy}
-use Rattle.std.specs.Map.{keys_of}
-use Rattle.std.specs.Ordering.{nat_cmp, is_eq, is_gt}
+-- What a state holds of each UID (our own rule): the best series item, and of each other key the best item, unless it is dead.
+use Rattle.std.specs.Prelude.{◌≡◌, ◌<◌, ℕ, List, [], ◌∷◌, ◌++◌, Option, Some, None, Bool, true, false, cond, ◌&&◌, nat_lt, length}
+use Rattle.std.specs.List.{AllByRecursion}
+use Rattle.std.specs.Ordering.{nat_cmp, is_eq}
 use Rattle.std.specs.Cmp.Lexicographic.{slice_cmp}
 use Rattle.itip_message.specs.KeyParts.{uid_of}
-use Rattle.itip_message.specs.Later.{revision_cmp}
 use Rattle.itip_message.specs.declared.item.Item.{Item}
 use Rattle.itip_message.specs.declared.key.Key.{Key}
 use Rattle.itip_message.specs.declared.key.Key.TheVariants.{Series, Instance, Answer, Refresh}
-use Rattle.itip_join.specs.KeyByKey.{value_at}
-use Rattle.itip_state.specs.Kept.{IsBest}
-use Rattle.itip_state.specs.Slots.{slot_cmp}
+use Rattle.itip_join.specs.declared.greatest.Greatest.{Greatest}
+use Rattle.itip_join.specs.declared.lift.Lift.{Lift}
+use Rattle.itip_join.specs.declared.lift.Lift.TheVariants.{Nothing, Known}
+use Rattle.itip_state.specs.Kept.{AreKept}
 use Rattle.itip_state.specs.declared.slot.Slot.{Slot}
-use Rattle.itip_state.specs.declared.held.Held.{Held}
+use Rattle.itip_state.specs.declared.revision.Revision.{Revision}
 
--- the items held
-abbrev pub items_of : List (Slot × Held) → List Item
-items_of [] = []
-items_of (e ∷ es) = e.1.item ∷ items_of es
+abbrev pub Best : Type 0
+Best = Greatest Revision
 
--- each item is held at its key
-abbrev pub AreInPlace : List (Slot × Held) → Type 0
-AreInPlace es = AllByRecursion (λ e. e.1.item.key ≡ e.0.key) es
+abbrev pub slot : Key → Slot
+slot key = record { key = key }
 
--- of the items heard about a key, the best, or nothing where there are none
-abbrev pub IsBestOrNone : List Item → Key → Option Held → Type 0
-IsBestOrNone heard key None = (item : Item) → Contains heard item → item.key ≡ key → ⊥
-IsBestOrNone heard key (Some held) = IsBest heard key held.item
-
--- of each key the best item heard
-pub record HoldBest (heard : List Item) (es : List (Slot × Held)) : Type 0 where
-  pub sorted : IsStrictlySortedBy slot_cmp (keys_of es)
-  pub best : (key : Key) → IsBestOrNone heard key (value_at slot_cmp es (record { key = key }))
+abbrev pub best : Item → Best
+best item = record { value = record { item = item } }
 
 abbrev pub is_series : Key → Bool
 is_series (Series uid) = true
@@ -53,30 +41,63 @@ can_die (Refresh uid id attendee) = false
 abbrev pub is_below : Item → Item → Bool
 is_below series item = can_die item.key && (is_eq (slice_cmp nat_cmp (uid_of series.key) (uid_of item.key)) && nat_lt item.eff series.eff)
 
-abbrev pub is_dead_under : Option Item → Item → Bool
-is_dead_under None item = false
-is_dead_under (Some series) item = is_below series item
+-- whether a series item, where there is one, makes an item of the key dead
+abbrev pub kills : Lift Best → Key → Item → Bool
+kills Nothing key item = false
+kills (Known series) key item = can_die key && nat_lt item.eff series.value.item.eff
 
-abbrev pub is_dead_at : Option Held → Item → Bool
-is_dead_at None item = false
-is_dead_at (Some series) item = is_below series.item item
+-- what is held of one UID
+pub record Shape : Type 0 where
+  pub series : Lift Best
+  -- the items of the other keys
+  pub entries : List (Slot × Best)
 
--- The items that are not dead, in the order in which they are held, where `series` is the last series item before them: a series item stands before the
--- other items of its UID.
-abbrev pub alive_after : Option Item → List (Slot × Held) → List Item
-alive_after series [] = []
-alive_after series (e ∷ es) = cond (is_series e.1.item.key)
-    (e.1.item ∷ alive_after (Some e.1.item) es)
-    (cond (is_dead_under series e.1.item) (alive_after series es) (e.1.item ∷ alive_after series es))
+-- a map by UID, seen as what it holds
+abbrev pub shapes : {V : Type 0} → List (List ℕ × V) → (V → Lift Best) → (V → List (Slot × Best)) → List (List ℕ × Shape)
+shapes [] series entries = []
+shapes (e ∷ es) series entries = (e.0, record { series = series e.1; entries = entries e.1 }) ∷ shapes es series entries
 
-abbrev pub alive : List (Slot × Held) → List Item
-alive es = alive_after None es
+abbrev pub series_items : Lift Best → List Item
+series_items Nothing = []
+series_items (Known series) = series.value.item ∷ []
 
--- the item is a later revision than what is held of its key
-abbrev pub is_news : Option Held → Item → Bool
-is_news None item = true
-is_news (Some held) item = is_gt (revision_cmp item held.item)
+abbrev pub entry_items : List (Slot × Best) → List Item
+entry_items [] = []
+entry_items (e ∷ es) = e.1.value.item ∷ entry_items es
 
--- Whether an item that is kept elsewhere is kept of both, and is new here: a later revision than what is held, and not below the series item held.
-abbrev pub moves : List (Slot × Held) → Item → Bool
-moves es item = is_news (value_at slot_cmp es (record { key = item.key })) item && not (is_dead_at (value_at slot_cmp es (record { key = Series (uid_of item.key) })) item)
+abbrev pub shape_items : Shape → List Item
+shape_items shape = series_items shape.series ++ entry_items shape.entries
+
+-- all items held
+abbrev pub items_of : List (List ℕ × Shape) → List Item
+items_of [] = []
+items_of (e ∷ es) = shape_items e.1 ++ items_of es
+
+-- the item is a series item of the UID
+abbrev pub IsSeriesAt : List ℕ → Lift Best → Type 0
+IsSeriesAt uid Nothing = Unit {0}
+IsSeriesAt uid (Known series) = series.value.item.key ≡ Series uid
+
+-- another item of the UID is held at its key
+pub record IsEntryAt (uid : List ℕ) (slot : Slot) (held : Best) : Type 0 where
+  pub in_place : held.value.item.key ≡ slot.key
+  pub about : uid_of slot.key ≡ uid
+  pub other : is_series slot.key ≡ false
+
+-- each item is held under its UID and at its key
+pub record IsPlaced (uid : List ℕ) (shape : Shape) : Type 0 where
+  pub series : IsSeriesAt uid shape.series
+  pub entries : AllByRecursion (λ e. IsEntryAt uid e.0 e.1) shape.entries
+
+-- the same of all UIDs; and of each UID that is held there is an item
+abbrev pub ArePlaced : List (List ℕ × Shape) → Type 0
+ArePlaced es = AllByRecursion (λ e. IsPlaced e.0 e.1 × (0 < length (shape_items e.1))) es
+
+-- one item alone
+abbrev pub alone : Item → Shape
+alone item = cond (is_series item.key) (record { series = Known (best item); entries = [] }) (record { series = Nothing; entries = (slot item.key, best item) ∷ [] })
+
+-- what is held is what is kept of what was heard
+pub record HoldKept (heard : List Item) (es : List (List ℕ × Shape)) : Type 0 where
+  pub placed : ArePlaced es
+  pub kept : AreKept (items_of es) heard

@@ -1,5 +1,5 @@
 -- Best, dead and kept items of a finite set (our own rule). A set is given by a list of its items: order and repeats do not matter.
-use Rattle.std.specs.Prelude.{◌≡◌, List, ◌++◌, ◌<◌, ◌↔◌, Some, None, ℕ}
+use Rattle.std.specs.Prelude.{◌≡◌, ◌≢◌, List, ◌++◌, ◌<◌, ◌↔◌, Some, None, ℕ}
 use Rattle.std.specs.List.{Contains, AllPairs}
 use Rattle.std.specs.Ordering.{nat_cmp}
 use Rattle.std.specs.Cmp.Lexicographic.{slice_cmp}
@@ -9,6 +9,7 @@ use Rattle.itip_message.specs.KeyParts.{uid_of}
 use Rattle.itip_message.specs.declared.item.Item.{Item}
 use Rattle.itip_message.specs.declared.key.Key.{Key}
 use Rattle.itip_message.specs.declared.key.Key.TheVariants.{Series, Instance, Answer, Refresh}
+use Rattle.itip_state.specs.Slots.{key_cmp}
 
 -- the item of a key that no item of that key is later than
 pub record IsBest (heard : List Item) (key : Key) (item : Item) : Type 0 where
@@ -74,6 +75,14 @@ pub record AreMoved (uids : List (List ℕ)) (before step : List Item) : Type 0 
 pub record IsItemsOf (items set : List Item) : Type 0 where
   pub ascend : AllPairs (λ (a b : Item). slice_cmp nat_cmp a.bytes b.bytes ≡ Less) items
   pub same : SameItems items set
+
+-- each item stands in the list once
+abbrev pub HasEachOnce : List Item → Type 0
+HasEachOnce = AllPairs (λ (a b : Item). a ≢ b)
+
+-- Items in the order of their keys: by UID, then series, instances by recurrence id, answers and refreshes by instance and attendee.
+abbrev pub AscendKeys : List Item → Type 0
+AscendKeys = AllPairs (λ (a b : Item). key_cmp a.key b.key ≡ Less)
 
 -- the item of a to-do as a whole
 abbrev pub IsSeries : Item → Type 0

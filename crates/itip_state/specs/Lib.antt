@@ -3,4 +3,6 @@ pub mod Order
 pub mod Slots
 pub mod Revisions
 pub mod Held
+pub mod Dying
+pub mod Below
 pub mod Plain

@@ -4,10 +4,11 @@
 //! of items; merging two states gives their least upper bound.
 #![tactic(auto)]
 
-mod alive;
-mod held;
+mod dead;
 mod laws;
 mod plain;
+mod revision;
+mod series;
 mod slot;
 mod sorted;
 mod state;

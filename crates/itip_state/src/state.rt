@@ -1,103 +1,112 @@
 //! The state of a desk.
-ghost use Rattle.std.specs.Prelude.{◌≡◌, ◌↔◌, List, [], ◌∷◌, ◌++◌, None, IsTrue, IfOk, OnOk, OnErr, length, min, map};
+ghost use Rattle.std.specs.Prelude.{◌≡◌, ◌↔◌, ℕ, List, [], ◌∷◌, ◌++◌, Some, cond, IsTrue, IfOk, OnOk, OnErr, IsOk, MatchOption, length, min, map};
+ghost use Rattle.std.specs.List.{Contains};
+ghost use Rattle.std.specs.Ordering.{nat_cmp, is_eq};
+ghost use Rattle.std.specs.Cmp.Lexicographic.{slice_cmp};
 ghost use Rattle.std.specs.Option.{option_copied};
 ghost use Rattle.itip_message.specs.declared.item.Item.{Item};
 ghost use Rattle.itip_join.specs.KeyByKey.{value_at};
-ghost use Rattle.itip_state.specs.Slots.{slot_cmp};
-ghost use Rattle.itip_state.specs.Held.{alive_after, HoldBest, is_news as item_is_news, is_series as key_is_series, moves as item_moves};
-ghost use Rattle.itip_message.specs.KeyParts.{uid_of};
-ghost use Rattle.std.specs.List.{Contains};
+ghost use Rattle.itip_join.specs.Optional.{IsBelowAt};
+ghost use Rattle.itip_state.specs.Held.{shapes, shape_items, entry_items, HoldKept, Shape};
+ghost use Rattle.itip_state.specs.Below.{IsShapeBelow, AreNews};
 
 use crate::NoMemory;
-use crate::alive::{Alive, is_below};
-use crate::held::Held;
-use crate::slot::{Slot, uid};
+use crate::revision::Best;
+use crate::series::{SeriesState, of_item, of_nothing};
+use crate::slot::{Slot, compare, uid};
 use crate::sorted::by_octets;
-use itip_join::{Join, Keyed, OrderedMap};
+use itip_join::{Join, Keyed, Lift};
 use itip_message::{Item, Key};
 use itip_todo::Uid;
 use std::alloc::Global;
 use std::marker::Model;
 
-/// Whether the item is a later revision than what the map has at the slot.
-fn is_news(map: &OrderedMap<Slot, Held>, slot: &Slot, item: &Item) -> bool
-    ensures { result ≡ item_is_news (value_at slot_cmp map.now slot.now) item.now }
+/// Joins in what is kept of one item. What is held of its UID is taken out for this, so that no copy of it is made; a refusal may leave it out.
+fn hear(held: &mut Keyed<Uid, SeriesState>, alloc: Global, item: &Item) -> Result<(), NoMemory>
+    ensures { OnOk result ((heard : List Item) → HoldKept heard (shapes held.old.map (λ v. v.guard) (λ v. v.entries.map))
+        → HoldKept (heard ++ item.now ∷ []) (shapes held.new.map (λ v. v.guard) (λ v. v.entries.map))) }
 {
-    match map.get(slot) {
-        None => true,
-        Some(held) => item.cmp_rev(&held.item).is_gt(),
-    }
-}
-
-/// Puts the item into the map, unless a revision of its key is there that is not earlier.
-fn hear(map: &mut OrderedMap<Slot, Held>, item: &Item) -> Result<(), NoMemory>
-    ensures { OnOk result ((heard : List Item) → HoldBest heard map.old → HoldBest (heard ++ item.now ∷ []) map.new) }
-{
-    let slot = Slot {
-        key: item.key.clone()?,
-    };
-    if !is_news(map, &slot, item) {
-        return Ok(());
-    }
-    let held = Held {
-        item: item.clone()?,
-    };
-    map.insert(slot, held)?;
+    let uid = uid(&item.key);
+    let one = of_item(alloc, item)?;
+    let before = held.insert(uid.clone()?, of_nothing(alloc))?;
+    let mut series = before.unwrap_or(of_nothing(alloc));
+    series.join(&one)?;
+    held.insert(uid.clone()?, series)?;
     Ok(())
 }
 
-/// The kept items of a map.
-fn alive(held: &Keyed<Slot, Held>) -> Alive<'_>
-    ensures { alive_after (option_copied result.series) result.rest ≡ alive_after None held.now.map }
+/// Whether what is held of a UID tells all that `theirs` tells of it.
+fn knows(held: &Keyed<Uid, SeriesState>, uid: &Uid, theirs: &SeriesState) -> bool
+    ensures { IsTrue result ↔ IsBelowAt IsShapeBelow (Some (record { series = theirs.now.guard; entries = theirs.now.entries.map }))
+        (value_at (slice_cmp nat_cmp) (shapes held.now.map (λ v. v.guard) (λ v. v.entries.map)) uid.now) }
 {
-    Alive {
-        series: None,
-        rest: held.map.iter(),
+    match held.get(uid) {
+        None => false,
+        Some(mine) => theirs.below(mine),
     }
 }
 
-fn is_same(item: &Item, other: &Item) -> bool
-    ensures { IsTrue result ↔ (item.now ≡ other.now) }
+/// The UIDs of which `theirs` tells more than is held, by octets.
+fn news(
+    alloc: Global,
+    held: &Keyed<Uid, SeriesState>,
+    theirs: &Keyed<Uid, SeriesState>,
+) -> Result<Vec<Uid>, NoMemory>
+    ensures { IfOk result (λ uids. AreNews (shapes held.now.map (λ v. v.guard) (λ v. v.entries.map)) (shapes theirs.now.map (λ v. v.guard) (λ v. v.entries.map)) uids.items) }
 {
-    item == other
-}
-
-fn is_about(item: &Item, uids: &[Uid]) -> bool
-    ensures { IsTrue result ↔ Contains uids.now (uid_of item.now.key) }
-{
-    uids.contains(uid(&item.key))
-}
-
-fn is_series(key: &Key) -> bool
-    ensures { result ≡ key_is_series key.now }
-{
-    matches!(key, Key::Series(_))
-}
-
-/// Whether a kept item of another state is kept of both, and is new here.
-fn moves(held: &Keyed<Slot, Held>, item: &Item) -> Result<bool, NoMemory>
-    ensures { IfOk result (λ moves. moves ≡ item_moves held.now.map item.now) }
-{
-    let slot = Slot {
-        key: item.key.clone()?,
-    };
-    if !is_news(&held.map, &slot, item) {
-        return Ok(false);
+    let mut uids = Vec::new(alloc);
+    for (uid, series) in theirs.map.iter() {
+        if knows(held, uid, series) {
+            continue;
+        }
+        uids.push(uid.clone()?)?;
     }
-    let first = Slot {
-        key: Key::Series(uid(&item.key).clone()?),
-    };
-    match held.map.get(&first) {
-        None => Ok(true),
-        Some(series) => Ok(!is_below(&series.item, item)),
+    Ok(uids)
+}
+
+/// Puts in a copy of what another map holds of a UID.
+fn put(held: &mut Keyed<Uid, SeriesState>, uid: &Uid, series: &SeriesState) -> Result<(), NoMemory>
+    ensures { OnOk result ((q : List ℕ) → value_at (slice_cmp nat_cmp) held.new.map q
+        ≡ cond (is_eq (slice_cmp nat_cmp uid.now q)) (Some series.now) (value_at (slice_cmp nat_cmp) held.old.map q)) }
+{
+    let copy = series.copy()?;
+    held.insert(uid.clone()?, copy)?;
+    Ok(())
+}
+
+/// Shows the items of one UID, the series item first.
+fn show<'a>(series: &'a SeriesState, items: &mut Vec<&'a Item>) -> Result<(), NoMemory>
+    ensures { OnOk result (map (λ item. item.now) items.new.items
+        ≡ map (λ item. item.now) items.old.items ++ shape_items (record { series = series.now.guard; entries = series.now.entries.map })) }
+{
+    if let Lift::Known(best) = &series.guard {
+        items.push(&best.value.item)?;
     }
+    for (_, best) in series.entries.map.iter() {
+        items.push(&best.value.item)?;
+    }
+    Ok(())
+}
+
+/// The item at a key of one UID that is not its series key.
+fn find<'a>(entries: &'a Keyed<Slot, Best>, key: &Key) -> Option<&'a Item>
+    ensures found { MatchOption (option_copied result) ((item : Item) → Contains (entry_items entries.now.map) item → item.key ≡ key.now → ⊥)
+        (λ item. Contains (entry_items entries.now.map) item × (item.key ≡ key.now)) }
+{
+    for (_, best) in entries.map.iter() {
+        let item = &best.value.item;
+        if compare(&item.key, key).is_eq() {
+            return Some(item);
+        }
+    }
+    None
 }
 
 /// The kept items of a set: of each key the best, the dead left out. It is seen as the list of these items, each once.
 #[derive(Debug, Drop)]
 pub struct State {
     alloc: Global,
-    held: Keyed<Slot, Held>,
+    held: Keyed<Uid, SeriesState>,
 }
 
 impl Model for State {
@@ -111,16 +120,16 @@ impl Model for State {
 
     ghost coded = { coded_list item.the_row.coded };
 
-    ghost use Rattle.itip_state.specs.Held.{alive, AreInPlace};
+    ghost use Rattle.itip_state.specs.Held.{shapes, items_of, ArePlaced};
 
-    ghost view = { λ s. alive s.held.map };
+    ghost view = { λ s. items_of (shapes s.held.map (λ v. v.guard) (λ v. v.entries.map)) };
 
-    ghost invariant = { λ s. AreInPlace s.held.map };
+    ghost invariant = { λ s. ArePlaced (shapes s.held.map (λ v. v.guard) (λ v. v.entries.map)) };
 }
 
 impl State {
-    ghost use Rattle.itip_state.specs.Kept.{AreKept, ArePartOf, AreMoved, IsItemsOf, AreSeriesOf, SameItems};
-    ghost use Rattle.itip_state.specs.Order.{IsState};
+    ghost use Rattle.itip_state.specs.Kept.{AreKept, ArePart, ArePartOf, AreMoved, IsItemsOf, AreSeriesOf, SameItems, HasEachOnce, AscendKeys};
+    ghost use Rattle.itip_state.specs.Order.{IsState, IsBelow};
 
     /// The state of nothing heard. It takes no memory.
     pub fn empty(alloc: Global) -> State
@@ -136,36 +145,39 @@ impl State {
     pub fn of_items(alloc: Global, items: &[Item]) -> Result<State, NoMemory>
         ensures { IfOk result (λ state. AreKept state items.now) }
     {
-        let mut map = OrderedMap::new(alloc);
+        let mut held = Keyed::empty(alloc);
         for item in items {
-            hear(&mut map, item)?;
+            hear(&mut held, alloc, item)?;
         }
-        Ok(State {
-            alloc,
-            held: Keyed { map },
-        })
+        Ok(State { alloc, held })
     }
 
     /// Hears another state: their least upper bound. A refusal, for want of memory, changes nothing.
+    ///
+    /// Where the other state tells nothing new, no memory is asked for, and the answer is Ok.
     pub fn merge(&mut self, other: &State) -> Result<(), NoMemory>
         ensures ok { OnOk result (AreKept self.new (self.old ++ other.now)) }
+        ensures succeeds { IsBelow other.now self.old → IsOk result }
         ensures err { OnErr result (self.new ≡ self.old) }
     {
         self.held.join(&other.held)
     }
 
-    /// The kept items of these UIDs.
+    /// The kept items of these UIDs. Each UID is looked up; no other is looked at.
     pub fn part(&self, uids: &[Uid]) -> Result<State, NoMemory>
         ensures { IfOk result (λ part. ArePartOf part self.now uids.now) }
     {
-        let mut chosen = Vec::new(self.alloc);
-        let mut rest = alive(&self.held);
-        while let Some(item) = rest.next() {
-            if is_about(item, uids) {
-                chosen.push(item.clone()?)?;
-            }
+        let mut held = Keyed::empty(self.alloc);
+        for uid in uids {
+            let Some(series) = self.held.get(uid) else {
+                continue;
+            };
+            put(&mut held, uid, series)?;
         }
-        State::of_items(self.alloc, &chosen)
+        Ok(State {
+            alloc: self.alloc,
+            held,
+        })
     }
 
     /// The UIDs whose kept items differ once another state is heard, by octets, each once.
@@ -173,27 +185,31 @@ impl State {
         ensures uids { IfOk result (λ uids. AreMoved uids.items self.now other.now) }
         ensures state { OnOk result (IsState self.now) }
     {
-        let mut uids = Vec::new(self.alloc);
-        let mut rest = alive(&other.held);
-        while let Some(item) = rest.next() {
-            if moves(&self.held, item)? {
-                uids.push(uid(&item.key).clone()?)?;
-            }
-        }
-        uids.sort()?;
-        uids.dedup();
-        Ok(uids)
+        news(self.alloc, &self.held, &other.held)
     }
 
     /// The kept items by canonical octets, each once.
     pub fn items(&self) -> Result<Vec<Item>, NoMemory>
         ensures { IfOk result (λ items. IsItemsOf items.items self.now) }
     {
+        let shown = self.shown()?;
         let mut items = Vec::new(self.alloc);
-        for item in alive(&self.held) {
+        for item in &shown {
+            let item: &Item = item;
             items.push(item.clone()?)?;
         }
         by_octets(items)
+    }
+
+    /// The kept items by UID, those of a UID by key.
+    fn shown(&self) -> Result<Vec<&Item>, NoMemory>
+        ensures { IfOk result (λ items. map (λ item. item.now) items.items ≡ self.now) }
+    {
+        let mut items = Vec::new(self.alloc);
+        for (_, series) in self.held.map.iter() {
+            show(series, &mut items)?;
+        }
+        Ok(items)
     }
 
     /// The kept series items, by UID.
@@ -201,43 +217,64 @@ impl State {
         ensures series { IfOk result (λ series. AreSeriesOf (map (λ item. item.now) series.items) self.now) }
         ensures state { OnOk result (IsState self.now) }
     {
-        let mut series = Vec::new(self.alloc);
-        for item in alive(&self.held) {
-            if is_series(&item.key) {
-                series.push(item)?;
+        let mut items = Vec::new(self.alloc);
+        for (_, series) in self.held.map.iter() {
+            if let Lift::Known(best) = &series.guard {
+                items.push(&best.value.item)?;
             }
         }
-        Ok(series)
+        Ok(items)
     }
 
-    /// Whether both keep the same items.
+    /// The kept item of a key, or `None` where none is kept. It takes no memory.
+    pub fn best(&self, key: &Key) -> Option<&Item>
+        ensures { MatchOption (option_copied result) ((item : Item) → Contains self.now item → item.key ≡ key.now → ⊥)
+            (λ item. Contains self.now item × (item.key ≡ key.now)) }
+    {
+        let Some(series) = self.held.get(uid(key)) else {
+            return None;
+        };
+        match key {
+            Key::Series(_) => match &series.guard {
+                Lift::Nothing => None,
+                Lift::Known(best) => Some(&best.value.item),
+            },
+            _ => find(&series.entries, key),
+        }
+    }
+
+    /// The kept items of a UID: the series item, then instances by recurrence id, answers and refreshes by instance and attendee.
+    pub fn of_uid(&self, uid: &Uid) -> Result<Vec<&Item>, NoMemory>
+        ensures items { IfOk result (λ items. ArePart uid.now (map (λ item. item.now) items.items) self.now) }
+        ensures ordered { IfOk result (λ items. AscendKeys (map (λ item. item.now) items.items)) }
+    {
+        let mut items = Vec::new(self.alloc);
+        let Some(series) = self.held.get(uid) else {
+            return Ok(items);
+        };
+        show(series, &mut items)?;
+        Ok(items)
+    }
+
+    /// Whether both keep the same items. It takes no memory.
     pub fn equal(&self, other: &State) -> bool
         ensures { IsTrue result ↔ SameItems self.now other.now }
     {
-        let mut mine = alive(&self.held);
-        let mut theirs = alive(&other.held);
-        while let Some(item) = mine.next() {
-            let Some(their_item) = theirs.next() else {
-                return false;
-            };
-            if !is_same(item, their_item) {
-                return false;
-            }
-        }
-        match theirs.next() {
-            None => true,
-            Some(_) => false,
-        }
+        self.held.below(&other.held) && other.held.below(&self.held)
     }
 
-    /// The number of kept items; `usize::MAX` where there are more.
+    /// The number of kept items; `usize::MAX` where there are more. Each UID is looked at once.
     pub fn entries(&self) -> usize
-        ensures { result ≡ min (length self.now) usize.MAX }
+        ensures number { result ≡ min (length self.now) usize.MAX }
+        ensures once { HasEachOnce self.now }
+        ensures state { IsState self.now }
     {
         let mut count: usize = 0;
-        let mut rest = alive(&self.held);
-        while let Some(_item) = rest.next() {
-            count = count.saturating_add(1);
+        for (_, series) in self.held.map.iter() {
+            count = count.saturating_add(series.entries.map.len());
+            if let Lift::Known(_) = &series.guard {
+                count = count.saturating_add(1);
+            }
         }
         count
     }

@@ -9,6 +9,7 @@ mod attendee;
 mod copies;
 mod draft;
 mod error;
+mod exact;
 mod finish;
 mod laws;
 mod list;

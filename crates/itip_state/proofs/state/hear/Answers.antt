@@ -1,23 +1,23 @@
-use Rattle.std.proofs.Common.{sym, ◌∙◌, ap, Some}
-use Rattle.std.specs.Prelude.{cond}
-use Rattle.std.specs.Ordering.{is_eq}
+use Rattle.std.proofs.Common.{◌≡◌, List, ℕ, ◌∙◌, sym, ap, subst, refl, Some}
+use Rattle.std.specs.Prelude.{cond, unwrap_or}
+use Rattle.std.specs.Ordering.{is_eq, nat_cmp}
+use Rattle.std.specs.Cmp.Lexicographic.{slice_cmp}
+use Rattle.itip_message.specs.KeyParts.{uid_of}
 use Rattle.itip_join.specs.KeyByKey.{value_at}
-use Rattle.itip_state.specs.Slots.{slot_cmp}
-use Rattle.itip_state.specs.Held.{is_news}
-use Rattle.itip_state.proofs.Holding.{slot, as_held, hear_nothing_new, hear_new, news_up_to, no_news}
+use Rattle.itip_state.proofs.Hearing.{heard_more}
 use Rattle.itip_state.proofs.state.hear.Goals as goal
 
-pub returns-then-not-is_news : goal.returns-then-not-is_news
-returns-then-not-is_news c = λ heard holds.
-    let said = sym (ap (λ k. is_news (value_at slot_cmp c.args.map.now (slot k)) c.args.item.now) c.in_ok-clone.ensures.cases) in
-    let told = no_news (value_at slot_cmp c.args.map.now (slot c.args.item.now.key)) c.args.item.now (said ∙ sym c.is_news.ensures ∙ c.if-not-is_news.true) in
-    hear_nothing_new heard c.args.map.now c.args.item.now told.0 holds told.1 told.2
-
 pub returns : goal.returns
-returns c = λ heard holds.
-    let said = sym (ap (λ k. is_news (value_at slot_cmp c.args.map.now (slot k)) c.args.item.now) c.in_ok-clone.ensures.cases) in
-    hear_new heard c.args.map.now c.insert.new.self c.args.item.now holds c.in_ok-insert.ensures.ordered
-    (λ q. c.in_ok-insert.ensures.updates q
-    ∙ ap (λ k. cond (is_eq (slot_cmp (slot k) q)) (Some (as_held c.in_ok-clone-2.field-0)) (value_at slot_cmp c.args.map.now q)) c.in_ok-clone.ensures.cases
-    ∙ ap (λ i. cond (is_eq (slot_cmp (slot c.args.item.now.key) q)) (Some (as_held i)) (value_at slot_cmp c.args.map.now q)) c.in_ok-clone-2.ensures.cases)
-    (news_up_to (value_at slot_cmp c.args.map.now (slot c.args.item.now.key)) c.args.item.now (said ∙ sym c.is_news.ensures ∙ c.if-not-is_news.false))
+returns c =
+    let u : List ℕ = uid_of c.args.item.now.key in
+    let key : c.in_ok-clone.field-0 ≡ u = c.in_ok-clone.ensures.cases ∙ c.uid-uid.ensures in
+    let again : c.in_ok-clone-2.field-0 ≡ u = c.in_ok-clone-2.ensures.cases ∙ c.uid-uid.ensures in
+    heard_more (λ v. v.guard) (λ v. v.entries.map) (λ v. record { sorted = v.entries.ordered; alive = v.no_dead_entry })
+    (λ sh w. record { guard = sh.series; entries = record { map = sh.entries; ordered = w.sorted }; no_dead_entry = w.alive }) (λ sh w. refl)
+    c.args.held.now.map c.insert.new.self.map c.insert-2.new.self.map c.args.held.now.ordered c.insert-2.new.self.ordered c.args.item.now
+    c.of_nothing.result c.of_nothing-2.result c.in_ok-one.one c.join.new.self
+    c.of_nothing-2.ensures.series c.of_nothing-2.ensures.entries c.in_ok-one.ensures.series c.in_ok-one.ensures.entries
+    c.in_ok-before.before (c.in_ok-before.ensures.old ∙ ap (value_at (slice_cmp nat_cmp) c.args.held.now.map) key)
+    (λ q. c.in_ok-before.ensures.updates q ∙ ap (λ k. cond (is_eq (slice_cmp nat_cmp k q)) (Some c.of_nothing.result) (value_at (slice_cmp nat_cmp) c.args.held.now.map q)) key)
+    (λ q. c.in_ok-insert.ensures.updates q ∙ ap (λ k. cond (is_eq (slice_cmp nat_cmp k q)) (Some c.join.new.self) (value_at (slice_cmp nat_cmp) c.insert.new.self.map q)) again)
+    (rw (← c.unwrap_or-series.ensures) c.in_ok-join.ensures.joined)

@@ -1,32 +1,28 @@
-use Rattle.std.proofs.Common.{◌≡◌, ◌∷◌, sym, ◌∙◌, true, false}
-use Rattle.itip_state.proofs.Equal.{same_views, first_one, rest_one, not_empty}
+use Rattle.std.proofs.Common.{◌≡◌, List, sym, ◌∙◌, subst, true, false}
+use Rattle.itip_message.specs.declared.item.Item.{Item}
+use Rattle.itip_state.specs.Kept.{SameItems}
+use Rattle.itip_state.specs.Held.{items_of, shapes}
+use Rattle.itip_state.proofs.Merging.{same_from_both, map_from_same}
 use Rattle.itip_state.proofs.state.State.equal.Goals as goal
 
-pub returns-in_default-next : goal.returns-in_default-next
-returns-in_default-next c = (
-  λ t. let x : false ≡ true = t in absurd (cc),
-  λ h. let e = same_views c.self.inside.held.map c.other.inside.held.map c.self.inside.held.ordered c.self.invariant c.other.inside.held.ordered c.other.invariant _ _ c.self.view_is c.other.view_is h in
-      absurd (not_empty _ _ (sym c.in-Some.ensures.steps ∙ c.loop-item.invariant.1 e ∙ c.in_default-next.ensures.steps.0)),
+flipped : (x z : List Item) → SameItems x z → SameItems z x
+flipped x z same = λ i. ((same i).1, (same i).0)
+
+pub returns-then-below : goal.returns-then-below
+returns-then-below c = (
+  λ t. subst (λ (v : List Item). SameItems v c.args.other.now) c.self.view_is
+      (subst (λ (v : List Item). SameItems (items_of (shapes c.self.inside.held.map (λ v. v.guard) (λ v. v.entries.map))) v) c.other.view_is
+      (same_from_both (λ v. v.guard) (λ v. v.entries.map) (λ v. record { sorted = v.entries.ordered; alive = v.no_dead_entry }) (λ k. k.map) (λ k. k.ordered) c.self.inside.held c.other.inside.held c.self.invariant c.other.invariant
+      (c.below.ensures.0 c.if-below.true) (c.below-then-below.ensures.0 t))),
+  λ same. c.below-then-below.ensures.1 (map_from_same (λ v. v.guard) (λ v. v.entries.map) (λ v. record { sorted = v.entries.ordered; alive = v.no_dead_entry }) (λ k. k.map) (λ k. k.ordered) c.other.inside.held c.self.inside.held c.other.invariant c.self.invariant
+      (subst (λ (v : List Item). SameItems v (items_of (shapes c.self.inside.held.map (λ v. v.guard) (λ v. v.entries.map)))) (sym c.other.view_is)
+      (subst (λ (v : List Item). SameItems c.args.other.now v) (sym c.self.view_is) (flipped c.args.self.now c.args.other.now same)))),
 )
 
-pub returns-then-not-is_same : goal.returns-then-not-is_same
-returns-then-not-is_same c = (
-  λ t. let x : false ≡ true = t in absurd (cc),
-  λ h. let e = same_views c.self.inside.held.map c.other.inside.held.map c.self.inside.held.ordered c.self.invariant c.other.inside.held.ordered c.other.invariant _ _ c.self.view_is c.other.view_is h in
-      let one = first_one c.in-Some.item.now c.in-Some-next.their_item.now _ _ (sym c.in-Some.ensures.steps ∙ c.loop-item.invariant.1 e ∙ c.in-Some-next.ensures.steps) in
-      let x : true ≡ false = sym (c.is_same.ensures.1 one) ∙ c.if-not-is_same.true in absurd (cc),
-)
-
-pub loop-item-preserved : goal.loop-item-preserved
-loop-item-preserved c =
-    let one = c.is_same.ensures.0 c.if-not-is_same.false in (
-      λ e. c.loop-item.invariant.0 (c.in-Some.ensures.steps ∙ (λ i. one i ∷ e i) ∙ sym c.in-Some-next.ensures.steps),
-      λ e. rest_one _ _ _ _ (sym c.in-Some.ensures.steps ∙ c.loop-item.invariant.1 e ∙ c.in-Some-next.ensures.steps),
-    )
-
-pub returns-in-Some-next-2 : goal.returns-in-Some-next-2
-returns-in-Some-next-2 c = (
-  λ t. let x : false ≡ true = t in absurd (cc),
-  λ h. let e = same_views c.self.inside.held.map c.other.inside.held.map c.self.inside.held.ordered c.self.invariant c.other.inside.held.ordered c.other.invariant _ _ c.self.view_is c.other.view_is h in
-      absurd (not_empty _ _ (sym c.in-Some-next-2.ensures.steps ∙ sym (c.loop-item.invariant.1 e) ∙ c.in_default.ensures.steps.0)),
+pub returns-else-below : goal.returns-else-below
+returns-else-below c = (
+  λ t. let x : true ≡ false = sym t ∙ c.if-below.false in absurd (cc),
+  λ same. c.below.ensures.1 (map_from_same (λ v. v.guard) (λ v. v.entries.map) (λ v. record { sorted = v.entries.ordered; alive = v.no_dead_entry }) (λ k. k.map) (λ k. k.ordered) c.self.inside.held c.other.inside.held c.self.invariant c.other.invariant
+      (subst (λ (v : List Item). SameItems v (items_of (shapes c.other.inside.held.map (λ v. v.guard) (λ v. v.entries.map)))) (sym c.self.view_is)
+      (subst (λ (v : List Item). SameItems c.args.self.now v) (sym c.other.view_is) same))),
 )

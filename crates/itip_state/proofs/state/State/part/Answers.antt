@@ -1,28 +1,33 @@
-use Rattle.std.proofs.Common.{◌≡◌, List, sym, ap, ◌∙◌, ◌++◌, subst, [], ◌∷◌, true, false}
-use Rattle.std.specs.List.{Contains}
-use Rattle.itip_message.specs.KeyParts.{uid_of}
+use Rattle.std.proofs.Common.{◌≡◌, ℕ, List, [], ◌∷◌, ◌++◌, sym, ◌∙◌, ap, ◌+◌, subst, take, None}
+use Rattle.std.specs.Prelude.{cond}
+use Rattle.std.specs.Ordering.{nat_cmp}
+use Rattle.std.specs.Cmp.Lexicographic.{slice_cmp}
+use Rattle.std.proofs.lemmas.List.{take_more, take_all}
+use Rattle.itip_join.specs.KeyByKey.{value_at}
 use Rattle.itip_message.specs.declared.item.Item.{Item}
-use Rattle.itip_state.specs.Kept.{AreKept, ArePartOf}
-use Rattle.itip_state.specs.Order.{IsState}
-use Rattle.itip_state.proofs.Reading.{state_of, choose_start, choose_one, choose_other, chosen_all, part_of_state, if_ok_then}
+use Rattle.itip_state.specs.Kept.{ArePartOf}
+use Rattle.itip_state.specs.Held.{shapes, items_of}
+use Rattle.itip_state.proofs.Parting.{is_listed, put_more, pass_more, part_placed, part_of}
 use Rattle.itip_state.proofs.state.State.part.Goals as goal
 
-pub loop-item-init : goal.loop-item-init
-loop-item-init c = choose_start (λ (i : Item). Contains c.args.uids.now (uid_of i.key)) c.args.self.now c.new-chosen.result.items _ c.new-chosen.ensures.items (c.alive-rest.ensures ∙ c.self.view_is)
+pub loop-uid-preserved : goal.loop-uid-preserved
+loop-uid-preserved c = λ q.
+    put_more (value_at (slice_cmp nat_cmp) c.self.inside.held.map) (take c.loop-uid.uid-index c.args.uids.now) (take (c.loop-uid.uid-index + 1) c.args.uids.now) c.uid-item.result
+    (take_more c.args.uids.now c.loop-uid.uid-index c.uid-item.result c.loop-uid-test.true ∙ ap (λ x. take c.loop-uid.uid-index c.args.uids.now ++ x ∷ []) (sym c.uid-item.is)) q
+    c.in-Some.series.now (value_at (slice_cmp nat_cmp) c.loop-uid.held.map q) (value_at (slice_cmp nat_cmp) c.put.new.held.map q)
+    c.in-Some.ensures (c.in_ok-put.ensures q) (c.loop-uid.invariant q)
 
-pub loop-item-preserved-in_ok-push : goal.loop-item-preserved-in_ok-push
-loop-item-preserved-in_ok-push c = choose_one (λ (i : Item). Contains c.args.uids.now (uid_of i.key)) c.args.self.now c.loop-item.chosen.items _ _ c.in-Some.item.now c.in-Some.ensures.steps
-    (c.is_about.ensures.0 c.if-is_about.true) c.loop-item.invariant c.push.new.self.items
-    (c.in_ok-push.ensures.items ∙ ap (λ x. c.loop-item.chosen.items ++ x ∷ []) c.in_ok-clone.ensures.cases)
+pub loop-uid-preserved-in_default : goal.loop-uid-preserved-in_default
+loop-uid-preserved-in_default c = λ q.
+    pass_more (value_at (slice_cmp nat_cmp) c.self.inside.held.map) (take c.loop-uid.uid-index c.args.uids.now) (take (c.loop-uid.uid-index + 1) c.args.uids.now) c.uid-item.result
+    (take_more c.args.uids.now c.loop-uid.uid-index c.uid-item.result c.loop-uid-test.true ∙ ap (λ x. take c.loop-uid.uid-index c.args.uids.now ++ x ∷ []) (sym c.uid-item.is)) q
+    (value_at (slice_cmp nat_cmp) c.loop-uid.held.map q) c.in_default.ensures (c.loop-uid.invariant q)
 
-pub loop-item-preserved : goal.loop-item-preserved
-loop-item-preserved c = choose_other (λ (i : Item). Contains c.args.uids.now (uid_of i.key)) c.args.self.now c.loop-item.chosen.items _ _ c.in-Some.item.now c.in-Some.ensures.steps
-    (λ h. let x : true ≡ false = sym (c.is_about.ensures.1 h) ∙ c.if-is_about.false in cc) c.loop-item.invariant
+pub invariant_of-result : goal.invariant_of-result
+invariant_of-result c = part_placed (λ v. v.guard) (λ v. v.entries.map) (λ v. record { sorted = v.entries.ordered; alive = v.no_dead_entry }) c.self.inside.held.map c.loop-uid.held.map c.self.inside.held.ordered c.loop-uid.held.ordered c.self.invariant c.args.uids.now
+    (λ q. c.loop-uid.invariant q ∙ ap (λ us. cond (is_listed us q) (value_at (slice_cmp nat_cmp) c.self.inside.held.map q) None) (take_all c.loop-uid.uid-index c.args.uids.now c.loop-uid-test.false))
 
 pub returns : goal.returns
-returns c = if_ok_then (λ part. AreKept part c.deref.result.now) (λ part. ArePartOf part c.args.self.now c.args.uids.now) c.of_items.result
-    (λ part kept. part_of_state c.args.self.now c.loop-item.chosen.items part c.args.uids.now
-    (subst IsState c.self.view_is (state_of c.self.inside.held.map c.self.inside.held.ordered c.self.invariant))
-    (chosen_all (λ (i : Item). Contains c.args.uids.now (uid_of i.key)) c.args.self.now c.loop-item.chosen.items _ c.in_default.ensures.steps.0 c.loop-item.invariant)
-    (subst (λ (xs : List Item). AreKept part xs) c.deref.ensures.value kept))
-    c.of_items.ensures
+returns c = subst (λ (v : List Item). ArePartOf (items_of (shapes c.loop-uid.held.map (λ v. v.guard) (λ v. v.entries.map))) v c.args.uids.now) c.self.view_is
+    (part_of (λ v. v.guard) (λ v. v.entries.map) (λ v. record { sorted = v.entries.ordered; alive = v.no_dead_entry }) c.self.inside.held.map c.loop-uid.held.map c.self.inside.held.ordered c.loop-uid.held.ordered c.self.invariant c.args.uids.now
+    (λ q. c.loop-uid.invariant q ∙ ap (λ us. cond (is_listed us q) (value_at (slice_cmp nat_cmp) c.self.inside.held.map q) None) (take_all c.loop-uid.uid-index c.args.uids.now c.loop-uid-test.false)))

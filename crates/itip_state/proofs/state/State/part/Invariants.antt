@@ -1,11 +1,11 @@
-use Rattle.std.proofs.Common.{◌↔◌, ◌⊎◌}
-use Rattle.std.specs.List.{Contains}
-use Rattle.std.specs.Option.{option_copied}
-use Rattle.itip_message.specs.KeyParts.{uid_of}
-use Rattle.itip_message.specs.declared.item.Item.{Item}
-use Rattle.itip_state.specs.Held.{alive_after}
+use Rattle.std.proofs.Common.{◌≡◌, ℕ, List, take, None}
+use Rattle.std.specs.Prelude.{cond}
+use Rattle.std.specs.List.{list_any}
+use Rattle.std.specs.Ordering.{nat_cmp, is_eq}
+use Rattle.std.specs.Cmp.Lexicographic.{slice_cmp}
+use Rattle.itip_join.specs.KeyByKey.{value_at}
 use Rattle.itip_state.proofs.state.State.part.Given as goal
 
-abbrev pub invariant-loop-item : goal.invariant-loop-item
-invariant-loop-item l = (i : Item) → (Contains l.chosen.items i ⊎ (Contains (alive_after (option_copied l.rest.series) l.rest.rest) i × Contains l.uids (uid_of i.key)))
-    ↔ (Contains l.self i × Contains l.uids (uid_of i.key))
+abbrev pub invariant-loop-uid : goal.invariant-loop-uid
+invariant-loop-uid l = (q : List ℕ) → value_at (slice_cmp nat_cmp) l.held.map q
+    ≡ cond (list_any (λ u. is_eq (slice_cmp nat_cmp u q)) (take l.uid-index l.uids)) (value_at (slice_cmp nat_cmp) l.self-inside.held.map q) None

@@ -1,0 +1,136 @@
+-- What is held stands in the order of keys, each item once.
+use Rattle.std.proofs.Common.{◌≡◌, ℕ, List, [], ◌∷◌, ◌++◌, ◌≢◌, refl, sym, ◌∙◌, ap, subst, ◌⊎◌, inl, inr, Bool, true, false, arith, length, get_or}
+use Rattle.std.specs.List.{Contains, AllByRecursion, AllPairs}
+use Rattle.std.specs.List.Sorted.{IsStrictlySortedBy}
+use Rattle.std.specs.Map.{keys_of}
+use Rattle.std.specs.Ordering.{nat_cmp, ordering_then}
+use Rattle.std.specs.Option.{option_cmp}
+use Rattle.std.specs.Cmp.{tied_itself}
+use Rattle.std.specs.Cmp.Lexicographic.{slice_cmp}
+use Rattle.std.specs.declared.cmp.Ordering.{Ordering}
+use Rattle.std.specs.declared.cmp.Ordering.TheVariants.{Less, Equal, Greater}
+use Rattle.std.proofs.lemmas.Cmp.{nat_list_cmp_total}
+use Rattle.std.proofs.lemmas.List.Elements.{Contains-append_cases, Contains-append_left, Contains-append_right}
+use Rattle.std.proofs.lemmas.List.Kept.{AllPairs-cons}
+use Rattle.std.proofs.lemmas.Map.Keys.{sorted_head, sorted_tail}
+use Rattle.itip_join.specs.declared.lift.Lift.{Lift}
+use Rattle.itip_join.specs.declared.lift.Lift.TheVariants.{Nothing, Known}
+use Rattle.itip_moment.specs.Order.{moment_cmp}
+use Rattle.itip_message.specs.KeyParts.{uid_of}
+use Rattle.itip_message.specs.declared.item.Item.{Item}
+use Rattle.itip_message.specs.declared.key.Key.{Key}
+use Rattle.itip_message.specs.declared.key.Key.TheVariants.{Series, Instance, Answer, Refresh}
+use Rattle.itip_state.specs.Kept.{AreSeriesOf, IsSeries, HasEachOnce, AscendKeys}
+use Rattle.itip_state.specs.Slots.{slot_cmp, key_cmp, key_total, rank_of, instance_of, attendee_of}
+use Rattle.itip_state.specs.Held.{Best, Shape, slot, best, is_series, series_items, entry_items, shape_items, items_of, IsEntryAt, IsSeriesAt}
+use Rattle.itip_state.specs.declared.slot.Slot.{Slot}
+use Rattle.itip_state.proofs.Members.{none_in, cons_cases, cons_first, all_each, no_pairs, pairs_append}
+use Rattle.itip_state.proofs.Shapes.{AreSorted, IsSound, known_items, known_key, held_as, about, entry_there}
+
+abbrev pub IsBefore : Item → Item → Type 0
+IsBefore a b = key_cmp a.key b.key ≡ Less
+
+abbrev rest_cmp : Key → Key → Ordering
+rest_cmp a b = ordering_then (nat_cmp (rank_of a) (rank_of b)) (ordering_then (option_cmp moment_cmp (instance_of a) (instance_of b)) (slice_cmp nat_cmp (attendee_of a) (attendee_of b)))
+
+tie_uid : (a b : Key) → uid_of a ≡ uid_of b → key_cmp a b ≡ rest_cmp a b
+tie_uid a b e = ap (λ o. ordering_then o (rest_cmp a b)) (ap (λ u. slice_cmp nat_cmp u (uid_of b)) e ∙ tied_itself nat_list_cmp_total (uid_of b))
+
+-- a series item stands before the other items of its UID
+series_before : (k : Key) (uid : List ℕ) → uid_of k ≡ uid → is_series k ≡ false → key_cmp (Series uid) k ≡ Less
+series_before (Series u) uid e s = let x : true ≡ false = s in absurd (cc)
+series_before (Instance u i) uid e s = tie_uid (Series uid) (Instance u i) (sym e)
+series_before (Answer u i a) uid e s = tie_uid (Series uid) (Answer u i a) (sym e)
+series_before (Refresh u i a) uid e s = tie_uid (Series uid) (Refresh u i a) (sym e)
+
+-- ---- one UID
+all_after : (uid : List ℕ) (k : Key) (es : List (Slot × Best)) → AllByRecursion (λ (y : Slot). slot_cmp (slot k) y ≡ Less) (keys_of es) → AllByRecursion (λ e. IsEntryAt uid e.0 e.1) es
+    → (i : Item) → Contains (entry_items es) i → key_cmp k i.key ≡ Less
+all_after uid k [] a p i h = absurd (none_in i h)
+all_after uid k (e ∷ es) a p i h = elim (cons_cases e.1.value.item (entry_items es) i h) [
+  | inl same ↦ subst (λ (q : Key). key_cmp k q ≡ Less) (sym p.0.in_place ∙ ap (λ (j : Item). j.key) same) a.0
+  | inr rest ↦ all_after uid k es a.1 p.1 i rest
+]
+
+entries_ascend : (uid : List ℕ) (es : List (Slot × Best)) → AreSorted es → AllByRecursion (λ e. IsEntryAt uid e.0 e.1) es → AllPairs IsBefore (entry_items es)
+entries_ascend uid [] s p = no_pairs IsBefore
+entries_ascend uid (e ∷ es) s p = AllPairs-cons IsBefore e.1.value.item (entry_items es)
+    (all_each (IsBefore e.1.value.item) (entry_items es) (λ i h. subst (λ (q : Key). key_cmp q i.key ≡ Less) (sym p.0.in_place) (all_after uid e.0.key es (sorted_head slot_cmp e.0 (keys_of es) s) p.1 i h)))
+    (entries_ascend uid es (sorted_tail slot_cmp e.0 (keys_of es) s) p.1)
+
+one_pair : (s : Lift Best) → AllPairs IsBefore (series_items s)
+one_pair Nothing = no_pairs IsBefore
+one_pair (Known s) = AllPairs-cons IsBefore s.value.item [] (all_each (IsBefore s.value.item) [] (λ i h. absurd (none_in i h))) (no_pairs IsBefore)
+
+pub shape_ascends : (uid : List ℕ) (sh : Shape) → IsSound uid sh → AscendKeys (shape_items sh)
+shape_ascends uid sh sound = pairs_append IsBefore (series_items sh.series) (entry_items sh.entries) (one_pair sh.series) (entries_ascend uid sh.entries sound.whole.sorted sound.placed.entries)
+    (λ i j h g.
+    let there = (entry_there uid sh.entries sound.whole.sorted sound.placed.entries j g).1 in
+    subst (λ (q : Key). key_cmp q j.key ≡ Less) (sym (known_key uid sh sound i (known_items sh.series i h))) (series_before j.key uid there.about there.other))
+
+-- ---- all UIDs
+abbrev pub AreSound : List (List ℕ × Shape) → Type 0
+AreSound es = AllByRecursion (λ e. IsSound e.0 e.1) es
+
+-- what holds of each UID that is held holds of that of each item
+of_uids : (P : List ℕ → Type 0) (es : List (List ℕ × Shape)) → AreSound es → AllByRecursion P (keys_of es) → (i : Item) → Contains (items_of es) i → P (uid_of i.key)
+of_uids P [] s a i h = absurd (none_in i h)
+of_uids P (e ∷ es) s a i h = elim (Contains-append_cases (shape_items e.1) (items_of es) i h) [
+  | inl here ↦ subst P (sym (about e.0 e.1 s.0 i here)) a.0
+  | inr rest ↦ of_uids P es s.1 a.1 i rest
+]
+
+uid_below : (a b : Key) → slice_cmp nat_cmp (uid_of a) (uid_of b) ≡ Less → key_cmp a b ≡ Less
+uid_below a b e = ap (λ o. ordering_then o (rest_cmp a b)) e
+
+pub items_ascend : (es : List (List ℕ × Shape)) → IsStrictlySortedBy (slice_cmp nat_cmp) (keys_of es) → AreSound es → AscendKeys (items_of es)
+items_ascend [] s p = no_pairs IsBefore
+items_ascend (e ∷ es) s p = pairs_append IsBefore (shape_items e.1) (items_of es) (shape_ascends e.0 e.1 p.0) (items_ascend es (sorted_tail (slice_cmp nat_cmp) e.0 (keys_of es) s) p.1)
+    (λ i j h g. uid_below i.key j.key (subst (λ (u : List ℕ). slice_cmp nat_cmp u (uid_of j.key) ≡ Less) (sym (about e.0 e.1 p.0 i h))
+    (of_uids (λ u. slice_cmp nat_cmp e.0 u ≡ Less) es p.1 (sorted_head (slice_cmp nat_cmp) e.0 (keys_of es) s) j g)))
+
+pub once_from_ascending : (xs : List Item) → AscendKeys xs → HasEachOnce xs
+once_from_ascending xs a = λ i j d below inside. apart (get_or xs i d) (get_or xs j d) (a i j d below inside)
+  where
+    apart : (x y : Item) → key_cmp x.key y.key ≡ Less → x ≡ y → ⊥
+    apart x y e same = let z : Less ≡ Equal = sym e ∙ ap (λ (k : Item). key_cmp k.key y.key) same ∙ tied_itself key_total y.key in cc
+
+-- ---- series items
+abbrev pub series_list : List (List ℕ × Shape) → List Item
+series_list [] = []
+series_list (e ∷ es) = series_items e.1.series ++ series_list es
+
+abbrev IsUidBefore : Item → Item → Type 0
+IsUidBefore a b = slice_cmp nat_cmp (uid_of a.key) (uid_of b.key) ≡ Less
+
+series_among : (es : List (List ℕ × Shape)) → AreSound es → (i : Item) → Contains (series_list es) i → Contains (items_of es) i × IsSeries i
+series_among [] s i h = absurd (none_in i h)
+series_among (e ∷ es) s i h = elim (Contains-append_cases (series_items e.1.series) (series_list es) i h) [
+  | inl here ↦
+      let key : i.key ≡ Series e.0 = known_key e.0 e.1 s.0 i (known_items e.1.series i here) in
+      (Contains-append_left (shape_items e.1) (items_of es) i (Contains-append_left (series_items e.1.series) (entry_items e.1.entries) i here), key ∙ ap Series (sym (ap uid_of key)))
+  | inr rest ↦ let r = series_among es s.1 i rest in (Contains-append_right (shape_items e.1) (items_of es) i r.0, r.1)
+]
+
+series_all : (es : List (List ℕ × Shape)) → AreSound es → (i : Item) → Contains (items_of es) i → IsSeries i → Contains (series_list es) i
+series_all [] s i h is = absurd (none_in i h)
+series_all (e ∷ es) s i h is = elim (Contains-append_cases (shape_items e.1) (items_of es) i h) [
+  | inl here ↦ elim (held_as e.0 e.1 s.0 i here) [
+    | inl known ↦ Contains-append_left (series_items e.1.series) (series_list es) i (subst (λ (t : Lift Best). Contains (series_items t) i) (sym known.0) (cons_first i []))
+    | inr other ↦ let x : true ≡ false = sym (ap is_series is) ∙ other.1 in absurd (cc)
+  ]
+  | inr rest ↦ Contains-append_right (series_items e.1.series) (series_list es) i (series_all es s.1 i rest is)
+]
+
+one_series : (s : Lift Best) → AllPairs IsUidBefore (series_items s)
+one_series Nothing = no_pairs IsUidBefore
+one_series (Known s) = AllPairs-cons IsUidBefore s.value.item [] (all_each (IsUidBefore s.value.item) [] (λ i h. absurd (none_in i h))) (no_pairs IsUidBefore)
+
+series_ascend : (es : List (List ℕ × Shape)) → IsStrictlySortedBy (slice_cmp nat_cmp) (keys_of es) → AreSound es → AllPairs IsUidBefore (series_list es)
+series_ascend [] s p = no_pairs IsUidBefore
+series_ascend (e ∷ es) s p = pairs_append IsUidBefore (series_items e.1.series) (series_list es) (one_series e.1.series) (series_ascend es (sorted_tail (slice_cmp nat_cmp) e.0 (keys_of es) s) p.1)
+    (λ i j h g. subst (λ (u : List ℕ). slice_cmp nat_cmp u (uid_of j.key) ≡ Less) (sym (ap uid_of (known_key e.0 e.1 p.0 i (known_items e.1.series i h))))
+    (of_uids (λ u. slice_cmp nat_cmp e.0 u ≡ Less) es p.1 (sorted_head (slice_cmp nat_cmp) e.0 (keys_of es) s) j (series_among es p.1 j g).0))
+
+pub series_of : (es : List (List ℕ × Shape)) → IsStrictlySortedBy (slice_cmp nat_cmp) (keys_of es) → AreSound es → AreSeriesOf (series_list es) (items_of es)
+series_of es s p = record { ascend = series_ascend es s p; each = series_among es p; all = series_all es p }

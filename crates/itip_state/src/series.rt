@@ -1,0 +1,70 @@
+//! What a state holds of one UID.
+ghost use Rattle.std.specs.Prelude.{◌≡◌, [], IfOk};
+ghost use Rattle.itip_join.specs.declared.lift.Lift.TheVariants.{Nothing};
+ghost use Rattle.itip_state.specs.Held.{kills as series_kills, alone};
+ghost use Rattle.itip_state.specs.Dying.{kills_below, kills_more};
+
+use crate::NoMemory;
+use crate::dead::can_die;
+use crate::revision::{Best, Revision};
+use crate::slot::Slot;
+use itip_join::{Greatest, Guard, Guarded, Keyed, Lift};
+use itip_message::{Item, Key};
+use std::alloc::Global;
+
+/// The kept items of one UID: the best series item, or none, and under it the best items of the other keys. It makes those dead that are below it.
+pub(crate) type SeriesState = Guarded<Lift<Best>, Keyed<Slot, Best>>;
+
+/// A series item kills what can die and is below it.
+impl Guard<Slot, Best> for Lift<Best> {
+    ghost is_dead = { λ s k v. series_kills s k.key v.value.item };
+
+    ghost below_dead = { λ s k v w. kills_below s k.key v.value.item w.value.item };
+
+    ghost dead_stays_dead = { λ s t k v. kills_more s t k.key v.value.item };
+
+    fn kills(&self, key: &Slot, value: &Best) -> bool {
+        match self {
+            Lift::Nothing => false,
+            Lift::Known(series) => {
+                can_die(&key.key) && value.value.item.eff < series.value.item.eff
+            }
+        }
+    }
+}
+
+/// No item.
+pub(crate) fn of_nothing(alloc: Global) -> SeriesState
+    ensures series { result.guard ≡ Nothing }
+    ensures entries { result.entries.map ≡ [] }
+{
+    Guarded {
+        guard: Lift::Nothing,
+        entries: Keyed::empty(alloc),
+    }
+}
+
+/// The kept items of one item.
+pub(crate) fn of_item(alloc: Global, item: &Item) -> Result<SeriesState, NoMemory>
+    ensures series { IfOk result (λ one. one.guard ≡ (alone item.now).series) }
+    ensures entries { IfOk result (λ one. one.entries.map ≡ (alone item.now).entries) }
+{
+    let best = Greatest {
+        value: Revision {
+            item: item.clone()?,
+        },
+    };
+    if let Key::Series(_) = &item.key {
+        return Ok(Guarded {
+            guard: Lift::Known(best),
+            entries: Keyed::empty(alloc),
+        });
+    }
+    let slot = Slot {
+        key: item.key.clone()?,
+    };
+    Ok(Guarded {
+        guard: Lift::Nothing,
+        entries: Keyed::of_one(alloc, slot, best)?,
+    })
+}
