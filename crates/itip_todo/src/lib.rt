@@ -18,6 +18,8 @@ mod property_name;
 mod read;
 mod single;
 mod status;
+#[cfg(test)]
+mod tests;
 mod todo;
 mod uid;
 mod values;
