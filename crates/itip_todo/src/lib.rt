@@ -19,6 +19,8 @@ mod property_name;
 mod read;
 mod single;
 mod status;
+#[cfg(test)]
+mod tests;
 mod todo;
 mod uid;
 mod values;
