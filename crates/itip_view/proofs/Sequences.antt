@@ -7,7 +7,7 @@ use Rattle.itip_moment.specs.declared.moment.Moment.{Moment}
 use Rattle.itip_todo.specs.Parts.{Parts}
 use Rattle.itip_todo.specs.PartsOf.{parts_of}
 use Rattle.itip_todo.specs.declared.property.Property.{Property}
-use Rattle.itip_message.specs.Items.{Draft, drafts_of, task_draft, add_drafts, answer_draft, refresh_draft, instance_sequence, kind_of, method_of}
+use Rattle.itip_message.specs.Items.{Draft, drafts_of, task_draft, add_drafts, attendee_draft, draft_of, instance_sequence, kind_of, method_of}
 use Rattle.itip_message.specs.declared.item.Item.{Item}
 use Rattle.itip_message.specs.declared.key.Key.{Key}
 use Rattle.itip_message.specs.declared.key.Key.TheVariants.{Series, Instance, Answer, Refresh}
@@ -32,30 +32,31 @@ added_plain : (eff : ℕ) (start : Option Moment) (parts : Parts) → AllByRecur
 added_plain eff None parts = tt
 added_plain eff (Some id) parts = (λ e. cc, tt)
 
-answers_plain : (k : Kind) (parts : Parts) (lines : List Property) → AllByRecursion (IsPlain parts) (map (answer_draft k parts) lines)
-answers_plain k parts [] = tt
-answers_plain k parts (line ∷ lines) = (λ e. refl, answers_plain k parts lines)
+-- an answer or a refresh is of no instance as a whole
+attendee_plain : (k : Kind) (parts : Parts) (line : Property) → IsPlain parts (attendee_draft k parts line)
+attendee_plain k parts line e = refl
 
-refreshes_plain : (parts : Parts) (lines : List Property) → AllByRecursion (IsPlain parts) (map (refresh_draft parts) lines)
-refreshes_plain parts [] = tt
-refreshes_plain parts (line ∷ lines) = (λ e. refl, refreshes_plain parts lines)
+attendees_plain : (k : Kind) (parts : Parts) (lines : List Property) → AllByRecursion (IsPlain parts) (map (attendee_draft k parts) lines)
+attendees_plain k parts [] = tt
+attendees_plain k parts (line ∷ lines) = (attendee_plain k parts line, attendees_plain k parts lines)
 
 all_plain : (k : Kind) (eff : ℕ) (parts : Parts) → AllByRecursion (IsPlain parts) (drafts_of k eff parts)
 all_plain kind.Request eff parts = (task_plain kind.Request eff parts.rid parts, tt)
 all_plain kind.Cancel eff parts = (task_plain kind.Cancel eff parts.rid parts, tt)
 all_plain kind.Add eff parts = added_plain eff parts.start parts
-all_plain kind.Remove eff parts = answers_plain kind.Remove parts parts.attendees
-all_plain kind.Reply eff parts = answers_plain kind.Reply parts parts.attendees
-all_plain kind.Refresh eff parts = refreshes_plain parts parts.attendees
+all_plain kind.Remove eff parts = attendees_plain kind.Remove parts parts.attendees
+all_plain kind.Reply eff parts = attendees_plain kind.Reply parts parts.attendees
+all_plain kind.Refresh eff parts = attendees_plain kind.Refresh parts parts.attendees
 
 plain_from : (item : Item) → is_instance item.key ≡ false → Is item → item.eff ≡ item.own
 plain_from item not_instance is =
     let parts : Parts = parts_of item.todo in
     let eff : ℕ = instance_sequence (method_of item.kind) (parts ∷ []) parts in
     let k : Kind = kind_of (method_of item.kind) parts in
-    let one : drafts_of k eff parts ≡ is.draft ∷ [] = sym (append-nil (drafts_of k eff parts)) ∙ is.alone in
-    let plain : AllByRecursion (IsPlain parts) (is.draft ∷ []) = subst (AllByRecursion (IsPlain parts)) one (all_plain k eff parts) in
-    is.is.eff_is ∙ plain.0 (ap is_instance (sym is.is.key_is) ∙ not_instance) ∙ sym is.is.own_is
+    let draft : Draft = draft_of item.key item.eff item.todo item.kind in
+    let one : drafts_of k eff parts ≡ draft ∷ [] = sym (append-nil (drafts_of k eff parts)) ∙ is.is_canonical.alone in
+    let plain : AllByRecursion (IsPlain parts) (draft ∷ []) = subst (AllByRecursion (IsPlain parts)) one (all_plain k eff parts) in
+    plain.0 not_instance ∙ sym is.own_is
 
 eff_is_own : (item : Item) → is_instance item.key ≡ false → item.eff ≡ item.own
 eff_is_own item not_instance = stable (told_numbers _ _) (∥∥₁_map item.canonical (plain_from item not_instance))
