@@ -1,10 +1,10 @@
 -- Moments with commas between: no comma stands in a moment, and so a text is cut at its commas in one way.
-use Rattle.std.proofs.Common.{◌≡◌, ◌≢◌, ℕ, zero, suc, ◌+◌, ◌<◌, List, [], ◌∷◌, ◌++◌, length, get_or, refl, sym, ap, subst, ◌∙◌, arith, Some, Option}
+use Rattle.std.proofs.Common.{◌≡◌, ◌≢◌, ℕ, zero, suc, ◌+◌, ◌<◌, List, [], ◌∷◌, ◌++◌, length, get_or, refl, sym, subst, ◌∙◌, arith, Some, Option}
 use Rattle.std.specs.List.{AllByRecursion}
 use Rattle.std.specs.Prelude.{codes, ℤ}
 use Rattle.itip_lines.specs.declared.line.Param.{Param}
 use Rattle.itip_moment.specs.Digits.{date_digits, clock_digits}
-use Rattle.itip_moment.specs.Spelling.{IsDateText, IsClockText, IsLocalText, IsUtcText, MomentText}
+use Rattle.itip_moment.specs.Spelling.{IsDateText, IsLocalText, IsUtcText, MomentText}
 use Rattle.itip_moment.specs.declared.moment.Moment.{Moment}
 use Rattle.itip_moment.specs.declared.moment.Moment.TheVariants.{Date, Floating, Utc, Zoned}
 use Rattle.itip_todo.specs.Drafts.{HasNoComma}
@@ -49,12 +49,12 @@ pub not_high : (front rest : List ℕ) → IsHigh (front ++ 44 ∷ rest) → ⊥
 not_high [] rest h = let low : 47 < 44 = h.0 in omega arith
 not_high (c ∷ front) rest h = not_high front rest h.1
 
-no_comma_at : (text : List ℕ) → IsHigh text → (i : ℕ) → i < length text → get_or text i 0 ≢ 44
+pub no_comma_at : (text : List ℕ) → IsHigh text → (i : ℕ) → i < length text → get_or text i 0 ≢ 44
 no_comma_at [] h i less = absurd (omega arith)
 no_comma_at (c ∷ text) h zero less = let high : 47 < c = h.0 in λ e. omega arith
 no_comma_at (c ∷ text) h (suc i) less = no_comma_at text h.1 i (omega arith)
 
-spelled_high : (params : List Param) (text : List ℕ) (m : Moment) → IsMomentText params text m → IsHigh text
+pub spelled_high : (params : List Param) (text : List ℕ) (m : Moment) → IsMomentText params text m → IsHigh text
 spelled_high params text m h = moment_high text (Some (param_value (codes "TZID") params)) m h
 
 tail_no_comma : (c : ℕ) (text : List ℕ) → HasNoComma (c ∷ text) → HasNoComma text

@@ -13,3 +13,6 @@ pub mod SameTodo
 pub mod Segments
 pub mod Sets
 pub mod WritingLaws
+pub mod ByProperty
+pub mod GoodAgain
+pub mod WrittenValues

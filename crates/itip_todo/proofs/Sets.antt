@@ -1,5 +1,5 @@
 -- The moments of a set are those that the lines list.
-use Rattle.std.proofs.Common.{◌≡◌, ℕ, zero, suc, ◌+◌, ◌<◌, Bool, true, false, ◌||◌, List, [], ◌∷◌, ◌++◌, length, refl, sym, ap, subst, ◌∙◌, arith, append_assoc, get_or}
+use Rattle.std.proofs.Common.{◌≡◌, ℕ, zero, suc, ◌<◌, Bool, true, false, ◌||◌, List, [], ◌∷◌, ◌++◌, length, refl, sym, ap, subst, ◌∙◌, arith, append_assoc, get_or}
 use Rattle.std.proofs.lemmas.Cmp.{tied_itself}
 use Rattle.std.proofs.lemmas.List.Folds.{list_any-append}
 use Rattle.std.proofs.lemmas.Map.Views.{tells_apart}
@@ -37,13 +37,13 @@ place_from test (x ∷ xs) m only e =
 pub contains_any : {A : Type 0} (test : A → Bool) (xs : List A) (m : A) → test m ≡ true → ((x : A) → test x ≡ true → x ≡ m) → Contains xs m ↔ (list_any test xs ≡ true)
 contains_any test xs m passes only = (λ h. any_from test xs m passes h.0 h.1 h.2, λ e. place_from test xs m only e)
 
-itself : (m : Moment) → eq_by_cmp moment_cmp m m ≡ true
+pub itself : (m : Moment) → eq_by_cmp moment_cmp m m ≡ true
 itself m = ap is_eq (tied_itself moment_total m)
 
 only_listed : (m x : Moment) → eq_by_cmp moment_cmp x m ≡ true → x ≡ m
 only_listed m x e = tells_apart moment_equal x m e
 
-only_at : (m x : Moment) → is_at (moment_cmp m) x ≡ true → x ≡ m
+pub only_at : (m x : Moment) → is_at (moment_cmp m) x ≡ true → x ≡ m
 only_at m x e = sym (tells_apart moment_equal m x e)
 
 pub same_members : (set : BTreeSet Moment) (listed : List Moment) → ((m : Moment) → contains moment_cmp set m ≡ is_listed listed m) → (m : Moment) → Contains set.keys m ↔ Contains listed m

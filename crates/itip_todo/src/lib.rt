@@ -18,10 +18,13 @@ mod property_name;
 mod read;
 mod single;
 mod status;
+#[cfg(test)]
+mod tests;
 mod todo;
 mod uid;
 mod values;
 mod write;
+mod write_moment;
 
 pub use attendee::{PartStat, participation};
 pub use error::{Fault, TodoError};

@@ -1,16 +1,17 @@
 //! Writing a to-do.
-ghost use Rattle.std.specs.Prelude.{◌≡◌, ◌++◌, OnOk, OnErr, codes, [], map, Option, Some, None};
+ghost use Rattle.std.specs.Prelude.{◌≡◌, ◌++◌, ◌∷◌, [], map, OnOk, OnErr};
 ghost use Rattle.std.specs.Fmt.{decimal};
-ghost use Rattle.itip_lines.specs.Writing.{Extends, folded};
-ghost use Rattle.itip_lines.specs.Lawful.{line_text};
-ghost use Rattle.itip_moment.specs.Written.{stamp_text};
-ghost use Rattle.itip_todo.specs.Written.{contents_octets, todo_contents, head_contents, property_line, optional};
+ghost use Rattle.itip_todo.specs.Written.{content_of, contents_octets, todo_contents, head_contents, bare, plain, moment_line, property_line, optional};
 ghost use Rattle.itip_todo.specs.PartsOf.{parts_of};
+ghost use Rattle.itip_todo.specs.StatusText.{status_text};
 ghost use Rattle.itip_todo.specs.declared.property_name.PropertyName.TheVariants as name;
 
 use crate::property::Property;
+use crate::property_name::PropertyName;
+use crate::status::Status;
 use crate::todo::Todo;
-use itip_lines::{Param, write_property};
+use crate::write_moment::{write_moments, write_optional_moment};
+use itip_lines::{Line, Text, write_line, write_property};
 use itip_moment::write_stamp;
 use std::alloc::AllocError;
 
@@ -21,71 +22,137 @@ pub fn write_todo(todo: &Todo, out: &mut Vec<u8>) -> Result<(), AllocError>
     ensures ok { OnOk result (out.new.items ≡ out.old.items ++ contents_octets (todo_contents (parts_of todo.now))) }
     ensures err { OnErr result (out.new.items ≡ out.old.items) }
 {
-    let start = out.len();
-    let done = write_lines(todo, out);
-    if done.is_err() {
-        out.truncate(start);
-    }
-    done
+    let mut text = Vec::new(*out.allocator());
+    write_lines(todo, &mut text)?;
+    out.extend_from_slice(text.as_slice())
 }
 
-/// Appends the lines; where memory is refused, perhaps a part of them.
 fn write_lines(todo: &Todo, out: &mut Vec<u8>) -> Result<(), AllocError>
-    ensures ok { OnOk result (out.new.items ≡ out.old.items ++ contents_octets (todo_contents (parts_of todo.now))) }
-    ensures extends { Extends out.old.items out.new.items }
+    ensures { OnOk result (out.new.items ≡ out.old.items ++ contents_octets (todo_contents (parts_of todo.now))) }
 {
     write_value("BEGIN", b"VTODO", out)?;
     write_head(todo, out)?;
-    write_summary(&todo.summary, out)?;
-    write_value("END", b"VTODO", out)?;
-    Ok(())
+    write_count(PropertyName::DeskBase, todo.base, out)?;
+    write_optional_moment(PropertyName::RecurrenceId, &todo.rid, out)?;
+    write_optional_moment(PropertyName::DtStart, &todo.start, out)?;
+    write_optional_moment(PropertyName::Due, &todo.due, out)?;
+    write_status(todo.status, out)?;
+    write_small(PropertyName::PercentComplete, todo.percent, out)?;
+    write_small(PropertyName::Priority, todo.priority, out)?;
+    write_optional_whole(PropertyName::Summary, &todo.summary, out)?;
+    write_optional_whole(PropertyName::Organizer, &todo.organizer, out)?;
+    write_attendees(todo.attendees.as_slice(), out)?;
+    write_rule(todo.rule.as_slice(), out)?;
+    write_moments(PropertyName::RDate, todo.rdates.as_slice(), out)?;
+    write_moments(PropertyName::ExDate, todo.exdates.as_slice(), out)?;
+    write_others(todo.others.as_slice(), out)?;
+    write_value("END", b"VTODO", out)
 }
 
 /// Appends UID, DTSTAMP and SEQUENCE.
 fn write_head(todo: &Todo, out: &mut Vec<u8>) -> Result<(), AllocError>
-    ensures ok { OnOk result (out.new.items ≡ out.old.items ++ contents_octets (head_contents (parts_of todo.now))) }
-    ensures extends { Extends out.old.items out.new.items }
+    ensures { OnOk result (out.new.items ≡ out.old.items ++ contents_octets (head_contents (parts_of todo.now))) }
 {
     let mut stamp = Vec::new(*out.allocator());
     write_stamp(&todo.stamp, &mut stamp)?;
-    let seq = todo.seq.to_string(*out.allocator())?;
     write_value("UID", todo.uid.as_str().as_bytes(), out)?;
-    write_value("DTSTAMP", &stamp, out)?;
-    write_value("SEQUENCE", seq.as_str().as_bytes(), out)?;
-    Ok(())
+    write_value("DTSTAMP", stamp.as_slice(), out)?;
+    write_number(PropertyName::Sequence, todo.seq, out)
 }
 
-fn write_summary(summary: &Option<Property>, out: &mut Vec<u8>) -> Result<(), AllocError>
-    ensures ok { OnOk result (out.new.items ≡ out.old.items ++ contents_octets (optional (property_line name.Summary) summary.now)) }
-    ensures extends { Extends out.old.items out.new.items }
+fn write_count(
+    property: PropertyName,
+    number: Option<u32>,
+    out: &mut Vec<u8>,
+) -> Result<(), AllocError>
+    ensures { OnOk result (out.new.items ≡ out.old.items ++ contents_octets (optional (λ n. plain property (decimal n)) number)) }
 {
-    match summary {
-        Some(summary) => write_one(
-            "SUMMARY",
-            summary.params.as_slice(),
-            summary.value.as_str().as_bytes(),
-            out,
-        ),
+    match number {
+        Some(number) => write_number(property, number, out),
         None => Ok(()),
     }
 }
 
-/// Appends a line without parameters.
-fn write_value(name: &str, value: &[u8], out: &mut Vec<u8>) -> Result<(), AllocError>
-    ensures ok { OnOk result (out.new.items ≡ out.old.items ++ folded 0 (line_text name.now [] value.now)) }
-    ensures extends { Extends out.old.items out.new.items }
-{
-    write_one(name, &[], value, out)
-}
-
-fn write_one(
-    name: &str,
-    params: &[Param],
-    value: &[u8],
+fn write_small(
+    property: PropertyName,
+    number: Option<u8>,
     out: &mut Vec<u8>,
 ) -> Result<(), AllocError>
-    ensures ok { OnOk result (out.new.items ≡ out.old.items ++ folded 0 (line_text name.now params.now value.now)) }
-    ensures extends { Extends out.old.items out.new.items }
+    ensures { OnOk result (out.new.items ≡ out.old.items ++ contents_octets (optional (λ n. plain property (decimal n)) number)) }
 {
-    write_property(name, params, value, out)
+    match number {
+        Some(number) => write_number(property, number as u32, out),
+        None => Ok(()),
+    }
+}
+
+fn write_number(property: PropertyName, number: u32, out: &mut Vec<u8>) -> Result<(), AllocError>
+    ensures { OnOk result (out.new.items ≡ out.old.items ++ contents_octets (plain property (decimal number) ∷ [])) }
+{
+    let digits = number.to_string(*out.allocator())?;
+    write_value(property.as_str(), digits.as_str().as_bytes(), out)
+}
+
+fn write_status(status: Option<Status>, out: &mut Vec<u8>) -> Result<(), AllocError>
+    ensures { OnOk result (out.new.items ≡ out.old.items ++ contents_octets (optional (λ s. plain name.Status (status_text s)) status)) }
+{
+    match status {
+        Some(status) => write_value("STATUS", status.as_str().as_bytes(), out),
+        None => Ok(()),
+    }
+}
+
+fn write_optional_whole(
+    name: PropertyName,
+    property: &Option<Property>,
+    out: &mut Vec<u8>,
+) -> Result<(), AllocError>
+    ensures { OnOk result (out.new.items ≡ out.old.items ++ contents_octets (optional (property_line name) property.now)) }
+{
+    match property {
+        Some(property) => write_whole(name, property, out),
+        None => Ok(()),
+    }
+}
+
+fn write_attendees(attendees: &[Property], out: &mut Vec<u8>) -> Result<(), AllocError>
+    ensures { OnOk result (out.new.items ≡ out.old.items ++ contents_octets (map (property_line name.Attendee) attendees.now)) }
+{
+    for attendee in attendees {
+        write_whole(PropertyName::Attendee, attendee, out)?;
+    }
+    Ok(())
+}
+
+/// Appends a property with its parameters.
+fn write_whole(name: PropertyName, property: &Property, out: &mut Vec<u8>) -> Result<(), AllocError>
+    ensures { OnOk result (out.new.items ≡ out.old.items ++ contents_octets (property_line name property.now ∷ [])) }
+{
+    let value = property.value.as_str().as_bytes();
+    write_property(name.as_str(), property.params.as_slice(), value, out)
+}
+
+fn write_rule(rule: &[Text], out: &mut Vec<u8>) -> Result<(), AllocError>
+    ensures { OnOk result (out.new.items ≡ out.old.items ++ contents_octets (map (plain name.RRule) rule.now)) }
+{
+    for value in rule {
+        write_value("RRULE", value.as_str().as_bytes(), out)?;
+    }
+    Ok(())
+}
+
+fn write_others(lines: &[Line], out: &mut Vec<u8>) -> Result<(), AllocError>
+    ensures { OnOk result (out.new.items ≡ out.old.items ++ contents_octets (map content_of lines.now)) }
+{
+    for line in lines {
+        write_line(line, out)?;
+    }
+    Ok(())
+}
+
+/// Appends a line without parameters.
+fn write_value(name: &str, value: &[u8], out: &mut Vec<u8>) -> Result<(), AllocError>
+    ensures { OnOk result (out.new.items ≡ out.old.items ++ contents_octets (bare name.now value.now ∷ [])) }
+{
+    write_property(name, &[], value, out)
 }

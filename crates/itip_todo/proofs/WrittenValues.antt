@@ -1,0 +1,127 @@
+-- What each property is written as is a value that it may have.
+use Rattle.std.proofs.Common.{◌≡◌, ◌∙◌, ap, refl, sym, subst, ℕ, zero, suc, ◌==◌, ◌<◌, ◌≤◌, ◌^◌, Bool, false, cond, ◌&&◌, List, [], ◌∷◌, drop, get_or, arith, inr, Some, map}
+use Rattle.std.specs.Prelude.{IsTrue, codes}
+use Rattle.std.specs.Fmt.{decimal}
+use Rattle.std.specs.List.{AllByRecursion, list_any, list_all}
+use Rattle.std.specs.Str.Parse.{without_leading_plus, digits_value, IsNumeral}
+use Rattle.std.proofs.lemmas.Bool.{and_parts}
+use Rattle.std.proofs.lemmas.Bool.Decides.{nat_tests}
+use Rattle.std.proofs.lemmas.Fmt.{decimal_is_IsNumeral, decimal_digit, first_decimal}
+use Rattle.itip_lines.specs.declared.line.Line.{Line}
+use Rattle.itip_lines.specs.declared.line.Param.{Param}
+use Rattle.itip_moment.specs.Written.{moment_text}
+use Rattle.itip_moment.specs.declared.moment.Moment.{Moment}
+use Rattle.itip_moment.specs.declared.moment.Moment.TheVariants.{Date, Floating, Utc, Zoned}
+use Rattle.itip_moment.proofs.ValueLaws.{stamp_text-IsStampText, moment_text-MomentText, local_text-IsLocalText}
+use Rattle.itip_todo.specs.Lawful.{IsLawful, IsLawfulContent, HasValue}
+use Rattle.itip_todo.specs.Participation.{same_text}
+use Rattle.itip_todo.specs.Parts.{Parts}
+use Rattle.itip_todo.specs.StatusText.{status_text, status_of}
+use Rattle.itip_todo.specs.Table.{property_of, is_same, is_other, sequence_limit, percent_limit, priority_limit}
+use Rattle.itip_todo.specs.Values.{IsNumberUpTo, IsMomentText, IsGoodValue}
+use Rattle.itip_todo.specs.Written.{Content, content_of, plain, moment_line, property_line, moment_params, parts_contents}
+use Rattle.itip_todo.specs.declared.property_name.PropertyName.{PropertyName}
+use Rattle.itip_todo.specs.declared.property_name.PropertyName.TheVariants as name
+use Rattle.itip_todo.specs.declared.status.Status.{Status}
+use Rattle.itip_todo.specs.declared.status.Status.TheVariants as status
+use Rattle.itip_todo.proofs.ByProperty.{rdate_property}
+use Rattle.itip_todo.proofs.GoodAgain.{IsGoodAlone}
+use Rattle.itip_todo.proofs.Names.{same_is}
+use Rattle.itip_todo.proofs.Segments.{AllParts, all_parts, all_optional, all_map, all_weaker}
+
+no_plus : (first : ℕ) → 48 ≤ first → (first == 43) ≡ false
+no_plus first h = grind (arith, nat_tests)
+
+first_digit : (n : ℕ) → n < 2 ^ 64 → 48 ≤ get_or (decimal n) 0 0
+first_digit zero h = let e = ap (λ (ds : List ℕ). get_or ds 0 0) (decimal_digit 0 (omega arith)) in omega (arith, e)
+first_digit (suc n) h = omega (arith, first_decimal (suc n) (omega arith) h)
+
+no_sign : (n : ℕ) → n < 2 ^ 64 → without_leading_plus (decimal n) ≡ decimal n
+no_sign n h = ap (λ (b : Bool). drop (cond b 1 0) (decimal n)) (no_plus (get_or (decimal n) 0 0) (first_digit n h))
+
+pub number_back : (limit n : ℕ) → n ≤ limit → limit < 2 ^ 64 → IsNumberUpTo limit (decimal n) n
+number_back limit n h small =
+    let below : n < 2 ^ 64 = omega arith in
+    let is = decimal_is_IsNumeral n below in
+    inr (record {
+      numeral = subst (λ (ds : List ℕ). IsNumeral 10 ds) (sym (no_sign n below)) is.0;
+      value = sym (ap (λ (ds : List ℕ). digits_value 10 ds) (no_sign n below) ∙ is.1);
+      small = h;
+    })
+
+pub moment_back : (m : Moment) → IsMomentText (moment_params m) (moment_text m) m
+moment_back (Date day) = moment_text-MomentText (Date day)
+moment_back (Floating at) = (local_text-IsLocalText at, refl)
+moment_back (Utc at) = moment_text-MomentText (Utc at)
+moment_back (Zoned zone at) = (local_text-IsLocalText at, refl)
+
+pub status_back : (s : Status) → status_of (status_text s) ≡ Some s
+status_back status.NeedsAction = refl
+status_back status.Completed = refl
+status_back status.InProcess = refl
+status_back status.Cancelled = refl
+
+abbrev ranges : List Param → Bool
+ranges params = list_any (λ (param : Param). same_text param.name (codes "RANGE")) params
+
+no_range_in : (m : Moment) → ranges (moment_params m) ≡ false
+no_range_in (Date day) = refl
+no_range_in (Floating at) = refl
+no_range_in (Utc at) = refl
+no_range_in (Zoned zone at) = refl
+
+-- a line with this content has no fault by itself
+abbrev IsGoodContent : Content → Type 0
+IsGoodContent c = (h : IsLawfulContent c) → IsGoodAlone (record { name = c.name; params = c.params; value = c.value; lawful = h })
+
+every : {A : Type 0} (P : A → Type 0) (xs : List A) → ((x : A) → P x) → AllByRecursion P xs
+every P [] h = tt
+every P (x ∷ xs) h = (h x, every P xs h)
+
+-- what is known of a line's property is known of the line
+read_as_one : (line : Line) (p : PropertyName) → property_of line ≡ p → (is_same p name.RecurrenceId && ranges line.params) ≡ false → IsGoodValue p line → IsGoodAlone line
+read_as_one line p e no_range value = record {
+  no_range = subst (λ (q : PropertyName). (is_same q name.RecurrenceId && ranges line.params) ≡ false) (sym e) no_range;
+  value = subst (λ (q : PropertyName). IsGoodValue q line) (sym e) value;
+}
+
+others_good : (lines : List Line) → IsTrue (list_all is_other lines) → AllByRecursion IsGoodContent (map content_of lines)
+unfolding property_of
+others_good [] h = tt
+others_good (l ∷ lines) h =
+    let two = and_parts _ _ h in
+    (λ lawful. read_as_one (record { name = l.name; params = l.params; value = l.value; lawful = lawful }) name.Others (same_is (property_of l) name.Others two.0) refl tt, others_good lines two.1)
+
+parts_good : (parts : Parts) → IsLawful parts → AllParts IsGoodContent parts
+unfolding property_of
+parts_good parts lawful = record {
+  head = (
+    λ h. record { no_range = refl; value = lawful.uid },
+    (
+      λ h. record { no_range = refl; value = (parts.stamp, stamp_text-IsStampText parts.stamp) },
+      (λ h. record { no_range = refl; value = (parts.seq, number_back sequence_limit parts.seq lawful.seq (omega arith)) }, tt),
+    ),
+  );
+  base = all_optional IsGoodContent (λ (n : ℕ). plain name.DeskBase (decimal n)) parts.base (λ n e h. record { no_range = refl; value = (n, number_back sequence_limit n (lawful.base n e) (omega arith)) });
+  rid = all_optional IsGoodContent (moment_line name.RecurrenceId) parts.rid (λ m e h. record { no_range = no_range_in m; value = (m, moment_back m) });
+  start = all_optional IsGoodContent (moment_line name.DtStart) parts.start (λ m e h. record { no_range = refl; value = (m, moment_back m) });
+  due = all_optional IsGoodContent (moment_line name.Due) parts.due (λ m e h. record { no_range = refl; value = (m, moment_back m) });
+  status = all_optional IsGoodContent (λ (s : Status). plain name.Status (status_text s)) parts.status (λ s e h. record { no_range = refl; value = (s, status_back s) });
+  percent = all_optional IsGoodContent (λ (n : ℕ). plain name.PercentComplete (decimal n)) parts.percent (λ n e h. record { no_range = refl; value = (n, number_back percent_limit n (lawful.percent n e) (omega arith)) });
+  priority = all_optional IsGoodContent (λ (n : ℕ). plain name.Priority (decimal n)) parts.priority (λ n e h. record { no_range = refl; value = (n, number_back priority_limit n (lawful.priority n e) (omega arith)) });
+  summary = all_optional IsGoodContent (property_line name.Summary) parts.summary (λ p e h. record { no_range = refl; value = tt });
+  organizer = all_optional IsGoodContent (property_line name.Organizer) parts.organizer (λ p e h. record { no_range = refl; value = lawful.organizer p e });
+  attendee = all_map IsGoodContent (property_line name.Attendee) parts.attendees (all_weaker HasValue _ parts.attendees (λ p some h. record { no_range = refl; value = some }) lawful.attendee_values);
+  rule = all_map IsGoodContent (plain name.RRule) parts.rule (every _ parts.rule (λ v h. record { no_range = refl; value = tt }));
+  rdate = all_map IsGoodContent (moment_line name.RDate) parts.rdates (every _ parts.rdates (λ m h. read_as_one _ name.RDate (rdate_property m) refl (m ∷ [], moment_back m)));
+  exdate = all_map IsGoodContent (moment_line name.ExDate) parts.exdates (every _ parts.exdates (λ m h. record { no_range = refl; value = (m ∷ [], moment_back m) }));
+  other = others_good parts.others lawful.others;
+}
+
+lines_good : (lines : List Line) → AllByRecursion IsGoodContent (map content_of lines) → AllByRecursion IsGoodAlone lines
+lines_good [] h = tt
+lines_good (l ∷ lines) h = (h.0 l.lawful, lines_good lines h.1)
+
+-- lines with the contents that a lawful to-do is written as have no fault by themselves
+pub good_alone : (lines : List Line) (parts : Parts) → IsLawful parts → map content_of lines ≡ parts_contents parts → AllByRecursion IsGoodAlone lines
+good_alone lines parts lawful e = lines_good lines (subst (λ (cs : List Content). AllByRecursion IsGoodContent cs) (sym e) (all_parts IsGoodContent parts (parts_good parts lawful)))
