@@ -1,12 +1,11 @@
 -- Parts in canonical form are lawful where the to-do is.
-use Rattle.std.proofs.Common.{◌≡◌, ◌∙◌, sym, ap, refl, ℕ, ◌<◌, ◌≤◌, ◌^◌, Bool, true, false, List, [], ◌∷◌, ◌++◌, length, map, arith, subst, Option, Some, None}
+use Rattle.std.proofs.Common.{◌≡◌, ◌∙◌, sym, ap, refl, ℕ, ◌<◌, ◌≤◌, Bool, true, false, List, [], ◌∷◌, ◌++◌, length, map, arith, subst, Option, Some, None}
 use Rattle.std.specs.Prelude.{max, cond, nat_lt, nat_eq, unwrap_or, codes, ◌&&◌}
 use Rattle.std.specs.Cmp.Lexicographic.{pointwise}
 use Rattle.std.specs.Fmt.{decimal}
 use Rattle.std.specs.List.{AllByRecursion, IsDistinct}
 use Rattle.std.specs.List.Sorted.{IsStrictlySortedBy}
 use Rattle.std.specs.declared.cmp.Ordering.{Ordering}
-use Rattle.std.proofs.lemmas.Fmt.{length-decimal-le}
 use Rattle.itip_todo.specs.Lawful.{IsLawful, IsLawfulContent, HasValue}
 use Rattle.itip_todo.specs.Parts.{Parts}
 use Rattle.itip_todo.specs.PartsOf.{parts_of}
@@ -14,7 +13,7 @@ use Rattle.itip_todo.specs.Written.{Content, parts_contents, property_line, plai
 use Rattle.itip_todo.specs.declared.property.Property.{Property}
 use Rattle.itip_todo.specs.declared.property_name.PropertyName.TheVariants as name
 use Rattle.itip_todo.specs.declared.todo.Todo.{Todo}
-use Rattle.itip_todo.proofs.LawfulLines.{sequence_lawful}
+use Rattle.itip_todo.proofs.LawfulLines.{number_lawful}
 use Rattle.itip_message.specs.Items.{with_base, only_of, canonical_base, raised, series_sequence, is_series}
 use Rattle.itip_message.specs.declared.kind.Method.{Method}
 use Rattle.itip_message.proofs.Pieces.{base_of, rid_of, start_of, due_of, status_of, percent_of, priority_of, summary_of, organizer_of, attendees_of, from_rid, from_start, from_due, from_status, from_percent, from_priority, from_summary, from_organizer, from_attendees, from_rule}
@@ -37,16 +36,7 @@ both (c ∷ cs) ds h k = (h.0, both cs ds h.1 k)
 -- X-DESK-BASE
 
 base_line : (n : ℕ) → n ≤ 2147483647 → IsLawfulContent (plain name.DeskBase (decimal n))
-base_line n small =
-    let was = sequence_lawful n small in
-    let fits : n < 2 ^ 64 = omega (arith, small) in
-    let short : length (decimal n) ≤ 20 = length-decimal-le 20 n (omega arith) (omega (arith, small)) fits in record {
-      named = record { some = omega arith; upper = refl };
-      each_param = tt;
-      octets = was.octets;
-      utf8 = was.utf8;
-      short = omega (arith, short);
-    }
+base_line n small = number_lawful (codes "X-DESK-BASE") (record { some = omega arith; upper = refl }) (omega arith) n small
 
 base_lines : (b : Option ℕ) → ((n : ℕ) → b ≡ Some n → n ≤ 2147483647) → AreLawful (optional (λ n. plain name.DeskBase (decimal n)) b)
 base_lines None small = tt
