@@ -9,11 +9,10 @@ use Rattle.std.specs.Fmt.{decimal}
 use Rattle.itip_moment.specs.Written.{stamp_text, moment_text, moment_tzid}
 use Rattle.itip_moment.specs.declared.moment.Moment.{Moment}
 use Rattle.itip_moment.proofs.ValueLaws.{moment_text-MomentText}
-use Rattle.itip_todo.specs.Lawful.{IsLawful}
 use Rattle.itip_todo.specs.Parts.{Parts}
 use Rattle.itip_todo.specs.Reading.{lines_of}
-use Rattle.itip_todo.specs.Table.{property_of, read_as, is_same, place_of, is_other}
-use Rattle.itip_todo.specs.Written.{Content, content_of, plain, moment_line, property_line, optional, head_contents, parts_contents}
+use Rattle.itip_todo.specs.Table.{property_of, read_as, is_same, is_other}
+use Rattle.itip_todo.specs.Written.{Content, content_of, plain, moment_line, optional, head_contents, parts_contents}
 use Rattle.itip_todo.specs.declared.property_name.PropertyName.{PropertyName}
 use Rattle.itip_todo.specs.declared.property_name.PropertyName.TheVariants as name
 use Rattle.itip_todo.proofs.Commas.{IsHigh, moment_high}

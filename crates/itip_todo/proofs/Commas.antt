@@ -1,10 +1,10 @@
 -- Moments with commas between: no comma stands in a moment, and so a text is cut at its commas in one way.
-use Rattle.std.proofs.Common.{◌≡◌, ◌≢◌, ℕ, zero, suc, ◌+◌, ◌<◌, List, [], ◌∷◌, ◌++◌, length, get_or, refl, sym, ap, subst, ◌∙◌, arith, Some, Option}
+use Rattle.std.proofs.Common.{◌≡◌, ◌≢◌, ℕ, zero, suc, ◌+◌, ◌<◌, List, [], ◌∷◌, ◌++◌, length, get_or, refl, sym, subst, ◌∙◌, arith, Some, Option}
 use Rattle.std.specs.List.{AllByRecursion}
 use Rattle.std.specs.Prelude.{codes, ℤ}
 use Rattle.itip_lines.specs.declared.line.Param.{Param}
 use Rattle.itip_moment.specs.Digits.{date_digits, clock_digits}
-use Rattle.itip_moment.specs.Spelling.{IsDateText, IsClockText, IsLocalText, IsUtcText, MomentText}
+use Rattle.itip_moment.specs.Spelling.{IsDateText, IsLocalText, IsUtcText, MomentText}
 use Rattle.itip_moment.specs.declared.moment.Moment.{Moment}
 use Rattle.itip_moment.specs.declared.moment.Moment.TheVariants.{Date, Floating, Utc, Zoned}
 use Rattle.itip_todo.specs.Drafts.{HasNoComma}

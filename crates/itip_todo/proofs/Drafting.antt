@@ -1,5 +1,5 @@
 -- One more line of a property that may stand once, and of which none stood above.
-use Rattle.std.proofs.Common.{◌≡◌, ◌≢◌, ℕ, ◌<◌, Bool, true, false, List, [], ◌∷◌, ◌++◌, length, refl, sym, subst, Option, Some, None}
+use Rattle.std.proofs.Common.{◌≡◌, ◌≢◌, ℕ, true, false, List, [], ◌∷◌, ◌++◌, refl, sym, subst, Option, Some, None}
 use Rattle.std.specs.Option.{is_some}
 use Rattle.itip_lines.specs.declared.line.Line.{Line}
 use Rattle.itip_moment.specs.declared.moment.Moment.{Moment}

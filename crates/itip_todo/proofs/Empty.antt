@@ -1,5 +1,5 @@
 -- The draft of no line.
-use Rattle.std.proofs.Common.{◌≡◌, List, [], length, refl, sym, ap, subst, arith, Option, None, Vec, Global}
+use Rattle.std.proofs.Common.{◌≡◌, List, [], refl, sym, ap, subst, arith, None, Vec, Global}
 use Rattle.std.specs.BTreeMap.{is_at}
 use Rattle.std.specs.BTreeSet.{BTreeSet}
 use Rattle.std.specs.Cmp.Lexicographic.{slice_cmp}
@@ -11,7 +11,6 @@ use Rattle.itip_moment.specs.Order.{moment_cmp}
 use Rattle.itip_moment.specs.declared.moment.Moment.{Moment}
 use Rattle.itip_todo.specs.Drafts.{Holds, HoldsAttendees, IsSetOf}
 use Rattle.itip_todo.specs.Lawful.{HasValue}
-use Rattle.itip_todo.specs.declared.draft.Draft.{Draft}
 use Rattle.itip_todo.specs.declared.property.Property.{Property}
 use Rattle.itip_todo.specs.declared.property_name.PropertyName.{PropertyName}
 use Rattle.itip_todo.specs.declared.property_name.PropertyName.TheVariants as name

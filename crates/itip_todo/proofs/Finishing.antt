@@ -1,5 +1,5 @@
 -- From the draft of all lines to the to-do.
-use Rattle.std.proofs.Common.{◌≡◌, true, ◌&&◌, ℕ, ◌+◌, ◌<◌, ◌≤◌, List, [], ◌∷◌, ◌++◌, length, map, refl, sym, ap, subst, ◌∙◌, inl, inr, arith, length-append, Option, Some, None}
+use Rattle.std.proofs.Common.{◌≡◌, true, ◌&&◌, ℕ, ◌+◌, ◌<◌, ◌≤◌, List, [], ◌∷◌, length, map, refl, sym, ap, subst, ◌∙◌, inl, inr, arith, length-append, Option, Some, None}
 use Rattle.std.specs.BTreeSet.{BTreeSet, IsOrdered}
 use Rattle.std.specs.Fmt.{decimal}
 use Rattle.std.specs.List.{AllByRecursion, Contains, IsDistinct, list_all}
@@ -11,22 +11,20 @@ use Rattle.itip_lines.specs.declared.line.Line.{Line}
 use Rattle.itip_lines.specs.declared.line.Param.{Param}
 use Rattle.itip_lines.proofs.LawfulLemmas.{lawful_without_params}
 use Rattle.itip_moment.specs.Order.{moment_cmp}
-use Rattle.itip_moment.specs.Written.{moment_text}
 use Rattle.itip_moment.specs.declared.moment.Moment.{Moment}
 use Rattle.itip_moment.specs.declared.stamp.Stamp.{Stamp}
-use Rattle.itip_todo.specs.Drafts.{IsDraftOf, IsLawfulDraft, HoldsAttendees, IsSetOf, draft_parts}
-use Rattle.itip_todo.specs.Lawful.{IsLawful, IsLawfulContent, HasValue, keys_of}
+use Rattle.itip_todo.specs.Drafts.{IsDraftOf, IsLawfulDraft, IsSetOf, draft_parts}
+use Rattle.itip_todo.specs.Lawful.{IsLawfulContent, HasValue, keys_of}
 use Rattle.itip_todo.specs.Participation.{same_text}
-use Rattle.itip_todo.specs.Reading.{IsOptional, IsOrNought, IsUidOf, IsStampOf, IsSequenceOf, IsPercentOf, IsPriorityOf, IsMomentOf, IsStatusOf, IsPropertyOf, IsOrganizerOf, AreMomentsOf, ListMoments, lines_of, first_of, whole_property, value_of, key_of}
+use Rattle.itip_todo.specs.Reading.{IsOptional, IsOrNought, IsUidOf, IsSequenceOf, IsPercentOf, IsPriorityOf, IsMomentOf, IsPropertyOf, IsOrganizerOf, AreMomentsOf, ListMoments, lines_of, first_of, whole_property, value_of, key_of}
 use Rattle.itip_todo.specs.StatusText.{status_text}
 use Rattle.itip_todo.specs.Table.{name_text, place_of, is_same, property_of, is_other, sequence_limit, percent_limit, priority_limit, attendee_limit}
-use Rattle.itip_todo.specs.Values.{IsNumberUpTo, IsMomentText, AreMoments}
-use Rattle.itip_todo.specs.Written.{Content, content_of, plain, moment_line, moment_params, property_line, parts_contents}
+use Rattle.itip_todo.specs.Values.{IsNumberUpTo, AreMoments}
+use Rattle.itip_todo.specs.Written.{Content, content_of, plain, moment_line, property_line, parts_contents}
 use Rattle.itip_todo.specs.declared.draft.Draft.{Draft}
 use Rattle.itip_todo.specs.declared.property.Property.{Property}
 use Rattle.itip_todo.specs.declared.property_name.PropertyName.{PropertyName}
 use Rattle.itip_todo.specs.declared.property_name.PropertyName.TheVariants as name
-use Rattle.itip_todo.specs.declared.status.Status.{Status}
 use Rattle.itip_todo.proofs.LawfulLines.{stamp_lawful, number_lawful, status_lawful, moment_lawful}
 use Rattle.itip_todo.proofs.Names.{all_named, first_named_is, has_name}
 use Rattle.itip_todo.proofs.Segments.{all_append, all_optional, all_map, all_parts}

@@ -1,17 +1,14 @@
 -- The lines that a read to-do is written as are lawful.
-use Rattle.std.proofs.Common.{◌≡◌, ◌≢◌, cond, ℕ, ◌+◌, ◌/◌, ◌%◌, ◌<◌, ◌≤◌, ◌^◌, Bool, true, false, ◌&&◌, ◌||◌, ◌==◌, not, List, [], ◌∷◌, ◌++◌, length, length-append, get_or, zero, suc, refl, sym, ap, subst, ◌∙◌, arith, Option, Some, None, IsTrue}
-use Rattle.std.specs.Prelude.{codes, ℤ, nat_le}
-use Rattle.std.specs.Option.{ForSome}
+use Rattle.std.proofs.Common.{◌≡◌, ◌≢◌, cond, ℕ, ◌+◌, ◌%◌, ◌<◌, ◌≤◌, ◌^◌, Bool, true, false, ◌&&◌, List, [], ◌∷◌, ◌++◌, length, length-append, get_or, zero, suc, refl, sym, ap, subst, arith, Some}
+use Rattle.std.specs.Prelude.{codes, ℤ}
 use Rattle.std.specs.Fmt.{decimal}
 use Rattle.std.specs.List.{list_all, AllByRecursion}
-use Rattle.std.specs.Str.{IsUtf8, IsAscii}
+use Rattle.std.specs.Str.{IsUtf8}
 use Rattle.std.proofs.lemmas.Bool.Decides.{nat_tests}
 use Rattle.std.proofs.lemmas.Fmt.{decimal_by_steps, length-decimal-le}
 use Rattle.std.proofs.lemmas.Str.{IsUtf8-from_ascii}
 use Rattle.itip_lines.specs.Lawful as line
 use Rattle.itip_lines.specs.Octets.{is_value_octet}
-use Rattle.itip_lines.specs.declared.line.Line.{Line}
-use Rattle.itip_lines.proofs.LawfulLemmas.{lawful_without_params}
 use Rattle.itip_moment.specs.Written.{stamp_text}
 use Rattle.itip_moment.specs.declared.stamp.Stamp.{Stamp}
 use Rattle.itip_moment.proofs.WrittenOctets.{is_stamp_octet, stamp_text_octets}

@@ -1,7 +1,6 @@
 -- One more line of a property that may stand more often.
-use Rattle.std.proofs.Common.{◌≡◌, ℕ, ◌+◌, ◌<◌, ◌≤◌, Bool, true, false, cond, ◌||◌, List, [], ◌∷◌, ◌++◌, length, map, refl, sym, ap, subst, ◌∙◌, arith, append-nil, append_assoc, length-append}
-use Rattle.std.specs.Prelude.{nat_le, nat_eq}
-use Rattle.std.proofs.Math.Bool.{or_assoc, or-false}
+use Rattle.std.proofs.Common.{◌≡◌, ℕ, ◌<◌, true, false, ◌||◌, List, [], ◌∷◌, ◌++◌, length, map, refl, sym, ap, subst, ◌∙◌, arith, append-nil, append_assoc, length-append}
+use Rattle.std.proofs.Math.Bool.{or-false}
 use Rattle.std.proofs.lemmas.Bool.{lt-leb}
 use Rattle.std.proofs.lemmas.Cmp.{nat_list_eq_equiv}
 use Rattle.std.proofs.lemmas.List.{map-append, length-map}
@@ -17,8 +16,8 @@ use Rattle.itip_moment.specs.declared.moment.Moment.{Moment}
 use Rattle.itip_todo.specs.Drafts.{IsDraftOf, Holds, HoldsAttendees, IsSetOf, PutsMoments, Takes, more, is_listed}
 use Rattle.itip_todo.specs.Lawful.{HasValue}
 use Rattle.itip_todo.specs.Participation.{same_text}
-use Rattle.itip_todo.specs.Reading.{IsGoodAs, ListMoments, is_too_many, is_same_attendee, whole_property, value_of, key_of}
-use Rattle.itip_todo.specs.Table.{attendee_key, attendee_limit}
+use Rattle.itip_todo.specs.Reading.{ListMoments, whole_property, key_of}
+use Rattle.itip_todo.specs.Table.{attendee_limit}
 use Rattle.itip_todo.specs.Values.{AreMoments}
 use Rattle.itip_todo.specs.declared.draft.Draft.{Draft}
 use Rattle.itip_todo.specs.declared.property.Property.{Property}

@@ -1,10 +1,10 @@
 -- Lines are read as one to-do, or refused for one fault, and not both.
-use Rattle.std.proofs.Common.{◌≡◌, ◌∙◌, ◌↔◌, sym, ap, refl, ℕ, Bool, true, false, List, [], ◌∷◌, ◌++◌, subst, inl, inr, arith, Option, Some, None}
+use Rattle.std.proofs.Common.{◌≡◌, ◌∙◌, sym, ap, refl, ℕ, Bool, true, false, List, [], ◌∷◌, ◌++◌, subst, inl, inr, arith, Option, Some, None}
 use Rattle.std.proofs.lemmas.Map.Lookups.{btree_set_from_contains}
 use Rattle.std.specs.BTreeMap.{is_at}
 use Rattle.std.specs.BTreeSet.{BTreeSet}
 use Rattle.std.specs.List.{Contains, list_any}
-use Rattle.std.specs.Prelude.{codes, IsTrue}
+use Rattle.std.specs.Prelude.{codes}
 use Rattle.std.specs.Str.Parse.{without_leading_plus, IsNumeral}
 use Rattle.itip_lines.specs.declared.line.Line.{Line}
 use Rattle.itip_lines.specs.declared.line.Param.{Param}
@@ -15,12 +15,10 @@ use Rattle.itip_moment.proofs.Same.{moment_equal}
 use Rattle.itip_moment.proofs.ValueLaws.{stamp_text-one, moment_text-one}
 use Rattle.itip_todo.specs.Participation.{param_value}
 use Rattle.itip_todo.specs.Reading.{AreGood, FirstFault, IsGoodAs, HasFaultAs, IsOptional, IsOrNought, IsUidOf, IsStampOf, IsSequenceOf, IsPercentOf, IsPriorityOf, IsMomentOf, IsStatusOf, IsPropertyOf, IsOrganizerOf, ListMoments, AreMomentsOf, ReadsTodo, RefusesTodo, first_named, lines_of}
-use Rattle.itip_todo.specs.StatusText.{status_of}
 use Rattle.itip_todo.specs.Table.{property_of, sequence_limit, percent_limit, priority_limit}
-use Rattle.itip_todo.specs.Values.{IsNumberUpTo, AreMoments, IsMomentText}
+use Rattle.itip_todo.specs.Values.{IsNumberUpTo, AreMoments}
 use Rattle.itip_todo.specs.declared.error.Fault.{Fault}
 use Rattle.itip_todo.specs.declared.error.Fault.TheVariants as fault
-use Rattle.itip_todo.specs.declared.property.Property.{Property}
 use Rattle.itip_todo.specs.declared.property_name.PropertyName.{PropertyName}
 use Rattle.itip_todo.specs.declared.property_name.PropertyName.TheVariants as name
 use Rattle.itip_todo.specs.declared.status.Status.{Status}

@@ -1,5 +1,5 @@
 -- What a to-do is written as is read as this to-do.
-use Rattle.std.proofs.Common.{◌≡◌, ◌∙◌, ap, refl, sym, subst, ℕ, suc, ◌<◌, ◌≤◌, Bool, true, false, List, [], ◌∷◌, length, arith, Option, Some, None, map}
+use Rattle.std.proofs.Common.{◌≡◌, ◌∙◌, ap, refl, sym, subst, ℕ, suc, ◌<◌, ◌≤◌, true, List, [], ◌∷◌, length, arith, Option, Some, None, map}
 use Rattle.std.specs.Fmt.{decimal}
 use Rattle.std.specs.List.{IsDistinct}
 use mathlib.Core.HLevel.{is_prop→PathP}
@@ -10,19 +10,18 @@ use Rattle.itip_moment.specs.Spelling.{IsStampText}
 use Rattle.itip_moment.specs.Written.{stamp_text}
 use Rattle.itip_moment.specs.declared.moment.Moment.{Moment}
 use Rattle.itip_moment.proofs.ValueLaws.{stamp_text-IsStampText}
-use Rattle.itip_todo.specs.Lawful.{IsLawful, keys_of, HasValue}
+use Rattle.itip_todo.specs.Lawful.{IsLawful, keys_of}
 use Rattle.itip_todo.specs.Participation.{same_text}
 use Rattle.itip_todo.specs.Parts.{Parts}
 use Rattle.itip_todo.specs.PartsOf.{parts_of}
-use Rattle.itip_todo.specs.Reading.{ReadsTodo, lines_of, first_of, IsOptional, IsOrNought, IsUidOf, IsStampOf, IsSequenceOf, IsPercentOf, IsPriorityOf, IsMomentOf, IsStatusOf, IsPropertyOf, IsOrganizerOf, whole_property, value_of, key_of, ListMoments, AreMomentsOf}
+use Rattle.itip_todo.specs.Reading.{ReadsTodo, lines_of, first_of, IsOptional, IsOrNought, IsUidOf, IsStampOf, IsSequenceOf, IsPercentOf, IsPriorityOf, IsMomentOf, IsStatusOf, IsPropertyOf, IsOrganizerOf, whole_property, value_of, key_of, ListMoments}
 use Rattle.itip_todo.specs.StatusText.{status_of, status_text}
-use Rattle.itip_todo.specs.Table.{stands_once, attendee_limit, attendee_key, sequence_limit, percent_limit, priority_limit}
+use Rattle.itip_todo.specs.Table.{stands_once, attendee_limit, sequence_limit, percent_limit, priority_limit}
 use Rattle.itip_todo.specs.Values.{IsNumberUpTo, IsMomentText}
 use Rattle.itip_todo.specs.Written.{Content, content_of, plain, moment_line, property_line, optional, parts_contents}
 use Rattle.itip_todo.specs.declared.property.Property.{Property}
 use Rattle.itip_todo.specs.declared.property_name.PropertyName.{PropertyName}
 use Rattle.itip_todo.specs.declared.property_name.PropertyName.TheVariants as name
-use Rattle.itip_todo.specs.declared.status.Status.{Status}
 use Rattle.itip_todo.specs.declared.todo.Todo.{Todo}
 use Rattle.itip_todo.proofs.ByProperty.{lines_named, segment}
 use Rattle.itip_todo.proofs.GoodAgain.{AreFewEach, are_good}

@@ -1,5 +1,5 @@
 -- What each property is written as is a value that it may have.
-use Rattle.std.proofs.Common.{◌≡◌, ◌∙◌, ap, refl, sym, subst, ℕ, zero, suc, ◌==◌, ◌<◌, ◌≤◌, ◌^◌, Bool, true, false, cond, ◌&&◌, List, [], ◌∷◌, length, drop, get_or, arith, inr, Option, Some, None, map}
+use Rattle.std.proofs.Common.{◌≡◌, ◌∙◌, ap, refl, sym, subst, ℕ, zero, suc, ◌==◌, ◌<◌, ◌≤◌, ◌^◌, Bool, false, cond, ◌&&◌, List, [], ◌∷◌, drop, get_or, arith, inr, Some, map}
 use Rattle.std.specs.Prelude.{IsTrue, codes}
 use Rattle.std.specs.Fmt.{decimal}
 use Rattle.std.specs.List.{AllByRecursion, list_any, list_all}
@@ -18,9 +18,8 @@ use Rattle.itip_todo.specs.Participation.{same_text}
 use Rattle.itip_todo.specs.Parts.{Parts}
 use Rattle.itip_todo.specs.StatusText.{status_text, status_of}
 use Rattle.itip_todo.specs.Table.{property_of, is_same, is_other, sequence_limit, percent_limit, priority_limit}
-use Rattle.itip_todo.specs.Values.{IsNumberUpTo, AreDigitsUpTo, IsMomentText, AreMoments, IsGoodValue}
+use Rattle.itip_todo.specs.Values.{IsNumberUpTo, IsMomentText, IsGoodValue}
 use Rattle.itip_todo.specs.Written.{Content, content_of, plain, moment_line, property_line, moment_params, parts_contents}
-use Rattle.itip_todo.specs.declared.property.Property.{Property}
 use Rattle.itip_todo.specs.declared.property_name.PropertyName.{PropertyName}
 use Rattle.itip_todo.specs.declared.property_name.PropertyName.TheVariants as name
 use Rattle.itip_todo.specs.declared.status.Status.{Status}

@@ -1,15 +1,9 @@
-use Rattle.std.proofs.Common.{◌≡◌, ℕ, List, refl, sym, subst, ap, ◌∙◌, Option, Some}
-use Rattle.std.specs.Prelude.{unwrap_or, ◌↔◌}
-use Rattle.std.specs.List.{Contains}
-use Rattle.std.specs.List.Sorted.{IsStrictlySortedBy}
-use Rattle.itip_lines.specs.declared.line.Line.{Line}
-use Rattle.itip_moment.specs.Order.{moment_cmp}
-use Rattle.itip_moment.specs.declared.moment.Moment.{Moment}
+use Rattle.std.proofs.Common.{◌≡◌, ℕ, List, sym, subst, ◌∙◌, Option}
 use Rattle.itip_moment.specs.declared.stamp.Stamp.{Stamp}
 use Rattle.itip_todo.specs.Drafts.{draft_parts}
 use Rattle.itip_todo.specs.Lawful.{IsLawful}
 use Rattle.itip_todo.specs.Parts.{Parts}
-use Rattle.itip_todo.specs.Reading.{IsOptional, IsOrNought, IsUidOf, IsStampOf, IsSequenceOf, AreMomentsOf, first_named, lines_of}
+use Rattle.itip_todo.specs.Reading.{IsOptional, IsOrNought, IsUidOf, IsStampOf, IsSequenceOf, first_named, lines_of}
 use Rattle.itip_todo.specs.declared.property_name.PropertyName.TheVariants as name
 use Rattle.itip_todo.proofs.Finishing.{or_nought, moments_of}
 use Rattle.itip_todo.proofs.finish.finish.Goals as goal

@@ -6,10 +6,10 @@ use Rattle.std.proofs.lemmas.Result.{err_from_is_err_and, IfErr-weaker, on_ok_we
 use Rattle.itip_lines.specs.declared.line.Param.{Param}
 use Rattle.itip_moment.specs.Spelling.{MomentText}
 use Rattle.itip_moment.specs.declared.moment.Moment.{Moment}
-use Rattle.itip_todo.specs.Drafts.{PutsMoment, PutsMoments}
+use Rattle.itip_todo.specs.Drafts.{PutsMoment}
 use Rattle.itip_todo.specs.Participation.{param_value}
 use Rattle.itip_todo.specs.Reading.{IfFault}
-use Rattle.itip_todo.specs.Values.{IsMomentText, AreMoments}
+use Rattle.itip_todo.specs.Values.{AreMoments}
 use Rattle.itip_todo.specs.declared.error.Fault.TheVariants as fault
 use Rattle.itip_todo.specs.declared.error.TodoError.{TodoError}
 use Rattle.itip_todo.proofs.GoodLines.{IfFault-weaker}

@@ -1,4 +1,4 @@
-use Rattle.std.proofs.Common.{◌≡◌, ℕ, ◌+◌, ◌<◌, List, [], ◌∷◌, ◌++◌, length, take, drop, sym, ap, subst, ◌∙◌, inl, take_all}
+use Rattle.std.proofs.Common.{◌≡◌, ◌+◌, List, [], ◌∷◌, ◌++◌, take, drop, sym, ap, subst, ◌∙◌, inl, take_all}
 use Rattle.std.proofs.lemmas.List.{take_more}
 use Rattle.std.proofs.lemmas.Result.{err_from_is_err_and, IfErr-weaker, IfOk-weaker}
 use Rattle.itip_lines.specs.declared.line.Line.{Line}
@@ -7,7 +7,6 @@ use Rattle.itip_todo.specs.Reading.{AreGood, FirstFault, IfFault, ReadsTodo, Ref
 use Rattle.itip_todo.specs.Table.{property_of}
 use Rattle.itip_todo.specs.declared.error.Fault.{Fault}
 use Rattle.itip_todo.specs.declared.error.TodoError.{TodoError}
-use Rattle.itip_todo.specs.declared.todo.Todo.{Todo}
 use Rattle.itip_todo.proofs.Finishing.{lawful_draft}
 use Rattle.itip_todo.proofs.GoodLines.{are_good_more, draft_more, first_fault_at, parted, IfFault-weaker}
 use Rattle.itip_todo.proofs.read.read_todo.Goals as goal

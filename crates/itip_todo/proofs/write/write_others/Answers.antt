@@ -1,4 +1,4 @@
-use Rattle.std.proofs.Common.{◌≡◌, ◌∙◌, ◌++◌, ◌∷◌, ℕ, List, [], sym, ap, append-nil}
+use Rattle.std.proofs.Common.{◌∙◌, ◌++◌, ℕ, List, sym, ap, append-nil}
 use Rattle.itip_lines.specs.Writing.{written, unfolded_text}
 use Rattle.itip_todo.specs.Written.{content_of, content_octets}
 use Rattle.itip_todo.proofs.Contents.{one_more}

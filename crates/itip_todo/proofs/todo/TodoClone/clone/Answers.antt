@@ -1,4 +1,3 @@
-use Rattle.itip_todo.specs.PartsOf.{parts_of}
 use Rattle.itip_todo.proofs.SameTodo.{same_todo}
 use Rattle.itip_todo.proofs.todo.TodoClone.clone.Goals as goal
 
