@@ -41,13 +41,13 @@ ticks_more before tick (first ∷ steps) step last next (mid, one, rest) more =
     (mid, one, ticks_more (before ++ first) mid steps step last next rest (subst (λ (b : List Item). TickStep b step last next) (sym (append_assoc before first (heard steps))) more))
 
 -- a step leaves one tick
-tick_once : (before step : List Item) (tick m n : ℕ) → TickStep before step tick m → TickStep before step tick n → m ≡ n
+pub tick_once : (before step : List Item) (tick m n : ℕ) → TickStep before step tick m → TickStep before step tick n → m ≡ n
 tick_once before step tick m n (inl a) (inl b) = a.1 ∙ sym b.1
 tick_once before step tick m n (inl a) (inr b) = absurd (a.0.1 (b.0 a.0.0))
 tick_once before step tick m n (inr a) (inl b) = absurd (b.0.1 (a.0 b.0.0))
 tick_once before step tick m n (inr a) (inr b) = a.1 ∙ sym b.1
 
-step_rises : (before step : List Item) (tick next : ℕ) → TickStep before step tick next → tick ≤ next
+pub step_rises : (before step : List Item) (tick next : ℕ) → TickStep before step tick next → tick ≤ next
 step_rises before step tick next (inl a) = let e = a.1 in omega (arith, e)
 step_rises before step tick next (inr a) = let e = a.1 in omega (arith, e)
 

@@ -20,8 +20,8 @@ pub record Shown : Type 0 where
   pub changed : List (List ℕ × ℕ)
 
 abbrev pub shown_code : Coded Shown
-shown_code = code_by (List Item × ℕ × List (List ℕ × ℕ)) (coded× (coded_list item.the_row.coded) (coded× coded_ℕ (coded_list (coded× (coded_list coded_ℕ) coded_ℕ)))) (λ d. (d.kept, d.tick, d.changed))
-    (λ p. record { kept = p.0; tick = p.1; changed = p.2 }) (λ _. refl)
+shown_code = code_by (List Item × (ℕ × List (List ℕ × ℕ))) (coded× (coded_list item.the_row.coded) (coded× coded_ℕ (coded_list (coded× (coded_list coded_ℕ) coded_ℕ)))) (λ d. (d.kept, (d.tick, d.changed)))
+    (λ p. record { kept = p.0; tick = p.1.0; changed = p.1.1 }) (λ _. refl)
 
 -- of the UIDs with ticks, those that moved: a place that was made for a UID has tick 0
 abbrev pub moved_ones : List (List ℕ × ℕ) → List (List ℕ × ℕ)

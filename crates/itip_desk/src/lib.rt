@@ -6,6 +6,8 @@ mod desk;
 mod error;
 mod laws;
 #[cfg(test)]
+mod rows;
+#[cfg(test)]
 mod tests;
 mod ticks;
 

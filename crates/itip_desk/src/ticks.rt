@@ -22,13 +22,20 @@ pub(crate) fn copies(alloc: Global, uids: &[Uid]) -> Result<Vec<Uid>, AllocError
     Ok(copies)
 }
 
+/// Whether there is a place for the UID.
+fn has(ticks: &Keyed<Uid, u64>, uid: &Uid) -> bool
+    ensures { result ≡ is_some (value_at (slice_cmp nat_cmp) ticks.now.map uid.now) }
+{
+    ticks.get(uid).is_some()
+}
+
 /// Makes a place for each of these UIDs. Where memory is refused some may have been made.
 pub(crate) fn grow(ticks: &mut Keyed<Uid, u64>, uids: &[Uid]) -> Result<(), AllocError>
     ensures grown { (uid : List ℕ) → IsGrown (value_at (slice_cmp nat_cmp) ticks.old.map uid) (value_at (slice_cmp nat_cmp) ticks.new.map uid) }
     ensures all { OnOk result ((uid : List ℕ) → is_listed uids.now uid ≡ true → is_some (value_at (slice_cmp nat_cmp) ticks.new.map uid) ≡ true) }
 {
     for uid in uids {
-        if ticks.get(uid).is_some() {
+        if has(ticks, uid) {
             continue;
         }
         ticks.insert(uid.clone()?, 0)?;
