@@ -7,6 +7,7 @@ use Rattle.std.specs.Prelude.{cond, Some}
 use Rattle.std.specs.Ordering.{nat_cmp}
 use Rattle.std.specs.Cmp.Lexicographic.{slice_cmp}
 use Rattle.itip_join.specs.KeyByKey.{value_at}
+use Rattle.itip_desk.proofs.Refusals.{on_err_always}
 use Rattle.itip_desk.specs.Desk.{Shown, moved_ones}
 use Rattle.itip_desk.specs.Marks.{is_listed}
 use Rattle.itip_desk.proofs.Ticking.{grown_same, carry_step}
@@ -93,3 +94,19 @@ returns-clause-step c = λ steps start.
 
 pub mark-requires : goal.mark-requires
 mark-requires c = λ uid listed. c.in_ok-grow.ensures.all uid (ap (λ us. is_listed us uid) (sym (c.in_ok-moved.ensures ∙ c.deref.ensures.value ∙ sym c.deref-2.ensures.value)) ∙ listed)
+
+pub returns-in_err-grow-clause-err : goal.returns-in_err-grow-clause-err
+returns-in_err-grow-clause-err c = on_err_always c.from_residual-in_err-grow.result
+    ((λ i. record {
+      kept = c.self.inside.state;
+      tick = c.self.inside.tick;
+      changed = grown_same c.self.inside.ticks.map c.grow.new.ticks.map c.self.inside.ticks.ordered c.grow.new.ticks.ordered c.grow.ensures.grown i;
+    }) ∙ c.self.view_is)
+
+pub returns-in_err-merge-clause-err : goal.returns-in_err-merge-clause-err
+returns-in_err-merge-clause-err c = on_err_always c.from_residual-in_err-merge.result
+    ((λ i. record {
+      kept = c.in_err-merge.ensures.err i;
+      tick = c.self.inside.tick;
+      changed = grown_same c.self.inside.ticks.map c.grow.new.ticks.map c.self.inside.ticks.ordered c.grow.new.ticks.ordered c.grow.ensures.grown i;
+    }) ∙ c.self.view_is)
