@@ -1,13 +1,13 @@
 -- What one more step adds to what was heard.
-use Rattle.std.proofs.Common.{◌≡◌, ℕ, ◌+◌, List, [], ◌∷◌, ◌++◌, ◌↔◌, ◌⊎◌, inl, inr, refl, sym, ap, subst, ◌∙◌, append_assoc, append-nil, length, arith}
+use Rattle.std.proofs.Common.{◌≡◌, ℕ, ◌+◌, ◌<◌, ◌≤◌, List, [], ◌∷◌, ◌++◌, ◌↔◌, ◌⊎◌, inl, inr, refl, sym, ap, subst, ◌∙◌, append_assoc, append-nil, length, arith}
 use Rattle.std.proofs.lemmas.List.Elements.{Contains-append_left, Contains-push}
 use Rattle.std.specs.List.{Contains}
 use Rattle.itip_message.specs.KeyParts.{uid_of}
 use Rattle.itip_message.specs.declared.item.Item.{Item}
 use Rattle.itip_state.specs.Kept.{AreKept, IsKept, KeepSame, Moves, AreMoved, SameItems}
 use Rattle.itip_state.proofs.Keeping.{kept_again, kept_iff, kept_beside, kept_of_parts, covers_itself, covers_kept, are_kept_by}
-use Rattle.itip_desk.specs.Desk.{Shown, IsDeskOf}
-use Rattle.itip_desk.specs.Heard.{heard, TickStep, Ticks}
+use Rattle.itip_desk.specs.Desk.{Shown, CarriesAfter, IsDeskOf}
+use Rattle.itip_desk.specs.Heard.{heard, TickStep, Ticks, MovedAfter}
 
 -- one more step is heard last
 pub heard-append : (steps : List (List Item)) (step : List Item) → heard (steps ++ step ∷ []) ≡ heard steps ++ step
@@ -40,12 +40,104 @@ ticks_more before tick [] step last next at more =
 ticks_more before tick (first ∷ steps) step last next (mid, one, rest) more =
     (mid, one, ticks_more (before ++ first) mid steps step last next rest (subst (λ (b : List Item). TickStep b step last next) (sym (append_assoc before first (heard steps))) more))
 
+-- a step leaves one tick
+pub tick_once : (before step : List Item) (tick m n : ℕ) → TickStep before step tick m → TickStep before step tick n → m ≡ n
+tick_once before step tick m n (inl a) (inl b) = a.1 ∙ sym b.1
+tick_once before step tick m n (inl a) (inr b) = absurd (a.0.1 (b.0 a.0.0))
+tick_once before step tick m n (inr a) (inl b) = absurd (b.0.1 (a.0 b.0.0))
+tick_once before step tick m n (inr a) (inr b) = a.1 ∙ sym b.1
+
+pub step_rises : (before step : List Item) (tick next : ℕ) → TickStep before step tick next → tick ≤ next
+step_rises before step tick next (inl a) = let e = a.1 in omega (arith, e)
+step_rises before step tick next (inr a) = let e = a.1 in omega (arith, e)
+
+ticks_rise : (before : List Item) (tick : ℕ) (steps : List (List Item)) (last : ℕ) → Ticks before tick steps last → tick ≤ last
+ticks_rise before tick [] last at = omega (arith, at)
+ticks_rise before tick (step ∷ steps) last (next, one, rest) =
+    let low = step_rises before step tick next one in
+    let high = ticks_rise (before ++ step) next steps last rest in omega (arith, low, high)
+
+-- a UID that moved carries no tick above the last
+pub moved_below : (before : List Item) (tick : ℕ) (steps : List (List Item)) (last since : ℕ) (uid : List ℕ) → Ticks before tick steps last → MovedAfter before tick steps since uid → since < last
+moved_below before tick [] last since uid at moved = absurd moved
+moved_below before tick (step ∷ steps) last since uid (mid, one, rest) (next, two, inl here) =
+    let same : next ≡ mid = tick_once before step tick next mid two one in
+    let low : since < next = here.1 in
+    let high = ticks_rise (before ++ step) mid steps last rest in omega (arith, same, low, high)
+moved_below before tick (step ∷ steps) last since uid (mid, one, rest) (next, two, inr later) =
+    moved_below (before ++ step) mid steps last since uid rest (subst (λ (t : ℕ). MovedAfter (before ++ step) t steps since uid) (tick_once before step tick next mid two one) later)
+
+-- one more step moves what it moves after all that was heard
+module _ (step : List Item) (last next since : ℕ) (uid : List ℕ) where
+  pub moved_up : (before : List Item) (tick : ℕ) (steps : List (List Item)) → Ticks before tick steps last → TickStep (before ++ heard steps) step last next
+      → MovedAfter before tick (steps ++ step ∷ []) since uid → MovedAfter before tick steps since uid ⊎ (Moves (before ++ heard steps) step uid × (since < next))
+  moved_up before tick [] at one (n, two, inl here) =
+      let first : TickStep before step tick next = subst (λ (b : List Item). TickStep b step tick next) (append-nil before) (subst (λ (t : ℕ). TickStep (before ++ []) step t next) at one) in
+      inr (subst (λ (b : List Item). Moves b step uid) (sym (append-nil before)) here.0, subst (λ (t : ℕ). since < t) (tick_once before step tick n next two first) here.1)
+  moved_up before tick [] at one (n, two, inr none) = absurd none
+  moved_up before tick (first ∷ steps) (mid, two, rest) one (n, three, inl here) = inl (n, three, inl here)
+  moved_up before tick (first ∷ steps) (mid, two, rest) one (n, three, inr later) =
+      elim (moved_up (before ++ first) mid steps rest (subst (λ (b : List Item). TickStep b step last next) (sym (append_assoc before first (heard steps))) one)
+      (subst (λ (t : ℕ). MovedAfter (before ++ first) t (steps ++ step ∷ []) since uid) (tick_once before first tick n mid three two) later)) [
+        | inl old ↦ inl (mid, two, inr old)
+        | inr new ↦ inr (subst (λ (b : List Item). Moves b step uid) (append_assoc before first (heard steps)) new.0, new.1)
+      ]
+
+  pub moved_here : (before : List Item) (tick : ℕ) (steps : List (List Item)) → Ticks before tick steps last → TickStep (before ++ heard steps) step last next
+      → Moves (before ++ heard steps) step uid → since < next → MovedAfter before tick (steps ++ step ∷ []) since uid
+  moved_here before tick [] at one moves above = (
+    next,
+    subst (λ (b : List Item). TickStep b step tick next) (append-nil before) (subst (λ (t : ℕ). TickStep (before ++ []) step t next) at one),
+    inl (subst (λ (b : List Item). Moves b step uid) (append-nil before) moves, above),
+  )
+  moved_here before tick (first ∷ steps) (mid, two, rest) one moves above = (
+    mid,
+    two,
+    inr (moved_here (before ++ first) mid steps rest (subst (λ (b : List Item). TickStep b step last next) (sym (append_assoc before first (heard steps))) one)
+        (subst (λ (b : List Item). Moves b step uid) (sym (append_assoc before first (heard steps))) moves) above),
+  )
+
+  pub moved_before : (before : List Item) (tick : ℕ) (steps : List (List Item)) → MovedAfter before tick steps since uid → MovedAfter before tick (steps ++ step ∷ []) since uid
+  moved_before before tick [] moved = absurd moved
+  moved_before before tick (first ∷ steps) (n, one, inl here) = (n, one, inl here)
+  moved_before before tick (first ∷ steps) (n, one, inr later) = (n, one, inr (moved_before (before ++ first) n steps later))
+
+-- The UIDs that a step moves carry the tick after it, and the others what they carried.
+pub record CarryStep (old new : Shown) (step : List Item) : Type 0 where
+  pub up : (since : ℕ) (uid : List ℕ) → CarriesAfter new.changed since uid → CarriesAfter old.changed since uid ⊎ (Moves old.kept step uid × (since < new.tick))
+  pub moved : (since : ℕ) (uid : List ℕ) → Moves old.kept step uid → since < new.tick → CarriesAfter new.changed since uid
+  pub stays : (since : ℕ) (uid : List ℕ) → CarriesAfter old.changed since uid → since < new.tick → CarriesAfter new.changed since uid
+
 -- a desk that keeps what is kept of one more step, at the tick that the step leaves, is that of one more step
-pub one_more_step : (steps : List (List Item)) (start : ℕ) (old new : Shown) (step : List Item) → AreKept new.kept (old.kept ++ step) → TickStep old.kept step old.tick new.tick → IsDeskOf steps start old → IsDeskOf (steps ++ step ∷ []) start new
-one_more_step steps start old new step kept tick is = record {
+pub one_more_step : (steps : List (List Item)) (start : ℕ) (old new : Shown) (step : List Item) → AreKept new.kept (old.kept ++ step) → TickStep old.kept step old.tick new.tick → CarryStep old new step
+    → IsDeskOf steps start old → IsDeskOf (steps ++ step ∷ []) start new
+one_more_step steps start old new step kept tick carry is = record {
   kept = subst (λ (all : List Item). AreKept new.kept all) (sym (heard-append steps step)) (are_kept_by new.kept (old.kept ++ step) (heard steps ++ step) (kept_beside (heard steps) step old.kept is.kept) kept);
-  tick = ticks_more [] start steps step old.tick new.tick is.tick (tick_step_up old.kept (heard steps) step old.tick new.tick is.kept tick);
+  tick = ticks_more [] start steps step old.tick new.tick is.tick one;
+  changed = λ since uid. (
+    λ c. elim (carry.up since uid c) [
+      | inl before ↦ moved_before step old.tick new.tick since uid [] start steps ((is.changed since uid).0 before)
+      | inr now ↦ moved_here step old.tick new.tick since uid [] start steps is.tick one (moves_up uid now.0) now.1
+    ],
+    λ m. elim (moved_up step old.tick new.tick since uid [] start steps is.tick one m) [
+      | inl before ↦
+          let low : since < old.tick = moved_below [] start steps old.tick since uid is.tick before in
+          let high : old.tick ≤ new.tick = step_rises (heard steps) step old.tick new.tick one in
+          carry.stays since uid ((is.changed since uid).1 before) (omega (arith, low, high))
+      | inr now ↦ carry.moved since uid (λ same. now.0 (keep_same_up uid old.kept (heard steps) step is.kept same)) now.1
+    ],
+  );
 }
+  where
+    one : TickStep (heard steps) step old.tick new.tick
+    one = tick_step_up old.kept (heard steps) step old.tick new.tick is.kept tick
+
+    moves_up : (uid : List ℕ) → Moves old.kept step uid → Moves (heard steps) step uid
+    moves_up uid moves same = moves (keep_same_down uid old.kept (heard steps) step is.kept same)
+
+-- where nothing moves nothing else carries a tick
+pub still_carry : (desk : Shown) (step : List Item) → ((uid : List ℕ) → KeepSame uid desk.kept (desk.kept ++ step)) → CarryStep desk desk step
+still_carry desk step same = record { up = λ since uid c. inl c; moved = λ since uid moves above. absurd (moves (same uid)); stays = λ since uid c above. c }
 
 -- what a step moves is what the kept part of it moves
 pub moved_whole : (uids : List (List ℕ)) (before part step : List Item) → AreKept part step → AreMoved uids before part → AreMoved uids before step
@@ -77,7 +169,7 @@ nothing_more steps start desk is =
     let same : (uid : List ℕ) → KeepSame uid desk.kept (desk.kept ++ []) = λ uid item _. subst (λ (all : List Item). IsKept desk.kept item ↔ IsKept all item) (sym (append-nil desk.kept)) (λ k. k, λ k. k) in
     let state : AreKept desk.kept desk.kept = λ item. let again = kept_again desk.kept (heard steps) is.kept item in
     (λ h. again.1 ((is.kept item).0 h), λ k. (is.kept item).1 (again.0 k)) in
-    one_more_step steps start desk desk [] (none_moved desk.kept [] state same) (inr (same, refl)) is
+    one_more_step steps start desk desk [] (none_moved desk.kept [] state same) (inr (same, refl)) (still_carry desk [] same) is
 
 -- what a step moves of what was kept it moves of all that was heard
 pub moved_of_all : (uids : List (List ℕ)) (kept all step : List Item) → AreKept kept all → AreMoved uids kept step → AreMoved uids all step

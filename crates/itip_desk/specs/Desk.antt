@@ -1,20 +1,44 @@
--- A desk as it is seen: what it keeps, and its tick (our own rule).
-use Rattle.std.specs.Prelude.{ℕ, List, [], refl}
+-- A desk as it is seen: what it keeps, its tick, and the UIDs that moved (our own rule).
+use Rattle.std.specs.Prelude.{◌≡◌, ◌↔◌, ℕ, ◌<◌, List, [], Some, nat_eq, refl}
+use Rattle.std.specs.List.{Contains}
+use Rattle.std.specs.Ordering.{nat_cmp}
+use Rattle.std.specs.Cmp.Lexicographic.{slice_cmp}
 use Rattle.std.specs.Coded.{Coded, code_by, coded×, coded_ℕ, coded_list}
+use Rattle.itip_message.specs.KeyParts.{uid_of}
 use Rattle.itip_message.specs.contracts.item.Item as item
 use Rattle.itip_message.specs.declared.item.Item.{Item}
+use Rattle.itip_join.specs.KeyByKey.{value_at, kept}
 use Rattle.itip_state.specs.Kept.{AreKept}
-use Rattle.itip_desk.specs.Heard.{heard, Ticks}
+use Rattle.itip_desk.specs.Heard.{heard, Ticks, MovedAfter}
+use Rattle.itip_desk.specs.Octets.{AscendOctets}
 
 pub record Shown : Type 0 where
   -- the kept items, each once
   pub kept : List Item
   pub tick : ℕ
+  -- the UIDs that moved, by octets, each with the tick that it carries
+  pub changed : List (List ℕ × ℕ)
 
 abbrev pub shown_code : Coded Shown
-shown_code = code_by (List Item × ℕ) (coded× (coded_list item.the_row.coded) coded_ℕ) (λ d. (d.kept, d.tick)) (λ p. record { kept = p.0; tick = p.1 }) (λ _. refl)
+shown_code = code_by (List Item × (ℕ × List (List ℕ × ℕ))) (coded× (coded_list item.the_row.coded) (coded× coded_ℕ (coded_list (coded× (coded_list coded_ℕ) coded_ℕ)))) (λ d. (d.kept, (d.tick, d.changed)))
+    (λ p. record { kept = p.0; tick = p.1.0; changed = p.1.1 }) (λ _. refl)
 
--- The desk is that of these steps from a starting tick: it keeps what is kept of all heard, and its tick is that of the steps.
+-- of the UIDs with ticks, those that moved: a place that was made for a UID has tick 0
+abbrev pub moved_ones : List (List ℕ × ℕ) → List (List ℕ × ℕ)
+moved_ones ticks = kept (λ uid tick. nat_eq tick 0) ticks
+
+-- a UID carries a tick above `since`
+abbrev pub CarriesAfter : List (List ℕ × ℕ) → ℕ → List ℕ → Type 0
+CarriesAfter changed since uid = (tick : ℕ) × (value_at (slice_cmp nat_cmp) changed uid ≡ Some tick) × (since < tick)
+
+-- The desk is that of these steps from a starting tick: it keeps what is kept of all heard, its tick is that of the steps, and each UID that moved carries
+-- the tick of the last step that moved it.
 pub record IsDeskOf (steps : List (List Item)) (start : ℕ) (desk : Shown) : Type 0 where
   pub kept : AreKept desk.kept (heard steps)
   pub tick : Ticks [] start steps desk.tick
+  pub changed : (since : ℕ) (uid : List ℕ) → CarriesAfter desk.changed since uid ↔ MovedAfter [] start steps since uid
+
+-- the kept items of the UIDs that carry a tick above `since`, by canonical octets, each once
+pub record IsDeltaOf (desk : Shown) (since : ℕ) (batch : List Item) : Type 0 where
+  pub ascend : AscendOctets batch
+  pub same : (item : Item) → Contains batch item ↔ (Contains desk.kept item × CarriesAfter desk.changed since (uid_of item.key))

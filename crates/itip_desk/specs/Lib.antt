@@ -1,4 +1,6 @@
 pub use Rattle.itip_state.specs.Kept
 pub use Rattle.itip_state.specs.Order
+pub mod Octets
 pub mod Heard
 pub mod Desk
+pub mod Marks

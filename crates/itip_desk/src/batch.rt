@@ -23,11 +23,16 @@ impl Model for Batch {
 
     ghost coded = { coded_list item.the_row.coded };
 
+    ghost use Rattle.itip_desk.specs.Octets.{AscendOctets};
+
     ghost view = { λ b. b.items.items };
+
+    ghost invariant = { λ b. AscendOctets b.items.items };
 }
 
 impl Batch {
     ghost use Rattle.itip_state.specs.Kept.{IsItemsOf};
+    ghost use Rattle.itip_desk.specs.Octets.{AscendOctets};
 
     /// The items given, by canonical octets, each once. A refusal, for want of memory, drops the items.
     pub fn of_items(items: Vec<Item>) -> Result<Batch, AllocError>
@@ -40,7 +45,8 @@ impl Batch {
 
     /// The items.
     pub fn as_slice(&self) -> &[Item]
-        ensures { result.now ≡ self.now }
+        ensures items { result.now ≡ self.now }
+        ensures ascend { AscendOctets self.now }
     {
         self.items.as_slice()
     }

@@ -4,10 +4,12 @@ ghost use Rattle.itip_message.specs.declared.item.Item.{Item};
 
 use crate::batch::Batch;
 use crate::error::DeskError;
+use crate::ticks::{carried_after, copies, grow, mark};
+use itip_join::Keyed;
 use itip_state::State;
 use itip_todo::Uid;
 use itip_view::{ViewError, Window, rows, write_list};
-use std::alloc::Global;
+use std::alloc::{AllocError, Global};
 use std::marker::Model;
 
 /// What a taken batch changed: the tick after it, and the UIDs that moved, by octets, each once.
@@ -17,27 +19,28 @@ pub struct Changed {
     pub uids: Vec<Uid>,
 }
 
-/// A replica: what it keeps of all that it has heard, and its tick.
+/// A replica: what it keeps of all that it has heard, its tick, and the tick of the last move of each UID.
 #[derive(Debug, Drop)]
 pub struct Desk {
     state: State,
     tick: u64,
+    ticks: Keyed<Uid, u64>,
     alloc: Global,
 }
 
 impl Model for Desk {
-    ghost use Rattle.itip_desk.specs.Desk.{Shown, shown_code};
+    ghost use Rattle.itip_desk.specs.Desk.{Shown, shown_code, moved_ones};
 
     ghost Value = { Shown };
 
     ghost coded = { shown_code };
 
-    ghost view = { λ d. record { kept = d.state; tick = d.tick } };
+    ghost view = { λ d. record { kept = d.state; tick = d.tick; changed = moved_ones d.ticks.map } };
 }
 
 impl Desk {
     ghost use Rattle.itip_state.specs.Kept.{AreKept, AreMoved, Moves};
-    ghost use Rattle.itip_desk.specs.Desk.{IsDeskOf};
+    ghost use Rattle.itip_desk.specs.Desk.{IsDeskOf, IsDeltaOf};
     ghost use Rattle.itip_desk.specs.Heard.{TickStep};
     ghost use Rattle.itip_view.specs.Rows.{AreTooMany};
     ghost use Rattle.itip_view.specs.ListText.{IsListText};
@@ -49,6 +52,7 @@ impl Desk {
         Desk {
             state: State::empty(alloc),
             tick,
+            ticks: Keyed::empty(alloc),
             alloc,
         }
     }
@@ -97,12 +101,24 @@ impl Desk {
         if self.tick == u64::MAX {
             return Err(DeskError::TicksSpent);
         }
+        let moved = copies(self.alloc, &uids)?;
+        grow(&mut self.ticks, &uids)?;
         self.state.merge(&heard)?;
         self.tick += 1;
+        mark(&mut self.ticks, moved, self.tick);
         Ok(Changed {
             tick: self.tick,
             uids,
         })
+    }
+
+    /// The kept items of the UIDs that carry a tick above this one: what a desk that was at this tick lacks.
+    pub fn delta_since(&self, tick: u64) -> Result<Batch, AllocError>
+        ensures { IfOk result (IsDeltaOf self.now tick) }
+    {
+        let uids = carried_after(self.alloc, &self.ticks, tick)?;
+        let part = self.state.part(&uids)?;
+        Batch::of_items(part.items()?)
     }
 
     /// The text of the task list in a window.

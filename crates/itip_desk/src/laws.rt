@@ -1,13 +1,20 @@
-//! The law of convergence. It holds with no code: the function is empty.
-ghost use Rattle.std.specs.Prelude.{◌≡◌, List, ℕ};
+//! The laws of convergence and of deltas. They hold with no code: each function is empty.
+ghost use Rattle.std.specs.Prelude.{List, ◌++◌, ℕ};
 ghost use Rattle.itip_message.specs.declared.item.Item.{Item};
-ghost use Rattle.itip_state.specs.Kept.{SameItems};
+ghost use Rattle.itip_state.specs.Kept.{AreKept, SameItems};
 ghost use Rattle.itip_desk.specs.Heard.{heard};
-ghost use Rattle.itip_desk.specs.Desk.{Shown, IsDeskOf};
+ghost use Rattle.itip_desk.specs.Desk.{Shown, IsDeskOf, IsDeltaOf};
 
 /// Desks that have heard the same items keep the same items, however these came: late, repeated or in another order (our own rule).
 pub fn desks_converge()
     ensures { (steps others : List (List Item)) (start beginning : ℕ) (desk other : Shown) →
         IsDeskOf steps start desk → IsDeskOf others beginning other →
         SameItems (heard steps) (heard others) → SameItems desk.kept other.kept }
+{}
+
+/// An older state of a desk, joined with what the desk gives as its delta since then, is what the desk keeps now (our own rule).
+pub fn delta_brings_up_to_date()
+    ensures { (steps more : List (List Item)) (start : ℕ) (older newer : Shown) (delta : List Item) →
+        IsDeskOf steps start older → IsDeskOf (steps ++ more) start newer → IsDeltaOf newer older.tick delta →
+        AreKept newer.kept (older.kept ++ delta) }
 {}

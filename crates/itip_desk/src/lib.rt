@@ -6,10 +6,13 @@ mod desk;
 mod error;
 mod laws;
 #[cfg(test)]
+mod rows;
+#[cfg(test)]
 mod tests;
+mod ticks;
 
 pub use batch::Batch;
 pub use desk::{Changed, Desk};
 pub use error::DeskError;
-pub use laws::desks_converge;
+pub use laws::{delta_brings_up_to_date, desks_converge};
 pub use std::alloc::AllocError as NoMemory;

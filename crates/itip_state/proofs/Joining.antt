@@ -45,7 +45,7 @@ module _ {K V : Type 0} (cmp : K → K → Ordering) (dead : K → V → Bool) w
   all_kept P [] a = tt
   all_kept P (e ∷ es) a = elim (dead e.0 e.1) as (λ b. AllByRecursion P (keys_of (cond (not b) (e ∷ kept dead es) (kept dead es)))) [ true ↦ all_kept P es a.1 | false ↦ (a.0, all_kept P es a.1) ]
 
-  kept_sorted : (es : List (K × V)) → IsStrictlySortedBy cmp (keys_of es) → IsStrictlySortedBy cmp (keys_of (kept dead es))
+  pub kept_sorted : (es : List (K × V)) → IsStrictlySortedBy cmp (keys_of es) → IsStrictlySortedBy cmp (keys_of (kept dead es))
   unfolding IsStrictlySortedBy
   kept_sorted [] s = tt
   kept_sorted (e ∷ es) s = elim (dead e.0 e.1) as (λ b. IsStrictlySortedBy cmp (keys_of (cond (not b) (e ∷ kept dead es) (kept dead es)))) [

@@ -57,7 +57,7 @@ module _ {V : Type 0} (whole : List ℕ → Option V) (us now : List (List ℕ))
       both_same true o = refl
       both_same false o = refl
 
-listed_in : (us : List (List ℕ)) (q : List ℕ) → is_listed us q ≡ true → Contains us q
+pub listed_in : (us : List (List ℕ)) (q : List ℕ) → is_listed us q ≡ true → Contains us q
 listed_in [] q e = let x : false ≡ true = e in absurd (cc)
 listed_in (u ∷ us) q e = by_bool (is_eq (uid_cmp u q)) (Contains (u ∷ us) q)
     (λ k. subst (Contains (u ∷ us)) (one_key nat_list_cmp_total exact_bytes u q k) (cons_first u us))
@@ -67,7 +67,7 @@ or_right : (a b : Bool) → b ≡ true → (a || b) ≡ true
 or_right true b e = refl
 or_right false b e = e
 
-in_listed : (us : List (List ℕ)) (q : List ℕ) → Contains us q → is_listed us q ≡ true
+pub in_listed : (us : List (List ℕ)) (q : List ℕ) → Contains us q → is_listed us q ≡ true
 in_listed [] q h = absurd (none_in q h)
 in_listed (u ∷ us) q h = elim (cons_cases u us q h) [
   | inl same ↦ ap (λ b. b || is_listed us q) (ap (λ x. is_eq (uid_cmp x q)) same ∙ itself nat_list_cmp_total exact_bytes q)

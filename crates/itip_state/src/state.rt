@@ -219,8 +219,8 @@ impl State {
     {
         let mut items = Vec::new(self.alloc);
         for (_, series) in self.held.map.iter() {
-            if let Lift::Known(best) = &series.guard {
-                items.push(&best.value.item)?;
+            if let Lift::Known(newest) = &series.guard {
+                items.push(&newest.value.item)?;
             }
         }
         Ok(items)
@@ -249,10 +249,10 @@ impl State {
         ensures ordered { IfOk result (λ items. AscendKeys (map (λ item. item.now) items.items)) }
     {
         let mut items = Vec::new(self.alloc);
-        let Some(series) = self.held.get(uid) else {
+        let Some(held) = self.held.get(uid) else {
             return Ok(items);
         };
-        show(series, &mut items)?;
+        show(held, &mut items)?;
         Ok(items)
     }
 

@@ -3,8 +3,15 @@ use Rattle.itip_message.specs.declared.item.Item.{Item}
 use Rattle.itip_state.specs.Kept.{AreKept, AreMoved, Moves}
 use Rattle.itip_state.specs.Order.{IsState}
 use Rattle.itip_state.proofs.Keeping.{are_kept_by, kept_of_parts, covers_itself, covers_kept}
-use Rattle.itip_desk.specs.Desk.{Shown}
-use Rattle.itip_desk.proofs.Steps.{moved_whole, none_moved, none_in, some_moved, one_more_step}
+use Rattle.std.specs.Prelude.{cond, Some}
+use Rattle.std.specs.Ordering.{nat_cmp}
+use Rattle.std.specs.Cmp.Lexicographic.{slice_cmp}
+use Rattle.itip_join.specs.KeyByKey.{value_at}
+use Rattle.itip_desk.proofs.Refusals.{on_err_always}
+use Rattle.itip_desk.specs.Desk.{Shown, moved_ones}
+use Rattle.itip_desk.specs.Marks.{is_listed}
+use Rattle.itip_desk.proofs.Ticking.{grown_same, carry_step}
+use Rattle.itip_desk.proofs.Steps.{moved_whole, none_moved, none_in, some_moved, still_carry, one_more_step}
 use Rattle.itip_desk.proofs.desk.Desk.take.Goals as goal
 use Rattle.itip_desk.proofs.desk.Desk.take.Goals.{In_ok-uids}
 
@@ -12,7 +19,7 @@ use Rattle.itip_desk.proofs.desk.Desk.take.Goals.{In_ok-uids}
 moved : (c : In_ok-uids) → AreMoved c.in_ok-uids.uids.items c.args.self.now.kept c.args.batch.now
 moved c =
     let kept : c.self.inside.state ≡ c.args.self.now.kept = ap (λ (d : Shown). d.kept) c.self.view_is in
-    let are : AreKept c.in_ok-heard.heard c.args.batch.now = subst (λ (step : List Item). AreKept c.in_ok-heard.heard step) c.as_slice.ensures c.in_ok-heard.ensures in
+    let are : AreKept c.in_ok-heard.heard c.args.batch.now = subst (λ (step : List Item). AreKept c.in_ok-heard.heard step) c.as_slice.ensures.items c.in_ok-heard.ensures in
     subst (λ (k : List Item). AreMoved c.in_ok-uids.uids.items k c.args.batch.now) kept (moved_whole c.in_ok-uids.uids.items c.self.inside.state c.in_ok-heard.heard c.args.batch.now are c.in_ok-uids.ensures.uids)
 
 -- what the desk keeps is a state
@@ -25,7 +32,7 @@ state c =
 kept_with : (c : In_ok-uids) (new : List Item) → AreKept new (c.self.inside.state ++ c.in_ok-heard.heard) → AreKept new (c.args.self.now.kept ++ c.args.batch.now)
 kept_with c new are_new =
     let kept : c.self.inside.state ≡ c.args.self.now.kept = ap (λ (d : Shown). d.kept) c.self.view_is in
-    let are : AreKept c.in_ok-heard.heard c.args.batch.now = subst (λ (step : List Item). AreKept c.in_ok-heard.heard step) c.as_slice.ensures c.in_ok-heard.ensures in
+    let are : AreKept c.in_ok-heard.heard c.args.batch.now = subst (λ (step : List Item). AreKept c.in_ok-heard.heard step) c.as_slice.ensures.items c.in_ok-heard.ensures in
     let whole : AreKept new (c.self.inside.state ++ c.args.batch.now) = are_kept_by new (c.self.inside.state ++ c.in_ok-heard.heard) (c.self.inside.state ++ c.args.batch.now)
     (kept_of_parts c.self.inside.state c.args.batch.now c.self.inside.state c.in_ok-heard.heard (covers_itself c.self.inside.state) (covers_kept c.in_ok-heard.heard c.args.batch.now are)) are_new in
     subst (λ (k : List Item). AreKept new (k ++ c.args.batch.now)) kept whole
@@ -50,7 +57,7 @@ returns-then-is_empty-clause-step c = λ steps start.
     let before = (goal.at.returns-then-is_empty-clause-step c).In_ok-uids in
     let none : length c.in_ok-uids.uids.items ≡ 0 = grind arith in
     let same = none_in c.in_ok-uids.uids.items c.args.self.now.kept c.args.batch.now (moved before) none in
-    one_more_step steps start c.args.self.now c.args.self.now c.args.batch.now (none_moved c.args.self.now.kept c.args.batch.now (state before) same) (inr (same, refl))
+    one_more_step steps start c.args.self.now c.args.self.now c.args.batch.now (none_moved c.args.self.now.kept c.args.batch.now (state before) same) (inr (same, refl)) (still_carry c.args.self.now c.args.batch.now same)
 
 pub returns-then-self-clause-spent : goal.returns-then-self-clause-spent
 returns-then-self-clause-spent c = λ _.
@@ -77,6 +84,29 @@ returns-clause-step c = λ steps start.
     let before = (goal.at.returns-clause-step c).In_ok-uids in
     let some : ¬ (length c.in_ok-uids.uids.items ≡ 0) = grind arith in
     let at : c.self.inside.tick ≡ c.args.self.now.tick = ap (λ (d : Shown). d.tick) c.self.view_is in
-    let new : Shown = record { kept = c.merge.new.self; tick = c.self.inside.tick + 1 } in
+    let new : Shown = record { kept = c.merge.new.self; tick = c.self.inside.tick + 1; changed = moved_ones c.mark.new.ticks.map } in
     one_more_step steps start c.args.self.now new c.args.batch.now (kept_with before c.merge.new.self (c.in_ok-merge.ensures.ok))
     (inl (some_moved c.in_ok-uids.uids.items c.args.self.now.kept c.args.batch.now (moved before) some, ap (λ t. t + 1) at))
+    (carry_step c.self.inside.ticks.map c.grow.new.ticks.map c.mark.new.ticks.map c.self.inside.ticks.ordered c.grow.new.ticks.ordered c.mark.new.ticks.ordered
+    c.in_ok-uids.uids.items (c.self.inside.tick + 1) c.grow.ensures.grown
+    (λ uid. c.mark.ensures uid ∙ ap (λ us. cond (is_listed us uid) (Some (c.self.inside.tick + 1)) (value_at (slice_cmp nat_cmp) c.grow.new.ticks.map uid)) (c.in_ok-moved.ensures ∙ c.deref.ensures.value))
+    c.args.self.now new c.args.batch.now (sym (ap (λ (d : Shown). d.changed) c.self.view_is)) refl refl (moved before))
+
+pub mark-requires : goal.mark-requires
+mark-requires c = λ uid listed. c.in_ok-grow.ensures.all uid (ap (λ us. is_listed us uid) (sym (c.in_ok-moved.ensures ∙ c.deref.ensures.value ∙ sym c.deref-2.ensures.value)) ∙ listed)
+
+pub returns-in_err-grow-clause-err : goal.returns-in_err-grow-clause-err
+returns-in_err-grow-clause-err c = on_err_always c.from_residual-in_err-grow.result
+    ((λ i. record {
+      kept = c.self.inside.state;
+      tick = c.self.inside.tick;
+      changed = grown_same c.self.inside.ticks.map c.grow.new.ticks.map c.self.inside.ticks.ordered c.grow.new.ticks.ordered c.grow.ensures.grown i;
+    }) ∙ c.self.view_is)
+
+pub returns-in_err-merge-clause-err : goal.returns-in_err-merge-clause-err
+returns-in_err-merge-clause-err c = on_err_always c.from_residual-in_err-merge.result
+    ((λ i. record {
+      kept = c.in_err-merge.ensures.err i;
+      tick = c.self.inside.tick;
+      changed = grown_same c.self.inside.ticks.map c.grow.new.ticks.map c.self.inside.ticks.ordered c.grow.new.ticks.ordered c.grow.ensures.grown i;
+    }) ∙ c.self.view_is)

@@ -11,11 +11,11 @@ returns-in_default-clause-items c = subst (λ (xs : List Item). ArePart c.args.u
 
 pub returns-clause-items : goal.returns-clause-items
 returns-clause-items c = subst (λ (xs : List Item). ArePart c.args.uid.now xs c.args.self.now)
-    (ap (λ xs. map (λ item. item.now) xs ++ shape_items (record { series = c.in-Some.series.now.guard; entries = c.in-Some.series.now.entries.map })) (sym c.new-items.ensures.items) ∙ sym c.in_ok-show.ensures)
-    (subst (λ (v : List Item). ArePart c.args.uid.now (shape_items (record { series = c.in-Some.series.now.guard; entries = c.in-Some.series.now.entries.map })) v) c.self.view_is
-    (held_part (λ v. v.guard) (λ v. v.entries.map) (λ v. record { sorted = v.entries.ordered; alive = v.no_dead_entry }) c.self.inside.held.map c.self.inside.held.ordered c.self.invariant c.args.uid.now c.in-Some.series.now (sym c.in-Some.ensures)))
+    (ap (λ xs. map (λ item. item.now) xs ++ shape_items (record { series = c.in-Some.held.now.guard; entries = c.in-Some.held.now.entries.map })) (sym c.new-items.ensures.items) ∙ sym c.in_ok-show.ensures)
+    (subst (λ (v : List Item). ArePart c.args.uid.now (shape_items (record { series = c.in-Some.held.now.guard; entries = c.in-Some.held.now.entries.map })) v) c.self.view_is
+    (held_part (λ v. v.guard) (λ v. v.entries.map) (λ v. record { sorted = v.entries.ordered; alive = v.no_dead_entry }) c.self.inside.held.map c.self.inside.held.ordered c.self.invariant c.args.uid.now c.in-Some.held.now (sym c.in-Some.ensures)))
 
 pub returns-clause-ordered : goal.returns-clause-ordered
 returns-clause-ordered c = subst AscendKeys
-    (ap (λ xs. map (λ item. item.now) xs ++ shape_items (record { series = c.in-Some.series.now.guard; entries = c.in-Some.series.now.entries.map })) (sym c.new-items.ensures.items) ∙ sym c.in_ok-show.ensures)
-    (held_ascends (λ v. v.guard) (λ v. v.entries.map) (λ v. record { sorted = v.entries.ordered; alive = v.no_dead_entry }) c.self.inside.held.map c.self.invariant c.args.uid.now c.in-Some.series.now (sym c.in-Some.ensures))
+    (ap (λ xs. map (λ item. item.now) xs ++ shape_items (record { series = c.in-Some.held.now.guard; entries = c.in-Some.held.now.entries.map })) (sym c.new-items.ensures.items) ∙ sym c.in_ok-show.ensures)
+    (held_ascends (λ v. v.guard) (λ v. v.entries.map) (λ v. record { sorted = v.entries.ordered; alive = v.no_dead_entry }) c.self.inside.held.map c.self.invariant c.args.uid.now c.in-Some.held.now (sym c.in-Some.ensures))
