@@ -1,0 +1,2 @@
+pub mod Congruent
+pub mod Dates

@@ -1,0 +1,96 @@
+//! The walk over the days of a rule.
+ghost use Rattle.std.specs.Prelude.{◌≡◌, ◌≢◌, ◌↔◌, ◌<◌, ◌⊎◌, ℕ, ℤ, ◌≤ℤ◌, ◌<ℤ◌, pos, ◌+ℤ◌, IsTrue, IfOk, MatchOption};
+ghost use Rattle.std.specs.declared.cmp.Ordering.TheVariants.{Greater};
+ghost use Rattle.itip_moment.specs.Years.{IsDayNumber};
+ghost use Rattle.itip_moment.specs.Moment.{moment_day};
+ghost use Rattle.itip_recur.specs.Calendar.{IsDayOrEnd};
+ghost use Rattle.itip_recur.specs.Pattern.{InPattern, IsLaterDay};
+ghost use Rattle.itip_recur.specs.Members.{HasTimeOf};
+ghost use Rattle.itip_recur.specs.Walk.{IsNextDay, IsNoDay, IsEndOfCount};
+
+use crate::NoMemory;
+use crate::calendar::CALENDAR_END;
+use crate::pattern::{in_pattern, next_unit};
+use crate::rule::{End, Rule};
+use itip_moment::{Day, Moment, Stamp};
+use std::cmp::Ordering;
+
+/// The first day of the pattern from `from` on and before `end`.
+pub(crate) fn next_day(rule: &Rule, start: i32, from: i32, end: i32) -> Option<i32>
+    requires start_in { IsDayNumber start }
+    requires from_in { IsDayOrEnd from }
+    requires end_in { IsDayOrEnd end }
+    ensures { MatchOption result (IsNoDay rule.now start from end) (IsNextDay rule.now start from end) }
+{
+    let mut day = from;
+    while day < end {
+        day = next_unit(rule, start, day);
+        if day < end && in_pattern(rule, start, day) {
+            return Some(day);
+        }
+        if day < end {
+            day += 1;
+        }
+    }
+    None
+}
+
+/// The end of the later days that COUNT leaves to a rule, where no more than those before `end` are wanted.
+pub(crate) fn end_of_count(rule: &Rule, start: i32, count: u32, end: i32) -> i32
+    requires start_in { IsDayNumber start }
+    requires end_in { IsDayOrEnd end }
+    ensures bounds { IsDayOrEnd result }
+    ensures exact { IsEndOfCount rule.now start count end result }
+{
+    let mut day = start + 1;
+    for _ in 1..count {
+        match next_day(rule, start, day, end) {
+            Some(found) => day = found + 1,
+            None => return end,
+        }
+    }
+    day
+}
+
+/// The moment on another day with the time of day and the zone of this one.
+pub(crate) fn on_day(start: &Moment, day: i32) -> Result<Moment, NoMemory>
+    requires { IsDayNumber day }
+    ensures day { IfOk result (λ m. moment_day m ≡ day) }
+    ensures time { IfOk result (HasTimeOf start.now) }
+{
+    Ok(match start {
+        Moment::Date(_) => Moment::Date(Day { number: day }),
+        Moment::Floating(at) => Moment::Floating(Stamp {
+            day,
+            second: at.second,
+        }),
+        Moment::Utc(at) => Moment::Utc(Stamp {
+            day,
+            second: at.second,
+        }),
+        Moment::Zoned(zone, at) => Moment::Zoned(
+            zone.clone()?,
+            Stamp {
+                day,
+                second: at.second,
+            },
+        ),
+    })
+}
+
+/// The first day that no later member of the rule lies on or after, or `end`.
+pub(crate) fn end_of_days(rule: &Rule, start: i32, end: i32) -> i32 {
+    match &rule.end {
+        End::Never => end,
+        End::Count(count) => end_of_count(rule, start, *count, end),
+        End::Until(last) => end.min(last.day() + 1),
+    }
+}
+
+/// Whether UNTIL, where there is one, leaves a moment to the rule.
+pub(crate) fn is_until(end: &End, moment: &Moment) -> bool {
+    match end {
+        End::Until(last) => moment.cmp(last) != Ordering::Greater,
+        End::Never | End::Count(_) => true,
+    }
+}
