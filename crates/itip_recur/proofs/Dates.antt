@@ -1,13 +1,13 @@
 -- Later days have later dates, and a month's days are those before the next.
-use Rattle.std.proofs.Common.{◌≡◌, ℕ, zero, suc, ◌+◌, ◌*◌, ◌<◌, ◌≤◌, ◌⊎◌, inl, inr, ◌↔◌, true, false, cond, nat_lt, refl, sym, subst, arith, ℤ, pos, ◌+ℤ◌, ◌<ℤ◌, ◌≤ℤ◌, unsigned_abs}
+use Rattle.std.proofs.Common.{◌≡◌, ℕ, zero, suc, ◌+◌, ◌*◌, ◌<◌, ◌≤◌, ◌⊎◌, inl, inr, ◌↔◌, true, false, cond, nat_lt, refl, sym, subst, arith, ℤ, pos, negsuc, ◌+ℤ◌, ◌<ℤ◌, ◌≤ℤ◌, unsigned_abs}
 use Rattle.std.proofs.lemmas.Int.{by_lt_z}
 use Rattle.std.proofs.lemmas.Bool.{cases_lt}
 use borrow.Author.Tests.{ltb-true, ltb-false}
 use Rattle.jiff.specs.Words.{days_in_month}
 use Rattle.jiff_core.proofs.SignedLemmas.{signed_arith}
 use Rattle.itip_moment.specs.Years.{IsDayNumber}
-use Rattle.itip_moment.specs.Written.{YearMonthDay, next_date, nth_date, date_of}
-use Rattle.itip_recur.specs.Calendar.{days_from_zero, year_number, month_of_year, month_number, day_of_month}
+use Rattle.itip_moment.specs.Written.{YearMonthDay, next_date, nth_date}
+use Rattle.itip_recur.specs.Calendar.{days_from_zero, date_of, year_number, month_of_year, month_number, day_of_month}
 
 -- a month that the calendar has, and a day from 1 on
 pub record IsPlain (d : YearMonthDay) : Type 0 where
@@ -69,19 +69,27 @@ nth_date-later n (suc m) lt =
       | inr above ↦ let same : m ≡ n = omega arith in subst (λ (k : ℕ). IsLaterDate (nth_date k) (next_date (nth_date m))) same step
     ]
 
-pub later_date : (a b : ℤ) → IsDayNumber a → a <ℤ b → IsLaterDate (date_of a) (date_of b)
-later_date a b in_years lt = nth_date-later (days_from_zero a) (days_from_zero b) (omega (arith, signed_arith))
+pos-unsigned_abs : (z : ℤ) → pos 0 ≤ℤ z → pos (unsigned_abs z) ≡ z
+pos-unsigned_abs (pos n) h = refl
+pos-unsigned_abs (negsuc n) h = absurd (omega (arith, signed_arith))
+
+pub pos-days_from_zero : (day : ℤ) → IsDayNumber day → pos (days_from_zero day) ≡ day +ℤ pos 719_528
+unfolding days_from_zero
+pos-days_from_zero day in_years = pos-unsigned_abs (day +ℤ pos 719_528) (omega (arith, signed_arith))
+
+pub later_date : (a b : ℤ) → IsDayNumber a → IsDayNumber b → a <ℤ b → IsLaterDate (date_of a) (date_of b)
+later_date a b a_in b_in lt = nth_date-later (days_from_zero a) (days_from_zero b) (omega (arith, signed_arith, pos-days_from_zero a a_in, pos-days_from_zero b b_in))
 
 -- the days before the first of a month lie in earlier months
 pub first_of_month : (first : ℤ) (month : ℕ) → IsDayNumber first → month_number first ≡ month → day_of_month first ≡ 1 → (day : ℤ) → IsDayNumber day → (day <ℤ first) ↔ (month_number day < month)
 first_of_month first month first_in same one day day_in = (
-  λ before. elim (later_date day first day_in before) [
+  λ before. elim (later_date day first day_in first_in before) [
     | inl lt ↦ omega arith
     | inr at ↦ let low = (date_of-IsPlain day).day_low in absurd (omega arith)
   ],
   λ lt. by_lt_z day first (λ before. before)
       (λ after. by_lt_z first day
-      (λ later. elim (later_date first day first_in later) [ inl gt ↦ absurd (omega arith) | inr at ↦ absurd (omega arith) ])
+      (λ later. elim (later_date first day first_in day_in later) [ inl gt ↦ absurd (omega arith) | inr at ↦ absurd (omega arith) ])
       (λ not_later. let equal : day ≡ first = omega (arith, signed_arith) in absurd (let e : month_number day ≡ month = subst (λ (z : ℤ). month_number z ≡ month) (sym equal) same in omega arith))),
 )
 

@@ -1,2 +1,4 @@
 pub mod Congruent
 pub mod Dates
+pub mod CalendarDays
+pub mod Units

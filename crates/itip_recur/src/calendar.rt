@@ -1,8 +1,9 @@
 //! The weekday, the week, the month and the year of a day by its number.
-ghost use Rattle.std.specs.Prelude.{◌≡◌, ◌<◌, ◌≤◌, ◌↔◌, ◌*◌, ◌+◌, ◌^◌, ℤ, pos, ◌<ℤ◌};
+ghost use Rattle.std.specs.Prelude.{◌≡◌, ◌<◌, ◌≤◌, ◌↔◌, ◌*◌, ◌+◌, ◌-◌, ◌/◌, ◌%◌, ◌^◌, ℤ, pos, ◌<ℤ◌};
 ghost use Rattle.itip_moment.specs.Years.{IsDayNumber};
-ghost use Rattle.jiff.specs.Words.{monday_zero};
-ghost use Rattle.itip_recur.specs.Calendar.{days_from_zero, weekday_number, week_number, year_number, month_of_year, month_number, day_of_month, month_length, IsDayOrEnd};
+ghost use Rattle.std.specs.Int.{IsInRange};
+ghost use Rattle.jiff.specs.Words.{monday_zero, days_in_month};
+ghost use Rattle.itip_recur.specs.Calendar.{days_from_zero, weekday_number, week_number, year_number, month_of_year, month_number, day_of_month, month_length, IsDayOrEnd, IsDateOf};
 
 use crate::Weekday;
 use jiff_core::civil::{self, Date};
@@ -26,6 +27,7 @@ pub(crate) struct CalendarDay {
     pub(crate) ghost month_is: { month ≡ month_of_year number },
     pub(crate) ghost day_is: { day ≡ day_of_month number },
     pub(crate) ghost length_is: { days_in_month ≡ month_length number },
+    pub(crate) ghost bounds: { (year < 10_000) × (month ≤ 12) × (1 ≤ day) × (day ≤ days_in_month) × (days_in_month ≤ 31) },
 }
 
 impl CalendarDay {
@@ -33,13 +35,13 @@ impl CalendarDay {
         requires { IsDayNumber day }
         ensures { result.number ≡ day }
     {
-        let date = Date::from_unix_epoch_day(day as i64).unwrap();
+        let (year, month, day_of_month) = year_month_day(day);
         CalendarDay {
             number: day,
-            year: date.year as u32,
-            month: date.month,
-            day: date.day,
-            days_in_month: civil::days_in_month(date.year, date.month),
+            year,
+            month,
+            day: day_of_month,
+            days_in_month: days_in_month(year, month),
         }
     }
 
@@ -50,9 +52,39 @@ impl CalendarDay {
     }
 }
 
+fn year_month_day(day: i32) -> (u32, u8, u8)
+    requires { IsDayNumber day }
+    ensures year { result.0 ≡ year_number day }
+    ensures month { result.1 ≡ month_of_year day }
+    ensures day { result.2 ≡ day_of_month day }
+    ensures bounds { (result.0 < 10_000) × IsInRange 1 12 result.1
+        × IsInRange 1 (days_in_month (pos result.0) result.1) result.2 }
+{
+    let date = date_of(day);
+    (date.year as u32, date.month, date.day)
+}
+
+fn date_of(day: i32) -> Date
+    requires { IsDayNumber day }
+    ensures { IsDateOf day result }
+{
+    Date::from_unix_epoch_day(day as i64).unwrap()
+}
+
+fn days_in_month(year: u32, month: u8) -> u8
+    requires year_in { year < 10_000 }
+    requires month_in { IsInRange 1 12 month }
+    ensures value { result ≡ days_in_month (pos year) month }
+    ensures high { result ≤ 31 }
+{
+    civil::days_in_month(year as i16, month)
+}
+
+#[tactic(auto, unfolding(crate::specs::Calendar::days_from_zero))]
 pub(crate) fn days_from_zero(day: i32) -> u32
     requires { IsDayNumber day }
-    ensures { result ≡ days_from_zero day }
+    ensures value { result ≡ days_from_zero day }
+    ensures bound { result < 2 ^ 22 }
 {
     (day + DAYS_BEFORE_EPOCH) as u32
 }
@@ -66,12 +98,14 @@ pub(crate) fn weekday_number(day: i32) -> u8
 
 pub(crate) fn week_number(first: Weekday, day: i32) -> u32
     requires { IsDayNumber day }
-    ensures { result ≡ week_number first day }
+    ensures value { result ≡ week_number first day }
+    ensures bound { result < 2 ^ 22 }
 {
     (days_from_zero(day) + 12 - first.index() as u32) / 7
 }
 
 /// The day with so many days since 0000-01-01, or the end of the calendar.
+#[tactic(auto, unfolding(crate::specs::Calendar::days_from_zero))]
 pub(crate) fn day_at(days: u32) -> i32
     ensures bounds { IsDayOrEnd result }
     ensures before { (day : ℤ) → IsDayNumber day → (day <ℤ result) ↔ (days_from_zero day < days) }
@@ -100,16 +134,25 @@ pub(crate) fn first_of_month(month: u32) -> i32
     if month == 0 {
         return -DAYS_BEFORE_EPOCH;
     }
-    let year = (month - 1) / 12;
-    if year > 9999 {
+    if (month - 1) / 12 > 9999 {
         return CALENDAR_END;
     }
-    let date = Date {
-        year: year as i16,
+    let date = first_date(month);
+    date.to_unix_epoch_day()
+}
+
+fn first_date(month: u32) -> Date
+    requires positive { 1 ≤ month }
+    requires in_years { (month - 1) / 12 ≤ 9999 }
+    ensures year { result.year ≡ pos ((month - 1) / 12) }
+    ensures month { result.month ≡ (month - 1) % 12 + 1 }
+    ensures day { result.day ≡ 1 }
+{
+    Date {
+        year: ((month - 1) / 12) as i16,
         month: ((month - 1) % 12 + 1) as u8,
         day: 1,
-    };
-    date.to_unix_epoch_day()
+    }
 }
 
 /// The first day of a year, or the end of the calendar.

@@ -1,7 +1,8 @@
 //! Which days a rule selects.
 ghost use Rattle.std.specs.Prelude.{◌≡◌, ◌↔◌, ◌<◌, ◌≤◌, ◌%◌, ◌+◌, ◌^◌, ◌≢◌, ℕ, ℤ, ◌≤ℤ◌, ◌<ℤ◌, IsTrue};
 ghost use Rattle.itip_moment.specs.Years.{IsDayNumber};
-ghost use Rattle.itip_recur.specs.Calendar.{IsDayOrEnd};
+ghost use Rattle.std.specs.List.{Any};
+ghost use Rattle.itip_recur.specs.Calendar.{IsDayOrEnd, month_of_year};
 ghost use Rattle.itip_recur.specs.Pattern.{unit_number, counted, ordinal, IsAtPlace, IsInSeven, IsMonthWeekday, IsWeekDay, IsMonthDay, IsYearDay, IsSelected, InPattern, IsRuleDay};
 
 use crate::calendar::{
@@ -78,10 +79,7 @@ fn is_month_day(days: &MonthDays, start: &CalendarDay, day: &CalendarDay) -> boo
 {
     match days {
         MonthDays::OfStart => day.day == start.day,
-        MonthDays::Listed(places) => places
-            .as_slice()
-            .iter()
-            .any(|place| is_at_place(*place, day)),
+        MonthDays::Listed(places) => is_at_some_place(places.as_slice(), day),
         MonthDays::Weekdays(weekdays) => weekdays
             .as_slice()
             .iter()
@@ -95,10 +93,21 @@ fn is_year_day(days: &YearDays, start: &CalendarDay, day: &CalendarDay) -> bool
     match days {
         YearDays::OfStart => day.month == start.month && day.day == start.day,
         YearDays::Listed { months, days } => {
-            months.as_slice().iter().any(|month| day.month == *month)
-                && days.as_slice().iter().any(|place| is_at_place(*place, day))
+            is_in_some_month(months.as_slice(), day) && is_at_some_place(days.as_slice(), day)
         }
     }
+}
+
+fn is_in_some_month(months: &[u8], day: &CalendarDay) -> bool
+    ensures { IsTrue result ↔ Any (λ month. month_of_year day.now.number ≡ month) months.now }
+{
+    months.iter().any(|month| day.month == *month)
+}
+
+fn is_at_some_place(places: &[Place], day: &CalendarDay) -> bool
+    ensures { IsTrue result ↔ Any (λ place. IsAtPlace place day.now.number) places.now }
+{
+    places.iter().any(|place| is_at_place(*place, day))
 }
 
 // The day's place in its month from the side that the place names, and the place.
