@@ -2,3 +2,5 @@ pub mod Congruent
 pub mod Dates
 pub mod CalendarDays
 pub mod Units
+pub mod Walks
+pub mod Counted

@@ -25,12 +25,13 @@ pub(crate) fn next_day(rule: &Rule, start: i32, from: i32, end: i32) -> Option<i
     let mut day = from;
     while day < end {
         day = next_unit(rule, start, day);
-        if day < end && in_pattern(rule, start, day) {
+        if day >= end {
+            break;
+        }
+        if in_pattern(rule, start, day) {
             return Some(day);
         }
-        if day < end {
-            day += 1;
-        }
+        day += 1;
     }
     None
 }
@@ -42,12 +43,14 @@ pub(crate) fn end_of_count(rule: &Rule, start: i32, count: u32, end: i32) -> i32
     ensures bounds { IsDayOrEnd result }
     ensures exact { IsEndOfCount rule.now start count end result }
 {
+    let mut seen: u32 = 1;
     let mut day = start + 1;
-    for _ in 1..count {
-        match next_day(rule, start, day, end) {
-            Some(found) => day = found + 1,
-            None => return end,
-        }
+    while seen < count {
+        let Some(found) = next_day(rule, start, day, end) else {
+            return end;
+        };
+        seen += 1;
+        day = found + 1;
     }
     day
 }
