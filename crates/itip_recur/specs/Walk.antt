@@ -1,6 +1,12 @@
 -- What the walk over the days of a rule finds.
-use Rattle.std.specs.Prelude.{ℕ, ◌<◌, List, length, ℤ, ◌≤ℤ◌, ◌<ℤ◌}
+use Rattle.std.specs.Prelude.{◌≢◌, ℕ, ◌<◌, List, length, ℤ, ◌≤ℤ◌, ◌<ℤ◌}
 use Rattle.std.specs.List.{Contains}
+use Rattle.std.specs.declared.cmp.Ordering.TheVariants.{Greater}
+use Rattle.itip_moment.specs.declared.day.Day.{Day}
+use Rattle.itip_moment.specs.declared.moment.Moment.{Moment}
+use Rattle.itip_moment.specs.Order.{moment_cmp}
+use Rattle.itip_recur.specs.declared.rule.End.{End}
+use Rattle.itip_recur.specs.declared.rule.End.TheVariants.{Never, Count, Until}
 use Rattle.itip_recur.specs.declared.rule.Rule.{Rule}
 use Rattle.itip_recur.specs.Pattern.{InPattern, IsLaterDay, IsRuleDay}
 
@@ -17,8 +23,8 @@ pub record IsNextDay (rule : Rule) (start from end day : ℤ) : Type 0 where
 
 -- fewer than so many days are P
 pub record AreFewerDays (P : ℤ → Type 0) (count : ℕ) : Type 0 where
-  pub all : List ℤ
-  pub each : (day : ℤ) → P day → Contains all day
+  pub all : List Day
+  pub each : (day : Day) → P day.number → Contains all day
   pub few : length all < count
 
 -- a day of the rule, the start among them, before another
@@ -29,3 +35,9 @@ IsEarlier rule start day e = IsRuleDay rule start e × (e <ℤ day)
 pub record IsEndOfCount (rule : Rule) (start : ℤ) (count : ℕ) (end last : ℤ) : Type 0 where
   pub inside : (day : ℤ) → IsLaterDay rule start day → day <ℤ end → day <ℤ last → AreFewerDays (IsEarlier rule start day) count
   pub outside : (day : ℤ) → IsLaterDay rule start day → day <ℤ end → last ≤ℤ day → AreFewerDays (IsEarlier rule start day) count → ⊥
+
+-- UNTIL, where there is one, is not before the moment
+abbrev pub IsUpTo : End → Moment → Type 0
+IsUpTo Never m = Unit {0}
+IsUpTo (Count n) m = Unit {0}
+IsUpTo (Until last) m = moment_cmp m last ≢ Greater

@@ -4,7 +4,7 @@ ghost use Rattle.itip_recur.specs.Occurrences.{AreOccurrences, AreOver, IfTooMan
 
 use crate::calendar::CALENDAR_END;
 use crate::error::RecurError;
-use crate::members::{end_of_days, is_until, next_day, on_day};
+use crate::members::{end_of_days, is_up_to, next_day, on_day};
 use crate::rule::{End, Rule};
 use crate::series::Series;
 use itip_moment::Moment;
@@ -56,7 +56,7 @@ fn is_member(rule: &Option<Rule>, start: &Moment) -> bool {
         None => true,
         Some(rule) => match &rule.end {
             End::Count(count) => *count > 0,
-            end => is_until(end, start),
+            end => is_up_to(end, start),
         },
     }
 }
@@ -74,10 +74,10 @@ fn add_repeats(
 ) -> Result<(), RecurError> {
     let start = series.start.day();
     let mut day = from.clamp(start + 1, CALENDAR_END);
-    let end = end_of_days(rule, start, to.clamp(start + 1, CALENDAR_END));
+    let end = end_of_days(rule, &series.start, to.clamp(start + 1, CALENDAR_END));
     while let Some(next) = next_day(rule, start, day, end) {
         let moment = on_day(&series.start, next)?;
-        if is_until(&rule.end, &moment) {
+        if is_up_to(&rule.end, &moment) {
             add(found, series.exdates.as_slice(), moment)?;
         }
         day = next + 1;

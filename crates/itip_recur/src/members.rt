@@ -5,8 +5,9 @@ ghost use Rattle.itip_moment.specs.Years.{IsDayNumber};
 ghost use Rattle.itip_moment.specs.Moment.{moment_day};
 ghost use Rattle.itip_recur.specs.Calendar.{IsDayOrEnd};
 ghost use Rattle.itip_recur.specs.Pattern.{InPattern, IsLaterDay};
-ghost use Rattle.itip_recur.specs.Members.{HasTimeOf};
-ghost use Rattle.itip_recur.specs.Walk.{IsNextDay, IsNoDay, IsEndOfCount};
+ghost use Rattle.itip_moment.specs.declared.moment.Moment.{Moment};
+ghost use Rattle.itip_recur.specs.Members.{HasTimeOf, IsRepeat, IsCandidate, IsWithinEnd};
+ghost use Rattle.itip_recur.specs.Walk.{IsNextDay, IsNoDay, IsEndOfCount, IsUpTo};
 
 use crate::NoMemory;
 use crate::calendar::CALENDAR_END;
@@ -81,17 +82,31 @@ pub(crate) fn on_day(start: &Moment, day: i32) -> Result<Moment, NoMemory>
     })
 }
 
-/// The first day that no later member of the rule lies on or after, or `end`.
-pub(crate) fn end_of_days(rule: &Rule, start: i32, end: i32) -> i32 {
+/// The end of the days of the rule's repeats, where no more than those before `end` are wanted; UNTIL may cut
+/// off the last one.
+pub(crate) fn end_of_days(rule: &Rule, start: &Moment, end: i32) -> i32
+    requires { IsDayOrEnd end }
+    ensures bounds { IsDayOrEnd result }
+    ensures exact { (m : Moment) → IsRepeat rule.now start.now m → moment_day m <ℤ end
+        → IsWithinEnd rule.now.end (IsCandidate rule.now start.now) m ↔ ((moment_day m <ℤ result) × IsUpTo rule.now.end m) }
+{
     match &rule.end {
         End::Never => end,
-        End::Count(count) => end_of_count(rule, start, *count, end),
-        End::Until(last) => end.min(last.day() + 1),
+        End::Count(count) => end_of_count(rule, start.day(), *count, end),
+        End::Until(last) => {
+            if last.day() < end {
+                last.day() + 1
+            } else {
+                end
+            }
+        }
     }
 }
 
 /// Whether UNTIL, where there is one, leaves a moment to the rule.
-pub(crate) fn is_until(end: &End, moment: &Moment) -> bool {
+pub(crate) fn is_up_to(end: &End, moment: &Moment) -> bool
+    ensures { IsTrue result ↔ IsUpTo end.now moment.now }
+{
     match end {
         End::Until(last) => moment.cmp(last) != Ordering::Greater,
         End::Never | End::Count(_) => true,
