@@ -6,3 +6,7 @@ pub mod Units
 pub mod Walks
 pub mod Counted
 pub mod Moments
+pub mod Adds
+pub mod Steps
+pub mod StepRuns
+pub mod Listed

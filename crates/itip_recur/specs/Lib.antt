@@ -3,6 +3,7 @@ pub mod Pattern
 pub mod Members
 pub mod Walk
 pub mod Occurrences
+pub mod Adding
 pub mod RuleText
 pub mod Reads
 pub mod ToDoShape

@@ -82,9 +82,19 @@ pub(crate) fn on_day(start: &Moment, day: i32) -> Result<Moment, NoMemory>
     })
 }
 
-/// The end of the days of the rule's repeats, where no more than those before `end` are wanted; UNTIL may cut
-/// off the last one.
+/// The end of the days of the rule's repeats that lie before `end`; UNTIL may cut off the last one.
 pub(crate) fn end_of_days(rule: &Rule, start: &Moment, end: i32) -> i32
+    requires { IsDayOrEnd end }
+    ensures bounds { IsDayOrEnd result }
+    ensures exact { (m : Moment) → IsRepeat rule.now start.now m
+        → ((moment_day m <ℤ end) × IsWithinEnd rule.now.end (IsCandidate rule.now start.now) m) ↔ ((moment_day m <ℤ result) × IsUpTo rule.now.end m) }
+{
+    let last = end_of_rule(rule, start, end);
+    if last < end { last } else { end }
+}
+
+// As `end_of_days`, for the repeats before `end` alone.
+fn end_of_rule(rule: &Rule, start: &Moment, end: i32) -> i32
     requires { IsDayOrEnd end }
     ensures bounds { IsDayOrEnd result }
     ensures exact { (m : Moment) → IsRepeat rule.now start.now m → moment_day m <ℤ end

@@ -3,7 +3,7 @@ use Rattle.jiff_core.proofs.SignedLemmas.{signed_arith}
 use Rattle.itip_moment.specs.Moment.{moment_day}
 use Rattle.itip_recur.specs.Walk.{IsEndOfCount}
 use Rattle.itip_recur.proofs.Moments.{within_end-Count, day_up_to, moment_day-in_years}
-use Rattle.itip_recur.proofs.members.end_of_days.Goals as goal
+use Rattle.itip_recur.proofs.members.end_of_rule.Goals as goal
 
 pub returns-in-Count-clause-exact : goal.returns-in-Count-clause-exact
 returns-in-Count-clause-exact c =
