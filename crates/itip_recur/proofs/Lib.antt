@@ -10,3 +10,7 @@ pub mod Adds
 pub mod Steps
 pub mod StepRuns
 pub mod Listed
+pub mod Numbers
+pub mod MonthWeekdays
+pub mod RuleEnds
+pub mod Zips

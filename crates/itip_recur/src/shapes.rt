@@ -1,11 +1,13 @@
 //! How a to-do recurs.
 ghost use Rattle.std.specs.Prelude.{◌↔◌, IsTrue, IfOk, MatchOption};
+ghost use Rattle.itip_recur.specs.declared.rule.Rule.{Rule};
 ghost use Rattle.itip_recur.specs.declared.series.Series.{Series};
+ghost use Rattle.itip_recur.specs.RuleText.{RuleText};
 ghost use Rattle.itip_recur.specs.ToDoShape.{HasPeriod, Recurs, EndFits, IsRuleOf, IsSeriesOf, IsShape};
 
 use crate::NoMemory;
 use crate::read::{Reading, read_rule};
-use crate::rule::End;
+use crate::rule::{End, Rule};
 use crate::series::{Series, Shape};
 use itip_moment::{Form, Moment};
 use itip_todo::Todo;
@@ -64,9 +66,9 @@ fn series_of(alloc: Global, todo: &Todo) -> Result<Option<Series>, NoMemory>
     };
     let rule = match todo.rule.as_slice() {
         [] => None,
-        [text] => match read_rule(alloc, text.as_str())? {
-            Reading::Plain(rule) if end_fits(start, &rule.end) => Some(rule),
-            _ => return Ok(None),
+        [text] => match read_fitting(alloc, start, text.as_str())? {
+            Some(rule) => Some(rule),
+            None => return Ok(None),
         },
         _ => return Ok(None),
     };
@@ -76,4 +78,22 @@ fn series_of(alloc: Global, todo: &Todo) -> Result<Option<Series>, NoMemory>
         rdates: todo.rdates.clone()?,
         exdates: todo.exdates.clone()?,
     }))
+}
+
+// The rule of a text, where its end fits the start.
+fn read_fitting(alloc: Global, start: &Moment, text: &str) -> Result<Option<Rule>, NoMemory>
+    ensures { IfOk result (λ r. MatchOption r
+        ((rule : Rule) → RuleText text.now rule → EndFits start.now rule.end → ⊥)
+        (λ rule. RuleText text.now rule × EndFits start.now rule.end)) }
+{
+    match read_rule(alloc, text)? {
+        Reading::Plain(rule) => {
+            if end_fits(start, &rule.end) {
+                Ok(Some(rule))
+            } else {
+                Ok(None)
+            }
+        }
+        Reading::Opaque => Ok(None),
+    }
 }
