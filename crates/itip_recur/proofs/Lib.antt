@@ -14,3 +14,4 @@ pub mod Numbers
 pub mod MonthWeekdays
 pub mod RuleEnds
 pub mod Zips
+pub mod Rests

@@ -1,7 +1,9 @@
 -- Which text is which rule: the profile of RFC 5545 3.3.10 that is expanded (the choice of its parts is our own).
-use Rattle.std.specs.Prelude.{◌≡◌, ℕ, ◌≤◌, ◌⊎◌, ◌==◌, List, [], ◌∷◌, ◌++◌, IsTrue, Bool, Option, Some, None, MatchOption, codes, count_by}
-use Rattle.std.specs.List.{All, Any, AllZip, slice_split, after_first, starts_with, find}
-use Rattle.std.specs.Option.{option_map}
+use Rattle.std.specs.Prelude.{◌≡◌, ℕ, ◌≤◌, ◌⊎◌, ◌==◌, ◌&&◌, nat_lt, nat_le, if◌then◌else◌, length, map, List, [], ◌∷◌, ◌++◌, IsTrue, Bool, Option, Some, None, MatchOption, codes, count_by}
+use Rattle.std.specs.Char.{to_ascii_lowercase}
+use Rattle.std.specs.Cmp.Lexicographic.{pointwise}
+use Rattle.std.specs.List.{AllZip, slice_split, position_or_len, before_first, after_first, find, list_all, list_any}
+use Rattle.std.specs.Option.{option_and_then}
 use Rattle.std.specs.Str.{str_to_ascii_uppercase}
 use Rattle.std.specs.Str.Parse.{digits_value, IsNumeral}
 use Rattle.std.specs.Prelude.{nat_eq}
@@ -37,22 +39,27 @@ elements value = slice_split (λ c. c == 44) value
 abbrev pub part_names : List (List ℕ)
 part_names = codes "FREQ" ∷ codes "INTERVAL" ∷ codes "COUNT" ∷ codes "UNTIL" ∷ codes "WKST" ∷ codes "BYDAY" ∷ codes "BYMONTHDAY" ∷ codes "BYMONTH" ∷ []
 
--- the part begins with the name, in letters of either case, and '='
+-- what stands before the first '=' of the part is the name, in letters of either case
 abbrev pub has_name : List ℕ → List ℕ → Bool
-has_name name part = starts_with nat_eq (str_to_ascii_uppercase part) (name ++ 61 ∷ [])
+has_name name part = nat_lt (position_or_len (λ c. c == 61) part) (length part) && pointwise nat_eq (map to_ascii_lowercase (before_first (λ c. c == 61) part)) (map to_ascii_lowercase name)
 
--- what stands behind the first '=' of the part of this name, where there is one
+-- what stands behind the first '=' of a part, where it has one
+abbrev pub part_value : List ℕ → Option (List ℕ)
+part_value part = if nat_lt (position_or_len (λ c. c == 61) part) (length part) then Some (after_first (λ c. c == 61) part) else None
+
+-- the value of the part of this name, where there is one
 abbrev pub value_of : List ℕ → List (List ℕ) → Option (List ℕ)
-value_of name parts = option_map (after_first (λ c. c == 61)) (find (has_name name) parts)
+value_of name parts = option_and_then part_value (find (has_name name) parts)
 
 -- each part has one of the names, and no name stands twice
-pub record AreParts (parts : List (List ℕ)) : Type 0 where
-  pub known : All (λ part. Any (λ name. IsTrue (has_name name part)) part_names) parts
-  pub once : All (λ name. count_by (has_name name) parts ≤ 1) part_names
+abbrev pub are_parts : List (List ℕ) → Bool
+are_parts parts =
+    list_all (λ part. list_any (λ name. has_name name part) part_names) parts
+    && list_all (λ name. nat_le (count_by (has_name name) parts) 1) part_names
 
 -- the text is this word, in letters of either case
 abbrev pub IsWord : List ℕ → List ℕ → Type 0
-IsWord word text = str_to_ascii_uppercase text ≡ word
+IsWord word text = map to_ascii_lowercase text ≡ map to_ascii_lowercase word
 
 abbrev pub weekday_word : Weekday → List ℕ
 weekday_word Monday = codes "MO"
@@ -64,7 +71,7 @@ weekday_word Saturday = codes "SA"
 weekday_word Sunday = codes "SU"
 
 abbrev pub IsWeekdayText : List ℕ → Weekday → Type 0
-IsWeekdayText text weekday = IsWord (weekday_word weekday) text
+IsWeekdayText text weekday = str_to_ascii_uppercase text ≡ weekday_word weekday
 
 -- one or more digits, of a number from 1 to the limit
 pub record IsNumberText (limit : ℕ) (text : List ℕ) (n : ℕ) : Type 0 where
@@ -155,13 +162,17 @@ IsEndOf count until Never = IsAbsent count × IsAbsent until
 IsEndOf count until (Count n) = IsGiven (λ value. IsNumberText 4_294_967_295 value n) count × IsAbsent until
 IsEndOf count until (Until last) = IsAbsent count × IsGiven (λ value. MomentText value None last) until
 
+-- the parts are those of the rule
+pub record IsRuleOfParts (parts : List (List ℕ)) (rule : Rule) : Type 0 where
+  pub lawful : IsTrue (are_parts parts)
+  pub frequency : IsFrequencyOf parts rule.frequency
+  pub interval : IsInterval (value_of (codes "INTERVAL") parts) rule.interval
+  pub end : IsEndOf (value_of (codes "COUNT") parts) (value_of (codes "UNTIL") parts) rule.end
+  pub week_start : IsWeekStart (value_of (codes "WKST") parts) rule.week_start
+
 -- the text is the rule
-pub record RuleText (text : List ℕ) (rule : Rule) : Type 0 where
-  pub parts : AreParts (rule_parts text)
-  pub frequency : IsFrequencyOf (rule_parts text) rule.frequency
-  pub interval : IsInterval (value_of (codes "INTERVAL") (rule_parts text)) rule.interval
-  pub end : IsEndOf (value_of (codes "COUNT") (rule_parts text)) (value_of (codes "UNTIL") (rule_parts text)) rule.end
-  pub week_start : IsWeekStart (value_of (codes "WKST") (rule_parts text)) rule.week_start
+abbrev pub RuleText : List ℕ → Rule → Type 0
+RuleText text rule = IsRuleOfParts (rule_parts text) rule
 
 -- the text is no rule of the profile
 abbrev pub IsOpaqueText : List ℕ → Type 0

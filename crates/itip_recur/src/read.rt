@@ -1,5 +1,13 @@
 //! Reading a rule.
-ghost use Rattle.std.specs.Prelude.{IfOk};
+ghost use Rattle.std.specs.Prelude.{ℕ, map, option_copied, IfOk, MatchOption};
+ghost use Rattle.jiff_core.specs.declared.civil.weekday.Weekday.{Weekday};
+ghost use Rattle.itip_recur.specs.declared.rule.Rule.{Rule};
+ghost use Rattle.itip_recur.specs.declared.rule.End.{End};
+ghost use Rattle.itip_recur.specs.declared.rule.Frequency.{Frequency};
+ghost use Rattle.itip_recur.specs.declared.rule.WeekDays.{WeekDays};
+ghost use Rattle.itip_recur.specs.declared.rule.MonthDays.{MonthDays};
+ghost use Rattle.itip_recur.specs.declared.rule.YearDays.{YearDays};
+ghost use Rattle.itip_recur.specs.RuleText.{IsInterval, IsWeekStart, IsEndOf, IsWeekPart, AreMonthParts, AreYearParts, IsFrequencyOf, IsRuleOfParts};
 ghost use Rattle.itip_recur.specs.Reads.{IsReading};
 
 use crate::elements::{
@@ -35,7 +43,11 @@ pub fn read_rule(alloc: Global, text: &str) -> Result<Reading, NoMemory>
     }
 }
 
-fn read_parts(alloc: Global, parts: &[&str]) -> Result<Option<Rule>, NoMemory> {
+fn read_parts(alloc: Global, parts: &[&str]) -> Result<Option<Rule>, NoMemory>
+    ensures { IfOk result (λ r. MatchOption r
+        ((rule : Rule) → IsRuleOfParts (map (λ p. p.now) parts.now) rule → ⊥)
+        (IsRuleOfParts (map (λ p. p.now) parts.now))) }
+{
     if !are_parts(parts) {
         return Ok(None);
     }
@@ -59,14 +71,18 @@ fn read_parts(alloc: Global, parts: &[&str]) -> Result<Option<Rule>, NoMemory> {
     }))
 }
 
-fn read_interval(value: Option<&str>) -> Option<u16> {
+fn read_interval(value: Option<&str>) -> Option<u16>
+    ensures { MatchOption result ((n : ℕ) → IsInterval (option_copied value.entry) n → ⊥) (IsInterval (option_copied value.entry)) }
+{
     match value {
         None => Some(1),
         Some(value) => Some(read_number(value.as_bytes(), 10_000)? as u16),
     }
 }
 
-fn read_week_start(value: Option<&str>) -> Option<Weekday> {
+fn read_week_start(value: Option<&str>) -> Option<Weekday>
+    ensures { MatchOption result ((w : Weekday) → IsWeekStart (option_copied value.entry) w → ⊥) (IsWeekStart (option_copied value.entry)) }
+{
     match value {
         None => Some(Weekday::Monday),
         Some(value) => read_weekday(value.as_bytes()),
@@ -77,7 +93,9 @@ fn read_end(
     alloc: Global,
     count: Option<&str>,
     until: Option<&str>,
-) -> Result<Option<End>, NoMemory> {
+) -> Result<Option<End>, NoMemory>
+    ensures { IfOk result (λ r. MatchOption r ((e : End) → IsEndOf (option_copied count.entry) (option_copied until.entry) e → ⊥) (IsEndOf (option_copied count.entry) (option_copied until.entry))) }
+{
     match (count, until) {
         (None, None) => Ok(Some(End::Never)),
         (Some(count), None) => match read_number(count.as_bytes(), u32::MAX) {
@@ -92,7 +110,11 @@ fn read_end(
     }
 }
 
-fn read_frequency(alloc: Global, parts: &[&str]) -> Result<Option<Frequency>, NoMemory> {
+fn read_frequency(alloc: Global, parts: &[&str]) -> Result<Option<Frequency>, NoMemory>
+    ensures { IfOk result (λ r. MatchOption r
+        ((f : Frequency) → IsFrequencyOf (map (λ p. p.now) parts.now) f → ⊥)
+        (IsFrequencyOf (map (λ p. p.now) parts.now))) }
+{
     let Some(frequency) = value_of("FREQ", parts) else {
         return Ok(None);
     };
@@ -106,32 +128,34 @@ fn read_frequency(alloc: Global, parts: &[&str]) -> Result<Option<Frequency>, No
         });
     }
     if frequency.eq_ignore_ascii_case("WEEKLY") {
-        return match (by_month_day, by_month) {
-            (None, None) => read_weekly(alloc, by_day),
-            _ => Ok(None),
-        };
+        if by_month_day.is_some() || by_month.is_some() {
+            return Ok(None);
+        }
+        return Ok(read_weekly(alloc, by_day)?.map(Frequency::Weekly));
     }
     if frequency.eq_ignore_ascii_case("MONTHLY") {
-        return match by_month {
-            None => read_monthly(alloc, by_month_day, by_day),
-            Some(_) => Ok(None),
-        };
+        if by_month.is_some() {
+            return Ok(None);
+        }
+        return Ok(read_monthly(alloc, by_month_day, by_day)?.map(Frequency::Monthly));
     }
     if frequency.eq_ignore_ascii_case("YEARLY") {
-        return match by_day {
-            None => read_yearly(alloc, by_month, by_month_day),
-            Some(_) => Ok(None),
-        };
+        if by_day.is_some() {
+            return Ok(None);
+        }
+        return Ok(read_yearly(alloc, by_month, by_month_day)?.map(Frequency::Yearly));
     }
     Ok(None)
 }
 
-fn read_weekly(alloc: Global, by_day: Option<&str>) -> Result<Option<Frequency>, NoMemory> {
+fn read_weekly(alloc: Global, by_day: Option<&str>) -> Result<Option<WeekDays>, NoMemory>
+    ensures { IfOk result (λ r. MatchOption r ((d : WeekDays) → IsWeekPart (option_copied by_day.entry) d → ⊥) (IsWeekPart (option_copied by_day.entry))) }
+{
     let Some(value) = by_day else {
-        return Ok(Some(Frequency::Weekly(WeekDays::OfStart)));
+        return Ok(Some(WeekDays::OfStart));
     };
     match read_weekdays(alloc, value)? {
-        Some(days) => Ok(Some(Frequency::Weekly(WeekDays::Listed(days)))),
+        Some(days) => Ok(Some(WeekDays::Listed(days))),
         None => Ok(None),
     }
 }
@@ -140,15 +164,17 @@ fn read_monthly(
     alloc: Global,
     by_month_day: Option<&str>,
     by_day: Option<&str>,
-) -> Result<Option<Frequency>, NoMemory> {
+) -> Result<Option<MonthDays>, NoMemory>
+    ensures { IfOk result (λ r. MatchOption r ((d : MonthDays) → AreMonthParts (option_copied by_month_day.entry) (option_copied by_day.entry) d → ⊥) (AreMonthParts (option_copied by_month_day.entry) (option_copied by_day.entry))) }
+{
     match (by_month_day, by_day) {
-        (None, None) => Ok(Some(Frequency::Monthly(MonthDays::OfStart))),
+        (None, None) => Ok(Some(MonthDays::OfStart)),
         (Some(value), None) => match read_places(alloc, value)? {
-            Some(days) => Ok(Some(Frequency::Monthly(MonthDays::Listed(days)))),
+            Some(days) => Ok(Some(MonthDays::Listed(days))),
             None => Ok(None),
         },
         (None, Some(value)) => match read_month_weekdays(alloc, value)? {
-            Some(days) => Ok(Some(Frequency::Monthly(MonthDays::Weekdays(days)))),
+            Some(days) => Ok(Some(MonthDays::Weekdays(days))),
             None => Ok(None),
         },
         (Some(_), Some(_)) => Ok(None),
@@ -159,9 +185,11 @@ fn read_yearly(
     alloc: Global,
     by_month: Option<&str>,
     by_month_day: Option<&str>,
-) -> Result<Option<Frequency>, NoMemory> {
+) -> Result<Option<YearDays>, NoMemory>
+    ensures { IfOk result (λ r. MatchOption r ((d : YearDays) → AreYearParts (option_copied by_month.entry) (option_copied by_month_day.entry) d → ⊥) (AreYearParts (option_copied by_month.entry) (option_copied by_month_day.entry))) }
+{
     match (by_month, by_month_day) {
-        (None, None) => Ok(Some(Frequency::Yearly(YearDays::OfStart))),
+        (None, None) => Ok(Some(YearDays::OfStart)),
         (Some(months), Some(days)) => {
             let Some(months) = read_months(alloc, months)? else {
                 return Ok(None);
@@ -169,7 +197,7 @@ fn read_yearly(
             let Some(days) = read_places(alloc, days)? else {
                 return Ok(None);
             };
-            Ok(Some(Frequency::Yearly(YearDays::Listed { months, days })))
+            Ok(Some(YearDays::Listed { months, days }))
         }
         _ => Ok(None),
     }
