@@ -1,0 +1,48 @@
+-- The calendar's dates of days, and the first days of months.
+use Rattle.std.proofs.Common.{◌≡◌, ℕ, ◌+◌, ◌-◌, ◌*◌, ◌/◌, ◌%◌, ◌<◌, ◌≤◌, ◌↔◌, sym, subst, ◌∙◌, arith, ℤ, pos, ◌<ℤ◌, ◌≤ℤ◌}
+use Rattle.jiff.specs.Types.{Date}
+use Rattle.jiff.specs.Words.{epoch_day, IsBetween}
+use Rattle.jiff_core.proofs.SignedLemmas.{signed_arith}
+use Rattle.itip_moment.specs.Years.{IsDayNumber}
+use Rattle.itip_moment.proofs.Calendar.{calendar_date, same_date, epoch_day-in_years}
+use Rattle.itip_recur.specs.Calendar.{days_from_zero, year_number, month_number, day_of_month, month_of_year, IsDateOf}
+use Rattle.itip_recur.proofs.Dates.{date_of-IsPlain, first_of_month}
+
+pub date_is : (date : Date) (day : ℤ) → IsDayNumber day → epoch_day date ≡ day → IsDateOf day date
+unfolding days_from_zero
+date_is date day in_years same =
+    let is = same_date date day in_years same in
+    record { year = is.year; month = is.month; day_of_month = is.day_of_month }
+
+pub year_high : (day : ℤ) → IsDayNumber day → year_number day ≤ 9999
+unfolding days_from_zero
+year_high day in_years =
+    let one = calendar_date day in_years in
+    omega (arith, signed_arith, one.1.year, one.0.year_in)
+
+-- no day lies in a month of the years after 9999
+pub month_high : (month : ℕ) → 9999 < (month - 1) / 12 → (day : ℤ) → IsDayNumber day → month_number day < month
+month_high month after day in_years =
+    let high = year_high day in_years in let plain = (date_of-IsPlain day).month_high in omega arith
+
+-- z is the number of the first date of the month
+pub record IsFirst (month : ℕ) (date : Date) (z : ℤ) : Type 0 where
+  pub positive : 1 ≤ month
+  pub in_years : (month - 1) / 12 ≤ 9999
+  pub year_is : date.year ≡ pos ((month - 1) / 12)
+  pub month_is : date.month ≡ (month - 1) % 12 + 1
+  pub day_is : date.day ≡ 1
+  pub number : z ≡ epoch_day date
+
+pub IsFirst-in_years : (month : ℕ) (date : Date) (z : ℤ) → IsFirst month date z → IsDayNumber z
+IsFirst-in_years month date z h = subst IsDayNumber (sym h.number) (epoch_day-in_years date ((month - 1) / 12) h.year_is)
+
+pub IsFirst-before : (month : ℕ) (date : Date) (z : ℤ) → IsFirst month date z → (day : ℤ) → IsDayNumber day → (day <ℤ z) ↔ (month_number day < month)
+IsFirst-before month date z h =
+    let z_in = IsFirst-in_years month date z h in
+    let is = date_is date z z_in (sym h.number) in
+    let year : year_number z ≡ (month - 1) / 12 = omega (arith, signed_arith, is.year, h.year_is) in
+    let of_year : month_of_year z ≡ (month - 1) % 12 + 1 = sym is.month ∙ h.month_is in
+    let positive = h.positive in
+    let number : month_number z ≡ month = omega arith in
+    first_of_month z month z_in number (sym is.day_of_month ∙ h.day_is)

@@ -1,0 +1,17 @@
+pub mod MappedLists
+pub mod Congruent
+pub mod Dates
+pub mod CalendarDays
+pub mod Units
+pub mod Walks
+pub mod Counted
+pub mod Moments
+pub mod Adds
+pub mod Steps
+pub mod StepRuns
+pub mod Listed
+pub mod Numbers
+pub mod MonthWeekdays
+pub mod RuleEnds
+pub mod Zips
+pub mod Rests

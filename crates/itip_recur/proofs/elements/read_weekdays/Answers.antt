@@ -1,0 +1,14 @@
+use Rattle.std.proofs.Common.{◌≡◌, sym, subst, List, ap}
+use Rattle.std.specs.List.{AllZip}
+use Rattle.itip_recur.specs.RuleText.{IsWeekdayText, elements}
+use Rattle.itip_recur.proofs.Zips.{texts_more, texts_refused}
+use Rattle.itip_recur.proofs.elements.read_weekdays.Goals as goal
+
+pub returns-in_default : goal.returns-in_default
+returns-in_default c =
+    texts_refused IsWeekdayText c.as_slice-element-items.result.now c.loop-element.element-index _ c.as_bytes.result.now c.loop-element-test.true c.as_bytes.ensures.value c.in_default.ensures (elements c.args.value.now) c.loop-element.invariant.same
+
+pub loop-element-preserved : goal.loop-element-preserved
+loop-element-preserved c =
+    let step = texts_more IsWeekdayText c.as_slice-element-items.result.now c.loop-element.element-index _ c.as_bytes.result.now c.loop-element-test.true c.as_bytes.ensures.value c.loop-element.list.items c.in-Some.weekday c.in-Some.ensures c.loop-element.invariant.so_far in
+    record { same = c.loop-element.invariant.same; so_far = rw c.in_ok-push.ensures.items step }

@@ -1,0 +1,82 @@
+-- What a step of a listing adds to the moments that were found; they are the keys of a set.
+use Rattle.std.specs.Prelude.{◌≡◌, ◌↔◌, ℕ, ◌<◌, ◌≤◌, ◌⊎◌, List, length, Result, Ok, Err, ℤ, ◌≤ℤ◌, ◌<ℤ◌}
+use Rattle.std.specs.List.{Contains}
+use Rattle.std.specs.List.Sorted.{IsStrictlySortedBy}
+use Rattle.itip_moment.specs.declared.moment.Moment.{Moment}
+use Rattle.itip_moment.specs.Moment.{moment_day}
+use Rattle.itip_moment.specs.Order.{moment_cmp}
+use Rattle.itip_recur.specs.declared.series.Series.{Series}
+use Rattle.itip_recur.specs.declared.rule.Rule.{Rule}
+use Rattle.itip_recur.specs.declared.error.RecurError.{RecurError}
+use Rattle.itip_recur.specs.Members.{HasTimeOf, IsRuleMember, IsRepeat, IsCandidate, IsWithinEnd}
+use Rattle.itip_recur.specs.Walk.{IsUpTo}
+use Rattle.itip_recur.specs.Occurrences.{occurrence_limit, IfTooMany}
+
+-- there are now the moments that there were, and those that are P, no more than may be listed
+pub record Adds (P : Moment → Type 0) (old new : List Moment) : Type 0 where
+  pub exactly : (m : Moment) → Contains new m ↔ (Contains old m ⊎ P m)
+  pub small : length old ≤ occurrence_limit → length new ≤ occurrence_limit
+
+-- there are more than may be listed, each of which was there or is P
+pub record Exceeds (P : Moment → Type 0) (old new : List Moment) : Type 0 where
+  pub ascending : IsStrictlySortedBy moment_cmp new
+  pub each : (m : Moment) → Contains new m → Contains old m ⊎ P m
+  pub many : occurrence_limit < length new
+
+-- a moment that isn't excluded
+pub record IsLeft (excluded : List Moment) (moment m : Moment) : Type 0 where
+  pub is : m ≡ moment
+  pub stays : Contains excluded m → ⊥
+
+-- a moment of the window that isn't excluded
+pub record IsKept (series : Series) (from to : ℤ) (m : Moment) : Type 0 where
+  pub stays : Contains series.exdates m → ⊥
+  pub not_before : from ≤ℤ moment_day m
+  pub before_end : moment_day m <ℤ to
+
+-- the start, where it is a member
+pub record IsStart (series : Series) (from to : ℤ) (m : Moment) : Type 0 where
+  pub is : m ≡ series.start
+  pub member : IsRuleMember series.rule series.start m
+  pub kept : IsKept series from to m
+
+-- a repeat that the rule's end leaves
+pub record IsRepeatOf (series : Series) (rule : Rule) (from to : ℤ) (m : Moment) : Type 0 where
+  pub repeat : IsRepeat rule series.start m
+  pub within : IsWithinEnd rule.end (IsCandidate rule series.start) m
+  pub kept : IsKept series from to m
+
+-- a repeat on one of these days, the last not among them, where UNTIL leaves it and it isn't excluded
+pub record IsBetween (series : Series) (rule : Rule) (from end : ℤ) (m : Moment) : Type 0 where
+  pub repeat : IsRepeat rule series.start m
+  pub not_before : from ≤ℤ moment_day m
+  pub before_end : moment_day m <ℤ end
+  pub up_to : IsUpTo rule.end m
+  pub stays : Contains series.exdates m → ⊥
+
+-- the moment of that day with the start's time of day, where UNTIL leaves it and it isn't excluded
+pub record IsOnDay (series : Series) (rule : Rule) (day : ℤ) (m : Moment) : Type 0 where
+  pub time : HasTimeOf series.start m
+  pub day_is : moment_day m ≡ day
+  pub up_to : IsUpTo rule.end m
+  pub stays : Contains series.exdates m → ⊥
+
+-- this moment, where it is kept
+pub record IsThis (series : Series) (from to : ℤ) (moment m : Moment) : Type 0 where
+  pub is : m ≡ moment
+  pub kept : IsKept series from to m
+
+-- one of these moments that is kept
+pub record IsOneOf (moments : List Moment) (series : Series) (from to : ℤ) (m : Moment) : Type 0 where
+  pub among : Contains moments m
+  pub kept : IsKept series from to m
+
+-- a member that is kept
+pub record IsMemberIn (series : Series) (from to : ℤ) (m : Moment) : Type 0 where
+  pub member : IsRuleMember series.rule series.start m
+  pub kept : IsKept series from to m
+
+-- a step that adds the moments that are P, or finds too many
+abbrev pub IsStep : {T : Type 0} → (Moment → Type 0) → List Moment → List Moment → Result T RecurError → Type 0
+IsStep P old new (Ok x) = Adds P old new
+IsStep P old new (Err e) = IfTooMany e (Exceeds P old new)

@@ -1,0 +1,165 @@
+//! The weekday, the week, the month and the year of a day by its number.
+ghost use Rattle.std.specs.Prelude.{◌≡◌, ◌<◌, ◌≤◌, ◌↔◌, ◌*◌, ◌+◌, ◌-◌, ◌/◌, ◌%◌, ◌^◌, ℤ, pos, ◌<ℤ◌};
+ghost use Rattle.itip_moment.specs.Years.{IsDayNumber};
+ghost use Rattle.std.specs.Int.{IsInRange};
+ghost use Rattle.jiff.specs.Words.{monday_zero, days_in_month};
+ghost use Rattle.itip_recur.specs.Calendar.{days_from_zero, weekday_number, week_number, year_number, month_of_year, month_number, day_of_month, month_length, IsDayOrEnd, IsDateOf};
+
+use crate::Weekday;
+use jiff_core::civil::{self, Date};
+
+/// The number of the day after the last of the calendar, 9999-12-31.
+pub(crate) const CALENDAR_END: i32 = 2_932_897;
+
+/// The number of 0000-01-01 is below 0 by so many.
+const DAYS_BEFORE_EPOCH: i32 = 719_528;
+
+/// A day with its date.
+#[derive(Clone, Copy)]
+pub(crate) struct CalendarDay {
+    pub(crate) number: i32,
+    pub(crate) year: u32,
+    pub(crate) month: u8,
+    pub(crate) day: u8,
+    pub(crate) days_in_month: u8,
+    pub(crate) ghost in_years: { IsDayNumber number },
+    pub(crate) ghost year_is: { year ≡ year_number number },
+    pub(crate) ghost month_is: { month ≡ month_of_year number },
+    pub(crate) ghost day_is: { day ≡ day_of_month number },
+    pub(crate) ghost length_is: { days_in_month ≡ month_length number },
+    pub(crate) ghost bounds: { (year < 10_000) × (month ≤ 12) × (1 ≤ day) × (day ≤ days_in_month) × (days_in_month ≤ 31) },
+}
+
+impl CalendarDay {
+    pub(crate) fn new(day: i32) -> CalendarDay
+        requires { IsDayNumber day }
+        ensures { result.number ≡ day }
+    {
+        let (year, month, day_of_month) = year_month_day(day);
+        CalendarDay {
+            number: day,
+            year,
+            month,
+            day: day_of_month,
+            days_in_month: days_in_month(year, month),
+        }
+    }
+
+    pub(crate) fn month_number(&self) -> u32
+        ensures { result ≡ month_number self.now.number }
+    {
+        12 * self.year + self.month as u32
+    }
+}
+
+fn year_month_day(day: i32) -> (u32, u8, u8)
+    requires { IsDayNumber day }
+    ensures year { result.0 ≡ year_number day }
+    ensures month { result.1 ≡ month_of_year day }
+    ensures day { result.2 ≡ day_of_month day }
+    ensures bounds { (result.0 < 10_000) × IsInRange 1 12 result.1
+        × IsInRange 1 (days_in_month (pos result.0) result.1) result.2 }
+{
+    let date = date_of(day);
+    (date.year as u32, date.month, date.day)
+}
+
+fn date_of(day: i32) -> Date
+    requires { IsDayNumber day }
+    ensures { IsDateOf day result }
+{
+    Date::from_unix_epoch_day(day as i64).unwrap()
+}
+
+fn days_in_month(year: u32, month: u8) -> u8
+    requires year_in { year < 10_000 }
+    requires month_in { IsInRange 1 12 month }
+    ensures value { result ≡ days_in_month (pos year) month }
+    ensures high { result ≤ 31 }
+{
+    civil::days_in_month(year as i16, month)
+}
+
+#[tactic(auto, unfolding(crate::specs::Calendar::days_from_zero))]
+pub(crate) fn days_from_zero(day: i32) -> u32
+    requires { IsDayNumber day }
+    ensures value { result ≡ days_from_zero day }
+    ensures bound { result < 2 ^ 22 }
+{
+    (day + DAYS_BEFORE_EPOCH) as u32
+}
+
+pub(crate) fn weekday_number(day: i32) -> u8
+    requires { IsDayNumber day }
+    ensures { result ≡ weekday_number day }
+{
+    ((days_from_zero(day) + 5) % 7) as u8
+}
+
+pub(crate) fn week_number(first: Weekday, day: i32) -> u32
+    requires { IsDayNumber day }
+    ensures value { result ≡ week_number first day }
+    ensures bound { result < 2 ^ 22 }
+{
+    (days_from_zero(day) + 12 - first.index() as u32) / 7
+}
+
+/// The day with so many days since 0000-01-01, or the end of the calendar.
+#[tactic(auto, unfolding(crate::specs::Calendar::days_from_zero))]
+pub(crate) fn day_at(days: u32) -> i32
+    ensures bounds { IsDayOrEnd result }
+    ensures before { (day : ℤ) → IsDayNumber day → (day <ℤ result) ↔ (days_from_zero day < days) }
+{
+    if days < (CALENDAR_END + DAYS_BEFORE_EPOCH) as u32 {
+        days as i32 - DAYS_BEFORE_EPOCH
+    } else {
+        CALENDAR_END
+    }
+}
+
+/// The first day of a week, or the end of the calendar.
+pub(crate) fn first_of_week(first: Weekday, week: u32) -> i32
+    requires { week < 2 ^ 24 }
+    ensures bounds { IsDayOrEnd result }
+    ensures before { (day : ℤ) → IsDayNumber day → (day <ℤ result) ↔ (week_number first day < week) }
+{
+    day_at((7 * week + first.index() as u32).saturating_sub(12))
+}
+
+/// The first day of a month, or the end of the calendar.
+pub(crate) fn first_of_month(month: u32) -> i32
+    ensures bounds { IsDayOrEnd result }
+    ensures before { (day : ℤ) → IsDayNumber day → (day <ℤ result) ↔ (month_number day < month) }
+{
+    if month == 0 {
+        return -DAYS_BEFORE_EPOCH;
+    }
+    if (month - 1) / 12 > 9999 {
+        return CALENDAR_END;
+    }
+    let date = first_date(month);
+    date.to_unix_epoch_day()
+}
+
+fn first_date(month: u32) -> Date
+    requires positive { 1 ≤ month }
+    requires in_years { (month - 1) / 12 ≤ 9999 }
+    ensures year { result.year ≡ pos ((month - 1) / 12) }
+    ensures month { result.month ≡ (month - 1) % 12 + 1 }
+    ensures day { result.day ≡ 1 }
+{
+    Date {
+        year: ((month - 1) / 12) as i16,
+        month: ((month - 1) % 12 + 1) as u8,
+        day: 1,
+    }
+}
+
+/// The first day of a year, or the end of the calendar.
+pub(crate) fn first_of_year(year: u32) -> i32
+    requires { year < 2 ^ 24 }
+    ensures bounds { IsDayOrEnd result }
+    ensures before { (day : ℤ) → IsDayNumber day → (day <ℤ result) ↔ (year_number day < year) }
+{
+    first_of_month(12 * year + 1)
+}

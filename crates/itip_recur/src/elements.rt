@@ -1,0 +1,140 @@
+//! The values of a rule's parts: numbers, weekdays, places, and lists of these.
+ghost use Rattle.std.specs.Prelude.{◌≡◌, ℕ, List, map, IfOk, MatchOption};
+ghost use Rattle.jiff_core.specs.declared.civil.weekday.Weekday.{Weekday};
+ghost use Rattle.itip_recur.specs.declared.rule.Place.{Place};
+ghost use Rattle.itip_recur.specs.declared.rule.MonthWeekday.{MonthWeekday};
+ghost use Rattle.itip_recur.specs.RuleText.{IsNumberText, IsPlaceText, IsWeekdayText, IsMonthWeekdayText, AreWeekdays, AreMonthWeekdays, AreMonthDays, AreMonths, elements};
+
+use crate::rule::{MonthWeekday, Place};
+use crate::{NoMemory, Weekday};
+use itip_lines::ListOf;
+use std::alloc::Global;
+
+/// One or more digits, of a number from 1 to the limit.
+pub(crate) fn read_number(text: &[u8], limit: u32) -> Option<u32>
+    ensures { MatchOption result ((n : ℕ) → IsNumberText limit text.now n → ⊥) (IsNumberText limit text.now) }
+{
+    if !text.first()?.is_ascii_digit() {
+        return None;
+    }
+    match str::from_utf8(text).ok()?.parse::<u32>() {
+        Ok(number) if 1 <= number && number <= limit => Some(number),
+        _ => None,
+    }
+}
+
+/// A number from 1 to the limit, counted from the end behind `-`.
+pub(crate) fn read_place(text: &[u8], limit: u8) -> Option<Place>
+    ensures { MatchOption result ((p : Place) → IsPlaceText limit text.now p → ⊥) (IsPlaceText limit text.now) }
+{
+    match text {
+        [b'-', rest @ ..] => Some(Place::FromLast(read_small(rest, limit)?)),
+        [b'+', rest @ ..] => Some(Place::FromFirst(read_small(rest, limit)?)),
+        _ => Some(Place::FromFirst(read_small(text, limit)?)),
+    }
+}
+
+pub(crate) fn read_small(text: &[u8], limit: u8) -> Option<u8>
+    ensures { MatchOption result ((n : ℕ) → IsNumberText limit text.now n → ⊥) (IsNumberText limit text.now) }
+{
+    Some(read_number(text, limit as u32)? as u8)
+}
+
+/// The first two letters of a weekday, in either case.
+pub(crate) fn read_weekday(text: &[u8]) -> Option<Weekday>
+    ensures { MatchOption result ((w : Weekday) → IsWeekdayText text.now w → ⊥) (IsWeekdayText text.now) }
+{
+    let [first, second] = text else {
+        return None;
+    };
+    match (first.to_ascii_uppercase(), second.to_ascii_uppercase()) {
+        (b'M', b'O') => Some(Weekday::Monday),
+        (b'T', b'U') => Some(Weekday::Tuesday),
+        (b'W', b'E') => Some(Weekday::Wednesday),
+        (b'T', b'H') => Some(Weekday::Thursday),
+        (b'F', b'R') => Some(Weekday::Friday),
+        (b'S', b'A') => Some(Weekday::Saturday),
+        (b'S', b'U') => Some(Weekday::Sunday),
+        _ => None,
+    }
+}
+
+/// A weekday, and before it perhaps a place up to 5.
+pub(crate) fn read_month_weekday(text: &[u8]) -> Option<MonthWeekday>
+    ensures { MatchOption result ((w : MonthWeekday) → IsMonthWeekdayText text.now w → ⊥) (IsMonthWeekdayText text.now) }
+{
+    match text {
+        [_, _] => Some(MonthWeekday::Every(read_weekday(text)?)),
+        [place @ .., first, second] => Some(MonthWeekday::Nth(
+            read_place(place, 5)?,
+            read_weekday(&[*first, *second])?,
+        )),
+        _ => None,
+    }
+}
+
+/// The elements of a list, with `,` between each two.
+fn split_elements<'a>(alloc: Global, value: &'a str) -> Result<Vec<&'a str>, NoMemory>
+    ensures { IfOk result (λ list. map (λ e. e.now) list.items ≡ elements value.now) }
+{
+    value.split(',').collect(alloc)
+}
+
+pub(crate) fn read_weekdays(alloc: Global, value: &str) -> Result<Option<ListOf<Weekday>>, NoMemory>
+    ensures { IfOk result (λ r. MatchOption r ((list : List Weekday) → AreWeekdays value.now list → ⊥) (AreWeekdays value.now)) }
+{
+    let elements = split_elements(alloc, value)?;
+    let mut list = Vec::new(alloc);
+    for element in elements.as_slice() {
+        let Some(weekday) = read_weekday(element.as_bytes()) else {
+            return Ok(None);
+        };
+        list.push(weekday)?;
+    }
+    Ok(Some(ListOf::from_vec(list)))
+}
+
+pub(crate) fn read_month_weekdays(
+    alloc: Global,
+    value: &str,
+) -> Result<Option<ListOf<MonthWeekday>>, NoMemory>
+    ensures { IfOk result (λ r. MatchOption r ((list : List MonthWeekday) → AreMonthWeekdays value.now list → ⊥) (AreMonthWeekdays value.now)) }
+{
+    let elements = split_elements(alloc, value)?;
+    let mut list = Vec::new(alloc);
+    for element in elements.as_slice() {
+        let Some(weekday) = read_month_weekday(element.as_bytes()) else {
+            return Ok(None);
+        };
+        list.push(weekday)?;
+    }
+    Ok(Some(ListOf::from_vec(list)))
+}
+
+pub(crate) fn read_places(alloc: Global, value: &str) -> Result<Option<ListOf<Place>>, NoMemory>
+    ensures { IfOk result (λ r. MatchOption r ((list : List Place) → AreMonthDays value.now list → ⊥) (AreMonthDays value.now)) }
+{
+    let elements = split_elements(alloc, value)?;
+    let mut list = Vec::new(alloc);
+    for element in elements.as_slice() {
+        let Some(place) = read_place(element.as_bytes(), 31) else {
+            return Ok(None);
+        };
+        list.push(place)?;
+    }
+    Ok(Some(ListOf::from_vec(list)))
+}
+
+pub(crate) fn read_months(alloc: Global, value: &str) -> Result<Option<ListOf<u8>>, NoMemory>
+    ensures { IfOk result (λ r. MatchOption r ((list : List ℕ) → AreMonths value.now list → ⊥) (AreMonths value.now)) }
+{
+    let elements = split_elements(alloc, value)?;
+    let mut list = Vec::new(alloc);
+    for element in elements.as_slice() {
+        let Some(month) = read_small(element.as_bytes(), 12) else {
+            return Ok(None);
+        };
+        list.push(month)?;
+    }
+    Ok(Some(ListOf::from_vec(list)))
+}

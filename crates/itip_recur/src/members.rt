@@ -1,0 +1,124 @@
+//! The walk over the days of a rule.
+ghost use Rattle.std.specs.Prelude.{◌≡◌, ◌≢◌, ◌↔◌, ◌<◌, ◌⊎◌, ℕ, ℤ, ◌≤ℤ◌, ◌<ℤ◌, pos, ◌+ℤ◌, IsTrue, IfOk, MatchOption};
+ghost use Rattle.std.specs.declared.cmp.Ordering.TheVariants.{Greater};
+ghost use Rattle.itip_moment.specs.Years.{IsDayNumber};
+ghost use Rattle.itip_moment.specs.Moment.{moment_day};
+ghost use Rattle.itip_recur.specs.Calendar.{IsDayOrEnd};
+ghost use Rattle.itip_recur.specs.Pattern.{InPattern, IsLaterDay};
+ghost use Rattle.itip_moment.specs.declared.moment.Moment.{Moment};
+ghost use Rattle.itip_recur.specs.Members.{HasTimeOf, IsRepeat, IsCandidate, IsWithinEnd};
+ghost use Rattle.itip_recur.specs.Walk.{IsNextDay, IsNoDay, IsEndOfCount, IsUpTo};
+
+use crate::NoMemory;
+use crate::calendar::CALENDAR_END;
+use crate::pattern::{in_pattern, next_unit};
+use crate::rule::{End, Rule};
+use itip_moment::{Day, Moment, Stamp};
+use std::cmp::Ordering;
+
+/// The first day of the pattern from `from` on and before `end`.
+pub(crate) fn next_day(rule: &Rule, start: i32, from: i32, end: i32) -> Option<i32>
+    requires start_in { IsDayNumber start }
+    requires from_in { IsDayOrEnd from }
+    requires end_in { IsDayOrEnd end }
+    ensures { MatchOption result (IsNoDay rule.now start from end) (IsNextDay rule.now start from end) }
+{
+    let mut day = from;
+    while day < end {
+        day = next_unit(rule, start, day);
+        if day >= end {
+            break;
+        }
+        if in_pattern(rule, start, day) {
+            return Some(day);
+        }
+        day += 1;
+    }
+    None
+}
+
+/// The end of the later days that COUNT leaves to a rule, where no more than those before `end` are wanted.
+pub(crate) fn end_of_count(rule: &Rule, start: i32, count: u32, end: i32) -> i32
+    requires start_in { IsDayNumber start }
+    requires end_in { IsDayOrEnd end }
+    ensures bounds { IsDayOrEnd result }
+    ensures exact { IsEndOfCount rule.now start count end result }
+{
+    let mut seen: u32 = 1;
+    let mut day = start + 1;
+    while seen < count {
+        let Some(found) = next_day(rule, start, day, end) else {
+            return end;
+        };
+        seen += 1;
+        day = found + 1;
+    }
+    day
+}
+
+/// The moment on another day with the time of day and the zone of this one.
+pub(crate) fn on_day(start: &Moment, day: i32) -> Result<Moment, NoMemory>
+    requires { IsDayNumber day }
+    ensures day { IfOk result (λ m. moment_day m ≡ day) }
+    ensures time { IfOk result (HasTimeOf start.now) }
+{
+    Ok(match start {
+        Moment::Date(_) => Moment::Date(Day { number: day }),
+        Moment::Floating(at) => Moment::Floating(Stamp {
+            day,
+            second: at.second,
+        }),
+        Moment::Utc(at) => Moment::Utc(Stamp {
+            day,
+            second: at.second,
+        }),
+        Moment::Zoned(zone, at) => Moment::Zoned(
+            zone.clone()?,
+            Stamp {
+                day,
+                second: at.second,
+            },
+        ),
+    })
+}
+
+/// The end of the days of the rule's repeats that lie before `end`; UNTIL may cut off the last one.
+pub(crate) fn end_of_days(rule: &Rule, start: &Moment, end: i32) -> i32
+    requires { IsDayOrEnd end }
+    ensures bounds { IsDayOrEnd result }
+    ensures exact { (m : Moment) → IsRepeat rule.now start.now m
+        → ((moment_day m <ℤ end) × IsWithinEnd rule.now.end (IsCandidate rule.now start.now) m) ↔ ((moment_day m <ℤ result) × IsUpTo rule.now.end m) }
+{
+    let last = end_of_rule(rule, start, end);
+    if last < end { last } else { end }
+}
+
+// As `end_of_days`, for the repeats before `end` alone.
+fn end_of_rule(rule: &Rule, start: &Moment, end: i32) -> i32
+    requires { IsDayOrEnd end }
+    ensures bounds { IsDayOrEnd result }
+    ensures exact { (m : Moment) → IsRepeat rule.now start.now m → moment_day m <ℤ end
+        → IsWithinEnd rule.now.end (IsCandidate rule.now start.now) m ↔ ((moment_day m <ℤ result) × IsUpTo rule.now.end m) }
+{
+    match &rule.end {
+        End::Never => end,
+        End::Count(count) => end_of_count(rule, start.day(), *count, end),
+        End::Until(last) => {
+            if last.day() < end {
+                last.day() + 1
+            } else {
+                end
+            }
+        }
+    }
+}
+
+/// Whether UNTIL, where there is one, leaves a moment to the rule.
+pub(crate) fn is_up_to(end: &End, moment: &Moment) -> bool
+    ensures { IsTrue result ↔ IsUpTo end.now moment.now }
+{
+    match end {
+        End::Until(last) => moment.cmp(last) != Ordering::Greater,
+        End::Never | End::Count(_) => true,
+    }
+}
