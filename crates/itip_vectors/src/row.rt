@@ -1,7 +1,8 @@
 //! One line: a series, a window, and the occurrences that it should have.
-use itip_lines::ListOf;
-use itip_moment::{Form, Moment, read_moment, write_moment};
-use itip_recur::{End, Reading, RecurError, Series, occurrences, read_rule};
+use itip_lines::read_lines;
+use itip_moment::{Moment, write_moment};
+use itip_recur::{RecurError, Shape, occurrences, shape};
+use itip_todo::{Todo, read_todo};
 use std::alloc::{AllocError, AllocFailed, Global};
 use std::io;
 use thiserror::Error;
@@ -44,7 +45,16 @@ pub fn is_as_told(rt: &(impl AllocGlobal + Print), line: &str) -> Result<bool, R
     };
     let from = from.parse::<i32>().map_err(|_| RowError::Field)?;
     let to = to.parse::<i32>().map_err(|_| RowError::Field)?;
-    let found = worked_out(alloc, start, rule, rdates, exdates, from, to)?;
+    let todo = to_do(
+        alloc,
+        &[
+            ("DTSTART", start),
+            ("RRULE", rule),
+            ("RDATE", rdates),
+            ("EXDATE", exdates),
+        ],
+    )?;
+    let found = worked_out(alloc, &todo, from, to)?;
     if found.as_str() == *told {
         return Ok(true);
     }
@@ -52,64 +62,29 @@ pub fn is_as_told(rt: &(impl AllocGlobal + Print), line: &str) -> Result<bool, R
     Ok(false)
 }
 
-fn worked_out(
-    alloc: Global,
-    start: &str,
-    rule: &str,
-    rdates: &str,
-    exdates: &str,
-    from: i32,
-    to: i32,
-) -> Result<String, RowError> {
-    if rule == "-" && rdates == "-" && exdates == "-" {
-        return Ok(String::from_str(alloc, "single")?);
-    }
-    let Some(start) = moment(alloc, start)? else {
-        return Ok(String::from_str(alloc, "opaque")?);
-    };
-    let rule = if rule == "-" {
-        None
-    } else {
-        match read_rule(alloc, rule)? {
-            Reading::Plain(rule) if end_fits(&start, &rule.end) => Some(rule),
-            _ => return Ok(String::from_str(alloc, "opaque")?),
-        }
-    };
-    let series = Series {
-        start,
-        rule,
-        rdates: moments(alloc, rdates)?,
-        exdates: moments(alloc, exdates)?,
-    };
-    match occurrences(alloc, &series, from, to) {
-        Ok(found) => written(alloc, found.as_slice()),
-        Err(RecurError::TooMany) => Ok(String::from_str(alloc, "31")?),
-        Err(RecurError::NoMemory) => Err(RowError::NoMemory),
-    }
-}
-
-fn end_fits(start: &Moment, end: &End) -> bool {
-    match end {
-        End::Until(last) => last.form() == start.form() && start.form() != Form::Zoned,
-        End::Never | End::Count(_) => true,
-    }
-}
-
-fn moment(alloc: Global, text: &str) -> Result<Option<Moment>, RowError> {
-    Ok(read_moment(alloc, text, None)?)
-}
-
-fn moments(alloc: Global, text: &str) -> Result<ListOf<Moment>, RowError> {
-    let mut list = Vec::new(alloc);
-    if text != "-" {
-        for one in text.split(',') {
-            let Some(moment) = moment(alloc, one)? else {
-                return Err(RowError::Field);
-            };
-            list.push(moment)?;
+/// A to-do with these properties, without those whose value is `-`.
+fn to_do(alloc: Global, properties: &[(&str, &str)]) -> Result<Todo, RowError> {
+    let mut text = String::from_str(alloc, "UID:u\nDTSTAMP:20260101T000000Z\n")?;
+    for (name, value) in properties {
+        if *value != "-" {
+            let line = format!(in alloc; "{name}:{value}\n")?;
+            text.push_str(line.as_str())?;
         }
     }
-    Ok(ListOf::from_vec(list))
+    let lines = read_lines(alloc, text.as_bytes()).map_err(|_| RowError::Field)?;
+    read_todo(alloc, &lines).map_err(|_| RowError::Field)
+}
+
+fn worked_out(alloc: Global, todo: &Todo, from: i32, to: i32) -> Result<String, RowError> {
+    match shape(alloc, todo)? {
+        Shape::Single => Ok(String::from_str(alloc, "single")?),
+        Shape::Opaque => Ok(String::from_str(alloc, "opaque")?),
+        Shape::Repeats(series) => match occurrences(alloc, &series, from, to) {
+            Ok(found) => written(alloc, found.as_slice()),
+            Err(RecurError::TooMany) => Ok(String::from_str(alloc, "31")?),
+            Err(RecurError::NoMemory) => Err(RowError::NoMemory),
+        },
+    }
 }
 
 fn written(alloc: Global, moments: &[Moment]) -> Result<String, RowError> {
