@@ -1,5 +1,5 @@
 -- Items that are added, one draft after another.
-use Rattle.std.proofs.Common.{◌≡◌, ◌∙◌, sym, ap, refl, List, [], ◌∷◌, ◌++◌, append_assoc, append-nil, subst, inl, inr, zero, suc, ◌<◌, length, arith}
+use Rattle.std.proofs.Common.{◌≡◌, ◌∙◌, sym, ap, refl, List, [], ◌∷◌, ◌++◌, append_assoc, append-nil, subst, zero, suc, arith}
 use Rattle.std.specs.List.{AllByRecursion, Any}
 use Rattle.itip_message.specs.Faults.{IfFault}
 use Rattle.itip_message.specs.Items.{Draft, IsWithinLimits}

@@ -1,5 +1,5 @@
 -- The drafts of one to-do are in canonical form.
-use Rattle.std.proofs.Common.{◌≡◌, ◌≢◌, ◌∙◌, sym, ap, refl, ℕ, ◌<◌, ◌≤◌, Bool, true, false, List, [], ◌∷◌, ◌++◌, append-nil, arith, subst, Option, Some, None}
+use Rattle.std.proofs.Common.{◌≡◌, ◌≢◌, ◌∙◌, sym, ap, refl, ℕ, ◌≤◌, Bool, true, false, List, [], ◌∷◌, append-nil, arith, subst, Option, Some, None}
 use Rattle.std.specs.Prelude.{max, cond, nat_lt, nat_eq, unwrap_or, ◌&&◌}
 use Rattle.std.specs.Option.{is_none}
 use Rattle.std.specs.Cmp.Lexicographic.{pointwise}
@@ -9,7 +9,7 @@ use Rattle.itip_todo.specs.Parts.{Parts}
 use Rattle.itip_todo.specs.declared.property.Property.{Property}
 use Rattle.itip_todo.specs.declared.status.Status.{Status}
 use Rattle.itip_message.specs.Needs.{Suits, method_fault}
-use Rattle.itip_message.specs.Items.{Draft, drafts, drafts_of, task_draft, add_drafts, series_draft, instance_draft, attendee_draft, with_base, only_of, canonical_base, raised, instance_sequence, series_sequence, is_series, is_task, kind_of, cancel_kind, method_of, Sends, IsCanonical}
+use Rattle.itip_message.specs.Items.{drafts, drafts_of, task_draft, add_drafts, series_draft, instance_draft, attendee_draft, with_base, only_of, canonical_base, raised, instance_sequence, is_series, is_task, kind_of, cancel_kind, method_of, Sends, IsCanonical}
 use Rattle.itip_message.specs.declared.kind.Kind.{Kind}
 use Rattle.itip_message.specs.declared.kind.Kind.TheVariants as kind
 use Rattle.itip_message.specs.declared.kind.Method.{Method}

@@ -1,6 +1,6 @@
 -- The lines of a canonical form are framed, have a head, and hold one to-do.
-use Rattle.std.proofs.Common.{◌≡◌, ◌∙◌, sym, ap, refl, ℕ, Bool, true, false, List, [], ◌∷◌, ◌++◌, length, map, append-nil, append_assoc, subst, Option, Some, None, Ok, Err, IsTrue}
-use Rattle.std.specs.Prelude.{Result, not, ◌||◌, ◌&&◌, codes}
+use Rattle.std.proofs.Common.{◌≡◌, ◌∙◌, sym, ap, refl, ℕ, Bool, true, false, List, [], ◌∷◌, ◌++◌, length, map, append-nil, append_assoc, Option, Some, None, Ok, IsTrue}
+use Rattle.std.specs.Prelude.{Result, not, ◌||◌, codes}
 use Rattle.std.specs.List.{AllByRecursion, list_all}
 use Rattle.std.proofs.lemmas.Bool.{and_parts}
 use Rattle.itip_lines.specs.declared.line.Line.{Line}
@@ -8,7 +8,7 @@ use Rattle.itip_todo.specs.Lawful.{IsLawfulContent}
 use Rattle.itip_todo.specs.Parts.{Parts}
 use Rattle.itip_todo.specs.Written.{Content, content_of, parts_contents, property_line, moment_line, plain, optional}
 use Rattle.itip_todo.specs.declared.property_name.PropertyName.TheVariants as name
-use Rattle.itip_message.specs.Frame.{frame, place, with_front, property, is_begin, is_end, same_text, todos, todos_from, calendar_lines}
+use Rattle.itip_message.specs.Frame.{frame, place, with_front, is_begin, is_end, same_text, todos, todos_from, calendar_lines}
 use Rattle.itip_message.specs.Head.{head, head_of}
 use Rattle.itip_message.specs.Items.{bare, canonical_contents, method_of, method_text}
 use Rattle.itip_message.specs.Needs.{is_property}

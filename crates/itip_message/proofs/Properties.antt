@@ -1,13 +1,10 @@
 -- The lines of a to-do in a message neither begin nor end a component.
-use Rattle.std.proofs.Common.{◌≡◌, ◌∙◌, sym, ap, refl, ℕ, ◌<◌, Bool, true, false, cond, List, [], ◌∷◌, ◌++◌, length, map, arith, subst, Option, Some, None, Ok, Err, IsTrue}
-use Rattle.std.specs.Prelude.{Result, nat_lt, not, ◌||◌, ◌&&◌, codes}
+use Rattle.std.proofs.Common.{◌≡◌, sym, refl, ℕ, Bool, true, false, cond, List, [], ◌∷◌, ◌++◌, length, map, subst, Ok, Err, IsTrue}
+use Rattle.std.specs.Prelude.{Result, nat_lt, ◌&&◌, codes}
 use Rattle.std.specs.List.{AllByRecursion, list_all, filter}
 use Rattle.std.proofs.lemmas.Bool.{and_parts}
 use Rattle.itip_lines.specs.declared.line.Line.{Line}
-use Rattle.itip_todo.specs.Parts.{Parts}
 use Rattle.itip_todo.specs.PartsOf.{parts_of}
-use Rattle.itip_todo.specs.Reading.{ReadsTodo, lines_of}
-use Rattle.itip_todo.specs.declared.property_name.PropertyName.TheVariants as name
 use Rattle.itip_todo.specs.declared.todo.Todo.{Todo}
 use Rattle.itip_message.specs.Frame.{frame, place, with_front, opening, property, component_name, is_begin, is_end, same_text, todos, todos_from}
 use Rattle.itip_message.specs.Needs.{is_property, Suits}

@@ -1,5 +1,5 @@
 -- The canonical octets of an item are a message that gives this item.
-use Rattle.std.proofs.Common.{◌≡◌, ◌∙◌, sym, ap, refl, Bool, true, List, [], ◌∷◌, subst, inl, inr, Option, Some, None}
+use Rattle.std.proofs.Common.{◌≡◌, sym, refl, true, List, [], ◌∷◌, subst, inl, inr, Option, Some, None}
 use Rattle.std.specs.Prelude.{IsTrue}
 use mathlib.Core.Bool.{Bool-set}
 use Rattle.std.specs.List.{AllByRecursion, list_all}
@@ -11,7 +11,7 @@ use Rattle.itip_todo.specs.Parts.{Parts}
 use Rattle.itip_todo.specs.PartsOf.{parts_of}
 use Rattle.itip_todo.proofs.WritingLaws as todo_laws
 use Rattle.itip_message.specs.Frame.{todos}
-use Rattle.itip_message.specs.Items.{Draft, drafts, method_of, IsWithinLimits}
+use Rattle.itip_message.specs.Items.{Draft, method_of, IsWithinLimits}
 use Rattle.itip_message.specs.Needs.{method_fault, is_property}
 use Rattle.itip_message.specs.Message.{AreComponents, IsItemOf, AreItemsOf, ReadsMessage}
 use Rattle.itip_message.specs.declared.item.Item.{Item}

@@ -1,5 +1,5 @@
 -- Items with equal canonical octets are equal.
-use Rattle.std.proofs.Common.{append-nil, ◌≡◌, ◌∙◌, sym, ap, refl, ℕ, ◌≤◌, List, [], ◌∷◌, ◌++◌, length, map, arith, subst, inl, inr, Option, Some, None}
+use Rattle.std.proofs.Common.{append-nil, ◌≡◌, ◌∙◌, sym, ap, refl, ℕ, ◌≤◌, List, [], ◌∷◌, length, map, arith, subst, inl, inr, Option, Some, None}
 use Rattle.std.specs.Prelude.{nat_eq, cond, codes}
 use Rattle.std.proofs.Math.Logic.{∥∥₁_elim, ∥∥₁_map, ∥∥₁_prop}
 use Rattle.std.proofs.Props.{props}
@@ -20,13 +20,11 @@ use Rattle.itip_moment.specs.declared.moment.Moment.{Moment}
 use Rattle.std.specs.List.{AllByRecursion}
 use Rattle.itip_todo.specs.PartsOf.{parts_of}
 use Rattle.itip_todo.specs.declared.todo.Todo.{Todo}
-use Rattle.itip_todo.proofs.SameTodo.{same_todo}
 use Rattle.itip_todo.proofs.ReadingLaws.{one_todo}
 use Rattle.itip_todo.proofs.WritingLaws as todo_laws
-use Rattle.itip_message.specs.Items.{Draft, draft_of, drafts, drafts_of, task_draft, add_drafts, attendee_draft, instance_sequence, kind_of, IsItem, IsCanonical, IsWithinLimits, canonical_contents, canonical_octets, method_of, method_text, bare}
+use Rattle.itip_message.specs.Items.{Draft, draft_of, drafts, drafts_of, task_draft, add_drafts, attendee_draft, instance_sequence, kind_of, IsItem, canonical_contents, canonical_octets, method_of, method_text, bare}
 use Rattle.itip_message.specs.Head.{method_named}
 use Rattle.itip_message.specs.declared.item.Item.{Item}
-use Rattle.itip_message.specs.declared.key.Key.{Key}
 use Rattle.itip_message.specs.declared.kind.Kind.{Kind}
 use Rattle.itip_message.specs.declared.kind.Kind.TheVariants as kind
 use Rattle.itip_message.specs.declared.kind.Method.{Method}

@@ -1,5 +1,5 @@
 -- What a method needs of a to-do beside UID and DTSTAMP (our own rule).
-use Rattle.std.specs.Prelude.{◌≡◌, ℕ, Bool, true, false, ◌||◌, ◌&&◌, not, IsTrue, List, [], ◌∷◌, codes, Option, Some, None}
+use Rattle.std.specs.Prelude.{◌≡◌, Bool, true, false, ◌||◌, not, IsTrue, List, [], ◌∷◌, codes, Option, Some, None}
 use Rattle.std.specs.Option.{is_some}
 use Rattle.std.specs.List.{list_any, list_all}
 use Rattle.itip_lines.specs.declared.line.Line.{Line}

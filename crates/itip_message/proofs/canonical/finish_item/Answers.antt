@@ -1,8 +1,7 @@
-use Rattle.std.proofs.Common.{◌≡◌, ◌∙◌, sym, ap, ℕ, ◌<◌, ◌≤◌, List, length, refl, arith}
+use Rattle.std.proofs.Common.{◌≡◌, ◌∙◌, ap, ℕ, ◌<◌, ◌≤◌, List, length, refl, arith}
 use Rattle.std.specs.Prelude.{min}
 use Rattle.itip_todo.specs.PartsOf.{parts_of}
-use Rattle.itip_message.specs.Items.{draft_of, IsWithinLimits, canonical_contents, canonical_octets}
-use Rattle.itip_message.specs.declared.kind.Kind.{Kind}
+use Rattle.itip_message.specs.Items.{draft_of, canonical_contents, canonical_octets}
 use Rattle.itip_message.proofs.Adding.{over_one}
 use Rattle.itip_message.proofs.canonical.finish_item.Goals as goal
 use Rattle.itip_message.proofs.canonical.finish_item.Goals.{then-len-gt-OCTETS_LIMIT-via-then-len-gt-OCTETS_LIMIT, then-len-gt-OCTETS_LIMIT-via-else-len-gt-OCTETS_LIMIT+then-line_count-gt-LINES_LIMIT}

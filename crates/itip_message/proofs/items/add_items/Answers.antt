@@ -5,10 +5,8 @@ use Rattle.itip_todo.specs.PartsOf.{parts_of}
 use Rattle.itip_message.specs.Items.{Draft, drafts_of, add_drafts, kind_of, raised, is_task, instance_draft, method_of, IsCanonical}
 use Rattle.itip_message.specs.Message.{Adds}
 use Rattle.itip_message.specs.Needs.{Suits}
-use Rattle.itip_message.specs.declared.item.Item.{Item}
 use Rattle.itip_message.specs.declared.kind.Kind.{Kind}
 use Rattle.itip_message.specs.declared.kind.Kind.TheVariants as kind
-use Rattle.itip_message.specs.declared.kind.Method.{Method}
 use Rattle.itip_message.proofs.Adding.{adds_one, adds_none}
 use Rattle.itip_message.proofs.Drafting.{sends, add_canonical, task_drafts}
 use Rattle.itip_message.proofs.items.add_items.Goals as goal

@@ -1,4 +1,4 @@
-use Rattle.std.proofs.Common.{◌≡◌, ◌∙◌, sym, subst, ℕ, ◌≤◌}
+use Rattle.std.proofs.Common.{◌∙◌, sym, subst, ℕ, ◌≤◌}
 use Rattle.itip_todo.specs.PartsOf.{parts_of}
 use Rattle.itip_message.proofs.Lawfulness.{base_lawful, raised_small, canonical_small}
 use Rattle.itip_message.proofs.items.instance_item.Goals as goal

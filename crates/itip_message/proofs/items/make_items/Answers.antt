@@ -1,4 +1,4 @@
-use Rattle.std.proofs.Common.{◌≡◌, ◌∙◌, sym, ap, ℕ, ◌≤◌, List, [], ◌∷◌, ◌++◌, map, subst, length, zero, suc, arith, refl}
+use Rattle.std.proofs.Common.{◌≡◌, ◌∙◌, sym, ap, ℕ, ◌≤◌, List, [], ◌∷◌, ◌++◌, map, subst, length, arith, refl}
 use Rattle.std.specs.List.{AllByRecursion}
 use Rattle.std.proofs.lemmas.Result.{err_from_is_err_and}
 use Rattle.std.specs.Vec.Iter.{into_iter_items}
@@ -10,7 +10,6 @@ use Rattle.itip_message.specs.Message.{Adds, GivesItems, IsOver, drafts_among}
 use Rattle.itip_message.specs.Needs.{Suits}
 use Rattle.itip_message.specs.declared.item.Item.{Item}
 use Rattle.itip_message.specs.declared.kind.Method.{Method}
-use Rattle.itip_message.specs.declared.error.Fault.{Fault}
 use Rattle.itip_message.proofs.Adding.{adds_both, adds_none, adds_all, over_here, over_later, if_fault}
 use Rattle.itip_message.proofs.Lawfulness.{series_small}
 use Rattle.itip_message.proofs.items.make_items.Goals as goal

@@ -1,8 +1,7 @@
-use Rattle.std.proofs.Common.{◌≡◌, ◌∙◌, sym, ap, ℕ, ◌+◌, List, [], ◌∷◌, drop, subst, arith, cond}
-use Rattle.std.specs.Prelude.{max, nat_eq, unwrap_or}
+use Rattle.std.proofs.Common.{◌≡◌, ◌∙◌, sym, ap, ℕ, ◌+◌, List, ◌∷◌, drop, subst, arith}
 use Rattle.std.specs.BTreeMap.{get, is_at}
 use Rattle.std.specs.Map.{lookup}
-use Rattle.std.specs.Cmp.Lexicographic.{pointwise, slice_cmp}
+use Rattle.std.specs.Cmp.Lexicographic.{slice_cmp}
 use Rattle.std.specs.Ordering.{nat_cmp}
 use Rattle.std.proofs.lemmas.List.{drop_more, at_drop_all}
 use Rattle.itip_todo.specs.declared.todo.Todo.{Todo}
