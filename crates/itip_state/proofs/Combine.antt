@@ -1,5 +1,5 @@
 -- Two maps with values in a chain, put together key by key: at each key the greater of what they have.
-use Rattle.std.proofs.Common.{◌≡◌, sym, ◌∙◌, ap, subst, refl, Bool, true, false, List, [], ◌∷◌, Option, Some, None, ◌⊎◌, inl, inr}
+use Rattle.std.proofs.Common.{◌≡◌, sym, ◌∙◌, ap, subst, refl, true, false, List, [], ◌∷◌, Option, Some, None, ◌⊎◌, inl, inr}
 use Rattle.std.specs.Prelude.{cond}
 use Rattle.std.specs.Map.{keys_of}
 use Rattle.std.specs.List.{AllByRecursion}
@@ -10,7 +10,7 @@ use Rattle.std.specs.FinMap.Entries.{by_order, put, find, find-put}
 use Rattle.std.specs.declared.cmp.Ordering.{Ordering}
 use Rattle.std.specs.declared.cmp.Ordering.TheVariants.{Less, Equal, Greater}
 use Rattle.std.proofs.lemmas.Map.Keys.{sorted_tail}
-use Rattle.itip_join.specs.Optional.{IsBelowAt, IsBelowAt-refl, IsBelowAt-trans}
+use Rattle.itip_join.specs.Optional.{IsBelowAt, IsBelowAt-refl}
 use Rattle.itip_join.specs.KeyByKey.{value_at}
 use Rattle.itip_state.proofs.Members.{by_bool}
 use Rattle.itip_state.proofs.Lookups.{one_key, at_head, at_other, none_in_tail}

@@ -1,12 +1,12 @@
 -- What is held of a UID tells no more than what another holds of it exactly where hearing it adds nothing.
-use Rattle.std.proofs.Common.{◌≡◌, ℕ, List, [], ◌∷◌, ◌++◌, ◌<◌, ◌≤◌, refl, sym, ◌∙◌, ap, subst, ◌⊎◌, inl, inr, Bool, true, false, arith, Option, Some, None, append-nil, length, nat_lt}
+use Rattle.std.proofs.Common.{◌≡◌, ℕ, List, ◌++◌, ◌<◌, ◌≤◌, refl, sym, ◌∙◌, ap, subst, ◌⊎◌, inl, inr, true, false, arith, Option, Some, None, nat_lt}
 use Rattle.std.specs.List.{Contains}
 use Rattle.std.proofs.lemmas.Bool.Decides.{nat_tests}
 use Rattle.std.proofs.lemmas.List.Elements.{Contains-append_cases, Contains-append_left, Contains-append_right}
 use Rattle.itip_join.specs.declared.lift.Lift.{Lift}
 use Rattle.itip_join.specs.declared.lift.Lift.TheVariants.{Nothing, Known}
 use Rattle.itip_join.specs.KeyByKey.{value_at}
-use Rattle.itip_join.specs.Optional.{IsBelowAt, IsBelowUnder}
+use Rattle.itip_join.specs.Optional.{IsBelowUnder}
 use Rattle.itip_join.specs.Lifted.{IsLiftedBelow}
 use Rattle.itip_join.specs.Ranked.{IsUpTo}
 use Rattle.itip_message.specs.KeyParts.{uid_of}
@@ -16,11 +16,11 @@ use Rattle.itip_message.specs.declared.key.Key.{Key}
 use Rattle.itip_message.specs.declared.key.Key.TheVariants.{Series}
 use Rattle.itip_state.specs.Kept.{IsBest, IsDead, IsKept, AreKept}
 use Rattle.itip_state.specs.Slots.{slot_cmp}
-use Rattle.itip_state.specs.Held.{Best, Shape, slot, best, is_series, can_die, kills, shape_items, IsSeriesAt}
+use Rattle.itip_state.specs.Held.{Best, Shape, slot, best, is_series, can_die, kills, shape_items}
 use Rattle.itip_state.specs.Dying.{IsNoLater, eff_up_to, less_from}
 use Rattle.itip_state.specs.Below.{IsShapeBelow}
 use Rattle.itip_state.specs.declared.slot.Slot.{Slot}
-use Rattle.itip_state.proofs.Members.{by_bool, none_in, cons_first}
+use Rattle.itip_state.proofs.Members.{by_bool}
 use Rattle.itip_state.proofs.Best.{best_above, not_later_itself, later_transitive, greater_eff}
 use Rattle.itip_state.proofs.Later.{up_to_not_later, not_later_up_to, neither_later}
 use Rattle.itip_state.proofs.Keeping.{series_kept}

@@ -1,5 +1,5 @@
 -- What is held once one item more was heard.
-use Rattle.std.proofs.Common.{◌≡◌, ℕ, List, [], ◌∷◌, ◌++◌, ◌<◌, refl, sym, ◌∙◌, ap, subst, Bool, true, false, arith, Option, Some, None, length}
+use Rattle.std.proofs.Common.{◌≡◌, ℕ, List, [], ◌∷◌, ◌++◌, ◌<◌, refl, sym, ◌∙◌, ap, subst, true, false, arith, Option, Some, None, length}
 use Rattle.std.specs.Prelude.{cond, unwrap_or}
 use Rattle.std.specs.List.Sorted.{IsStrictlySortedBy}
 use Rattle.std.specs.Ordering.{is_eq}
@@ -14,7 +14,6 @@ use Rattle.itip_join.specs.KeyByKey.{value_at}
 use Rattle.itip_join.specs.Optional.{IsBelowAt, IsBelowAt-refl}
 use Rattle.itip_message.specs.KeyParts.{uid_of}
 use Rattle.itip_message.specs.declared.item.Item.{Item}
-use Rattle.itip_message.specs.declared.key.Key.TheVariants.{Series}
 use Rattle.itip_state.specs.Kept.{AreKept}
 use Rattle.itip_state.specs.Held.{Best, Shape, slot, best, is_series, shapes, items_of, shape_items, alone, IsPlaced, ArePlaced, HoldKept}
 use Rattle.itip_state.specs.Below.{IsShapeBelow}
@@ -25,7 +24,7 @@ use Rattle.itip_state.proofs.Keeping.{are_kept_by, kept_beside}
 use Rattle.itip_state.proofs.Tests.{series_key}
 use Rattle.itip_state.proofs.Shapes.{IsWhole}
 use Rattle.itip_state.proofs.Joining.{shape_below_itself}
-use Rattle.itip_state.proofs.Maps.{uid_cmp, IsHeldBelow, shape, AreInOrder, at, joined_placed, joined_kept}
+use Rattle.itip_state.proofs.Maps.{uid_cmp, IsHeldBelow, shape, AreInOrder, joined_placed, joined_kept}
 
 -- one item alone is placed, and is the only one
 alone_placed : (item : Item) → IsPlaced (uid_of item.key) (alone item) × (0 < length (shape_items (alone item)))

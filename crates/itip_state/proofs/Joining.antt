@@ -1,5 +1,5 @@
 -- The join of what is held of one UID holds nothing but what the two hold.
-use Rattle.std.proofs.Common.{◌≡◌, ℕ, List, [], ◌∷◌, ◌++◌, refl, sym, ◌∙◌, ap, subst, ◌⊎◌, inl, inr, Bool, true, false, Option, Some, None}
+use Rattle.std.proofs.Common.{◌≡◌, ℕ, List, [], ◌∷◌, refl, sym, ◌∙◌, ap, subst, ◌⊎◌, inl, inr, Bool, true, false, Option, Some, None}
 use Rattle.std.specs.Prelude.{cond, not}
 use Rattle.std.specs.List.{Contains, AllByRecursion}
 use Rattle.std.specs.List.Sorted.{IsStrictlySortedBy}
@@ -7,7 +7,7 @@ use Rattle.std.specs.Map.{keys_of}
 use Rattle.std.specs.declared.cmp.Ordering.{Ordering}
 use Rattle.std.specs.declared.cmp.Ordering.TheVariants.{Less}
 use Rattle.itip_join.specs.declared.lift.Lift.{Lift}
-use Rattle.itip_join.specs.KeyByKey.{value_at, all_alive, kept}
+use Rattle.itip_join.specs.KeyByKey.{value_at, kept}
 use Rattle.itip_join.specs.Killed.{found_alive}
 use Rattle.itip_join.specs.Optional.{IsBelowAt, IsBelowUnder, alive_part}
 use Rattle.itip_join.specs.Lifted.{IsLiftedBelow, IsLiftedBelow-refl, IsLiftedBelow-antisym, IsLiftedBelow-comparable}
@@ -21,7 +21,7 @@ use Rattle.itip_state.specs.Dying.{IsNoLater, kills_below, kills_more}
 use Rattle.itip_state.specs.Below.{IsShapeBelow}
 use Rattle.itip_state.specs.declared.slot.Slot.{Slot}
 use Rattle.itip_state.proofs.Lookups.{all_from_values, value_from_all}
-use Rattle.itip_state.proofs.Shapes.{AreSorted, IsWhole, IsSound, is_killed, held_as, series_held, entry_held, entry_key}
+use Rattle.itip_state.proofs.Shapes.{AreSorted, IsWhole, IsSound, is_killed, held_as, series_held, entry_held}
 use Rattle.itip_state.proofs.Combine.{combined, combined_sorted, combined_first, combined_second, combined_one}
 
 no_later_itself : (b : Best) → IsNoLater b b

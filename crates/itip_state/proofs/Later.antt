@@ -1,9 +1,9 @@
 -- Up to, and later.
-use Rattle.std.proofs.Common.{◌≡◌, refl, sym, ◌∙◌, ap, subst, true, false}
+use Rattle.std.proofs.Common.{◌≡◌, refl, sym, ◌∙◌, ap, true, false}
 use Rattle.std.specs.Ordering.{is_lt, is_gt, ordering_reverse}
 use Rattle.std.specs.declared.cmp.Ordering.{Ordering}
 use Rattle.std.specs.declared.cmp.Ordering.TheVariants.{Less, Equal, Greater}
-use Rattle.itip_join.specs.Ranked.{IsUpTo, IsUpTo-refl, IsUpTo-tie}
+use Rattle.itip_join.specs.Ranked.{IsUpTo, IsUpTo-tie}
 use Rattle.itip_message.specs.Later.{revision_cmp, IsLater}
 use Rattle.itip_message.specs.declared.item.Item.{Item}
 use Rattle.itip_message.proofs.Revisions.{revisions_total}

@@ -1,5 +1,5 @@
 -- Entries found by their keys, and the join of two maps key by key.
-use Rattle.std.proofs.Common.{◌≡◌, sym, ◌∙◌, ap, subst, refl, Bool, true, false, List, [], ◌∷◌, Option, Some, None}
+use Rattle.std.proofs.Common.{◌≡◌, sym, ◌∙◌, ap, subst, refl, true, false, List, [], ◌∷◌, Option, Some, None}
 use Rattle.std.specs.Prelude.{cond, not, filter}
 use Rattle.std.specs.List.{AllByRecursion}
 use Rattle.std.specs.Map.{keys_of}

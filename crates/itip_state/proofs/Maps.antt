@@ -1,5 +1,5 @@
 -- What a map by UID holds, UID by UID.
-use Rattle.std.proofs.Common.{◌≡◌, ℕ, List, [], ◌∷◌, ◌++◌, ◌<◌, ◌↔◌, refl, sym, ◌∙◌, ap, subst, ◌⊎◌, inl, inr, Bool, true, false, arith, Option, Some, None, length, append-nil}
+use Rattle.std.proofs.Common.{◌≡◌, ℕ, List, [], ◌∷◌, ◌++◌, ◌<◌, ◌↔◌, refl, sym, ◌∙◌, ap, subst, ◌⊎◌, inl, inr, true, false, arith, Option, Some, None, length}
 use Rattle.std.specs.List.{Contains, AllByRecursion}
 use Rattle.std.specs.List.Sorted.{IsStrictlySortedBy}
 use Rattle.std.specs.Map.{keys_of}
@@ -16,17 +16,17 @@ use Rattle.itip_join.specs.KeyByKey.{value_at, IsMapBelow}
 use Rattle.itip_join.specs.Optional.{IsBelowAt}
 use Rattle.itip_message.specs.KeyParts.{uid_of}
 use Rattle.itip_message.specs.declared.item.Item.{Item}
-use Rattle.itip_state.specs.Kept.{IsBest, IsKept, AreKept, ArePart, SameItems, KeepSame}
+use Rattle.itip_state.specs.Kept.{IsBest, AreKept, ArePart, SameItems, KeepSame}
 use Rattle.itip_state.specs.Held.{Best, Shape, shape_items, shapes, items_of, IsPlaced, ArePlaced}
 use Rattle.itip_state.specs.Below.{IsShapeBelow}
 use Rattle.itip_state.specs.declared.slot.Slot.{Slot}
 use Rattle.itip_state.proofs.Members.{by_bool, none_in, cons_first}
-use Rattle.itip_state.proofs.Lookups.{one_key, itself, at_head, at_other, none_in_tail, from_tail, value_from_all, all_from_values}
+use Rattle.itip_state.proofs.Lookups.{one_key, itself, at_head, at_other, none_in_tail, value_from_all, all_from_values}
 use Rattle.itip_state.proofs.Best.{best_above}
 use Rattle.itip_state.proofs.Keeping.{kept_in_part, are_kept_same, same_swapped, more_by_below, series_kept}
 use Rattle.itip_state.proofs.Shapes.{IsWhole, IsSound, about, is_state}
 use Rattle.itip_state.proofs.Comparing.{below_kept, kept_below}
-use Rattle.itip_state.proofs.Joining.{HoldsOfTwo, placed_of_two, items_of_two, of_one, of_both, shape_below_itself}
+use Rattle.itip_state.proofs.Joining.{placed_of_two, items_of_two, of_one, of_both, shape_below_itself}
 
 abbrev pub uid_cmp : List ℕ → List ℕ → Ordering
 uid_cmp = slice_cmp nat_cmp

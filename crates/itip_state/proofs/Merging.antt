@@ -14,7 +14,7 @@ use Rattle.itip_state.specs.declared.slot.Slot.{Slot}
 use Rattle.itip_state.proofs.Keeping.{below_both_ways, below_from_same}
 use Rattle.itip_state.proofs.Lookups.{joined_at}
 use Rattle.itip_state.proofs.Shapes.{IsWhole}
-use Rattle.itip_state.proofs.Maps.{uid_cmp, IsHeldBelow, shape, all_items, AreInOrder, at, map_below_kept, map_kept_below, map_state, joined_placed, joined_kept}
+use Rattle.itip_state.proofs.Maps.{uid_cmp, IsHeldBelow, shape, all_items, AreInOrder, map_below_kept, map_kept_below, map_state, joined_placed, joined_kept}
 
 -- maps with their order beside them
 module _ {V : Type 0} (series : V → Lift Best) (entries : V → List (Slot × Best)) (whole : (v : V) → IsWhole (record { series = series v; entries = entries v }))

@@ -1,5 +1,5 @@
 -- What is held stands in the order of keys, each item once.
-use Rattle.std.proofs.Common.{◌≡◌, ℕ, List, [], ◌∷◌, ◌++◌, ◌≢◌, refl, sym, ◌∙◌, ap, subst, ◌⊎◌, inl, inr, Bool, true, false, arith, length, get_or}
+use Rattle.std.proofs.Common.{◌≡◌, ℕ, List, [], ◌∷◌, ◌++◌, sym, ◌∙◌, ap, subst, inl, inr, true, false, get_or}
 use Rattle.std.specs.List.{Contains, AllByRecursion, AllPairs}
 use Rattle.std.specs.List.Sorted.{IsStrictlySortedBy}
 use Rattle.std.specs.Map.{keys_of}
@@ -8,7 +8,7 @@ use Rattle.std.specs.Option.{option_cmp}
 use Rattle.std.specs.Cmp.{tied_itself}
 use Rattle.std.specs.Cmp.Lexicographic.{slice_cmp}
 use Rattle.std.specs.declared.cmp.Ordering.{Ordering}
-use Rattle.std.specs.declared.cmp.Ordering.TheVariants.{Less, Equal, Greater}
+use Rattle.std.specs.declared.cmp.Ordering.TheVariants.{Less, Equal}
 use Rattle.std.proofs.lemmas.Cmp.{nat_list_cmp_total}
 use Rattle.std.proofs.lemmas.List.Elements.{Contains-append_cases, Contains-append_left, Contains-append_right}
 use Rattle.std.proofs.lemmas.List.Kept.{AllPairs-cons}
@@ -22,7 +22,7 @@ use Rattle.itip_message.specs.declared.key.Key.{Key}
 use Rattle.itip_message.specs.declared.key.Key.TheVariants.{Series, Instance, Answer, Refresh}
 use Rattle.itip_state.specs.Kept.{AreSeriesOf, IsSeries, HasEachOnce, AscendKeys}
 use Rattle.itip_state.specs.Slots.{slot_cmp, key_cmp, key_total, rank_of, instance_of, attendee_of}
-use Rattle.itip_state.specs.Held.{Best, Shape, slot, best, is_series, series_items, entry_items, shape_items, items_of, IsEntryAt, IsSeriesAt}
+use Rattle.itip_state.specs.Held.{Best, Shape, slot, is_series, series_items, entry_items, shape_items, items_of, IsEntryAt}
 use Rattle.itip_state.specs.declared.slot.Slot.{Slot}
 use Rattle.itip_state.proofs.Members.{none_in, cons_cases, cons_first, all_each, no_pairs, pairs_append}
 use Rattle.itip_state.proofs.Shapes.{AreSorted, IsSound, known_items, known_key, held_as, about, entry_there}

@@ -1,5 +1,5 @@
 -- What is held of one UID: a state, and when it tells no more than another.
-use Rattle.std.proofs.Common.{◌≡◌, ℕ, List, [], ◌∷◌, ◌++◌, ◌<◌, ◌≤◌, refl, sym, ◌∙◌, ap, subst, ◌⊎◌, inl, inr, Bool, true, false, arith, Option, Some, None, append-nil, length}
+use Rattle.std.proofs.Common.{◌≡◌, ℕ, List, [], ◌∷◌, refl, sym, ◌∙◌, ap, subst, ◌⊎◌, inl, inr, Bool, true, false, Option, Some, None}
 use Rattle.std.specs.Prelude.{cond}
 use Rattle.std.specs.List.{Contains, AllByRecursion}
 use Rattle.std.specs.List.Sorted.{IsStrictlySortedBy}
@@ -14,12 +14,11 @@ use Rattle.itip_join.specs.Killed.{found_alive}
 use Rattle.itip_message.specs.KeyParts.{uid_of}
 use Rattle.itip_message.specs.Later.{IsLater}
 use Rattle.itip_message.specs.declared.item.Item.{Item}
-use Rattle.itip_message.specs.declared.key.Key.{Key}
 use Rattle.itip_message.specs.declared.key.Key.TheVariants.{Series}
 use Rattle.itip_state.specs.Kept.{IsDead, CanDie}
 use Rattle.itip_state.specs.Order.{IsState}
 use Rattle.itip_state.specs.Slots.{slot_cmp, slot_total, slot_exact}
-use Rattle.itip_state.specs.Held.{Best, Shape, slot, best, is_series, can_die, kills, series_items, entry_items, shape_items, IsSeriesAt, IsEntryAt, IsPlaced}
+use Rattle.itip_state.specs.Held.{Best, Shape, slot, best, is_series, kills, series_items, entry_items, shape_items, IsSeriesAt, IsEntryAt, IsPlaced}
 use Rattle.itip_state.specs.declared.slot.Slot.{Slot}
 use Rattle.itip_state.proofs.Members.{by_bool, none_in, cons_cases, cons_first, cons_later}
 use Rattle.itip_state.proofs.Lookups.{at_head, from_tail, value_from_all}

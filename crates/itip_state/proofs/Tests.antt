@@ -1,5 +1,5 @@
 -- What the tests of keys and of death say.
-use Rattle.std.proofs.Common.{◌≡◌, ℕ, List, ◌<◌, ◌≤◌, refl, sym, ◌∙◌, ap, subst, Bool, true, false, ◌&&◌, arith, Option, Some, None, nat_lt}
+use Rattle.std.proofs.Common.{◌≡◌, List, ◌<◌, ◌≤◌, refl, ◌∙◌, ap, subst, Bool, true, false, ◌&&◌, arith, Some, None, nat_lt}
 use Rattle.std.specs.List.{Contains}
 use Rattle.std.specs.Ordering.{is_eq, nat_cmp}
 use Rattle.std.specs.Cmp.{tied_itself, Equal-is}

@@ -1,7 +1,5 @@
-use Rattle.std.proofs.Common.{◌≡◌, sym, ◌∙◌, ap, subst, Option, Some, None, true, false}
-use Rattle.std.specs.Option.{option_copied}
+use Rattle.std.proofs.Common.{◌≡◌, sym, subst, Some, true, false}
 use Rattle.itip_join.specs.Optional.{IsBelowAt}
-use Rattle.itip_state.specs.Held.{Shape}
 use Rattle.itip_state.specs.Below.{IsShapeBelow}
 use Rattle.itip_state.proofs.Reading.{found_none, found_some}
 use Rattle.itip_state.proofs.state.knows.Goals as goal

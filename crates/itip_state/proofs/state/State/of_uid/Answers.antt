@@ -1,4 +1,4 @@
-use Rattle.std.proofs.Common.{◌≡◌, List, [], ◌++◌, sym, ◌∙◌, ap, subst, map}
+use Rattle.std.proofs.Common.{List, [], ◌++◌, sym, ◌∙◌, ap, subst, map}
 use Rattle.itip_message.specs.declared.item.Item.{Item}
 use Rattle.itip_state.specs.Kept.{ArePart, AscendKeys}
 use Rattle.itip_state.specs.Held.{shape_items}

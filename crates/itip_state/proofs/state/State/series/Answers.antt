@@ -3,7 +3,7 @@ use Rattle.std.specs.Prelude.{filter}
 use Rattle.itip_message.specs.declared.item.Item.{Item}
 use Rattle.itip_state.specs.Kept.{AreSeriesOf}
 use Rattle.itip_state.specs.Order.{IsState}
-use Rattle.itip_state.specs.Held.{is_series, shapes, items_of}
+use Rattle.itip_state.specs.Held.{is_series, shapes}
 use Rattle.itip_state.proofs.Ordered.{series_list}
 use Rattle.itip_state.proofs.Reading.{each_sound, series_filtered, held_series, held_state}
 use Rattle.itip_state.proofs.state.State.series.Goals as goal
