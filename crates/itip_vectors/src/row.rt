@@ -9,7 +9,7 @@ use thiserror::Error;
 
 /// Why a run stopped.
 #[derive(Debug, Drop, Error)]
-pub enum RowError {
+pub(crate) enum RowError {
     #[error("no memory")]
     NoMemory,
     #[error("a field is missing or can't be read")]
@@ -37,7 +37,7 @@ impl From<io::Error> for RowError {
 }
 
 /// Whether the series of a line has the occurrences that the line says; prints those that it has where not.
-pub fn is_as_told(rt: &(impl AllocGlobal + Print), line: &str) -> Result<bool, RowError> {
+pub(crate) fn is_as_told(rt: &(impl AllocGlobal + Print), line: &str) -> Result<bool, RowError> {
     let alloc = rt.alloc();
     let fields: Vec<&str> = line.split('\t').collect(alloc)?;
     let [start, rule, rdates, exdates, from, to, told] = fields.as_slice() else {
