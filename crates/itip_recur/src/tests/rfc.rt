@@ -1,4 +1,4 @@
-//! The examples of RFC 5545 3.8.5.3 that lie in the profile, with the dates that the RFC gives.
+//! Examples of RFC 5545 3.8.5.3 that lie in the profile, taken as dates, so that an UNTIL is a date too.
 use super::{day, listed};
 use std::process::Abort;
 use std::test::Fail;
