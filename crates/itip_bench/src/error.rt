@@ -2,6 +2,7 @@
 
 use itip_desk::DeskError;
 use itip_message::ReadError;
+use itip_recur::RecurError;
 use itip_view::{BadWindow, ViewError};
 use std::alloc::{AllocError, AllocFailed};
 use std::io;
@@ -24,6 +25,8 @@ pub(crate) enum BenchError {
     Window(#[from] BadWindow),
     #[error("{0}")]
     View(#[from] ViewError),
+    #[error("{0}")]
+    Recur(#[from] RecurError),
 }
 
 impl From<AllocError> for BenchError {

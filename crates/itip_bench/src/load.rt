@@ -60,3 +60,37 @@ pub(crate) fn to_do(
     text.push_str("END:VTODO\r\n")?;
     Ok(text)
 }
+
+/// Five messages about one to-do: its series, an instance and three answers.
+pub(crate) fn about(alloc: Global, number: u64) -> Result<Vec<String>, AllocError> {
+    let uid = format!(in alloc;
+        "UID:to-do-{number}@example.com\r\nSEQUENCE:10\r\nDTSTAMP:20260102T090000Z\r\n"
+    )?;
+    let mut texts = Vec::new(alloc);
+    texts.push(stating(
+        alloc,
+        "REQUEST",
+        uid.as_str(),
+        "DTSTART;VALUE=DATE:20260105\r\nRRULE:FREQ=DAILY;COUNT=5\r\nSUMMARY:Stand-up\r\n",
+    )?)?;
+    texts.push(stating(
+        alloc,
+        "REQUEST",
+        uid.as_str(),
+        "RECURRENCE-ID;VALUE=DATE:20260106\r\nSUMMARY:Moved\r\n",
+    )?)?;
+    for name in ["a", "b", "c"] {
+        let answer = format!(in alloc; "ATTENDEE;PARTSTAT=ACCEPTED:mailto:{name}@example.com\r\n")?;
+        texts.push(stating(alloc, "REPLY", uid.as_str(), answer.as_str())?)?;
+    }
+    Ok(texts)
+}
+
+fn stating(alloc: Global, method: &str, uid: &str, lines: &str) -> Result<String, AllocError> {
+    let mut text = format!(in alloc; "BEGIN:VCALENDAR\r\nVERSION:2.0\r\nMETHOD:{method}\r\n")?;
+    text.push_str("BEGIN:VTODO\r\n")?;
+    text.push_str(uid)?;
+    text.push_str(lines)?;
+    text.push_str("END:VTODO\r\nEND:VCALENDAR\r\n")?;
+    Ok(text)
+}

@@ -4,16 +4,20 @@
 #![tactic(auto)]
 
 mod attendees;
+mod desks;
 mod error;
 mod joins;
 mod load;
 mod messages;
+mod recurrence;
 mod threads;
 
 use crate::attendees::measure_attendees;
+use crate::desks::measure_desks;
 use crate::error::BenchError;
 use crate::joins::measure_joins;
 use crate::messages::measure_messages;
+use crate::recurrence::measure_recurrence;
 use crate::threads::measure_threads;
 use std::env;
 use std::process::ExitCode;
@@ -44,6 +48,8 @@ fn run<R: AllocGlobal + Clock + Env + Print + Threads + Sync>(rt: &R) -> Result<
         "joins" => measure_joins(rt, size),
         "attendees" => measure_attendees(rt, size),
         "threads" => measure_threads(rt, size),
+        "recurrence" => measure_recurrence(rt, size),
+        "desks" => measure_desks(rt, size),
         _ => Err(BenchError::Words),
     }
 }

@@ -6,4 +6,3 @@ pub mod Occurrences
 pub mod Adding
 pub mod RuleText
 pub mod Reads
-pub mod ToDoShape

@@ -1,4 +1,4 @@
-use crate::{End, Reading, RecurError, Rule, Series, is_day, occurrences, read_rule};
+use crate::{End, Reading, RecurError, Rule, Series, occurrences, read_rule};
 use itip_lines::ListOf;
 use itip_moment::{Moment, read_date, read_moment, write_moment};
 use std::alloc::Global;
@@ -149,21 +149,6 @@ fn at_most_100_000_are_listed(rt: HostRuntime) -> Result<(), Fail> {
         Err(RecurError::TooMany) => Ok(()),
         _ => Err("not refused".into()),
     }
-}
-
-#[test]
-fn the_start_is_a_day_of_its_rule(rt: HostRuntime) -> Result<(), Fail> {
-    let rule = rule(rt.alloc(), "FREQ=WEEKLY;BYDAY=WE")?.ok_or("opaque")?;
-    let start = day("20260105")?;
-    for (text, told) in [
-        ("20260105", true),
-        ("20260106", false),
-        ("20260107", true),
-        ("20251231", false),
-    ] {
-        assert_eq!(rt; is_day(&rule, start, day(text)?), told, "{text}");
-    }
-    Ok(())
 }
 
 #[test]

@@ -1,0 +1,58 @@
+//! Occurrences of rules, near and far.
+
+use crate::error::BenchError;
+use itip_lines::ListOf;
+use itip_moment::read_moment;
+use itip_recur::{Reading, Series, occurrences, read_rule};
+use std::alloc::Global;
+use std::rt::Clock;
+use std::time::{Duration, Instant};
+
+/// DTSTART, RRULE, and the first day of the window of 3,660 days, counted from 1970-01-01.
+const SERIES: [(&str, &str, i32); 5] = [
+    ("20240101", "FREQ=DAILY", 20_454),
+    ("20240101", "FREQ=WEEKLY;BYDAY=TU,FR", 20_454),
+    ("20240101", "FREQ=MONTHLY;BYDAY=-1FR", 20_454),
+    ("20240229", "FREQ=YEARLY", 20_454),
+    ("19700101", "FREQ=DAILY", 2_567_664),
+];
+
+/// How many days the window has.
+const DAYS: i32 = 3660;
+
+/// Lists the occurrences of each series so many times.
+pub(crate) fn measure_recurrence<R: AllocGlobal + Clock + Print>(
+    rt: &R,
+    rounds: u64,
+) -> Result<(), BenchError> {
+    let alloc = rt.alloc();
+    for (start, rule, from) in SERIES {
+        let series = series(alloc, start, rule)?;
+        let mut time = Duration::ZERO;
+        let mut count = 0u64;
+        for _ in 0..rounds {
+            let begin = Instant::now(rt)?;
+            let moments = occurrences(alloc, &series, from, from.saturating_add(DAYS))?;
+            time = time.saturating_add(begin.elapsed(rt)?);
+            count = count.saturating_add(moments.len() as u64);
+        }
+        let time = time.as_micros();
+        println!(rt; "occurrences {start} {rule} from day {from} {count} in {time} us")?;
+    }
+    Ok(())
+}
+
+fn series(alloc: Global, start: &str, rule: &str) -> Result<Series, BenchError> {
+    let Some(start) = read_moment(alloc, start, None)? else {
+        return Err(BenchError::Words);
+    };
+    let Reading::Plain(rule) = read_rule(alloc, rule)? else {
+        return Err(BenchError::Words);
+    };
+    Ok(Series {
+        start,
+        rule: Some(rule),
+        rdates: ListOf::new(alloc),
+        exdates: ListOf::new(alloc),
+    })
+}
