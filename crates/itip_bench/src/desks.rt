@@ -78,21 +78,32 @@ fn shuffled(alloc: Global, count: usize) -> Result<Vec<usize>, BenchError> {
         places.push(place)?;
     }
     let mut numbers = Numbers::of_seed(SEED);
-    for place in 0..places.len() {
-        let other = numbers.next() % places.len() as u64;
-        places.swap(place, other as usize);
+    let count = places.len();
+    for place in 0..count {
+        let other = (numbers.next() as usize).checked_rem(count).unwrap_or(0);
+        if place < places.len() && other < places.len() {
+            places.swap(place, other);
+        }
     }
     Ok(places)
 }
 
 fn merge_halves<R: AllocGlobal + Clock + Print>(rt: &R, items: &[Item]) -> Result<(), BenchError> {
     let alloc = rt.alloc();
-    let mut halves = [State::empty(alloc), State::empty(alloc)];
-    for (place, item) in items.iter().enumerate() {
-        let one = State::of_items(alloc, std::slice::from_ref(item))?;
-        halves[place % 2].merge(&one)?;
+    let mut mine = State::empty(alloc);
+    let mut theirs = State::empty(alloc);
+    let mut is_mine = true;
+    for item in items {
+        let mut one = Vec::new(alloc);
+        one.push(item.clone()?)?;
+        let one = State::of_items(alloc, &one)?;
+        if is_mine {
+            mine.merge(&one)?;
+        } else {
+            theirs.merge(&one)?;
+        }
+        is_mine = !is_mine;
     }
-    let [mut mine, theirs] = halves;
     let start = Instant::now(rt)?;
     mine.merge(&theirs)?;
     let time = start.elapsed(rt)?.as_millis();
