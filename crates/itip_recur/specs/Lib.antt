@@ -6,3 +6,4 @@ pub mod Occurrences
 pub mod Adding
 pub mod RuleText
 pub mod Reads
+pub mod ToDoShape

@@ -1,8 +1,8 @@
 //! Recurrence of a to-do (RFC 5545 3.3.10, a profile of it): which rule a text is, and which moments a series has.
 //!
-//! [`read_rule`] reads a rule of the profile; any other text is opaque. [`occurrences`] lists the moments of a series
-//! in a window of days. A window far from the start costs no step for each occurrence before it, unless the rule has
-//! COUNT.
+//! [`read_rule`] reads a rule of the profile; any other text is opaque. [`shape`] says whether a to-do
+//! is single, opaque or repeats, and [`occurrences`] lists the moments of a series in a window of days.
+//! A window far from the start costs no step for each occurrence before it, unless the rule has COUNT.
 #![tactic(auto)]
 
 mod calendar;
@@ -15,6 +15,7 @@ mod pattern;
 mod read;
 mod rule;
 mod series;
+mod shapes;
 
 pub use error::RecurError;
 pub use jiff_core::civil::Weekday;
@@ -22,7 +23,8 @@ pub use listing::occurrences;
 pub use pattern::is_day;
 pub use read::{Reading, read_rule};
 pub use rule::{End, Frequency, MonthDays, MonthWeekday, Place, Rule, WeekDays, YearDays};
-pub use series::Series;
+pub use series::{Series, Shape};
+pub use shapes::shape;
 pub use std::alloc::AllocError as NoMemory;
 
 #[cfg(test)]

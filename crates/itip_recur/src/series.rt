@@ -1,4 +1,4 @@
-//! A series.
+//! A series, and the shape of a to-do.
 use crate::Rule;
 use itip_lines::ListOf;
 use itip_moment::Moment;
@@ -14,4 +14,15 @@ pub struct Series {
     pub rdates: ListOf<Moment>,
     /// EXDATE: moments that are taken away, also where RDATE adds them.
     pub exdates: ListOf<Moment>,
+}
+
+/// How a to-do recurs.
+#[derive(Debug, Drop)]
+pub enum Shape {
+    /// It doesn't.
+    Single,
+    /// In a way that is kept and not expanded.
+    Opaque,
+    /// As this series does.
+    Repeats(Series),
 }

@@ -1,38 +1,115 @@
--- The rows of a task list (our own rule): each live to-do that doesn't recur has one.
-use Rattle.std.specs.Prelude.{◌≡◌, ℕ, ℤ, ◌<◌, false, List, [], map, Option, Some, None, length}
-use Rattle.std.specs.Option.{option_map}
-use Rattle.std.specs.List.{Contains, AllPairs, list_any}
-use Rattle.std.specs.Ordering.{nat_cmp}
+-- The rows of a task list (our own rules): one for each standing live instance, one for each occurrence of a live series at which nothing stands, and one for each live to-do that
+-- doesn't recur or whose recurrence isn't expanded.
+use Rattle.std.specs.Prelude.{◌≡◌, ◌⊎◌, ℕ, ◌<◌, ℤ, pos, ◌-ℤ◌, List, [], ◌∷◌, Option, Some, None, unwrap_or, length}
+use Rattle.std.specs.Option.{option_map, option_cmp}
+use Rattle.std.specs.List.{Contains, AllPairs}
+use Rattle.std.specs.Ordering.{nat_cmp, ordering_then}
 use Rattle.std.specs.Cmp.Lexicographic.{slice_cmp}
+use Rattle.std.specs.declared.cmp.Ordering.{Ordering}
 use Rattle.std.specs.declared.cmp.Ordering.TheVariants.{Less}
-use Rattle.itip_moment.specs.Moment.{moment_day}
+use Rattle.itip_moment.specs.Moment.{moment_day, moment_form, moment_second, moment_zone}
+use Rattle.itip_moment.specs.Order.{moment_cmp}
+use Rattle.itip_moment.specs.Shift.{CanShift, IsShifted}
 use Rattle.itip_moment.specs.declared.moment.Moment.{Moment}
-use Rattle.itip_lines.specs.declared.line.Line.{Line}
-use Rattle.itip_todo.specs.Participation.{partstat_of, same_text}
-use Rattle.itip_todo.specs.Table.{name_text}
 use Rattle.itip_todo.specs.declared.property.Property.{Property}
-use Rattle.itip_todo.specs.declared.property_name.PropertyName.TheVariants as name
-use Rattle.itip_todo.specs.declared.todo.Todo.{Todo}
+use Rattle.itip_recur.specs.Occurrences.{OccursIn}
+use Rattle.itip_recur.specs.ToDoShape.{IsShape, IsSeriesOf}
+use Rattle.itip_recur.specs.declared.series.Series.{Series}
+use Rattle.itip_recur.specs.declared.series.Shape.TheVariants as shape
 use Rattle.itip_message.specs.declared.item.Item.{Item}
-use Rattle.itip_message.specs.declared.kind.Kind.TheVariants.{Request}
-use Rattle.itip_message.specs.declared.key.Key.TheVariants.{Series}
-use Rattle.itip_state.specs.Kept.{IsBest}
+use Rattle.itip_message.specs.declared.key.Key.{Key}
+use Rattle.itip_view.specs.Answers.{AreShown, answer_key}
+use Rattle.itip_view.specs.Standing.{NoneStands, IsLiveSeries, IsLiveInstance}
 use Rattle.itip_view.specs.Window.{IsInWindow}
 use Rattle.itip_view.specs.declared.row.Row.{Row}
+use Rattle.itip_view.specs.declared.row.RowId.{RowId}
 use Rattle.itip_view.specs.declared.row.RowId.TheVariants as id
-use Rattle.itip_view.specs.declared.row.ShownAttendee.{ShownAttendee}
 use Rattle.itip_view.specs.declared.window.Window.{Window}
 
 -- the most rows of a list (our own limit)
 abbrev pub row_limit : ℕ
-row_limit = 100000
+row_limit = 100_000
 
--- the shape of a to-do: it recurs where it has RRULE, RDATE or EXDATE
-pub record IsSingle (todo : Todo) : Type 0 where
-  pub no_rule : todo.rule ≡ []
-  pub no_rdate : todo.rdates ≡ []
-  pub no_exdate : todo.exdates ≡ []
-  pub no_period : list_any (λ (line : Line). same_text line.name (name_text name.RDate)) todo.others ≡ false
+-- what a row shows of the item that governs it
+pub record HasFields (item : Item) (row : Row) : Type 0 where
+  pub seq : row.seq ≡ item.own
+  pub status : row.status ≡ item.todo.status
+  pub percent : row.percent ≡ item.todo.percent
+  pub priority : row.priority ≡ item.todo.priority
+  pub summary : row.summary ≡ option_map (λ (p : Property). p.value) item.todo.summary
+
+-- DTSTART and DUE as the item has them
+pub record HasOwnDates (item : Item) (row : Row) : Type 0 where
+  pub start : row.start ≡ item.todo.start
+  pub due : row.due ≡ item.todo.due
+
+-- where the answers of an attendee are looked for: on the row of an instance those to the instance
+abbrev pub instance_keys : List ℕ → Moment → Property → List Key
+instance_keys uid at line = answer_key uid (Some at) line ∷ []
+
+-- on the row of an occurrence those to the occurrence, then those to the to-do as a whole
+abbrev pub occurrence_keys : List ℕ → Moment → Property → List Key
+occurrence_keys uid at line = answer_key uid (Some at) line ∷ answer_key uid None line ∷ []
+
+-- on any other row those to the to-do as a whole
+abbrev pub series_keys : List ℕ → Property → List Key
+series_keys uid line = answer_key uid None line ∷ []
+
+-- the day of an instance: that of DTSTART, else of the recurrence id
+abbrev pub instance_day : Moment → Option Moment → Option ℤ
+instance_day at None = Some (moment_day at)
+instance_day at (Some start) = Some (moment_day start)
+
+-- the row of an instance that stands and is live
+pub record IsInstanceRow (heard : List Item) (window : Window) (row : Row) : Type 0 where
+  pub item : Item
+  pub at : Moment
+  pub live : IsLiveInstance heard row.uid at item
+  pub in_window : IsInWindow window.from window.to (instance_day at item.todo.start)
+  pub id : row.id ≡ id.At at
+  pub fields : HasFields item row
+  pub dates : HasOwnDates item row
+  pub attendees : AreShown heard item (instance_keys row.uid at) item.todo.attendees row.attendees
+
+-- two moments of one form and one zone
+pub record HaveOneForm (start m : Moment) : Type 0 where
+  pub form : moment_form m ≡ moment_form start
+  pub zone : moment_zone m ≡ moment_zone start
+
+-- the days from DTSTART to an occurrence
+abbrev pub days_to : Moment → Moment → ℤ
+days_to start m = moment_day m -ℤ moment_day start
+
+-- the difference of their seconds of the day; a date has second 0
+abbrev pub seconds_to : Moment → Moment → ℤ
+seconds_to start m = pos (unwrap_or (moment_second m) 0) -ℤ pos (unwrap_or (moment_second start) 0)
+
+-- the moment is DUE, moved as far as the occurrence lies from DTSTART
+pub record IsMovedDue (due start m shown : Moment) : Type 0 where
+  pub one_form : HaveOneForm start m
+  pub can : CanShift due (days_to start m) (seconds_to start m)
+  pub shifted : IsShifted due (days_to start m) (seconds_to start m) shown
+
+-- DUE of an occurrence: absent where the to-do has none, where occurrence and DTSTART differ in form or zone, and where it can't be moved
+abbrev pub IsDueOf : Option Moment → Moment → Moment → Option Moment → Type 0
+IsDueOf None start m shown = shown ≡ None
+IsDueOf (Some due) start m None = HaveOneForm start m → CanShift due (days_to start m) (seconds_to start m) → ⊥
+IsDueOf (Some due) start m (Some shown) = IsMovedDue due start m shown
+
+-- the row of an occurrence of a live series, where no instance stands there
+pub record IsOccurrenceRow (heard : List Item) (window : Window) (row : Row) : Type 0 where
+  pub item : Item
+  pub at : Moment
+  pub series : Series
+  pub live : IsLiveSeries heard row.uid item
+  pub repeats : IsSeriesOf item.todo series
+  pub occurs : OccursIn series window.from window.to at
+  pub none_stands : NoneStands heard row.uid at
+  pub id : row.id ≡ id.At at
+  pub fields : HasFields item row
+  pub start : row.start ≡ Some at
+  pub due : IsDueOf item.todo.due series.start at row.due
+  pub attendees : AreShown heard item (occurrence_keys row.uid at) item.todo.attendees row.attendees
 
 -- the day of DTSTART, else of DUE, else none
 abbrev pub day_of : Option Moment → Option Moment → Option ℤ
@@ -40,42 +117,60 @@ day_of (Some start) due = Some (moment_day start)
 day_of None (Some due) = Some (moment_day due)
 day_of None None = None
 
--- an attendee by the line that names him
-abbrev pub shown_attendee : Property → ShownAttendee
-shown_attendee line = record { address = line.value; partstat = partstat_of line.params; percent = None }
+-- no instance stands at DTSTART
+abbrev pub NoneStandsAtStart : List Item → List ℕ → Option Moment → Type 0
+NoneStandsAtStart heard uid None = Unit {0}
+NoneStandsAtStart heard uid (Some start) = NoneStands heard uid start
 
--- the row of a to-do that doesn't recur
-abbrev pub single_row : Item → Row
-single_row item = record {
-  uid = item.todo.uid;
-  id = id.Single;
-  seq = item.own;
-  status = item.todo.status;
-  percent = item.todo.percent;
-  priority = item.todo.priority;
-  start = item.todo.start;
-  due = item.todo.due;
-  summary = option_map (λ (p : Property). p.value) item.todo.summary;
-  attendees = map shown_attendee item.todo.attendees;
-}
+-- the row of a live to-do that doesn't recur
+pub record IsSingleRow (heard : List Item) (window : Window) (row : Row) : Type 0 where
+  pub item : Item
+  pub live : IsLiveSeries heard row.uid item
+  pub single : IsShape item.todo shape.Single
+  pub none_stands : NoneStandsAtStart heard row.uid item.todo.start
+  pub in_window : IsInWindow window.from window.to (day_of item.todo.start item.todo.due)
+  pub id : row.id ≡ id.Single
+  pub fields : HasFields item row
+  pub dates : HasOwnDates item row
+  pub attendees : AreShown heard item (series_keys row.uid) item.todo.attendees row.attendees
+
+-- the row of a live to-do whose recurrence isn't expanded; it stands in each window
+pub record IsOpaqueRow (heard : List Item) (window : Window) (row : Row) : Type 0 where
+  pub item : Item
+  pub live : IsLiveSeries heard row.uid item
+  pub opaque : IsShape item.todo shape.Opaque
+  pub id : row.id ≡ id.Opaque
+  pub fields : HasFields item row
+  pub dates : HasOwnDates item row
+  pub attendees : AreShown heard item (series_keys row.uid) item.todo.attendees row.attendees
 
 -- the row is one of the view of a set in a window
-pub record IsRow (heard : List Item) (window : Window) (row : Row) : Type 0 where
-  pub item : Item
-  pub best : IsBest heard (Series item.todo.uid) item
-  pub live : item.kind ≡ Request
-  pub single : IsSingle item.todo
-  pub in_window : IsInWindow window.from window.to (day_of item.todo.start item.todo.due)
-  pub row_is : row ≡ single_row item
+abbrev pub IsRow : List Item → Window → Row → Type 0
+IsRow heard window row = IsInstanceRow heard window row ⊎ (IsOccurrenceRow heard window row ⊎ (IsSingleRow heard window row ⊎ IsOpaqueRow heard window row))
 
--- the rows of the view, each once, by UID
+-- the moment that names a row
+abbrev pub moment_of : RowId → Option Moment
+moment_of id.Single = None
+moment_of (id.At at) = Some at
+moment_of id.Opaque = None
+
+-- rows by UID, then rows without a moment, then by moment
+abbrev pub row_cmp : Row → Row → Ordering
+row_cmp a b = ordering_then (slice_cmp nat_cmp a.uid b.uid) (option_cmp moment_cmp (moment_of a.id) (moment_of b.id))
+
+-- rows in their order, each once
+abbrev pub AscendRows : List Row → Type 0
+AscendRows = AllPairs (λ (a b : Row). row_cmp a b ≡ Less)
+
+-- the rows of the view in their order, each once
 pub record AreRows (heard : List Item) (window : Window) (rows : List Row) : Type 0 where
-  pub ascend : AllPairs (λ (a b : Row). slice_cmp nat_cmp a.uid b.uid ≡ Less) rows
+  pub ascend : AscendRows rows
   pub each : (row : Row) → Contains rows row → IsRow heard window row
   pub all : (row : Row) → IsRow heard window row → Contains rows row
 
 -- more rows stand in the window than a list may have
 pub record AreTooMany (heard : List Item) (window : Window) : Type 0 where
-  pub rows : List Row
-  pub are_rows : AreRows heard window rows
-  pub many : row_limit < length rows
+  pub some : List Row
+  pub ascend : AscendRows some
+  pub each : (row : Row) → Contains some row → IsRow heard window row
+  pub many : row_limit < length some
