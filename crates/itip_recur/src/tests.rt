@@ -1,6 +1,10 @@
-use crate::{End, Reading, RecurError, Rule, Series, occurrences, read_rule};
-use itip_lines::ListOf;
+use crate::{
+    End, Reading, RecurError, Rule, Series, Shape, all_occurrences, is_day, occurrences, read_rule,
+    shape,
+};
+use itip_lines::{ListOf, read_lines};
 use itip_moment::{Moment, read_date, read_moment, write_moment};
+use itip_todo::read_todo;
 use std::alloc::Global;
 use std::process::Abort;
 use std::test::Fail;
@@ -145,10 +149,81 @@ fn at_most_100_000_are_listed(rt: HostRuntime) -> Result<(), Fail> {
     assert_eq!(rt; occurrences(alloc, &near, 20454, 24114)?.len(), 3660);
     let old = daily(alloc, "19700101")?;
     assert_eq!(rt; occurrences(alloc, &old, 0, 100_000)?.len(), 100_000);
+    assert_eq!(rt; all_occurrences(alloc, &old, 0, 110_000)?.len(), 110_000);
     match occurrences(alloc, &old, 0, 110_000) {
         Err(RecurError::TooMany) => Ok(()),
         _ => Err("not refused".into()),
     }
+}
+
+#[test]
+fn a_day_is_the_start_or_a_later_one_of_the_pattern(rt: HostRuntime) -> Result<(), Fail> {
+    let rule = rule(rt.alloc(), "FREQ=WEEKLY;BYDAY=WE")?.ok_or("opaque")?;
+    let start = read_date("20260105").ok_or("no date")?;
+    let rows = [
+        ("20251231", false),
+        ("20260105", true),
+        ("20260106", false),
+        ("20260107", true),
+    ];
+    for (text, told) in rows {
+        let day = read_date(text).ok_or("no date")?;
+        assert_eq!(rt; is_day(&rule, start.number, day.number), told, "{text}");
+    }
+    Ok(())
+}
+
+/// The shape of a to-do with these properties beside UID and DTSTAMP.
+fn shape_of(alloc: Global, properties: &str) -> Result<&'static str, Fail> {
+    let text = format!(in alloc; "UID:u\nDTSTAMP:20260101T000000Z\n{properties}\n")?;
+    let lines = read_lines(alloc, text.as_bytes()).map_err(|_| "no lines")?;
+    let todo = read_todo(alloc, &lines).map_err(|_| "no to-do")?;
+    Ok(match shape(alloc, &todo)? {
+        Shape::Single => "single",
+        Shape::Opaque => "opaque",
+        Shape::Repeats(_) => "repeats",
+    })
+}
+
+#[test]
+fn to_dos_have_their_shapes(rt: HostRuntime) -> Result<(), Fail> {
+    let rows = [
+        ("SUMMARY:s", "single"),
+        ("DTSTART:20260105", "single"),
+        ("DTSTART:20260105\nEXDATE:20260106", "repeats"),
+        ("DTSTART:20260105\nRDATE:20260106", "repeats"),
+        ("RDATE:20260105", "opaque"),
+        ("RRULE:FREQ=DAILY", "opaque"),
+        ("DTSTART:20260105T090000\nRRULE:FREQ=HOURLY", "opaque"),
+        (
+            "DTSTART:20260105\nRRULE:FREQ=DAILY\nRRULE:FREQ=DAILY",
+            "opaque",
+        ),
+        (
+            "DTSTART:20260105\nRRULE:FREQ=DAILY;UNTIL=20260201",
+            "repeats",
+        ),
+        (
+            "DTSTART:20260105\nRRULE:FREQ=DAILY;UNTIL=20260201T000000Z",
+            "opaque",
+        ),
+        (
+            "DTSTART;TZID=Europe/Berlin:20260105T090000\nRRULE:FREQ=DAILY;UNTIL=20260201T000000Z",
+            "opaque",
+        ),
+        (
+            "DTSTART;TZID=Europe/Berlin:20260105T090000\nRRULE:FREQ=DAILY;COUNT=3",
+            "repeats",
+        ),
+        (
+            "DTSTART:20260105T090000Z\nRDATE;VALUE=PERIOD:20260105T090000Z/PT1H",
+            "opaque",
+        ),
+    ];
+    for (properties, told) in rows {
+        assert_eq!(rt; shape_of(rt.alloc(), properties)?, told, "{properties}");
+    }
+    Ok(())
 }
 
 #[test]
@@ -171,6 +246,11 @@ fn texts_outside_the_profile_are_opaque(rt: HostRuntime) -> Result<(), Fail> {
         "FREQ=MONTHLY;BYDAY=6MO",
         "FREQ=YEARLY;BYMONTH=1",
         "FREQ=DAILY;BYSETPOS=1",
+        "FREQ=YEARLY;COUNT=10;BYMONTH=6,7",
+        "FREQ=YEARLY;BYDAY=20MO",
+        "FREQ=YEARLY;BYMONTH=3;BYDAY=TH",
+        "FREQ=MONTHLY;BYDAY=FR;BYMONTHDAY=13",
+        "FREQ=MONTHLY;BYDAY=MO,TU,WE,TH,FR;BYSETPOS=-2",
     ];
     for text in opaque {
         assert!(rt; rule(rt.alloc(), text)?.is_none(), "{text}");
