@@ -4,3 +4,4 @@ pub mod RowsOf
 pub mod Sequences
 pub mod Alike
 pub mod OneList
+pub mod OneRow

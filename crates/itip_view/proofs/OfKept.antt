@@ -1,47 +1,96 @@
 -- The view needs only what is kept.
-use Rattle.std.proofs.Common.{◌≡◌, ℕ, List, subst, ◌↔◌, refl, [], ◌∷◌}
-use Rattle.std.specs.Prelude.{codes}
+use Rattle.std.proofs.Common.{ℕ, List, inl, inr}
+use Rattle.std.specs.Prelude.{Option, Some, None}
+use Rattle.itip_moment.specs.declared.moment.Moment.{Moment}
 use Rattle.itip_message.specs.declared.item.Item.{Item}
-use Rattle.itip_message.specs.declared.key.Key.{Key}
-use Rattle.itip_message.specs.declared.key.Key.TheVariants.{Series}
-use Rattle.itip_state.specs.Kept.{IsBest, IsKept, AreKept}
-use Rattle.itip_state.proofs.Keeping.{series_kept, kept_again}
-use Rattle.itip_view.specs.Rows.{IsRow, AreRows, AreTooMany}
+use Rattle.itip_state.specs.Kept.{AreKept}
+use Rattle.itip_state.proofs.Keeping.{kept_again}
+use Rattle.itip_view.specs.Rows.{IsInstanceRow, IsOccurrenceRow, IsSingleRow, IsOpaqueRow, NoneStandsAtStart, IsRow, AreRows, AreTooMany}
 use Rattle.itip_view.specs.ListText.{IsListText}
 use Rattle.itip_view.specs.declared.row.Row.{Row}
 use Rattle.itip_view.specs.declared.window.Window.{Window}
+use Rattle.itip_view.proofs.Alike.{KeepAlike, alike_back, none_stands_alike, live_series_alike, live_instance_alike, instance_shown, occurrence_shown, series_shown}
 
-line_feed : codes "\n" ≡ 10 ∷ []
-line_feed = refl
+none_at_start : (x y : List Item) → KeepAlike x y → (uid : List ℕ) (start : Option Moment) → NoneStandsAtStart x uid start → NoneStandsAtStart y uid start
+none_at_start x y same uid None none = tt
+none_at_start x y same uid (Some start) none = none_stands_alike x y same uid start none
 
--- two sets that keep the same have the same best series items
-best_series : (x y : List Item) → ((item : Item) → IsKept x item ↔ IsKept y item) → (uid : List ℕ) (item : Item) → IsBest x (Series uid) item → IsBest y (Series uid) item
-best_series x y same uid item best =
-    subst (λ (key : Key). IsBest y key item) best.about ((same item).0 (series_kept x uid item best)).best
+module _ (x y : List Item) (same : KeepAlike x y) (window : Window) (row : Row) where
+  instance_alike : IsInstanceRow x window row → IsInstanceRow y window row
+  instance_alike is = record {
+    item = is.item;
+    at = is.at;
+    live = live_instance_alike x y same row.uid is.at is.item is.live;
+    in_window = is.in_window;
+    id = is.id;
+    fields = is.fields;
+    dates = is.dates;
+    attendees = instance_shown x y same is.item row.uid is.at is.item.todo.attendees row.attendees is.attendees;
+  }
 
-pub row_of_same : (x y : List Item) → ((item : Item) → IsKept x item ↔ IsKept y item) → (window : Window) (row : Row) → IsRow x window row → IsRow y window row
-row_of_same x y same window row is = record {
-  item = is.item;
-  best = best_series x y same is.item.todo.uid is.item is.best;
-  live = is.live;
-  single = is.single;
-  in_window = is.in_window;
-  row_is = is.row_is;
-}
+  occurrence_alike : IsOccurrenceRow x window row → IsOccurrenceRow y window row
+  occurrence_alike is = record {
+    item = is.item;
+    at = is.at;
+    series = is.series;
+    live = live_series_alike x y same row.uid is.item is.live;
+    repeats = is.repeats;
+    occurs = is.occurs;
+    none_stands = none_stands_alike x y same row.uid is.at is.none_stands;
+    id = is.id;
+    fields = is.fields;
+    start = is.start;
+    due = is.due;
+    attendees = occurrence_shown x y same is.item row.uid is.live.best is.at is.item.todo.attendees row.attendees is.attendees;
+  }
+
+  single_alike : IsSingleRow x window row → IsSingleRow y window row
+  single_alike is = record {
+    item = is.item;
+    live = live_series_alike x y same row.uid is.item is.live;
+    single = is.single;
+    none_stands = none_at_start x y same row.uid is.item.todo.start is.none_stands;
+    in_window = is.in_window;
+    id = is.id;
+    fields = is.fields;
+    dates = is.dates;
+    attendees = series_shown x y same is.item row.uid is.live.best is.item.todo.attendees row.attendees is.attendees;
+  }
+
+  opaque_alike : IsOpaqueRow x window row → IsOpaqueRow y window row
+  opaque_alike is = record {
+    item = is.item;
+    live = live_series_alike x y same row.uid is.item is.live;
+    opaque = is.opaque;
+    id = is.id;
+    fields = is.fields;
+    dates = is.dates;
+    attendees = series_shown x y same is.item row.uid is.live.best is.item.todo.attendees row.attendees is.attendees;
+  }
+
+-- two sets that keep the same have the same rows
+pub row_of_same : (x y : List Item) → KeepAlike x y → (window : Window) (row : Row) → IsRow x window row → IsRow y window row
+row_of_same x y same window row (inl is) = inl (instance_alike x y same window row is)
+row_of_same x y same window row (inr (inl is)) = inr (inl (occurrence_alike x y same window row is))
+row_of_same x y same window row (inr (inr (inl is))) = inr (inr (inl (single_alike x y same window row is)))
+row_of_same x y same window row (inr (inr (inr is))) = inr (inr (inr (opaque_alike x y same window row is)))
 
 -- what is kept has the rows of all that was heard
 pub rows_of_kept : (kept heard : List Item) → AreKept kept heard → (window : Window) (rows : List Row) → AreRows kept window rows → AreRows heard window rows
-rows_of_kept kept heard are window rows of = record {
-  ascend = of.ascend;
-  each = λ row h. row_of_same kept heard (kept_again kept heard are) window row (of.each row h);
-  all = λ row is. of.all row (row_of_same heard kept (λ item. let two = kept_again kept heard are item in (two.1, two.0)) window row is);
-}
+rows_of_kept kept heard are window rows of =
+    let same = kept_again kept heard are in
+    record {
+      ascend = of.ascend;
+      each = λ row h. row_of_same kept heard same window row (of.each row h);
+      all = λ row is. of.all row (row_of_same heard kept (alike_back kept heard same) window row is);
+    }
 
 pub too_many_of_kept : (kept heard : List Item) → AreKept kept heard → (window : Window) → AreTooMany kept window → AreTooMany heard window
-too_many_of_kept kept heard are window many = record {
-  rows = many.rows;
-  are_rows = rows_of_kept kept heard are window many.rows many.are_rows;
-  many = many.many;
+too_many_of_kept kept heard are window over = record {
+  some = over.some;
+  ascend = over.ascend;
+  each = λ row h. row_of_same kept heard (kept_again kept heard are) window row (over.each row h);
+  many = over.many;
 }
 
 pub text_of_kept : (kept heard : List Item) → AreKept kept heard → (window : Window) (text : List ℕ) → IsListText kept window text → IsListText heard window text

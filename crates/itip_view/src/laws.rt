@@ -2,11 +2,12 @@
 ghost use Rattle.std.specs.Prelude.{List, ℕ, Option, Some, None, ◌↔◌, ◌≡◌};
 ghost use Rattle.itip_message.specs.declared.item.Item.{Item};
 ghost use Rattle.itip_state.specs.Kept.{AreKept};
+ghost use Rattle.std.specs.declared.cmp.Ordering.TheVariants.{Equal};
 ghost use Rattle.itip_moment.specs.declared.moment.Moment.{Moment};
 ghost use Rattle.itip_message.specs.declared.key.Key.TheVariants.{Answer};
 ghost use Rattle.itip_view.specs.Standing.{Stands, Governs, IsLiveSeries};
 ghost use Rattle.itip_view.specs.Answers.{Counts};
-ghost use Rattle.itip_view.specs.Rows.{IsRow, AreRows, AreTooMany};
+ghost use Rattle.itip_view.specs.Rows.{IsRow, AreRows, AreTooMany, row_cmp};
 ghost use Rattle.itip_view.specs.ListText.{IsListText};
 ghost use Rattle.itip_view.specs.declared.row.Row.{Row};
 ghost use Rattle.itip_view.specs.declared.window.Window.{Window};
@@ -34,8 +35,13 @@ pub fn view_of_kept()
     ensures many { (kept heard : List Item) → AreKept kept heard → (window : Window) → AreTooMany kept window → AreTooMany heard window }
 {}
 
-/// What was heard has one list in a window, or too many rows for one, and never both (our own rule).
+/// What was heard has one list in a window, or too many rows for one, and never both. A UID and an identifier have one row, and the order tells all rows
+/// apart (our own rules).
 pub fn one_list()
+    ensures row { (heard : List Item) (window : Window) (row other : Row) → IsRow heard window row → IsRow heard window other → row.uid ≡ other.uid →
+        row.id ≡ other.id → row ≡ other }
+    ensures order { (heard : List Item) (window : Window) (row other : Row) → IsRow heard window row → IsRow heard window other → row_cmp row other ≡ Equal →
+        row ≡ other }
     ensures rows { (heard : List Item) (window : Window) (rows others : List Row) → AreRows heard window rows → AreRows heard window others → rows ≡ others }
     ensures text { (heard : List Item) (window : Window) (text other : List ℕ) → IsListText heard window text → IsListText heard window other → text ≡ other }
     ensures apart { (heard : List Item) (window : Window) (text : List ℕ) → IsListText heard window text → AreTooMany heard window → ⊥ }

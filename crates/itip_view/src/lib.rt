@@ -11,7 +11,7 @@ mod view;
 mod window;
 
 pub use error::{BadWindow, ViewError};
-pub use laws::view_of_kept;
+pub use laws::{answers_of_kept, one_list, standing_of_kept, view_of_kept};
 pub use list::{list_text, write_list};
 pub use row::{Row, RowId, ShownAttendee};
 pub use std::alloc::AllocError as NoMemory;
