@@ -21,8 +21,10 @@ use Rattle.itip_state.specs.Kept.{SameItems, IsKept, KeepSame, Moves, AreMoved, 
 use Rattle.itip_state.proofs.Keeping.{kept_iff}
 use Rattle.itip_view.specs.declared.window.Window.{Window}
 use Rattle.itip_view.specs.declared.row.Row.{Row}
-use Rattle.itip_view.specs.Rows.{AreRows, AreTooMany, IsRow, row_limit}
-use Rattle.itip_view.specs.ListText.{IsListText, list_text}
+use Rattle.itip_view.specs.Rows.{AreRows, AreTooMany}
+use Rattle.itip_view.specs.ListText.{IsListText}
+use Rattle.itip_view.proofs.OfKept.{row_of_same}
+use Rattle.itip_view.proofs.OneList.{one_list_text, text_or_too_many}
 use Rattle.itip_desk.specs.Heard.{heard, TickStep, Ticks}
 use Rattle.itip_delta.specs.Worlds.{Histories, no_histories, with_step, Hears, EventStep, IsSpent}
 use Rattle.itip_delta.specs.Worlds.Hears.{reads, refuses}
@@ -205,37 +207,28 @@ moved_one uids uids' before before' step step' same one moved moved' =
 
 -- ---- lists
 
-best_of : (a b : List Item) (key : Key) (item : Item) → SameItems a b → IsBest a key item → IsBest b key item
-best_of a b key item same best = record {
-  is_heard = (same item).0 best.is_heard;
-  about = best.about;
-  none_later = λ other h about. best.none_later other ((same other).1 h) about;
+rows_same : (a b : List Item) (window : Window) (rows : List Row) → SameItems a b → AreRows b window rows → AreRows a window rows
+rows_same a b window rows same are = record {
+  ascend = are.ascend;
+  each = λ row h. row_of_same b a (kept_iff b a (same_back a b same)) window row (are.each row h);
+  all = λ row is. are.all row (row_of_same a b (kept_iff a b same) window row is);
 }
-
-row_of : (a b : List Item) (window : Window) (row : Row) → SameItems a b → IsRow a window row → IsRow b window row
-row_of a b window row same is = record {
-  item = is.item;
-  best = best_of a b _ is.item same is.best;
-  live = is.live;
-  single = is.single;
-  in_window = is.in_window;
-  row_is = is.row_is;
-}
-
-rows_one : (a b : List Item) (window : Window) (rows rows' : List Row) → SameItems a b → AreRows a window rows → AreRows b window rows' → rows ≡ rows'
-rows_one a b window rows rows' same are are' =
-    ascending_same_pairs (λ (x y : Row). slice_cmp nat_cmp x.uid y.uid ≡ Less) (λ x y. texts_apart x.uid y.uid) rows rows' are.ascend are'.ascend
-    (λ row h. are'.all row (row_of a b window row same (are.each row h)))
-    (λ row h. are.all row (row_of b a window row (same_back a b same) (are'.each row h)))
 
 pub list_one : (a b : List Item) (window : Window) (text text' : List ℕ) → SameItems a b → IsListText a window text → IsListText b window text' → text ≡ text'
-list_one a b window text text' same is is' = is.text_is ∙ ap list_text (rows_one a b window is.rows is'.rows same is.are_rows is'.are_rows) ∙ sym is'.text_is
+list_one a b window text text' same is is' = one_list_text a window text text' is (record {
+  rows = is'.rows;
+  are_rows = rows_same a b window is'.rows same is'.are_rows;
+  few = is'.few;
+  text_is = is'.text_is;
+})
 
 pub list_or_too_many : (a b : List Item) (window : Window) (text : List ℕ) → SameItems a b → IsListText a window text → AreTooMany b window → ⊥
-list_or_too_many a b window text same is many =
-    let e = ap length (rows_one a b window is.rows many.rows same is.are_rows many.are_rows) in
-    let few = is.few in let more = many.many in
-    omega (arith, e)
+list_or_too_many a b window text same is many = text_or_too_many a window text is (record {
+  some = many.some;
+  ascend = many.ascend;
+  each = λ row h. row_of_same b a (kept_iff b a (same_back a b same)) window row (many.each row h);
+  many = many.many;
+})
 
 -- ---- one event
 
