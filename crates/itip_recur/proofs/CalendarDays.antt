@@ -1,11 +1,11 @@
 -- The calendar's dates of days, and the first days of months.
-use Rattle.std.proofs.Common.{◌≡◌, ℕ, ◌+◌, ◌-◌, ◌*◌, ◌/◌, ◌%◌, ◌<◌, ◌≤◌, ◌↔◌, sym, subst, ◌∙◌, arith, ℤ, pos, ◌<ℤ◌, ◌≤ℤ◌}
+use Rattle.std.proofs.Common.{◌≡◌, ℕ, ◌+◌, ◌-◌, ◌/◌, ◌%◌, ◌<◌, ◌≤◌, ◌↔◌, sym, subst, ◌∙◌, arith, ℤ, pos, ◌<ℤ◌}
 use Rattle.jiff.specs.Types.{Date}
-use Rattle.jiff.specs.Words.{epoch_day, IsBetween}
+use Rattle.jiff.specs.Words.{epoch_day}
 use Rattle.jiff_core.proofs.SignedLemmas.{signed_arith}
 use Rattle.itip_moment.specs.Years.{IsDayNumber}
 use Rattle.itip_moment.proofs.Calendar.{calendar_date, same_date, epoch_day-in_years}
-use Rattle.itip_recur.specs.Calendar.{days_from_zero, year_number, month_number, day_of_month, month_of_year, IsDateOf}
+use Rattle.itip_recur.specs.Calendar.{days_from_zero, year_number, month_number, month_of_year, IsDateOf}
 use Rattle.itip_recur.proofs.Dates.{date_of-IsPlain, first_of_month}
 
 pub date_is : (date : Date) (day : ℤ) → IsDayNumber day → epoch_day date ≡ day → IsDateOf day date

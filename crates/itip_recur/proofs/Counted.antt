@@ -1,5 +1,5 @@
 -- The days of a rule that a walk has counted from its start.
-use Rattle.std.proofs.Common.{◌≡◌, ℕ, ◌+◌, ◌<◌, ◌≤◌, ◌⊎◌, ◌↔◌, inl, inr, Bool, true, false, refl, sym, subst, ap, ◌∙◌, arith, ℤ, pos, ◌+ℤ◌, ◌<ℤ◌, ◌≤ℤ◌, List, [], ◌∷◌, ◌++◌, map, length, length-append}
+use Rattle.std.proofs.Common.{◌≡◌, ℕ, ◌+◌, ◌<◌, ◌≤◌, ◌↔◌, inl, inr, true, false, refl, sym, subst, arith, ℤ, pos, ◌+ℤ◌, ◌<ℤ◌, List, [], ◌∷◌, ◌++◌, map, length, length-append}
 use Rattle.std.proofs.lemmas.List.{length-map}
 use Rattle.std.specs.List.{Contains, IsDistinct, list_any}
 use Rattle.std.specs.Ordering.{int_eq}
@@ -16,7 +16,7 @@ use Rattle.itip_moment.specs.Years.{IsDayNumber}
 use Rattle.itip_moment.specs.declared.day.Day.{Day}
 use Rattle.itip_moment.proofs.Same.{same_day}
 use Rattle.itip_recur.specs.declared.rule.Rule.{Rule}
-use Rattle.itip_recur.specs.Pattern.{IsLaterDay, IsRuleDay}
+use Rattle.itip_recur.specs.Pattern.{IsLaterDay}
 use Rattle.itip_recur.specs.Walk.{IsNoDay, IsNextDay, AreFewerDays, IsEarlier, IsEndOfCount}
 
 exact_signed_eq : (x y : ℤ) → int_eq x y ≡ true → x ≡ y

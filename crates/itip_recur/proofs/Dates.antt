@@ -2,12 +2,12 @@
 use Rattle.std.proofs.Common.{◌≡◌, ℕ, zero, suc, ◌+◌, ◌*◌, ◌<◌, ◌≤◌, ◌⊎◌, inl, inr, ◌↔◌, true, false, cond, nat_lt, refl, sym, subst, arith, ℤ, pos, negsuc, ◌+ℤ◌, ◌<ℤ◌, ◌≤ℤ◌, unsigned_abs}
 use Rattle.std.proofs.lemmas.Int.{by_lt_z}
 use Rattle.std.proofs.lemmas.Bool.{cases_lt}
-use borrow.Author.Tests.{ltb-true, ltb-false}
+use borrow.Author.Tests.{ltb-true}
 use Rattle.jiff.specs.Words.{days_in_month}
 use Rattle.jiff_core.proofs.SignedLemmas.{signed_arith}
 use Rattle.itip_moment.specs.Years.{IsDayNumber}
 use Rattle.itip_moment.specs.Written.{YearMonthDay, next_date, nth_date}
-use Rattle.itip_recur.specs.Calendar.{days_from_zero, date_of, year_number, month_of_year, month_number, day_of_month}
+use Rattle.itip_recur.specs.Calendar.{days_from_zero, date_of, year_number, month_number, day_of_month}
 
 -- a month that the calendar has, and a day from 1 on
 pub record IsPlain (d : YearMonthDay) : Type 0 where

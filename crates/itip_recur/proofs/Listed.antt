@@ -1,5 +1,5 @@
 -- What a listing that began with nothing has found.
-use Rattle.std.proofs.Common.{◌≡◌, ◌↔◌, ◌⊎◌, inl, inr, ℕ, ◌<◌, sym, subst, arith, ℤ, List, []}
+use Rattle.std.proofs.Common.{◌≡◌, inl, inr, ℕ, subst, arith, ℤ, List, []}
 use Rattle.std.specs.List.{Contains}
 use Rattle.std.specs.List.Sorted.{IsStrictlySortedBy}
 use Rattle.itip_moment.specs.declared.moment.Moment.{Moment}

@@ -1,5 +1,5 @@
 -- Moments with one time of day: their order is that of their days, and COUNT may count days for them.
-use Rattle.std.proofs.Common.{◌≡◌, ◌≢◌, ℕ, ◌+◌, ◌<◌, ◌≤◌, ◌⊎◌, ◌↔◌, inl, inr, refl, sym, subst, ap, ◌∙◌, arith, ℤ, ◌<ℤ◌, ◌≤ℤ◌, List, length, map}
+use Rattle.std.proofs.Common.{◌≡◌, ◌≢◌, ℕ, ◌⊎◌, ◌↔◌, inl, inr, refl, sym, subst, ap, ◌∙◌, arith, ℤ, ◌<ℤ◌, ◌≤ℤ◌, map}
 use Rattle.std.proofs.lemmas.List.{length-map}
 use Rattle.std.specs.List.{Contains}
 use Rattle.std.specs.declared.cmp.Ordering.{Ordering}
@@ -13,7 +13,7 @@ use Rattle.itip_moment.specs.declared.day.Day.{Day}
 use Rattle.itip_moment.specs.declared.stamp.Stamp.{Stamp}
 use Rattle.itip_moment.specs.declared.moment.Moment.{Moment}
 use Rattle.itip_moment.specs.declared.moment.Moment.TheVariants.{Date, Floating, Utc, Zoned}
-use Rattle.itip_moment.specs.Moment.{moment_day, moment_form, moment_second, moment_zone, form_rank}
+use Rattle.itip_moment.specs.Moment.{moment_day, form_rank}
 use Rattle.itip_moment.specs.Order.{moment_cmp}
 use Rattle.itip_moment.specs.OrderLaws.{moment_total}
 use Rattle.itip_moment.proofs.Same.{same_day, same_moment}

@@ -1,5 +1,5 @@
 -- A text of more than two letters is a weekday only with a place before it.
-use Rattle.std.proofs.Common.{◌≡◌, ℕ, ◌<◌, arith, List, length}
+use Rattle.std.proofs.Common.{ℕ, ◌<◌, arith, List, length}
 use Rattle.jiff_core.specs.declared.civil.weekday.Weekday.{Weekday}
 use Rattle.itip_recur.specs.declared.rule.Place.{Place}
 use Rattle.itip_recur.specs.declared.rule.MonthWeekday.{MonthWeekday}

@@ -1,7 +1,7 @@
 -- Digits are text, and what stands before a weekday's two letters.
-use Rattle.std.proofs.Common.{◌≡◌, ℕ, zero, suc, ◌+◌, ◌-◌, ◌<◌, ◌≤◌, refl, sym, ap, subst, ◌∙◌, arith, List, [], ◌∷◌, ◌++◌, length, get_or, take, drop, map, Result, Ok, Err, Option, Some, None, inl, inr, length-append}
+use Rattle.std.proofs.Common.{◌≡◌, ℕ, ◌+◌, ◌-◌, ◌<◌, ◌≤◌, refl, sym, ap, subst, ◌∙◌, arith, List, [], ◌∷◌, ◌++◌, length, get_or, take, drop, Result, Ok, Err, None, inl, inr, length-append}
 use Rattle.std.specs.Result.{MatchResult, result_ok}
-use Rattle.std.specs.Str.{IsUtf8, IsAscii, str_to_ascii_uppercase}
+use Rattle.std.specs.Str.{IsUtf8, str_to_ascii_uppercase}
 use Rattle.std.specs.Str.Parse.{AllDigits}
 use Rattle.std.specs.Char.{to_ascii_uppercase}
 use Rattle.std.proofs.lemmas.Bool.{cases_lt}

@@ -1,5 +1,5 @@
 -- What a test says of the rest of a list, an item further on.
-use Rattle.std.proofs.Common.{◌≡◌, ℕ, ◌+◌, ◌<◌, ◌≤◌, Bool, true, false, cond, ◌&&◌, arith, List, [], ◌∷◌, length, get_or, drop, map, Option, Some, None, refl, sym, ap, ◌∙◌}
+use Rattle.std.proofs.Common.{◌≡◌, ℕ, ◌+◌, ◌<◌, ◌≤◌, Bool, true, false, cond, ◌&&◌, arith, List, [], ◌∷◌, length, get_or, drop, map, Some, None, ap, ◌∙◌}
 use denote.Ref.{Bor}
 use Rattle.std.specs.List.{list_all, find}
 use Rattle.std.proofs.lemmas.List.{drop_more, drop_all, get_or-map, length-map}

@@ -1,6 +1,5 @@
 -- A rule's text has one end.
 use Rattle.std.proofs.Common.{◌≡◌, ℕ, ◌∙◌, sym, ap, refl, List, Option, Some, None}
-use Rattle.itip_moment.specs.declared.moment.Moment.{Moment}
 use Rattle.itip_moment.proofs.ValueLaws.{moment_text-one}
 use Rattle.itip_recur.specs.declared.rule.Rule.{Rule}
 use Rattle.itip_recur.specs.declared.rule.End.{End}

@@ -1,12 +1,12 @@
 -- The numbers of units don't fall from day to day.
-use Rattle.std.proofs.Common.{◌≡◌, ℕ, ◌+◌, ◌*◌, ◌<◌, ◌≤◌, inl, inr, ap, arith, ℤ, ◌≤ℤ◌, ◌<ℤ◌}
+use Rattle.std.proofs.Common.{◌≡◌, ◌≤◌, inl, inr, ap, arith, ℤ, ◌≤ℤ◌}
 use Rattle.std.proofs.lemmas.Int.{by_lt_z}
 use Rattle.jiff_core.specs.declared.civil.weekday.Weekday.{Weekday}
 use Rattle.jiff_core.proofs.SignedLemmas.{signed_arith}
 use Rattle.itip_moment.specs.Years.{IsDayNumber}
 use Rattle.itip_recur.specs.declared.rule.Frequency.{Frequency}
 use Rattle.itip_recur.specs.declared.rule.Frequency.TheVariants.{Daily, Weekly, Monthly, Yearly}
-use Rattle.itip_recur.specs.Calendar.{date_of, days_from_zero, year_number, month_number}
+use Rattle.itip_recur.specs.Calendar.{days_from_zero, month_number}
 use Rattle.itip_recur.specs.Pattern.{unit_number}
 use Rattle.itip_recur.proofs.Dates.{date_of-IsPlain, pos-days_from_zero, later_date}
 

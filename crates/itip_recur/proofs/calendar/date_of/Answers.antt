@@ -1,5 +1,4 @@
-use Rattle.std.proofs.Common.{◌≡◌, arith, FitsSigned, w32, w64, to_z-of_z, ◌∙◌}
-use Rattle.jiff.specs.Words.{epoch_day}
+use Rattle.std.proofs.Common.{arith, FitsSigned, w32, w64, to_z-of_z}
 use Rattle.jiff_core.proofs.SignedLemmas.{signed_arith}
 use Rattle.itip_recur.proofs.CalendarDays.{date_is}
 use Rattle.itip_recur.proofs.calendar.date_of.Goals as goal

@@ -1,4 +1,4 @@
-use Rattle.std.proofs.Common.{◌≡◌, ◌+◌, ◌*◌, arith, FitsSigned, w32, to_z-of_z}
+use Rattle.std.proofs.Common.{arith, FitsSigned, w32, to_z-of_z}
 use Rattle.jiff_core.proofs.SignedLemmas.{signed_arith}
 use Rattle.itip_recur.proofs.Dates.{year_of_month}
 use Rattle.itip_recur.proofs.calendar.first_of_year.Goals as goal

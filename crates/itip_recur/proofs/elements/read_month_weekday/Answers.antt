@@ -1,5 +1,5 @@
-use Rattle.std.proofs.Common.{◌≡◌, ◌<◌, arith, length}
-use Rattle.itip_recur.proofs.Numbers.{weekday_two, AreNthParts-of, IsNthText-of}
+use Rattle.std.proofs.Common.{◌<◌, arith, length}
+use Rattle.itip_recur.proofs.Numbers.{IsNthText-of}
 use Rattle.itip_recur.proofs.MonthWeekdays.{by_parts}
 use Rattle.itip_recur.proofs.elements.read_month_weekday.Goals as goal
 

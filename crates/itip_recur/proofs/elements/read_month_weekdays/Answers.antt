@@ -1,5 +1,3 @@
-use Rattle.std.proofs.Common.{◌≡◌, sym, subst, List, ap}
-use Rattle.std.specs.List.{AllZip}
 use Rattle.itip_recur.specs.RuleText.{IsMonthWeekdayText, elements}
 use Rattle.itip_recur.proofs.Zips.{texts_more, texts_refused}
 use Rattle.itip_recur.proofs.elements.read_month_weekdays.Goals as goal

@@ -1,4 +1,4 @@
-use Rattle.std.specs.Str.{IsUtf8, IsValidUpTo, valid_up_to}
+use Rattle.std.specs.Str.{IsUtf8}
 use Rattle.itip_recur.proofs.Numbers.{IsUtf8-digits, refused}
 use Rattle.itip_recur.proofs.elements.read_number.Goals as goal
 

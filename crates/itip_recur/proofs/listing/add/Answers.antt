@@ -1,4 +1,4 @@
-use Rattle.std.proofs.Common.{◌≡◌, arith}
+use Rattle.std.proofs.Common.{arith}
 use Rattle.itip_recur.proofs.Adds.{Contains-inserted}
 use Rattle.itip_recur.proofs.listing.add.Goals as goal
 

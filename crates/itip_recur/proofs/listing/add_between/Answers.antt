@@ -1,4 +1,4 @@
-use Rattle.std.proofs.Common.{◌≡◌, ◌≤ℤ◌, ◌<ℤ◌, arith, FitsSigned, w32, to_z, of_z, to_z-of_z, ℤ, pos, ◌+ℤ◌, subst}
+use Rattle.std.proofs.Common.{arith, FitsSigned, w32, to_z, to_z-of_z, ℤ, pos, ◌+ℤ◌, subst}
 use Rattle.std.proofs.lemmas.Result.{err_from_is_err_and}
 use Rattle.jiff_core.proofs.SignedLemmas.{signed_arith}
 use Rattle.itip_moment.specs.Moment.{moment_day}

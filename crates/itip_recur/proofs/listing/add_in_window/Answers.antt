@@ -1,4 +1,4 @@
-use Rattle.std.proofs.Common.{◌≡◌, ◌≤ℤ◌, ◌<ℤ◌, arith, FitsSigned, w32}
+use Rattle.std.proofs.Common.{◌≤ℤ◌, ◌<ℤ◌, arith, FitsSigned, w32}
 use Rattle.jiff_core.proofs.SignedLemmas.{signed_arith}
 use Rattle.itip_moment.specs.Moment.{moment_day}
 use Rattle.itip_recur.specs.Adding.{IsLeft, IsThis}

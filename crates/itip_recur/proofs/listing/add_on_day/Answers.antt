@@ -1,4 +1,4 @@
-use Rattle.std.proofs.Common.{◌≡◌, arith, FitsSigned, w32, to_z-of_z}
+use Rattle.std.proofs.Common.{◌≡◌, FitsSigned, w32, to_z-of_z}
 use Rattle.itip_moment.specs.Moment.{moment_day}
 use Rattle.itip_recur.specs.Adding.{IsLeft, IsOnDay}
 use Rattle.itip_recur.proofs.Adds.{Adds-none, IsStep-like}

@@ -1,6 +1,5 @@
-use Rattle.std.proofs.Common.{◌≡◌, ◌<ℤ◌, ◌↔◌, ℤ, arith, FitsSigned, w32, to_z-of_z}
+use Rattle.std.proofs.Common.{◌<ℤ◌, ◌↔◌, ℤ, arith, FitsSigned, w32, to_z-of_z}
 use Rattle.jiff_core.proofs.SignedLemmas.{signed_arith}
-use Rattle.itip_moment.specs.Moment.{moment_day}
 use Rattle.itip_moment.specs.Years.{IsDayNumber}
 use Rattle.itip_recur.specs.Adding.{IsBetween, IsRepeatOf}
 use Rattle.itip_recur.proofs.Adds.{IsStep-like}

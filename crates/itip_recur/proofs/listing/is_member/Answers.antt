@@ -1,5 +1,5 @@
-use Rattle.std.proofs.Common.{◌≡◌, ◌↔◌, ◌<◌, arith, sym, subst, IsTrue, nat_lt, Option, Some}
-use borrow.Author.Tests.{ltb-true, ltb-false}
+use Rattle.std.proofs.Common.{◌↔◌, ◌<◌, arith, sym, subst, Option}
+use borrow.Author.Tests.{ltb-true}
 use Rattle.itip_recur.specs.declared.rule.Rule.{Rule}
 use Rattle.itip_recur.specs.Members.{IsRuleMember}
 use Rattle.itip_recur.proofs.Steps.{start_in_count}

@@ -1,4 +1,4 @@
-use Rattle.std.proofs.Common.{◌≡◌, FitsSigned, w32, to_z-of_z, sym, subst, List}
+use Rattle.std.proofs.Common.{FitsSigned, w32, to_z-of_z, sym, subst, List}
 use Rattle.std.proofs.lemmas.Result.{err_from_is_err_and}
 use Rattle.itip_moment.specs.declared.moment.Moment.{Moment}
 use Rattle.itip_recur.specs.Occurrences.{OccursIn}

@@ -1,4 +1,4 @@
-use Rattle.std.proofs.Common.{◌≡◌, arith, FitsSigned, w32, to_z, of_z, to_z-of_z, ℤ, pos, ◌+ℤ◌}
+use Rattle.std.proofs.Common.{arith, FitsSigned, w32, to_z, to_z-of_z, pos, ◌+ℤ◌}
 use Rattle.jiff_core.proofs.SignedLemmas.{signed_arith}
 use Rattle.itip_moment.specs.declared.day.Day.{Day}
 use Rattle.itip_recur.specs.Walk.{IsNoDay, IsNextDay}

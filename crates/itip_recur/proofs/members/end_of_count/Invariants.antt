@@ -1,4 +1,4 @@
-use Rattle.std.proofs.Common.{ℕ, ◌-◌}
+use Rattle.std.proofs.Common.{◌-◌}
 use Rattle.itip_recur.specs.Calendar.{IsDayOrEnd}
 use Rattle.itip_recur.proofs.Counted.{Counted}
 use Rattle.itip_recur.proofs.members.end_of_count.Given as goal

@@ -1,4 +1,4 @@
-use Rattle.std.proofs.Common.{◌≡◌, arith, FitsSigned, w32, to_z, of_z, to_z-of_z, ℤ, pos, ◌+ℤ◌, ◌≤ℤ◌, sym, subst}
+use Rattle.std.proofs.Common.{arith, FitsSigned, w32, to_z-of_z, ℤ, pos, ◌+ℤ◌, subst}
 use Rattle.jiff_core.proofs.SignedLemmas.{signed_arith}
 use Rattle.itip_moment.specs.Moment.{moment_day}
 use Rattle.itip_recur.specs.Walk.{IsEndOfCount}

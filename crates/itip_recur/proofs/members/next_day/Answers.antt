@@ -1,5 +1,4 @@
-use Rattle.std.proofs.Common.{◌≡◌, arith, FitsSigned, w32, to_z, of_z, to_z-of_z, ℤ, pos, ◌+ℤ◌, IsTrue}
-use Rattle.std.proofs.lemmas.Int.{ints}
+use Rattle.std.proofs.Common.{arith, FitsSigned, w32, to_z, to_z-of_z, pos, ◌+ℤ◌, IsTrue}
 use Rattle.jiff_core.proofs.SignedLemmas.{signed_arith}
 use Rattle.itip_recur.specs.Pattern.{InPattern}
 use Rattle.itip_recur.specs.Walk.{IsNoDay}

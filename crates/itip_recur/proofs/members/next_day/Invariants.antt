@@ -1,4 +1,4 @@
-use Rattle.std.proofs.Common.{ℤ, ◌-ℤ◌, ◌≤ℤ◌, unsigned_abs}
+use Rattle.std.proofs.Common.{◌-ℤ◌, ◌≤ℤ◌, unsigned_abs}
 use Rattle.itip_recur.specs.Calendar.{IsDayOrEnd}
 use Rattle.itip_recur.specs.Walk.{IsNoDay}
 use Rattle.itip_recur.proofs.members.next_day.Given as goal

@@ -1,4 +1,4 @@
-use Rattle.std.proofs.Common.{◌≡◌, ℕ, List, Bool, sym, ◌∙◌}
+use Rattle.std.proofs.Common.{sym, ◌∙◌}
 use Rattle.std.specs.List.{list_any}
 use Rattle.itip_recur.specs.RuleText.{has_name, part_names}
 use Rattle.itip_recur.proofs.Rests.{all_fails, all_more}

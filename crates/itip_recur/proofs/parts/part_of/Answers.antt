@@ -1,4 +1,4 @@
-use Rattle.std.proofs.Common.{◌≡◌, sym, ◌∙◌}
+use Rattle.std.proofs.Common.{sym, ◌∙◌}
 use Rattle.itip_recur.specs.RuleText.{has_name}
 use Rattle.itip_recur.proofs.Rests.{find_here, find_more}
 use Rattle.itip_recur.proofs.parts.part_of.Goals as goal

@@ -1,4 +1,3 @@
-use Rattle.std.proofs.Common.{arith}
 use Rattle.itip_recur.proofs.Congruent.{none_before, none_after}
 use Rattle.itip_recur.proofs.pattern.next_congruent.Goals as goal
 

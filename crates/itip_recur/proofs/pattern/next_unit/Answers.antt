@@ -1,4 +1,4 @@
-use Rattle.std.proofs.Common.{◌≡◌, ◌≤◌, ◌<◌, arith, FitsSigned, w32, to_z-of_z, ℤ}
+use Rattle.std.proofs.Common.{◌≡◌, arith, FitsSigned, w32, to_z-of_z}
 use Rattle.jiff_core.proofs.SignedLemmas.{signed_arith}
 use Rattle.itip_moment.specs.Years.{IsDayNumber}
 use Rattle.itip_recur.specs.Pattern.{unit_number}
