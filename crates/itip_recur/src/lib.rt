@@ -19,7 +19,7 @@ mod shapes;
 
 pub use error::RecurError;
 pub use jiff_core::civil::Weekday;
-pub use listing::occurrences;
+pub use listing::{all_occurrences, occurrences};
 pub use pattern::is_day;
 pub use read::{Reading, read_rule};
 pub use rule::{End, Frequency, MonthDays, MonthWeekday, Place, Rule, WeekDays, YearDays};
