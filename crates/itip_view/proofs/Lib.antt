@@ -1,6 +1,16 @@
 pub mod FlatMap
 pub mod OfKept
-pub mod RowsOf
 pub mod Sequences
 pub mod Alike
 pub mod OneList
+pub mod OneRow
+pub mod OneSeries
+pub mod OfKey
+pub mod Beside
+pub mod Deciding
+pub mod InDays
+pub mod PlaceRows
+pub mod Placing
+pub mod Collecting
+pub mod OfPart
+pub mod Gathering
