@@ -17,11 +17,11 @@ use Rattle.itip_recur.specs.declared.error.RecurError.TheVariants.{TooMany, NoMe
 use Rattle.itip_recur.specs.Occurrences.{IfTooMany}
 use Rattle.itip_recur.specs.Adding.{Adds, Exceeds, IsStep, IsLeft}
 
-pub Adds-none : (P : Moment → Type 0) (old : List Moment) → ((m : Moment) → P m → ⊥) → Adds P old old
-Adds-none P old none = record { exactly = λ m. (λ h. inl h, λ h. elim h [ inl there ↦ there | inr is ↦ absurd (none m is) ]); small = λ h. h }
+pub Adds-none : (limit : ℕ) (P : Moment → Type 0) (old : List Moment) → ((m : Moment) → P m → ⊥) → Adds limit P old old
+Adds-none limit P old none = record { exactly = λ m. (λ h. inl h, λ h. elim h [ inl there ↦ there | inr is ↦ absurd (none m is) ]); small = λ h. h }
 
-pub Adds-like : (P Q : Moment → Type 0) (old new : List Moment) → ((m : Moment) → P m ↔ Q m) → Adds P old new → Adds Q old new
-Adds-like P Q old new like adds =
+pub Adds-like : (limit : ℕ) (P Q : Moment → Type 0) (old new : List Moment) → ((m : Moment) → P m ↔ Q m) → Adds limit P old new → Adds limit Q old new
+Adds-like limit P Q old new like adds =
     record {
       exactly = λ m. (
         λ h. elim ((adds.exactly m).0 h) [ inl there ↦ inl there | inr is ↦ inr ((like m).0 is) ],
@@ -30,16 +30,16 @@ Adds-like P Q old new like adds =
       small = adds.small;
     }
 
-pub Exceeds-like : (P Q : Moment → Type 0) (old new : List Moment) → ((m : Moment) → P m → Q m) → Exceeds P old new → Exceeds Q old new
-Exceeds-like P Q old new like over =
+pub Exceeds-like : (limit : ℕ) (P Q : Moment → Type 0) (old new : List Moment) → ((m : Moment) → P m → Q m) → Exceeds limit P old new → Exceeds limit Q old new
+Exceeds-like limit P Q old new like over =
     record {
       ascending = over.ascending;
       each = λ m h. elim (over.each m h) [ inl there ↦ inl there | inr is ↦ inr (like m is) ];
       many = over.many;
     }
 
-pub Adds-both : (P Q : Moment → Type 0) (a b c : List Moment) → Adds P a b → Adds Q b c → Adds (λ m. P m ⊎ Q m) a c
-Adds-both P Q a b c first second =
+pub Adds-both : (limit : ℕ) (P Q : Moment → Type 0) (a b c : List Moment) → Adds limit P a b → Adds limit Q b c → Adds limit (λ m. P m ⊎ Q m) a c
+Adds-both limit P Q a b c first second =
     record {
       exactly = λ m. (
         λ h. elim ((second.exactly m).0 h) [
@@ -54,8 +54,8 @@ Adds-both P Q a b c first second =
       small = λ h. second.small (first.small h);
     }
 
-pub Exceeds-after : (P Q : Moment → Type 0) (a b c : List Moment) → Adds P a b → Exceeds Q b c → Exceeds (λ m. P m ⊎ Q m) a c
-Exceeds-after P Q a b c first over =
+pub Exceeds-after : (limit : ℕ) (P Q : Moment → Type 0) (a b c : List Moment) → Adds limit P a b → Exceeds limit Q b c → Exceeds limit (λ m. P m ⊎ Q m) a c
+Exceeds-after limit P Q a b c first over =
     record {
       ascending = over.ascending;
       each = λ m h. elim (over.each m h) [
@@ -65,16 +65,16 @@ Exceeds-after P Q a b c first over =
       many = over.many;
     }
 
-pub IsStep-like : {T : Type 0} (P Q : Moment → Type 0) (old new : List Moment) (r : Result T RecurError) → ((m : Moment) → P m ↔ Q m) → IsStep P old new r → IsStep Q old new r
-IsStep-like P Q old new (Ok x) like h = Adds-like P Q old new like h
-IsStep-like P Q old new (Err TooMany) like h = Exceeds-like P Q old new (λ m. (like m).0) h
-IsStep-like P Q old new (Err NoMemory) like h = tt
+pub IsStep-like : {T : Type 0} (limit : ℕ) (P Q : Moment → Type 0) (old new : List Moment) (r : Result T RecurError) → ((m : Moment) → P m ↔ Q m) → IsStep limit P old new r → IsStep limit Q old new r
+IsStep-like limit P Q old new (Ok x) like h = Adds-like limit P Q old new like h
+IsStep-like limit P Q old new (Err TooMany) like h = Exceeds-like limit P Q old new (λ m. (like m).0) h
+IsStep-like limit P Q old new (Err NoMemory) like h = tt
 
 -- a step after another, where both together add Q
-pub IsStep-after : {T : Type 0} (P R Q : Moment → Type 0) (a b c : List Moment) (r : Result T RecurError) → ((m : Moment) → (P m ⊎ R m) ↔ Q m) → Adds P a b → IsStep R b c r → IsStep Q a c r
-IsStep-after P R Q a b c (Ok x) like first h = Adds-like (λ m. P m ⊎ R m) Q a c like (Adds-both P R a b c first h)
-IsStep-after P R Q a b c (Err TooMany) like first h = Exceeds-like (λ m. P m ⊎ R m) Q a c (λ m. (like m).0) (Exceeds-after P R a b c first h)
-IsStep-after P R Q a b c (Err NoMemory) like first h = tt
+pub IsStep-after : {T : Type 0} (limit : ℕ) (P R Q : Moment → Type 0) (a b c : List Moment) (r : Result T RecurError) → ((m : Moment) → (P m ⊎ R m) ↔ Q m) → Adds limit P a b → IsStep limit R b c r → IsStep limit Q a c r
+IsStep-after limit P R Q a b c (Ok x) like first h = Adds-like limit (λ m. P m ⊎ R m) Q a c like (Adds-both limit P R a b c first h)
+IsStep-after limit P R Q a b c (Err TooMany) like first h = Exceeds-like limit (λ m. P m ⊎ R m) Q a c (λ m. (like m).0) (Exceeds-after limit P R a b c first h)
+IsStep-after limit P R Q a b c (Err NoMemory) like first h = tt
 
 -- a moment put into a set
 pub Contains-inserted : (excluded : List Moment) (old new : BTreeSet Moment) (moment : Moment) → (Contains excluded moment → ⊥) → Updates moment_cmp old new moment true → (m : Moment) → Contains new.keys m ↔ (Contains old.keys m ⊎ IsLeft excluded moment m)

@@ -15,3 +15,4 @@ pub mod MonthWeekdays
 pub mod RuleEnds
 pub mod Zips
 pub mod Rests
+pub mod RuleTexts

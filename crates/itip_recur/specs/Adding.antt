@@ -10,18 +10,18 @@ use Rattle.itip_recur.specs.declared.rule.Rule.{Rule}
 use Rattle.itip_recur.specs.declared.error.RecurError.{RecurError}
 use Rattle.itip_recur.specs.Members.{HasTimeOf, IsRuleMember, IsRepeat, IsCandidate, IsWithinEnd}
 use Rattle.itip_recur.specs.Walk.{IsUpTo}
-use Rattle.itip_recur.specs.Occurrences.{occurrence_limit, IfTooMany}
+use Rattle.itip_recur.specs.Occurrences.{IfTooMany}
 
--- there are now the moments that there were, and those that are P, no more than may be listed
-pub record Adds (P : Moment → Type 0) (old new : List Moment) : Type 0 where
+-- there are now the moments that there were, and those that are P, no more than the limit
+pub record Adds (limit : ℕ) (P : Moment → Type 0) (old new : List Moment) : Type 0 where
   pub exactly : (m : Moment) → Contains new m ↔ (Contains old m ⊎ P m)
-  pub small : length old ≤ occurrence_limit → length new ≤ occurrence_limit
+  pub small : length old ≤ limit → length new ≤ limit
 
--- there are more than may be listed, each of which was there or is P
-pub record Exceeds (P : Moment → Type 0) (old new : List Moment) : Type 0 where
+-- there are more than the limit, each of which was there or is P
+pub record Exceeds (limit : ℕ) (P : Moment → Type 0) (old new : List Moment) : Type 0 where
   pub ascending : IsStrictlySortedBy moment_cmp new
   pub each : (m : Moment) → Contains new m → Contains old m ⊎ P m
-  pub many : occurrence_limit < length new
+  pub many : limit < length new
 
 -- a moment that isn't excluded
 pub record IsLeft (excluded : List Moment) (moment m : Moment) : Type 0 where
@@ -77,6 +77,6 @@ pub record IsMemberIn (series : Series) (from to : ℤ) (m : Moment) : Type 0 wh
   pub kept : IsKept series from to m
 
 -- a step that adds the moments that are P, or finds too many
-abbrev pub IsStep : {T : Type 0} → (Moment → Type 0) → List Moment → List Moment → Result T RecurError → Type 0
-IsStep P old new (Ok x) = Adds P old new
-IsStep P old new (Err e) = IfTooMany e (Exceeds P old new)
+abbrev pub IsStep : {T : Type 0} → ℕ → (Moment → Type 0) → List Moment → List Moment → Result T RecurError → Type 0
+IsStep limit P old new (Ok x) = Adds limit P old new
+IsStep limit P old new (Err e) = IfTooMany e (Exceeds limit P old new)

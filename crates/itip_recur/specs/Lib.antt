@@ -7,3 +7,4 @@ pub mod Adding
 pub mod RuleText
 pub mod Reads
 pub mod ToDoShape
+pub mod Given

@@ -1,8 +1,9 @@
 //! Recurrence of a to-do (RFC 5545 3.3.10, a profile of it): which rule a text is, and which moments a series has.
 //!
-//! [`read_rule`] reads a rule of the profile; any other text is opaque. [`shape`] says whether a to-do
-//! is single, opaque or repeats, and [`occurrences`] lists the moments of a series in a window of days.
-//! A window far from the start costs no step for each occurrence before it, unless the rule has COUNT.
+//! [`read_rule`] reads a rule of the profile; any other text is opaque. [`shape`] says whether a to-do is
+//! single, opaque or repeats as a [`Series`]. [`occurrences`] lists the moments of a series in a window of
+//! days, at most 100,000, and [`all_occurrences`] without that limit; [`is_day`] asks for one day. A window
+//! far from the start costs no step for each occurrence before it, unless the rule has COUNT.
 #![tactic(auto)]
 
 mod calendar;

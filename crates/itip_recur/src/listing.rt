@@ -17,16 +17,16 @@ use crate::members::{end_of_days, is_up_to, next_day, on_day};
 use crate::rule::{End, Rule};
 use crate::series::Series;
 use itip_moment::Moment;
-use std::alloc::Global;
+use std::alloc::{AllocError, Global};
 use std::collections::BTreeSet;
 
 /// The most occurrences that are listed.
 const OCCURRENCE_LIMIT: usize = 100_000;
 
-/// The moments of a series whose day lies in a window, ascending, each once.
+/// The moments of a series whose day lies in a window, ascending, each once, at most 100,000.
 ///
-/// Days are numbered from 1970-01-01, and the day `to` is not in the window. `TooMany` where there are
-/// more than 100,000, and `NoMemory` for want of memory.
+/// Days are numbered from 1970-01-01, and the day `to` is not in the window. `TooMany` as soon as more
+/// than 100,000 are found, and `NoMemory` for want of memory.
 pub fn occurrences(
     alloc: Global,
     series: &Series,
@@ -37,8 +37,38 @@ pub fn occurrences(
     ensures small { IfOk result (λ v. length v.items ≤ occurrence_limit) }
     ensures over { IfErr result (λ e. IfTooMany e (AreOver occurrence_limit series.now from to)) }
 {
+    listed(alloc, series, from, to, OCCURRENCE_LIMIT)
+}
+
+/// All moments of a series whose day lies in a window, as [`occurrences`] lists them, without its limit.
+///
+/// For a caller that leaves some of them out and has a limit of its own. An error only for want of memory.
+pub fn all_occurrences(
+    alloc: Global,
+    series: &Series,
+    from: i32,
+    to: i32,
+) -> Result<Vec<Moment>, NoMemory>
+    ensures { IfOk result (λ v. AreOccurrences series.now from to v.items) }
+{
+    // No set has more than `usize::MAX` moments, so only memory is refused.
+    listed(alloc, series, from, to, usize::MAX).map_err(|_| AllocError)
+}
+
+// The moments of the window where there are no more than `limit`.
+fn listed(
+    alloc: Global,
+    series: &Series,
+    from: i32,
+    to: i32,
+    limit: usize,
+) -> Result<Vec<Moment>, RecurError>
+    ensures found { IfOk result (λ v. AreOccurrences series.now from to v.items) }
+    ensures small { IfOk result (λ v. length v.items ≤ limit) }
+    ensures over { IfErr result (λ e. IfTooMany e (AreOver limit series.now from to)) }
+{
     let mut found = BTreeSet::new(alloc);
-    add_occurrences(&mut found, series, from, to)?;
+    add_occurrences(&mut found, series, from, to, limit)?;
     Ok(into_moments(alloc, found)?)
 }
 
@@ -71,11 +101,12 @@ fn add_occurrences(
     series: &Series,
     from: i32,
     to: i32,
+    limit: usize,
 ) -> Result<(), RecurError>
-    ensures { IsStep (OccursIn series.now from to) found.old.keys found.new.keys result }
+    ensures { IsStep limit (OccursIn series.now from to) found.old.keys found.new.keys result }
 {
-    add_members(found, series, from, to)?;
-    add_rdates(found, series, from, to)
+    add_members(found, series, from, to, limit)?;
+    add_rdates(found, series, from, to, limit)
 }
 
 fn add_members(
@@ -83,12 +114,13 @@ fn add_members(
     series: &Series,
     from: i32,
     to: i32,
+    limit: usize,
 ) -> Result<(), RecurError>
-    ensures { IsStep (IsMemberIn series.now from to) found.old.keys found.new.keys result }
+    ensures { IsStep limit (IsMemberIn series.now from to) found.old.keys found.new.keys result }
 {
-    add_start(found, series, from, to)?;
+    add_start(found, series, from, to, limit)?;
     match &series.rule {
-        Some(rule) => add_repeats(found, series, rule, from, to),
+        Some(rule) => add_repeats(found, series, rule, from, to, limit),
         None => Ok(()),
     }
 }
@@ -98,11 +130,12 @@ fn add_start(
     series: &Series,
     from: i32,
     to: i32,
+    limit: usize,
 ) -> Result<(), RecurError>
-    ensures { IsStep (IsStart series.now from to) found.old.keys found.new.keys result }
+    ensures { IsStep limit (IsStart series.now from to) found.old.keys found.new.keys result }
 {
     if is_member(&series.rule, &series.start) {
-        add_in_window(found, series, &series.start, from, to)
+        add_in_window(found, series, &series.start, from, to, limit)
     } else {
         Ok(())
     }
@@ -127,12 +160,13 @@ fn add_repeats(
     rule: &Rule,
     from: i32,
     to: i32,
+    limit: usize,
 ) -> Result<(), RecurError>
-    ensures { IsStep (IsRepeatOf series.now rule.now from to) found.old.keys found.new.keys result }
+    ensures { IsStep limit (IsRepeatOf series.now rule.now from to) found.old.keys found.new.keys result }
 {
     let start = series.start.day();
     let end = end_of_days(rule, &series.start, window_day(start, to));
-    add_between(found, series, rule, window_day(start, from), end)
+    add_between(found, series, rule, window_day(start, from), end, limit)
 }
 
 // A day of a window, moved to the days behind the start.
@@ -157,11 +191,12 @@ fn add_between(
     rule: &Rule,
     from: i32,
     end: i32,
+    limit: usize,
 ) -> Result<(), RecurError>
     requires from_in { IsDayOrEnd from }
     requires end_in { IsDayOrEnd end }
     requires later { moment_day series.now.start <ℤ from }
-    ensures { IsStep (IsBetween series.now rule.now from end) found.old.keys found.new.keys result }
+    ensures { IsStep limit (IsBetween series.now rule.now from end) found.old.keys found.new.keys result }
 {
     let start = series.start.day();
     let mut day = from;
@@ -169,7 +204,7 @@ fn add_between(
         let Some(next) = next_day(rule, start, day, end) else {
             break;
         };
-        add_on_day(found, series, rule, next)?;
+        add_on_day(found, series, rule, next, limit)?;
         day = next + 1;
     }
     Ok(())
@@ -180,13 +215,14 @@ fn add_on_day(
     series: &Series,
     rule: &Rule,
     day: i32,
+    limit: usize,
 ) -> Result<(), RecurError>
     requires { IsDayNumber day }
-    ensures { IsStep (IsOnDay series.now rule.now day) found.old.keys found.new.keys result }
+    ensures { IsStep limit (IsOnDay series.now rule.now day) found.old.keys found.new.keys result }
 {
     let moment = on_day(&series.start, day)?;
     if is_up_to(&rule.end, &moment) {
-        add(found, series.exdates.as_slice(), moment)
+        add(found, series.exdates.as_slice(), moment, limit)
     } else {
         Ok(())
     }
@@ -197,11 +233,12 @@ fn add_rdates(
     series: &Series,
     from: i32,
     to: i32,
+    limit: usize,
 ) -> Result<(), RecurError>
-    ensures { IsStep (IsOneOf series.now.rdates series.now from to) found.old.keys found.new.keys result }
+    ensures { IsStep limit (IsOneOf series.now.rdates series.now from to) found.old.keys found.new.keys result }
 {
     for moment in series.rdates.as_slice() {
-        add_in_window(found, series, moment, from, to)?;
+        add_in_window(found, series, moment, from, to, limit)?;
     }
     Ok(())
 }
@@ -212,25 +249,31 @@ fn add_in_window(
     moment: &Moment,
     from: i32,
     to: i32,
+    limit: usize,
 ) -> Result<(), RecurError>
-    ensures { IsStep (IsThis series.now from to moment.now) found.old.keys found.new.keys result }
+    ensures { IsStep limit (IsThis series.now from to moment.now) found.old.keys found.new.keys result }
 {
     if from <= moment.day() && moment.day() < to {
-        add(found, series.exdates.as_slice(), moment.clone()?)
+        add(found, series.exdates.as_slice(), moment.clone()?, limit)
     } else {
         Ok(())
     }
 }
 
-// Adds a moment that isn't excluded; `TooMany` where that is one more than may be listed.
-fn add(found: &mut BTreeSet<Moment>, excluded: &[Moment], moment: Moment) -> Result<(), RecurError>
-    ensures { IsStep (IsLeft excluded.now moment) found.old.keys found.new.keys result }
+// Adds a moment that isn't excluded; `TooMany` where that is one more than the limit.
+fn add(
+    found: &mut BTreeSet<Moment>,
+    excluded: &[Moment],
+    moment: Moment,
+    limit: usize,
+) -> Result<(), RecurError>
+    ensures { IsStep limit (IsLeft excluded.now moment) found.old.keys found.new.keys result }
 {
     if is_among(excluded, &moment) {
         return Ok(());
     }
     found.insert(moment)?;
-    if found.len() > OCCURRENCE_LIMIT {
+    if found.len() > limit {
         return Err(RecurError::TooMany);
     }
     Ok(())

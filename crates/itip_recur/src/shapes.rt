@@ -1,15 +1,16 @@
 //! How a to-do recurs.
-ghost use Rattle.std.specs.Prelude.{◌↔◌, IsTrue, IfOk, MatchOption};
+ghost use Rattle.std.specs.Prelude.{◌≡◌, ◌↔◌, IsTrue, IfOk, MatchOption, Option};
 ghost use Rattle.itip_recur.specs.declared.rule.Rule.{Rule};
 ghost use Rattle.itip_recur.specs.declared.series.Series.{Series};
 ghost use Rattle.itip_recur.specs.RuleText.{RuleText};
 ghost use Rattle.itip_recur.specs.ToDoShape.{has_period, Recurs, EndFits, IsRuleOf, IsSeriesOf, IsShape};
+ghost use Rattle.itip_recur.specs.Given.{are_given};
 
 use crate::NoMemory;
 use crate::read::{Reading, read_rule};
 use crate::rule::{End, Rule};
 use crate::series::{Series, Shape};
-use itip_lines::Line;
+use itip_lines::{Line, ListOf, Text};
 use itip_moment::{Form, Moment};
 use itip_todo::Todo;
 use std::alloc::Global;
@@ -34,22 +35,25 @@ pub fn shape(alloc: Global, todo: &Todo) -> Result<Shape, NoMemory>
 fn recurs(todo: &Todo) -> bool
     ensures { IsTrue result ↔ Recurs todo.now }
 {
-    !todo.rule.is_empty() || !todo.rdates.is_empty() || !todo.exdates.is_empty() || has_period(todo.others.as_slice())
+    are_given(
+        todo.rule.as_slice(),
+        todo.rdates.as_slice(),
+        todo.exdates.as_slice(),
+        todo.others.as_slice(),
+    )
+}
+
+// Whether there is one of these, or a period among the lines.
+fn are_given(rules: &[Text], rdates: &[Moment], exdates: &[Moment], lines: &[Line]) -> bool
+    ensures { result ≡ are_given rules.now rdates.now exdates.now lines.now }
+{
+    !rules.is_empty() || !rdates.is_empty() || !exdates.is_empty() || has_period(lines)
 }
 
 fn has_period(lines: &[Line]) -> bool
     ensures { result ≡ has_period lines.now }
 {
     lines.iter().any(|line| line.name.as_str() == "RDATE")
-}
-
-fn end_fits(start: &Moment, end: &End) -> bool
-    ensures { IsTrue result ↔ EndFits start.now end.now }
-{
-    match end {
-        End::Until(last) => last.form() == start.form() && start.form() != Form::Zoned,
-        End::Never | End::Count(_) => true,
-    }
 }
 
 fn series_of(alloc: Global, todo: &Todo) -> Result<Option<Series>, NoMemory>
@@ -62,20 +66,49 @@ fn series_of(alloc: Global, todo: &Todo) -> Result<Option<Series>, NoMemory>
     let Some(start) = &todo.start else {
         return Ok(None);
     };
-    let rule = match todo.rule.as_slice() {
-        [] => None,
-        [text] => match read_fitting(alloc, start, text.as_str())? {
-            Some(rule) => Some(rule),
-            None => return Ok(None),
-        },
-        _ => return Ok(None),
-    };
-    Ok(Some(Series {
+    match rule_of(alloc, start, todo.rule.as_slice())? {
+        Some(rule) => Ok(Some(series(start, rule, &todo.rdates, &todo.exdates)?)),
+        None => Ok(None),
+    }
+}
+
+fn series(
+    start: &Moment,
+    rule: Option<Rule>,
+    rdates: &ListOf<Moment>,
+    exdates: &ListOf<Moment>,
+) -> Result<Series, NoMemory>
+    ensures start { IfOk result (λ s. s.start ≡ start.now) }
+    ensures rule { IfOk result (λ s. s.rule ≡ rule) }
+    ensures rdates { IfOk result (λ s. s.rdates ≡ rdates.now) }
+    ensures exdates { IfOk result (λ s. s.exdates ≡ exdates.now) }
+{
+    Ok(Series {
         start: start.clone()?,
         rule,
-        rdates: todo.rdates.clone()?,
-        exdates: todo.exdates.clone()?,
-    }))
+        rdates: copy(rdates)?,
+        exdates: copy(exdates)?,
+    })
+}
+
+fn copy(moments: &ListOf<Moment>) -> Result<ListOf<Moment>, NoMemory>
+    ensures { IfOk result (λ copy. copy ≡ moments.now) }
+{
+    moments.clone()
+}
+
+// The rule of a series, or that it has none; neither where the texts or its end make the series opaque.
+fn rule_of(alloc: Global, start: &Moment, texts: &[Text]) -> Result<Option<Option<Rule>>, NoMemory>
+    ensures { IfOk result (λ r. MatchOption r ((rule : Option Rule) → IsRuleOf texts.now start.now rule → ⊥) (IsRuleOf texts.now start.now)) }
+{
+    match texts {
+        [] => Ok(Some(None)),
+        [text] => match read_fitting(alloc, start, text.as_str())? {
+            Some(rule) => Ok(Some(Some(rule))),
+            None => Ok(None),
+        },
+        _ => Ok(None),
+    }
 }
 
 // The rule of a text, where its end fits the start.
@@ -93,5 +126,14 @@ fn read_fitting(alloc: Global, start: &Moment, text: &str) -> Result<Option<Rule
             }
         }
         Reading::Opaque => Ok(None),
+    }
+}
+
+fn end_fits(start: &Moment, end: &End) -> bool
+    ensures { IsTrue result ↔ EndFits start.now end.now }
+{
+    match end {
+        End::Until(last) => last.form() == start.form() && start.form() != Form::Zoned,
+        End::Never | End::Count(_) => true,
     }
 }

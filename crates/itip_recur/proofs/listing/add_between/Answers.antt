@@ -30,7 +30,7 @@ returns-in_err-add_on_day c =
     let so_far = simp to_z-of_z at c.loop-day.invariant.so_far in
     let step = simp to_z-of_z at c.in_err-add_on_day.ensures in
     let p = err_from_is_err_and c.from_residual.result c.from_residual.ensures.1 in
-    rw (p.1, p.2) (IfTooMany-like c.in_err-add_on_day.field-0.0 (walk_over series rule c.args.from c.args.end (to_z w32 c.loop-day.day-bits) c.in-Some.next c.args.found.now.keys c.loop-day.found.keys c.add_on_day.new.found.keys c.requires.later (omega (arith, signed_arith)) found so_far) step)
+    rw (p.1, p.2) (IfTooMany-like c.in_err-add_on_day.field-0.0 (walk_over c.args.limit series rule c.args.from c.args.end (to_z w32 c.loop-day.day-bits) c.in-Some.next c.args.found.now.keys c.loop-day.found.keys c.add_on_day.new.found.keys c.requires.later (omega (arith, signed_arith)) found so_far) step)
 
 pub loop-day-preserved : goal.loop-day-preserved
 loop-day-preserved c =
@@ -51,7 +51,7 @@ loop-day-preserved c =
     simp to_z-of_z (record {
       in_years = (omega (arith, signed_arith), omega (arith, signed_arith));
       not_before = omega (arith, signed_arith);
-      so_far = walk_more series rule c.args.from c.args.end (to_z w32 c.loop-day.day-bits) c.in-Some.next c.args.found.now.keys c.loop-day.found.keys c.add_on_day.new.found.keys c.requires.later (omega (arith, signed_arith)) found so_far step;
+      so_far = walk_more c.args.limit series rule c.args.from c.args.end (to_z w32 c.loop-day.day-bits) c.in-Some.next c.args.found.now.keys c.loop-day.found.keys c.add_on_day.new.found.keys c.requires.later (omega (arith, signed_arith)) found so_far step;
     })
 
 pub returns-after-loop-day : goal.returns-after-loop-day
@@ -59,7 +59,7 @@ returns-after-loop-day c =
     let from : FitsSigned w32 c.args.from = c.ranges.from in
     let end : FitsSigned w32 c.args.end = c.ranges.end in
     let so_far = simp to_z-of_z at c.loop-day.invariant.so_far in
-    walk_end c.args.series.now c.args.rule.now c.args.from c.args.end (to_z w32 c.loop-day.day-bits) c.args.found.now.keys c.loop-day.found.keys (omega (arith, signed_arith)) so_far
+    walk_end c.args.limit c.args.series.now c.args.rule.now c.args.from c.args.end (to_z w32 c.loop-day.day-bits) c.args.found.now.keys c.loop-day.found.keys (omega (arith, signed_arith)) so_far
 
 pub returns-in_default : goal.returns-in_default
 returns-in_default c =
@@ -72,4 +72,4 @@ returns-in_default c =
     let at : IsNoDay rule c.day-start.result (to_z w32 c.loop-day.day-bits) c.args.end = simp to_z-of_z at c.in_default.ensures in
     let none : IsNoDay rule (moment_day series.start) (to_z w32 c.loop-day.day-bits) c.args.end = subst (λ (z : ℤ). IsNoDay rule z (to_z w32 c.loop-day.day-bits) c.args.end) c.day-start.ensures at in
     let so_far = simp to_z-of_z at c.loop-day.invariant.so_far in
-    walk_no_day series rule c.args.from c.args.end (to_z w32 c.loop-day.day-bits) c.args.found.now.keys c.loop-day.found.keys none so_far
+    walk_no_day c.args.limit series rule c.args.from c.args.end (to_z w32 c.loop-day.day-bits) c.args.found.now.keys c.loop-day.found.keys none so_far

@@ -17,5 +17,5 @@ returns-in_ok-clone c =
     let low : c.args.from ≤ℤ moment_day c.args.moment.now = omega (arith, signed_arith, c.day.ensures) in
     let high : moment_day c.args.moment.now <ℤ c.args.to = omega (arith, signed_arith, c.day-then-from-day.ensures) in
     let step = rw c.as_slice.ensures at c.add.ensures in
-    IsStep-like (IsLeft c.args.series.now.exdates c.in_ok-clone.field-0) (IsThis c.args.series.now c.args.from c.args.to c.args.moment.now) c.args.found.now.keys c.add.new.found.keys c.add.result
+    IsStep-like c.args.limit (IsLeft c.args.series.now.exdates c.in_ok-clone.field-0) (IsThis c.args.series.now c.args.from c.args.to c.args.moment.now) c.args.found.now.keys c.add.new.found.keys c.add.result
     (left_is_this c.args.series.now c.args.from c.args.to c.args.moment.now c.in_ok-clone.field-0 c.in_ok-clone.ensures.cases low high) step

@@ -13,7 +13,7 @@ returns-in_err-add_members c =
     let to : FitsSigned w32 c.args.to = c.ranges.to in
     let step = simp to_z-of_z at c.in_err-add_members.ensures in
     let p = err_from_is_err_and c.from_residual.result c.from_residual.ensures.1 in
-    rw (p.1, p.2) (IfTooMany-like c.in_err-add_members.field-0.0 (Exceeds-like (IsMemberIn series c.args.from c.args.to) (OccursIn series c.args.from c.args.to) c.args.found.now.keys c.add_members.new.found.keys (λ m h. (occurrences_of series c.args.from c.args.to m).0 (inl h))) step)
+    rw (p.1, p.2) (IfTooMany-like c.in_err-add_members.field-0.0 (Exceeds-like c.args.limit (IsMemberIn series c.args.from c.args.to) (OccursIn series c.args.from c.args.to) c.args.found.now.keys c.add_members.new.found.keys (λ m h. (occurrences_of series c.args.from c.args.to m).0 (inl h))) step)
 
 pub returns : goal.returns
 returns c =
@@ -22,5 +22,5 @@ returns c =
     let to : FitsSigned w32 c.args.to = c.ranges.to in
     let first = simp to_z-of_z at c.in_ok-add_members.ensures in
     let step = simp to_z-of_z at c.add_rdates.ensures in
-    IsStep-after (IsMemberIn series c.args.from c.args.to) (IsOneOf series.rdates series c.args.from c.args.to) (OccursIn series c.args.from c.args.to) c.args.found.now.keys c.add_members.new.found.keys c.add_rdates.new.found.keys c.add_rdates.result
+    IsStep-after c.args.limit (IsMemberIn series c.args.from c.args.to) (IsOneOf series.rdates series c.args.from c.args.to) (OccursIn series c.args.from c.args.to) c.args.found.now.keys c.add_members.new.found.keys c.add_rdates.new.found.keys c.add_rdates.result
     (occurrences_of series c.args.from c.args.to) first step

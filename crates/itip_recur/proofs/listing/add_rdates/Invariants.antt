@@ -6,5 +6,5 @@ abbrev pub invariant-loop-moment : goal.invariant-loop-moment
 invariant-loop-moment l =
     record {
       items : l.moment-items ≡ l.series.rdates;
-      so_far : Adds (IsOneOf (take l.moment-index l.moment-items) l.series l.from l.to) l.initial.found.keys l.found.keys;
+      so_far : Adds l.limit (IsOneOf (take l.moment-index l.moment-items) l.series l.from l.to) l.initial.found.keys l.found.keys;
     }

@@ -23,7 +23,7 @@ returns c =
     let same_to : (x : ℤ) → IsDayNumber x → c.day-start.result <ℤ x → (x <ℤ c.window_day.result) ↔ (x <ℤ c.args.to) = simp to_z-of_z at c.window_day.ensures.same in
     let ends = simp to_z-of_z at c.end_of_days-end.ensures.exact in
     let step = simp to_z-of_z at c.add_between.ensures in
-    IsStep-like (IsBetween series rule c.window_day-2.result c.end_of_days-end.result) (IsRepeatOf series rule c.args.from c.args.to) c.args.found.now.keys c.add_between.new.found.keys c.add_between.result
+    IsStep-like c.args.limit (IsBetween series rule c.window_day-2.result c.end_of_days-end.result) (IsRepeatOf series rule c.args.from c.args.to) c.args.found.now.keys c.add_between.new.found.keys c.add_between.result
     (between_is_repeat series rule c.args.from c.args.to c.window_day-2.result c.window_day.result c.end_of_days-end.result
     (λ x x_in later. same_from x x_in (omega (arith, signed_arith, c.day-start.ensures)))
     (λ x x_in later. same_to x x_in (omega (arith, signed_arith, c.day-start.ensures)))

@@ -9,5 +9,5 @@ returns-then-is_member c =
     let from : FitsSigned w32 c.args.from = c.ranges.from in
     let to : FitsSigned w32 c.args.to = c.ranges.to in
     let step = simp to_z-of_z at c.add_in_window.ensures in
-    IsStep-like (IsThis c.args.series.now c.args.from c.args.to c.args.series.now.start) (IsStart c.args.series.now c.args.from c.args.to) c.args.found.now.keys c.add_in_window.new.found.keys c.add_in_window.result
+    IsStep-like c.args.limit (IsThis c.args.series.now c.args.from c.args.to c.args.series.now.start) (IsStart c.args.series.now c.args.from c.args.to) c.args.found.now.keys c.add_in_window.new.found.keys c.add_in_window.result
     (this_is_start c.args.series.now c.args.from c.args.to (c.is_member.ensures.0 c.if-is_member.true)) step
