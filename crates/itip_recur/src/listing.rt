@@ -72,23 +72,6 @@ fn listed(
     Ok(into_moments(alloc, found)?)
 }
 
-/// The moments of a series whose day lies in a window, ascending, each once, however many there are.
-///
-/// Days are numbered from 1970-01-01, and the day `to` is not in the window. An error only for want of memory.
-pub fn all_occurrences(
-    alloc: Global,
-    series: &Series,
-    from: i32,
-    to: i32,
-) -> Result<Vec<Moment>, NoMemory>
-    ensures { IfOk result (λ v. AreOccurrences series.now from to v.items) }
-{
-    match occurrences(alloc, series, from, to) {
-        Ok(moments) => Ok(moments),
-        Err(_) => Err(NoMemory),
-    }
-}
-
 fn into_moments(alloc: Global, found: BTreeSet<Moment>) -> Result<Vec<Moment>, NoMemory>
     ensures items { IfOk result (λ v. v.items ≡ found.keys) }
     ensures ascending { IfOk result (λ v. IsStrictlySortedBy moment_cmp v.items) }
