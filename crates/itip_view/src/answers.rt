@@ -87,7 +87,7 @@ fn answer_key(
 
 /// What a line shows where this answer decides.
 fn shown_line(line: &Property, answer: Option<&Item>) -> Result<Option<ShownAttendee>, NoMemory>
-    ensures { IfOk result (λ shown. shown ≡ shown_line line.now (option_copied answer)) }
+    ensures { IfOk result (λ shown. shown ≡ shown_line line.now (option_copied answer.entry)) }
 {
     let Some(answer) = answer else {
         return Ok(Some(ShownAttendee {

@@ -30,7 +30,7 @@ pub(crate) fn series_item<'a>(items: &[&'a Item], uid: &Uid) -> Result<Option<&'
 
 /// Whether an instance item stands beside the series item of its UID, where there is one.
 pub(crate) fn stands_beside(series: Option<&Item>, item: &Item) -> bool
-    ensures { IsTrue result ↔ StandsBesideOf (option_copied series) item.now }
+    ensures { IsTrue result ↔ StandsBesideOf (option_copied series.entry) item.now }
 {
     match series {
         None => true,

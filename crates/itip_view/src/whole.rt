@@ -28,7 +28,7 @@ pub(crate) fn whole_of<'a>(
     alloc: Global,
     series: Option<&'a Item>,
 ) -> Result<Option<Whole<'a>>, NoMemory>
-    ensures { IfOk result (λ whole. (heard : List Item) (uid : List ℕ) → IsSeriesItem heard uid (option_copied series) → IsWhole heard uid whole) }
+    ensures { IfOk result (λ whole. (heard : List Item) (uid : List ℕ) → IsSeriesItem heard uid (option_copied series.entry) → IsWhole heard uid whole) }
 {
     match series {
         Some(item) if is_live(item.kind) => Ok(Some(Whole {
@@ -48,7 +48,7 @@ pub(crate) fn places(
     window: Window,
 ) -> Result<Vec<Moment>, NoMemory>
     ensures { IfOk result (λ places. (uid : List ℕ) → AreOf uid (map (λ item. item.now) items.now)
-        → IsSeriesItem (map (λ item. item.now) items.now) uid (option_copied series) → IsWhole (map (λ item. item.now) items.now) uid whole.now
+        → IsSeriesItem (map (λ item. item.now) items.now) uid (option_copied series.entry) → IsWhole (map (λ item. item.now) items.now) uid whole.now
         → ArePlaces (map (λ item. item.now) items.now) window uid places.items) }
 {
     let mut places = occurrences(alloc, whole, window)?;
