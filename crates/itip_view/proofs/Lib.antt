@@ -14,3 +14,4 @@ pub mod Placing
 pub mod Collecting
 pub mod OfPart
 pub mod Gathering
+pub mod Occurring

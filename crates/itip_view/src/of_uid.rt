@@ -97,7 +97,10 @@ fn single_row(
     requires single { IsShape series.now.todo Shape.Single }
     ensures { IfOk result (IsAnswerAt (map (λ item. item.now) items.now) window uid.now None) }
 {
-    if !window.has(day_of(&series.todo)) || is_replaced(items, uid, series)? {
+    if !window.has(day_of(&series.todo)) {
+        return Ok(None);
+    }
+    if is_replaced(items, uid, series)? {
         return Ok(None);
     }
     let row = own_row(alloc, items, uid, series, RowId::Single, None)?;
@@ -153,7 +156,10 @@ fn instance_row(
     requires stands { Stands (map (λ item. item.now) items.now) uid.now at.now item.now }
     ensures { IfOk result (IsAnswerAt (map (λ item. item.now) items.now) window uid.now (Some at.now)) }
 {
-    if !is_live(item.kind) || !window.has(instance_day(at, &item.todo)) {
+    if !is_live(item.kind) {
+        return Ok(None);
+    }
+    if !window.has(instance_day(at, &item.todo)) {
         return Ok(None);
     }
     let id = RowId::At(at.clone()?);

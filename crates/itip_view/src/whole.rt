@@ -6,6 +6,7 @@ ghost use Rattle.std.specs.Option.{option_copied};
 ghost use Rattle.itip_message.specs.declared.item.Item.{Item};
 ghost use Rattle.itip_moment.specs.declared.moment.Moment.{Moment};
 ghost use Rattle.itip_moment.specs.Order.{moment_cmp};
+ghost use Rattle.itip_state.specs.Kept.{AscendKeys};
 ghost use Rattle.itip_view.specs.OfUid.{AreOf, IsSeriesItem, IsWhole, AreOccurrencesOf, ArePlaces};
 
 use crate::NoMemory;
@@ -47,6 +48,7 @@ pub(crate) fn places(
     whole: &Option<Whole<'_>>,
     window: Window,
 ) -> Result<Vec<Moment>, NoMemory>
+    requires { AscendKeys (map (λ item. item.now) items.now) }
     ensures { IfOk result (λ places. (uid : List ℕ) → AreOf uid (map (λ item. item.now) items.now)
         → IsSeriesItem (map (λ item. item.now) items.now) uid (option_copied series.entry) → IsWhole (map (λ item. item.now) items.now) uid whole.now
         → ArePlaces (map (λ item. item.now) items.now) window uid places.items) }
@@ -81,13 +83,11 @@ fn occurrences(
 ) -> Result<Vec<Moment>, NoMemory>
     ensures { IfOk result (λ moments. (heard : List Item) (uid : List ℕ) → IsWhole heard uid whole.now → AreOccurrencesOf heard window uid moments.items) }
 {
-    match whole {
-        Some(
-            Whole {
-                shape: Shape::Repeats(series),
-                ..
-            },
-        ) => all_occurrences(alloc, series, window.from, window.to),
-        _ => Ok(Vec::new(alloc)),
+    let Some(whole) = whole else {
+        return Ok(Vec::new(alloc));
+    };
+    match &whole.shape {
+        Shape::Repeats(series) => all_occurrences(alloc, series, window.from, window.to),
+        Shape::Single | Shape::Opaque => Ok(Vec::new(alloc)),
     }
 }
