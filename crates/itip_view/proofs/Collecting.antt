@@ -1,5 +1,5 @@
 -- The rows of one UID, place by place.
-use Rattle.std.proofs.Common.{◌≡◌, ◌<◌, ℕ, List, [], ◌∷◌, ◌++◌, refl, sym, ◌∙◌, ap, subst, ◌⊎◌, inl, inr, Option, Some, None, get_or}
+use Rattle.std.proofs.Common.{◌≡◌, ◌<◌, ℕ, List, [], ◌∷◌, ◌++◌, refl, sym, ◌∙◌, ap, subst, ◌⊎◌, inl, inr, arith, zero, suc, length, take, Option, Some, None, get_or}
 use Rattle.std.specs.List.{Contains, AllPairs}
 use Rattle.std.specs.Option.{option_cmp}
 use Rattle.std.specs.Ordering.{nat_cmp, ordering_then}
@@ -12,12 +12,13 @@ use Rattle.std.proofs.lemmas.List.Quantifiers.{all_pairs_push}
 use Rattle.itip_moment.specs.Order.{moment_cmp}
 use Rattle.itip_moment.specs.declared.moment.Moment.{Moment}
 use Rattle.itip_message.specs.declared.item.Item.{Item}
-use Rattle.itip_state.proofs.Members.{none_in, no_pairs}
+use Rattle.itip_state.proofs.Members.{none_in, cons_cases, no_pairs}
 use Rattle.itip_view.specs.OfUid.{IsRowAt, IsAnswerAt, ArePlaces, AreRowsOf}
 use Rattle.itip_view.specs.Rows.{IsRow, IsInstanceRow, IsOccurrenceRow, IsSingleRow, IsOpaqueRow, AscendRows, moment_of, row_cmp}
 use Rattle.itip_view.specs.Standing.{IsLiveInstance, IsLiveSeries, NoneStands, Stands}
 use Rattle.itip_view.specs.declared.row.Row.{Row}
 use Rattle.itip_view.specs.declared.window.Window.{Window}
+use Rattle.itip_view.proofs.OfKey.{head_pair, tail_pairs}
 use Rattle.itip_view.proofs.OneRow.{one_place}
 
 -- the row is without a moment, or at one of these
@@ -50,7 +51,7 @@ module _ (items : List Item) (window : Window) (uid : List ℕ) where
     at = λ at row h. absurd (none_in at h);
   }
   rows_begin (Some one) is = record {
-    ascend = all_pairs_push (λ (a b : Row). row_cmp a b ≡ Less) [] one (no_pairs (λ (a b : Row). row_cmp a b ≡ Less)) (λ k d below. absurd (none_in d (k, below)));
+    ascend = all_pairs_push (λ (a b : Row). row_cmp a b ≡ Less) [] one (no_pairs (λ (a b : Row). row_cmp a b ≡ Less)) (λ k d below. absurd (omega (arith, below)));
     each = λ row h. subst (λ (r : Row). IsRow items window r × (r.uid ≡ uid) × IsNamedIn [] r) (in_one one row h) (is.is_row, is.uid_is, inl is.at_is);
     whole = λ row also. subst (Contains (one ∷ [])) (same_row None one row is also) (Contains-push [] one);
     at = λ at row h. absurd (none_in at h);
@@ -114,3 +115,12 @@ module _ (items : List Item) (window : Window) (uid : List ℕ) where
           (record { is_row = inr (inl p); uid_is = here; at_is = ap moment_of p.id })
       by row here (inr (inr (inl p))) = so.whole row (record { is_row = inr (inr (inl p)); uid_is = here; at_is = ap moment_of p.id })
       by row here (inr (inr (inr p))) = so.whole row (record { is_row = inr (inr (inr p)); uid_is = here; at_is = ap moment_of p.id })
+
+-- what stands before a moment of an ascending list is before it
+pub earlier_before : {X : Type 0} (R : X → X → Type 0) (xs : List X) (i : ℕ) (x : X) → AllPairs R xs → i < length xs → x ≡ get_or xs i x → (y : X) → Contains (take i xs) y → R y x
+earlier_before R [] i x p below is y h = absurd (omega (arith, below))
+earlier_before R (z ∷ zs) zero x p below is y h = absurd (none_in y h)
+earlier_before R (z ∷ zs) (suc i) x p below is y h = elim (cons_cases z (take i zs) y h) [
+  | inl same ↦ subst (λ (w : _). R w x) same (head_pair R z zs p x (i, omega (arith, below), sym is))
+  | inr rest ↦ earlier_before R zs i x (tail_pairs R z zs p) (omega (arith, below)) is y rest
+]

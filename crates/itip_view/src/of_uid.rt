@@ -46,13 +46,14 @@ pub(crate) fn rows_of_uid(
 {
     let series = series_item(items, uid)?;
     let whole = whole_of(alloc, series)?;
+    let whole = &whole;
     let mut rows = Vec::new(alloc);
-    if let Some(row) = whole_row(alloc, items, uid, &whole, window)? {
+    if let Some(row) = whole_row(alloc, items, uid, whole, window)? {
         rows.push(row)?;
     }
-    let places = places(alloc, items, series, &whole, window)?;
+    let places = places(alloc, items, series, whole, window)?;
     for at in &places {
-        if let Some(row) = row_at(alloc, items, uid, series, &whole, window, at)? {
+        if let Some(row) = row_at(alloc, items, uid, series, whole, window, at)? {
             rows.push(row)?;
         }
     }
@@ -200,14 +201,13 @@ fn occurrence_row(
     requires none { NoneStands (map (λ item. item.now) items.now) uid.now at.now }
     ensures { IfOk result (λ row. (window : Window) → IsOccurrence (map (λ item. item.now) items.now) window uid.now at.now → IsAnswerAt (map (λ item. item.now) items.now) window uid.now (Some at.now) row) }
 {
-    let Some(
-        Whole {
-            item,
-            shape: Shape::Repeats(series),
-        },
-    ) = whole
-    else {
+    let Some(whole) = whole else {
         return Ok(None);
+    };
+    let item = whole.item;
+    let series = match &whole.shape {
+        Shape::Repeats(series) => series,
+        Shape::Single | Shape::Opaque => return Ok(None),
     };
     let place = Place {
         id: RowId::At(at.clone()?),
