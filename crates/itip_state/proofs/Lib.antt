@@ -18,3 +18,4 @@ pub mod Reading
 pub mod Selecting
 pub mod Moving
 pub mod Parting
+pub mod Finding

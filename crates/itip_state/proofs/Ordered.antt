@@ -1,5 +1,5 @@
 -- What is held stands in the order of keys, each item once.
-use Rattle.std.proofs.Common.{◌≡◌, ℕ, List, [], ◌∷◌, ◌++◌, sym, ◌∙◌, ap, subst, inl, inr, true, false, get_or}
+use Rattle.std.proofs.Common.{◌≡◌, ℕ, ◌<◌, List, [], ◌∷◌, ◌++◌, sym, ◌∙◌, ap, subst, inl, inr, true, false, get_or, length, arith}
 use Rattle.std.specs.List.{Contains, AllByRecursion, AllPairs}
 use Rattle.std.specs.List.Sorted.{IsStrictlySortedBy}
 use Rattle.std.specs.Map.{keys_of}
@@ -20,11 +20,12 @@ use Rattle.itip_message.specs.KeyParts.{uid_of}
 use Rattle.itip_message.specs.declared.item.Item.{Item}
 use Rattle.itip_message.specs.declared.key.Key.{Key}
 use Rattle.itip_message.specs.declared.key.Key.TheVariants.{Series, Instance, Answer, Refresh}
-use Rattle.itip_state.specs.Kept.{AreSeriesOf, IsSeries, HasEachOnce, AscendKeys}
+use Rattle.itip_state.specs.Kept.{AreSeriesOf, AreUidsOf, IsSeries, HasEachOnce, AscendKeys}
 use Rattle.itip_state.specs.Slots.{slot_cmp, key_cmp, key_total, rank_of, instance_of, attendee_of}
-use Rattle.itip_state.specs.Held.{Best, Shape, slot, is_series, series_items, entry_items, shape_items, items_of, IsEntryAt}
+use Rattle.itip_state.specs.Held.{Best, Shape, slot, is_series, series_items, entry_items, shape_items, items_of, IsEntryAt, ArePlaced}
 use Rattle.itip_state.specs.declared.slot.Slot.{Slot}
-use Rattle.itip_state.proofs.Members.{none_in, cons_cases, cons_first, all_each, no_pairs, pairs_append}
+use Rattle.itip_state.proofs.Ascending.{pairs_ascend}
+use Rattle.itip_state.proofs.Members.{none_in, cons_cases, cons_first, cons_later, all_each, no_pairs, pairs_append}
 use Rattle.itip_state.proofs.Shapes.{AreSorted, IsSound, known_items, known_key, held_as, about, entry_there}
 
 abbrev pub IsBefore : Item → Item → Type 0
@@ -134,3 +135,25 @@ series_ascend (e ∷ es) s p = pairs_append IsUidBefore (series_items e.1.series
 
 pub series_of : (es : List (List ℕ × Shape)) → IsStrictlySortedBy (slice_cmp nat_cmp) (keys_of es) → AreSound es → AreSeriesOf (series_list es) (items_of es)
 series_of es s p = record { ascend = series_ascend es s p; each = series_among es p; all = series_all es p }
+
+-- ---- UIDs
+some_in : (xs : List Item) → 0 < length xs → (i : Item) × Contains xs i
+some_in [] h = absurd (omega (arith, h))
+some_in (x ∷ xs) h = (x, cons_first x xs)
+
+uids_each : (es : List (List ℕ × Shape)) → AreSound es → ArePlaced es → (uid : List ℕ) → Contains (keys_of es) uid → (i : Item) × Contains (items_of es) i × (uid_of i.key ≡ uid)
+uids_each [] s p uid h = absurd (none_in uid h)
+uids_each (e ∷ es) s p uid h = elim (cons_cases e.0 (keys_of es) uid h) [
+  | inl same ↦ let one = some_in (shape_items e.1) p.0.1 in (one.0, Contains-append_left (shape_items e.1) (items_of es) one.0 one.1, about e.0 e.1 s.0 one.0 one.1 ∙ same)
+  | inr rest ↦ let one = uids_each es s.1 p.1 uid rest in (one.0, Contains-append_right (shape_items e.1) (items_of es) one.0 one.1, one.2)
+]
+
+uids_all : (es : List (List ℕ × Shape)) → AreSound es → (i : Item) → Contains (items_of es) i → Contains (keys_of es) (uid_of i.key)
+uids_all [] s i h = absurd (none_in i h)
+uids_all (e ∷ es) s i h = elim (Contains-append_cases (shape_items e.1) (items_of es) i h) [
+  | inl here ↦ subst (Contains (e.0 ∷ keys_of es)) (sym (about e.0 e.1 s.0 i here)) (cons_first e.0 (keys_of es))
+  | inr rest ↦ cons_later e.0 (keys_of es) (uid_of i.key) (uids_all es s.1 i rest)
+]
+
+pub uids_of : (es : List (List ℕ × Shape)) → IsStrictlySortedBy (slice_cmp nat_cmp) (keys_of es) → AreSound es → ArePlaced es → AreUidsOf (keys_of es) (items_of es)
+uids_of es s sound p = record { ascend = pairs_ascend (slice_cmp nat_cmp) (keys_of es) s; each = uids_each es sound p; all = uids_all es sound }

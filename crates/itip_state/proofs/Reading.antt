@@ -11,7 +11,7 @@ use Rattle.itip_join.specs.declared.lift.Lift.{Lift}
 use Rattle.itip_join.specs.declared.lift.Lift.TheVariants.{Nothing, Known}
 use Rattle.itip_join.specs.KeyByKey.{value_at}
 use Rattle.itip_message.specs.declared.item.Item.{Item}
-use Rattle.itip_state.specs.Kept.{ArePart, AreSeriesOf, HasEachOnce, AscendKeys}
+use Rattle.itip_state.specs.Kept.{ArePart, AreSeriesOf, AreUidsOf, HasEachOnce, AscendKeys}
 use Rattle.itip_state.specs.Order.{IsState}
 use Rattle.itip_state.specs.Held.{Best, Shape, best, is_series, series_items, entry_items, shape_items, shapes, items_of, IsEntryAt, IsSeriesAt, ArePlaced}
 use Rattle.itip_state.specs.declared.slot.Slot.{Slot}
@@ -21,7 +21,7 @@ use Rattle.itip_message.specs.declared.key.Key.{Key}
 use Rattle.itip_message.specs.declared.key.Key.TheVariants.{Series}
 use Rattle.itip_state.proofs.Members.{none_in}
 use Rattle.itip_state.proofs.Shapes.{IsWhole, IsSound, series_is, series_held, known_key, known_items}
-use Rattle.itip_state.proofs.Ordered.{AreSound, shape_ascends, items_ascend, once_from_ascending, series_list, series_of}
+use Rattle.itip_state.proofs.Ordered.{AreSound, shape_ascends, items_ascend, once_from_ascending, series_list, series_of, uids_of}
 use Rattle.itip_state.proofs.Maps.{uid_cmp, shape, items_at, IsPlacedAt, AreInOrder, placed_at, part_at, map_state}
 
 pub entries_long : (es : List (Slot × Best)) → length (entry_items es) ≡ length es
@@ -48,6 +48,9 @@ module _ {V : Type 0} (series : V → Lift Best) (entries : V → List (Slot × 
 
   pub held_state : (es : List (List ℕ × V)) → AreInOrder series entries whole es → ArePlaced (shapes es series entries) → IsState (items_of (shapes es series entries))
   held_state es s p = map_state series entries whole es s p
+
+  pub held_uids : (es : List (List ℕ × V)) → AreInOrder series entries whole es → ArePlaced (shapes es series entries) → AreUidsOf (keys_of es) (items_of (shapes es series entries))
+  held_uids es s p = subst (λ (us : List (List ℕ)). AreUidsOf us (items_of (shapes es series entries))) (keys_of_shapes es) (uids_of (shapes es series entries) (in_order es s) (each_sound es p) p)
 
   -- ---- one UID
   pub held_part : (es : List (List ℕ × V)) → AreInOrder series entries whole es → ArePlaced (shapes es series entries) → (uid : List ℕ) (v : V) → value_at uid_cmp es uid ≡ Some v

@@ -93,3 +93,9 @@ pub record AreSeriesOf (series set : List Item) : Type 0 where
   pub ascend : AllPairs (λ (a b : Item). slice_cmp nat_cmp (uid_of a.key) (uid_of b.key) ≡ Less) series
   pub each : (item : Item) → Contains series item → Contains set item × IsSeries item
   pub all : (item : Item) → Contains set item → IsSeries item → Contains series item
+
+-- the UIDs that a set is about, by octets, each once
+pub record AreUidsOf (uids : List (List ℕ)) (set : List Item) : Type 0 where
+  pub ascend : AscendTexts uids
+  pub each : (uid : List ℕ) → Contains uids uid → (item : Item) × Contains set item × (uid_of item.key ≡ uid)
+  pub all : (item : Item) → Contains set item → Contains uids (uid_of item.key)

@@ -15,6 +15,7 @@ mod state;
 
 pub use laws::{kept_of_kept, least_upper_bound, order_of_states, uid_by_uid};
 pub use plain::kept;
+pub use slot::find;
 pub use sorted::by_octets;
 pub use state::State;
 pub use std::alloc::AllocError as NoMemory;

@@ -1,14 +1,17 @@
 //! Where a state holds an item.
-ghost use Rattle.std.specs.Prelude.{◌≡◌, IfOk, refl};
+ghost use Rattle.std.specs.Prelude.{◌≡◌, IfOk, MatchOption, map, refl};
+ghost use Rattle.std.specs.List.{Contains};
 ghost use Rattle.std.specs.Cmp.{partial_order_from_total, partial_equiv_from_equiv, eq_by_cmp_equiv};
 ghost use Rattle.std.specs.Ordering.{as_partial_cmp, eq_by_cmp};
 ghost use Rattle.std.specs.Option.{option_copied, option_cmp};
 ghost use Rattle.itip_moment.specs.Order.{moment_cmp};
 ghost use Rattle.itip_message.specs.KeyParts.{uid_of};
+ghost use Rattle.itip_message.specs.declared.item.Item.{Item};
+ghost use Rattle.itip_state.specs.Kept.{AscendKeys};
 ghost use Rattle.itip_state.specs.Slots.{rank_of, instance_of, attendee_of, key_cmp};
 
 use itip_join::{Exact, NoMemory};
-use itip_message::Key;
+use itip_message::{Item, Key};
 use itip_moment::Moment;
 use itip_todo::Uid;
 use std::cmp::Ordering;
@@ -81,6 +84,19 @@ pub(crate) fn compare(key: &Key, other: &Key) -> Ordering
         .then(rank(key).cmp(&rank(other)))
         .then(compare_instances(key, other))
         .then_with(|| attendee(key).cmp(attendee(other)))
+}
+
+/// The item of a key among items in the order of their keys, or `None` where there is none. It takes no memory.
+pub fn find<'a>(items: &[&'a Item], key: &Key) -> Option<&'a Item>
+    requires { AscendKeys (map (λ item. item.now) items.now) }
+    ensures { MatchOption (option_copied result)
+        ((item : Item) → Contains (map (λ item. item.now) items.now) item → item.key ≡ key.now → ⊥)
+        (λ item. Contains (map (λ item. item.now) items.now) item × (item.key ≡ key.now)) }
+{
+    match items.binary_search_by(|item| compare(&item.key, key)) {
+        Ok(place) => Some(items[place]),
+        Err(_) => None,
+    }
 }
 
 impl PartialEq for Slot {

@@ -6,6 +6,7 @@ ghost use Rattle.std.specs.Cmp.Lexicographic.{slice_cmp};
 ghost use Rattle.std.specs.Option.{option_copied};
 ghost use Rattle.itip_message.specs.declared.item.Item.{Item};
 ghost use Rattle.itip_join.specs.KeyByKey.{value_at};
+ghost use Rattle.std.specs.Map.{keys_of};
 ghost use Rattle.itip_join.specs.Optional.{IsBelowAt};
 ghost use Rattle.itip_state.specs.Held.{shapes, shape_items, entry_items, HoldKept, Shape};
 ghost use Rattle.itip_state.specs.Below.{IsShapeBelow, AreNews};
@@ -60,6 +61,17 @@ fn news(
             continue;
         }
         uids.push(uid.clone()?)?;
+    }
+    Ok(uids)
+}
+
+/// The UIDs of a map, in order.
+fn uids_of<'a>(alloc: Global, held: &'a Keyed<Uid, SeriesState>) -> Result<Vec<&'a Uid>, NoMemory>
+    ensures { IfOk result (λ uids. map (λ uid. uid.now) uids.items ≡ keys_of held.now.map) }
+{
+    let mut uids = Vec::new(alloc);
+    for (uid, _) in held.map.iter() {
+        uids.push(uid)?;
     }
     Ok(uids)
 }
@@ -128,7 +140,7 @@ impl Model for State {
 }
 
 impl State {
-    ghost use Rattle.itip_state.specs.Kept.{AreKept, ArePart, ArePartOf, AreMoved, IsItemsOf, AreSeriesOf, SameItems, HasEachOnce, AscendKeys};
+    ghost use Rattle.itip_state.specs.Kept.{AreKept, ArePart, ArePartOf, AreMoved, IsItemsOf, AreSeriesOf, AreUidsOf, SameItems, HasEachOnce, AscendKeys};
     ghost use Rattle.itip_state.specs.Order.{IsState, IsBelow};
 
     /// The state of nothing heard. It takes no memory.
@@ -224,6 +236,14 @@ impl State {
             }
         }
         Ok(items)
+    }
+
+    /// The UIDs of which something is kept, by octets, each once.
+    pub fn uids(&self) -> Result<Vec<&Uid>, NoMemory>
+        ensures uids { IfOk result (λ uids. AreUidsOf (map (λ uid. uid.now) uids.items) self.now) }
+        ensures state { OnOk result (IsState self.now) }
+    {
+        uids_of(self.alloc, &self.held)
     }
 
     /// The kept item of a key, or `None` where none is kept. It takes no memory.

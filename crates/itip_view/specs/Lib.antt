@@ -4,5 +4,5 @@ pub mod Standing
 pub mod Answers
 pub mod Rows
 pub mod InWindow
-pub mod Shown
+pub mod OfUid
 pub mod ListText

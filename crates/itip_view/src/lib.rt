@@ -1,13 +1,18 @@
 //! The task list of a state: its rows in a window of days, and their text (our own rules of what is shown).
 #![tactic(auto)]
 
+mod answers;
+mod dates;
 mod error;
 mod laws;
 mod list;
+mod of_uid;
 mod row;
+mod standing;
 #[cfg(test)]
 mod tests;
 mod view;
+mod whole;
 mod window;
 
 pub use error::{BadWindow, ViewError};

@@ -1,8 +1,10 @@
-use Rattle.std.proofs.Common.{◌≡◌, ◌≤◌, length, map, take}
+use Rattle.std.proofs.Common.{◌≤◌, length, map, take}
 use Rattle.itip_view.specs.Rows.{row_limit}
-use Rattle.itip_view.specs.Shown.{rows_of}
+use Rattle.itip_view.proofs.Gathering.{RowsOfUids}
 use Rattle.itip_view.proofs.view.rows.Given as goal
 
--- the rows of the series items so far
-abbrev pub invariant-loop-item : goal.invariant-loop-item
-invariant-loop-item l = (l.rows.items ≡ rows_of l.window (take l.item-index (map (λ item. item.now) l.item-items))) × (length l.rows.items ≤ row_limit)
+abbrev pub invariant-loop-uid : goal.invariant-loop-uid
+invariant-loop-uid l = record {
+  rows : RowsOfUids l.state l.window (take l.uid-index (map (λ uid. uid.now) l.uid-items)) l.rows.items;
+  few : length l.rows.items ≤ row_limit;
+}

@@ -1,0 +1,58 @@
+-- A binary search by key among items in the order of their keys.
+use Rattle.std.proofs.Common.{◌≡◌, ◌<◌, ◌≤◌, ℕ, zero, suc, List, [], ◌∷◌, map, length, get_or, refl, sym, ◌∙◌, ap, subst, ◌⊎◌, inl, inr, arith}
+use Rattle.std.specs.List.{Contains}
+use Rattle.std.specs.List.Sorted.{IsNonDecreasingBy, IsPartitionPoint}
+use Rattle.std.specs.Ordering.{ordering_index}
+use Rattle.std.specs.Cmp.{tied_itself}
+use Rattle.std.specs.declared.cmp.Ordering.{Ordering}
+use Rattle.std.specs.declared.cmp.Ordering.TheVariants.{Less, Equal, Greater}
+use Rattle.std.proofs.lemmas.Bool.{cases_lt}
+use Rattle.std.proofs.lemmas.List.{length-map}
+use Rattle.std.proofs.Math.ListN.{get_or-map}
+use Rattle.itip_message.specs.declared.item.Item.{Item}
+use Rattle.itip_message.specs.declared.key.Key.{Key}
+use Rattle.itip_state.specs.Kept.{AscendKeys}
+use Rattle.itip_state.specs.Slots.{key_cmp, key_total, key_exact}
+use Rattle.itip_state.proofs.Members.{none_in, cons_cases, cons_first, cons_later}
+
+rises : (a b k : Key) → key_cmp a b ≡ Less → ordering_index (key_cmp a k) ≤ ordering_index (key_cmp b k)
+rises a b k below = elim (key_cmp b k) as (λ o. key_cmp b k ≡ o → ordering_index (key_cmp a k) ≤ ordering_index o) [
+  | Less ↦ λ e. subst (λ o. ordering_index o ≤ 0) (sym (key_total.trans a b k below e)) (omega arith)
+  | Equal ↦ λ e. subst (λ o. ordering_index o ≤ 1) (sym (ap (key_cmp a) (sym (key_exact b k e)) ∙ below)) (omega arith)
+  | Greater ↦ λ e. top (key_cmp a k)
+] refl
+  where
+    top : (o : Ordering) → ordering_index o ≤ 2
+    top Less = omega arith
+    top Equal = omega arith
+    top Greater = omega arith
+
+module _ {X : Type 0} (item : X → Item) where
+  pub keys_rise : (xs : List X) (k : Key) → AscendKeys (map item xs) → IsNonDecreasingBy (λ x. ordering_index (key_cmp (item x).key k)) xs
+  keys_rise xs k ascend i j d up inside = elim (cases_lt i j) [
+    | inl lt ↦ rises (item (get_or xs i d)).key (item (get_or xs j d)).key k
+        (subst (λ (a : Item). key_cmp a.key (item (get_or xs j d)).key ≡ Less) (get_or-map item xs i d)
+        (subst (λ (b : Item). key_cmp (get_or (map item xs) i (item d)).key b.key ≡ Less) (get_or-map item xs j d) (ascend i j (item d) lt (rw (length-map xs item) inside))))
+    | inr ge ↦ let same : i ≡ j = omega arith in subst (λ (n : ℕ). ordering_index (key_cmp (item (get_or xs i d)).key k) ≤ ordering_index (key_cmp (item (get_or xs n d)).key k)) same (omega arith)
+  ]
+
+  pub mapped_in : (xs : List X) (k : ℕ) (x : X) → k < length xs → x ≡ get_or xs k x → Contains (map item xs) (item x)
+  mapped_in xs k x below is = (k, rw (length-map xs item) below, get_or-map item xs k x ∙ ap item (sym is))
+
+  from_mapped : (xs : List X) (i : Item) → Contains (map item xs) i → (x : X) × Contains xs x × (item x ≡ i)
+  from_mapped [] i h = absurd (none_in i h)
+  from_mapped (x ∷ xs) i h = elim (cons_cases (item x) (map item xs) i h) [
+    | inl first ↦ (x, cons_first x xs, first)
+    | inr rest ↦ let r = from_mapped xs i rest in (r.0, cons_later x xs r.0 r.1, r.2)
+  ]
+
+  pub not_there : (xs : List X) (k : Key) (place : ℕ) → IsPartitionPoint (λ x. key_cmp (item x).key k ≡ Less) (λ x. key_cmp (item x).key k ≡ Greater) xs place → (i : Item) → Contains (map item xs) i → i.key ≡ k → ⊥
+  not_there xs k place parts i h about =
+      let found = from_mapped xs i h in
+      let at : ℕ = found.1.0 in
+      let equal : key_cmp (item (get_or xs at found.0)).key k ≡ Equal =
+      ap (λ (x : X). key_cmp (item x).key k) found.1.2 ∙ ap (λ (y : Item). key_cmp y.key k) found.2 ∙ ap (λ (q : Key). key_cmp q k) about ∙ tied_itself key_total k in
+      elim (cases_lt at place) [
+        | inl lt ↦ let x : Less ≡ Equal = sym (parts.0 at found.0 (omega arith) lt) ∙ equal in cc
+        | inr ge ↦ let x : Greater ≡ Equal = sym (parts.1 at found.0 ge found.1.1) ∙ equal in cc
+      ]

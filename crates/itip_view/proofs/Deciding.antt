@@ -1,0 +1,25 @@
+-- Which answer decides, and whom the lines show, step by step.
+use Rattle.std.proofs.Common.{◌≡◌, ℕ, List, [], ◌∷◌, ◌++◌, refl, sym, ◌∙◌, ap, subst, inl, inr, Option, Some, None, append_assoc}
+use Rattle.itip_todo.specs.declared.property.Property.{Property}
+use Rattle.itip_message.specs.declared.item.Item.{Item}
+use Rattle.itip_message.specs.declared.key.Key.{Key}
+use Rattle.itip_view.specs.Answers.{Counts, NoneCounts, Decides, AreShown, shown_line, in_front}
+use Rattle.itip_view.specs.declared.row.ShownAttendee.{ShownAttendee}
+
+module _ (heard : List Item) (governing : Item) where
+  pub decides_later : (key : Key) (keys : List Key) → NoneCounts heard governing key → (answer : Option Item) → Decides heard governing keys answer → Decides heard governing (key ∷ keys) answer
+  decides_later key keys none None rest = (none, rest)
+  decides_later key keys none (Some answer) rest = inr (none, rest)
+
+  pub shows_more : (keys_of : Property → List Key) (line : Property) (lines : List Property) (answer : Option Item) (others : List ShownAttendee) → Decides heard governing (keys_of line) answer →
+      AreShown heard governing keys_of lines others → AreShown heard governing keys_of (line ∷ lines) (in_front (shown_line line answer) others)
+  shows_more keys_of line lines answer others decides rest = (answer, others, decides, rest, refl)
+
+-- one more, or none, behind those before
+pub behind : (front others : List ShownAttendee) (shown : Option ShownAttendee) → front ++ in_front shown others ≡ (front ++ in_front shown []) ++ others
+behind front others None = ap (λ (xs : List ShownAttendee). xs ++ others) (sym (nothing front))
+  where
+    nothing : (xs : List ShownAttendee) → xs ++ [] ≡ xs
+    nothing [] = refl
+    nothing (x ∷ xs) = ap (λ (ys : List ShownAttendee). x ∷ ys) (nothing xs)
+behind front others (Some one) = sym (append_assoc front (one ∷ []) others)

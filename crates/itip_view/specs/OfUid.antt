@@ -1,0 +1,90 @@
+-- The rows of one UID (our own form): what is known of its series item, where its rows may stand, and what each place shows.
+use Rattle.std.specs.Prelude.{◌≡◌, ◌≤◌, ◌<◌, ◌↔◌, ℕ, List, Option, Some, None, MatchOption, map}
+use Rattle.std.specs.List.{Contains}
+use Rattle.std.specs.List.Sorted.{IsStrictlySortedBy}
+use Rattle.itip_moment.specs.Order.{moment_cmp}
+use Rattle.itip_moment.specs.declared.moment.Moment.{Moment}
+use Rattle.itip_todo.specs.declared.property.Property.{Property}
+use Rattle.itip_recur.specs.Occurrences.{OccursIn}
+use Rattle.itip_recur.specs.ToDoShape.{IsShape, IsSeriesOf}
+use Rattle.itip_recur.specs.declared.series.Series.{Series}
+use Rattle.itip_recur.specs.declared.series.Shape.{Shape}
+use Rattle.itip_message.specs.KeyParts.{uid_of}
+use Rattle.itip_message.specs.declared.item.Item.{Item}
+use Rattle.itip_message.specs.declared.key.Key.{Key}
+use Rattle.itip_message.specs.declared.key.Key.TheVariants as key
+use Rattle.itip_state.specs.Kept.{IsBest}
+use Rattle.itip_view.specs.Answers.{AreShown, answer_key}
+use Rattle.itip_view.specs.Rows.{HasFields, IsRow, AscendRows, moment_of}
+use Rattle.itip_view.specs.Standing.{Stands, StandsBeside, NoneStands, IsLiveSeries}
+use Rattle.itip_view.specs.declared.row.Row.{Row}
+use Rattle.itip_view.specs.declared.row.RowId.{RowId}
+use Rattle.itip_view.specs.declared.whole.Whole.{Whole}
+use Rattle.itip_view.specs.declared.window.Window.{Window}
+
+-- the items are about one UID
+abbrev pub AreOf : List ℕ → List Item → Type 0
+AreOf uid items = (item : Item) → Contains items item → uid_of item.key ≡ uid
+
+-- the best series item of a UID, or that there is none
+abbrev pub IsSeriesItem : List Item → List ℕ → Option Item → Type 0
+IsSeriesItem heard uid series = MatchOption series ((item : Item) → ¬ IsBest heard (key.Series uid) item) (IsBest heard (key.Series uid))
+
+-- an instance item stands beside the series item, or there is none
+abbrev pub StandsBesideOf : Option Item → Item → Type 0
+StandsBesideOf None item = Unit {0}
+StandsBesideOf (Some series) item = StandsBeside series item
+
+-- where the answers of an attendee are looked for: those to each of these, an instance or the to-do as a whole
+abbrev pub keys_to : List ℕ → List (Option Moment) → Property → List Key
+keys_to uid ids line = map (λ id. answer_key uid id line) ids
+
+-- a row with this name and these dates, and what else it shows of the item that governs it
+pub record IsRowOf (heard : List Item) (item : Item) (uid : List ℕ) (id : RowId) (start due : Option Moment) (ids : List (Option Moment)) (row : Row) : Type 0 where
+  pub uid_is : row.uid ≡ uid
+  pub id_is : row.id ≡ id
+  pub fields : HasFields item row
+  pub start_is : row.start ≡ start
+  pub due_is : row.due ≡ due
+  pub attendees : AreShown heard item (keys_to uid ids) item.todo.attendees row.attendees
+
+-- a row of the UID at this moment, or without one
+pub record IsRowAt (heard : List Item) (window : Window) (uid : List ℕ) (at : Option Moment) (row : Row) : Type 0 where
+  pub is_row : IsRow heard window row
+  pub uid_is : row.uid ≡ uid
+  pub at_is : moment_of row.id ≡ at
+
+-- what has a row there, or that nothing has
+abbrev pub IsAnswerAt : List Item → Window → List ℕ → Option Moment → Option Row → Type 0
+IsAnswerAt heard window uid at None = (row : Row) → IsRowAt heard window uid at row → ⊥
+IsAnswerAt heard window uid at (Some row) = IsRowAt heard window uid at row
+
+-- the live series item of a UID and how it recurs, or that no series item is live
+abbrev pub IsWhole : List Item → List ℕ → Option Whole → Type 0
+IsWhole heard uid None = (item : Item) → ¬ IsLiveSeries heard uid item
+IsWhole heard uid (Some whole) = IsLiveSeries heard uid whole.item.now × IsShape whole.item.now.todo whole.shape
+
+-- the live series item of a UID occurs at the moment, in the window
+pub record IsOccurrence (heard : List Item) (window : Window) (uid : List ℕ) (at : Moment) : Type 0 where
+  pub item : Item
+  pub series : Series
+  pub live : IsLiveSeries heard uid item
+  pub repeats : IsSeriesOf item.todo series
+  pub occurs : OccursIn series window.from window.to at
+
+-- the moments are the occurrences in the window
+abbrev pub AreOccurrencesOf : List Item → Window → List ℕ → List Moment → Type 0
+AreOccurrencesOf heard window uid moments = (at : Moment) → Contains moments at ↔ IsOccurrence heard window uid at
+
+-- the moments at which rows may stand: those at which instance items stand, and the occurrences
+pub record ArePlaces (heard : List Item) (window : Window) (uid : List ℕ) (moments : List Moment) : Type 0 where
+  pub ascend : IsStrictlySortedBy moment_cmp moments
+  pub instances : (at : Moment) (item : Item) → Stands heard uid at item → Contains moments at
+  pub occurrences : (at : Moment) → IsOccurrence heard window uid at → Contains moments at
+  pub each : (at : Moment) → Contains moments at → NoneStands heard uid at → IsOccurrence heard window uid at
+
+-- the rows of a UID in their order, each once
+pub record AreRowsOf (heard : List Item) (window : Window) (uid : List ℕ) (rows : List Row) : Type 0 where
+  pub ascend : AscendRows rows
+  pub each : (row : Row) → Contains rows row → IsRow heard window row × (row.uid ≡ uid)
+  pub all : (row : Row) → IsRow heard window row → row.uid ≡ uid → Contains rows row
