@@ -10,7 +10,6 @@ use Rattle.itip_message.specs.Frame.{same_text}
 use Rattle.itip_delta.specs.Cutting.{lines_of, said, says, is_empty, ends_calendar, groups_of, texts_of, messages_of, CutsMessage}
 use Rattle.itip_delta.specs.Passing.{IsFirstLine, Passes}
 
-
 -- lines up to one that ends a calendar are a group
 pub groups_end : (passed : List (List ℕ)) (line : List ℕ) (rest : List (List ℕ)) → AllByRecursion (λ line. ends_calendar line ≡ false) passed → ends_calendar line ≡ true
     → groups_of (passed ++ line ∷ rest) ≡ (passed ++ line ∷ []) ∷ groups_of rest
@@ -88,7 +87,7 @@ module _ (bytes rest line after : List ℕ) (blank : Bool) (so_far : Passes byte
       let front : length (concat (so_far.passed ++ line ∷ [])) ≡ length (concat so_far.passed) + length line = ap length (concat_push so_far.passed line) ∙ length-append (concat so_far.passed) line in
       let count : length (concat (so_far.passed ++ line ∷ [])) ≡ length bytes - length after = omega (arith, long) in
       let text : take (length bytes - length after) bytes ≡ concat (so_far.passed ++ line ∷ []) =
-          ap (λ (t : List ℕ). take (length bytes - length after) t) behind ∙ take_at (concat (so_far.passed ++ line ∷ [])) after (length bytes - length after) count in
+      ap (λ (t : List ℕ). take (length bytes - length after) t) behind ∙ take_at (concat (so_far.passed ++ line ∷ [])) after (length bytes - length after) count in
       record {
         messages = ap (λ (t : List (List ℕ)). texts_of (groups_of t)) more_lines ∙ texts_end so_far.passed line (lines_of after) so_far.none_ends ends
             ∙ ap (λ (t : List ℕ). t ∷ texts_of (groups_of (lines_of after))) (sym text);

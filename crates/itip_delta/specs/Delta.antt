@@ -1,6 +1,5 @@
 -- Deltas: the canonical octets of items in a row, and the batch that octets tell (our own format).
 use Rattle.std.specs.Prelude.{◌≡◌, ℕ, ◌⊎◌, List, [], ◌∷◌, ◌++◌}
-use Rattle.std.specs.List.{concat}
 use Rattle.itip_message.specs.Message.{ReadsMessage, RefusesMessage}
 use Rattle.itip_message.specs.declared.error.Fault.{Fault}
 use Rattle.itip_message.specs.declared.item.Item.{Item}
@@ -25,11 +24,15 @@ abbrev pub FirstRefused : List (List ℕ) → Fault → Type 0
 FirstRefused [] fault = ⊥
 FirstRefused (text ∷ texts) fault = RefusesMessage text fault ⊎ (((items : List Item) × ReadsMessage text items) × FirstRefused texts fault)
 
+abbrev pub all_of : List (List Item) → List Item
+all_of [] = []
+all_of (items ∷ given) = items ++ all_of given
+
 -- the items of all messages of these octets make this batch
 pub record ReadsDelta (bytes : List ℕ) (batch : List Item) : Type 0 where
   pub given : List (List Item)
   pub read : AreMessages (messages_of bytes) given
-  pub batch_is : IsItemsOf batch (concat given)
+  pub batch_is : IsItemsOf batch (all_of given)
 
 abbrev pub RefusesDelta : List ℕ → Fault → Type 0
 RefusesDelta bytes fault = FirstRefused (messages_of bytes) fault
@@ -43,5 +46,5 @@ pub record IsDelta (bytes : List ℕ) : Type 0 where
 -- What the rest of some octets gives stands behind the items of what was read before it.
 pub record Continues (bytes rest : List ℕ) (items : List Item) : Type 0 where
   pub read : (given : List (List Item)) → AreMessages (messages_of rest) given
-      → (all : List (List Item)) × AreMessages (messages_of bytes) all × (concat all ≡ items ++ concat given)
+      → (all : List (List Item)) × AreMessages (messages_of bytes) all × (all_of all ≡ items ++ all_of given)
   pub refused : (fault : Fault) → FirstRefused (messages_of rest) fault → FirstRefused (messages_of bytes) fault

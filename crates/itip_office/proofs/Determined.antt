@@ -37,7 +37,7 @@ use Rattle.itip_message.proofs.OneMessage.{one_message, one_cause, message_apart
 use Rattle.itip_office.specs.Orders.{Order}
 use Rattle.itip_office.specs.Script.{orders_of}
 use Rattle.itip_office.specs.Running.{Answer, refused, listed, answer_text, answer_to, is_refusal, HasTick, IsNotAnswered, Step, takes_text, takes_at_no_desk, spends_ticks, lists_rows, lists_too_many, lists_no_desk, is_refused, Runs, Writes, IsOutput}
-use Rattle.itip_office.proofs.Ascending.{IsIn, in_contained, contained_in, ascending_same_pairs}
+use Rattle.itip_delta.proofs.Ascending.{IsIn, in_contained, contained_in, ascending_same_pairs}
 
 -- A text is a message of some items or is refused for some cause, and of no others.
 pub record IsReadOnce (bytes : List ℕ) : Type 0 where
