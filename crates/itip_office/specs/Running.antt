@@ -92,13 +92,16 @@ IsNotAnswered (asks_next desk uid) = Unit {0}
 IsNotAnswered (counts desk) = ⊥
 IsNotAnswered malformed = Unit {0}
 
+-- What is answered where an event is asked of a world, and what happened then.
+pub data Happens (old : Past) (event : Event) : Answer → Past → Type 0 where
+  replies : (reply : Reply) (new : Past) → EventStep old event reply new → HasTick reply → Happens old event (answer_to event reply) new
+  at_no_desk : length old.histories ≤ desk_of event → Happens old event (refused 50) old
+  of_no_packet : LacksOnlyPacket (length old.histories) (length old.packets) event → Happens old event (refused 51) old
+  spends_ticks : IsSpent old event → Happens old event (refused 21) old
+
 -- One command: from what happened before, its answer, and what happened then.
 pub data Step (window : Window) (old : Past) : Order → Answer → Past → Type 0 where
-  happens : (order : Order) (event : Event) (reply : Reply) (new : Past)
-      → event_of order ≡ Some event → EventStep old event reply new → HasTick reply → Step window old order (answer_to event reply) new
-  at_no_desk : (order : Order) (event : Event) → event_of order ≡ Some event → length old.histories ≤ desk_of event → Step window old order (refused 50) old
-  of_no_packet : (order : Order) (event : Event) → event_of order ≡ Some event → LacksOnlyPacket (length old.histories) (length old.packets) event → Step window old order (refused 51) old
-  spends_ticks : (order : Order) (event : Event) → event_of order ≡ Some event → IsSpent old event → Step window old order (refused 21) old
+  happens : (order : Order) (event : Event) (answer : Answer) (new : Past) → event_of order ≡ Some event → Happens old event answer new → Step window old order answer new
   lists_rows : (desk : ℕ) (history : List (List Item)) (text : List ℕ)
       → slice_get old.histories desk ≡ Some history → IsListText (heard history) window text → Step window old (lists desk) (listed desk text) old
   lists_too_many : (desk : ℕ) (history : List (List Item))
