@@ -20,7 +20,7 @@ use Rattle.itip_office.specs.declared.command.Command.{Command}
 use Rattle.itip_office.specs.declared.command.Command.TheVariants as command
 use Rattle.itip_office.specs.Orders.{Order, order_of, lists, counts}
 use Rattle.itip_office.specs.Running.{Answer, refused, listed, counted, answer_text, answer_to, event_of, HasTick, is_refusal, IsNotAnswered, Step, Answers}
-use Rattle.itip_office.specs.Running.Happens.{replies, at_no_desk, of_no_packet, spends_ticks}
+use Rattle.itip_office.specs.Running.Happens.{is_done, at_no_desk, of_no_packet, spends_ticks}
 use Rattle.itip_office.specs.Running.Step.{happens, lists_rows, lists_too_many, lists_no_desk, counts_kept, counts_no_desk, is_refused}
 
 -- the step that an answer stands for
@@ -180,7 +180,7 @@ steps_event old new packets more_packets event before more reply last steps tick
     record {
       past = s.past;
       step = subst (λ (r : Reply). Step window past order (answer_to event r) s.past) (sym is)
-          (happens order event (answer_to event s.reply) s.past asks (replies s.reply s.past s.step (subst HasTick is tick)));
+          (happens order event (answer_to event s.reply) s.past asks (is_done s.reply s.past s.step (subst HasTick is tick)));
       world_is = s.world_is;
     }
 

@@ -6,4 +6,5 @@ pub mod Cuttings
 pub mod Spellings
 pub mod Answering
 pub mod Runnings
+pub mod Counting
 pub mod Determined

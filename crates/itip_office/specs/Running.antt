@@ -94,7 +94,7 @@ IsNotAnswered malformed = Unit {0}
 
 -- What is answered where an event is asked of a world, and what happened then.
 pub data Happens (old : Past) (event : Event) : Answer → Past → Type 0 where
-  replies : (reply : Reply) (new : Past) → EventStep old event reply new → HasTick reply → Happens old event (answer_to event reply) new
+  is_done : (reply : Reply) (new : Past) → EventStep old event reply new → HasTick reply → Happens old event (answer_to event reply) new
   at_no_desk : length old.histories ≤ desk_of event → Happens old event (refused 50) old
   of_no_packet : LacksOnlyPacket (length old.histories) (length old.packets) event → Happens old event (refused 51) old
   spends_ticks : IsSpent old event → Happens old event (refused 21) old
