@@ -1,18 +1,22 @@
--- What desks have heard after a list of events, and the replies to these (our own rule).
+-- What desks have heard and posted after a list of events, and the replies to these (our own rule).
 use Rattle.std.specs.Prelude.{◌≡◌, ℕ, zero, suc, ◌^◌, ◌-◌, ◌<◌, List, [], ◌∷◌, ◌++◌, ◌≤◌, ◌↔◌, length, take, replicate, Option, Some, slice_get}
+use Rattle.std.specs.List.{Contains}
+use Rattle.itip_message.specs.KeyParts.{uid_of}
 use Rattle.itip_message.specs.Message.{ReadsMessage, RefusesMessage}
 use Rattle.itip_message.specs.Numbers.{number_of}
 use Rattle.itip_message.specs.declared.error.Fault.{Fault}
 use Rattle.itip_message.specs.declared.item.Item.{Item}
-use Rattle.itip_state.specs.Kept.{SameItems, AreMoved, Moves}
-use Rattle.itip_desk.specs.Heard.{heard, TickStep, Ticks}
+use Rattle.itip_state.specs.Kept.{AreKept, SameItems, AreMoved, Moves}
+use Rattle.itip_desk.specs.Heard.{heard, TickStep, Ticks, MovedAfter}
 use Rattle.itip_desk.specs.Desk.{Shown, IsDeskOf}
+use Rattle.itip_desk.specs.Octets.{AscendOctets}
 use Rattle.itip_desk.specs.declared.error.DeskError.{DeskError}
 use Rattle.itip_desk.specs.declared.error.DeskError.TheVariants as desk
+use Rattle.itip_delta.specs.Delta.{delta_octets}
 use Rattle.itip_delta.specs.declared.event.Event.{Event}
-use Rattle.itip_delta.specs.declared.event.Event.TheVariants.{Deliver}
+use Rattle.itip_delta.specs.declared.event.Event.TheVariants.{Deliver, Post, Arrive}
 use Rattle.itip_delta.specs.declared.event.Reply.{Reply}
-use Rattle.itip_delta.specs.declared.event.Reply.TheVariants.{Taken, Refused}
+use Rattle.itip_delta.specs.declared.event.Reply.TheVariants.{Taken, Posted, Refused}
 use Rattle.itip_delta.specs.declared.stop.Cause.{Cause}
 use Rattle.itip_delta.specs.declared.stop.Cause.TheVariants as cause
 
@@ -30,27 +34,66 @@ with_step [] desk step = []
 with_step (history ∷ histories) zero step = (history ++ step ∷ []) ∷ histories
 with_step (history ∷ histories) (suc desk) step = history ∷ with_step histories desk step
 
+-- What happened: what each desk has heard, and all that each packet tells, the packets numbered from 0.
+pub record Past : Type 0 where
+  pub histories : Histories
+  pub packets : List (List Item)
+
+-- nothing happened yet
+abbrev pub no_past : ℕ → Past
+no_past desks = record { histories = no_histories desks; packets = [] }
+
+abbrev pub past_with_step : Past → ℕ → List Item → Past
+past_with_step past desk step = record { histories = with_step past.histories desk step; packets = past.packets }
+
+abbrev pub past_with_packet : Past → List Item → Past
+past_with_packet past packet = record { histories = past.histories; packets = past.packets ++ packet ∷ [] }
+
+-- A desk of this history hears a step of these items: its tick then, and the UIDs that move.
+pub record Takes (history : List (List Item)) (step : List Item) (uids : List (List ℕ)) (tick : ℕ) : Type 0 where
+  pub moved : AreMoved uids (heard history) step
+  pub ticks : Ticks [] 0 (history ++ step ∷ []) tick
+
 -- What a text adds to a desk of this history, and the reply: the items of the message, or nothing where it is refused.
 pub data Hears (history : List (List Item)) (bytes : List ℕ) (step : List Item) : Reply → Type 0 where
   reads : (items : List Item) (uids : List (List ℕ)) (tick : ℕ) → ReadsMessage bytes items → SameItems step items
-      → AreMoved uids (heard history) step → Ticks [] 0 (history ++ step ∷ []) tick → Hears history bytes step (Taken tick (length uids))
+      → Takes history step uids tick → Hears history bytes step (Taken tick (length uids))
   refuses : (fault : Fault) → RefusesMessage bytes fault → step ≡ [] → Hears history bytes step (Refused (number_of fault))
 
+-- A packet tells everything that a desk has heard of the UIDs that moved after this tick.
+abbrev pub IsPacketOf : List (List Item) → ℕ → List Item → Type 0
+IsPacketOf history since packet = (item : Item) → Contains packet item ↔ (Contains (heard history) item × MovedAfter [] 0 history since (uid_of item.key))
+
+-- what is kept of a packet, by canonical octets, each once
+pub record IsBatchOf (packet batch : List Item) : Type 0 where
+  pub ascend : AscendOctets batch
+  pub kept : AreKept batch packet
+
 -- one event
-pub data EventStep (old : Histories) : Event → Reply → Histories → Type 0 where
+pub data EventStep (old : Past) : Event → Reply → Past → Type 0 where
   delivers : (desk : ℕ) (bytes : List ℕ) (history : List (List Item)) (step : List Item) (reply : Reply)
-      → slice_get old desk ≡ Some history → Hears history bytes step reply → EventStep old (Deliver desk bytes) reply (with_step old desk step)
+      → slice_get old.histories desk ≡ Some history → Hears history bytes step reply
+      → EventStep old (Deliver desk bytes) reply (past_with_step old desk step)
+  posts : (desk since : ℕ) (history : List (List Item)) (packet batch : List Item)
+      → slice_get old.histories desk ≡ Some history → IsPacketOf history since packet → IsBatchOf packet batch
+      → EventStep old (Post desk since) (Posted (length old.packets) (length batch)) (past_with_packet old packet)
+  arrives : (packet desk : ℕ) (items : List Item) (history : List (List Item)) (uids : List (List ℕ)) (tick : ℕ)
+      → slice_get old.packets packet ≡ Some items → slice_get old.histories desk ≡ Some history → Takes history items uids tick
+      → EventStep old (Arrive packet desk) (Taken tick (length uids)) (past_with_step old desk items)
 
 -- an event would move a UID of a desk at the last tick
-pub data IsSpent (old : Histories) : Event → Type 0 where
+pub data IsSpent (old : Past) : Event → Type 0 where
   spends : (desk : ℕ) (bytes : List ℕ) (history : List (List Item)) (items step : List Item) (uid : List ℕ)
-      → slice_get old desk ≡ Some history → ReadsMessage bytes items → SameItems step items → Ticks [] 0 history (2 ^ 64 - 1) → Moves (heard history) step uid
+      → slice_get old.histories desk ≡ Some history → ReadsMessage bytes items → SameItems step items → Ticks [] 0 history (2 ^ 64 - 1) → Moves (heard history) step uid
       → IsSpent old (Deliver desk bytes)
+  spends_arriving : (packet desk : ℕ) (items : List Item) (history : List (List Item)) (uid : List ℕ)
+      → slice_get old.packets packet ≡ Some items → slice_get old.histories desk ≡ Some history → Ticks [] 0 history (2 ^ 64 - 1) → Moves (heard history) items uid
+      → IsSpent old (Arrive packet desk)
 
 -- these replies to these events, one after another
-abbrev pub Runs : Histories → List Event → List Reply → Histories → Type 0
+abbrev pub Runs : Past → List Event → List Reply → Past → Type 0
 Runs old [] [] new = new ≡ old
-Runs old (event ∷ events) (reply ∷ replies) new = (mid : Histories) × EventStep old event reply mid × Runs mid events replies new
+Runs old (event ∷ events) (reply ∷ replies) new = (mid : Past) × EventStep old event reply mid × Runs mid events replies new
 Runs old [] (reply ∷ replies) new = ⊥
 Runs old (event ∷ events) [] new = ⊥
 
@@ -61,32 +104,71 @@ AreDesksOf [] (desk ∷ desks) = ⊥
 AreDesksOf (history ∷ histories) [] = ⊥
 AreDesksOf (history ∷ histories) (desk ∷ desks) = IsDeskOf history 0 desk × AreDesksOf histories desks
 
+-- The octets of a packet are those of what is kept of all that it tells.
+pub record IsPacketText (packet : List Item) (octets : List ℕ) : Type 0 where
+  pub batch : List Item
+  pub batch_is : IsBatchOf packet batch
+  pub octets_are : octets ≡ delta_octets batch
+
+abbrev pub ArePacketTexts : List (List Item) → List (List ℕ) → Type 0
+ArePacketTexts [] [] = Unit {0}
+ArePacketTexts [] (octets ∷ texts) = ⊥
+ArePacketTexts (packet ∷ packets) [] = ⊥
+ArePacketTexts (packet ∷ packets) (octets ∷ texts) = IsPacketText packet octets × ArePacketTexts packets texts
+
+-- These desks and packets are those after what happened.
+pub record IsWorldOf (past : Past) (desks : List Shown) (packets : List (List ℕ)) : Type 0 where
+  pub desks_are : AreDesksOf past.histories desks
+  pub packets_are : ArePacketTexts past.packets packets
+
 -- the desk that an event names
 abbrev pub desk_of : Event → ℕ
 desk_of (Deliver desk bytes) = desk
+desk_of (Post desk since) = desk
+desk_of (Arrive packet desk) = desk
+
+-- An event names a packet that isn't there, of so many.
+abbrev pub LacksPacket : ℕ → Event → Type 0
+LacksPacket packets (Deliver desk bytes) = ⊥
+LacksPacket packets (Post desk since) = ⊥
+LacksPacket packets (Arrive packet desk) = packets ≤ packet
+
+-- The desk is there, and the packet is not: a missing desk comes first.
+abbrev pub LacksOnlyPacket : ℕ → ℕ → Event → Type 0
+LacksOnlyPacket desks packets event = (desk_of event < desks) × LacksPacket packets event
 
 abbrev pub cause_of : DeskError → Cause
 cause_of desk.NoMemory = cause.NoMemory
 cause_of desk.TicksSpent = cause.TicksSpent
 
 -- the world after some events, which got these replies
-pub record IsWorldAfter (old : Histories) (events : List Event) (replies : List Reply) (desks : List Shown) : Type 0 where
-  pub histories : Histories
-  pub runs : Runs old events replies histories
-  pub desks_are : AreDesksOf histories desks
+pub record IsWorldAfter (old : Past) (events : List Event) (replies : List Reply) (desks : List Shown) (packets : List (List ℕ)) : Type 0 where
+  pub past : Past
+  pub runs : Runs old events replies past
+  pub world_is : IsWorldOf past desks packets
 
--- one event brings a world to another: the desks are those of histories with one more step, and there is one more reply
-pub record StepsWorld (old : Histories) (event : Event) (replies more_replies : List Reply) (desks : List Shown) : Type 0 where
+-- one event brings a world to another: one step more of what happened, and one reply more
+pub record StepsWorld (old : Past) (event : Event) (replies more_replies : List Reply) (desks : List Shown) (packets : List (List ℕ)) : Type 0 where
   pub reply : Reply
-  pub histories : Histories
-  pub step : EventStep old event reply histories
+  pub past : Past
+  pub step : EventStep old event reply past
   pub replies_are : more_replies ≡ replies ++ reply ∷ []
-  pub desks_are : AreDesksOf histories desks
+  pub world_is : IsWorldOf past desks packets
+
+-- the same, whatever happened to bring about these desks and packets
+abbrev pub Steps : List Shown → List (List ℕ) → Event → List Reply → List Reply → List Shown → List (List ℕ) → Type 0
+Steps old_desks old_packets event replies more_replies desks packets =
+    (past : Past) → IsWorldOf past old_desks old_packets → StepsWorld past event replies more_replies desks packets
+
+-- at the last tick an event would move a UID, whatever happened to bring about these desks and packets
+abbrev pub Spends : List Shown → List (List ℕ) → Event → Type 0
+Spends desks packets event = (past : Past) → IsWorldOf past desks packets → IsSpent past event
 
 -- a run stopped: for want of memory at its start, with no desk, or at an event that was not done
-pub data StopsAfter (old : Histories) (events : List Event) (done : ℕ) (replies : List Reply) (desks : List Shown) (why : Cause) : Type 0 where
-  at_start : done ≡ 0 → replies ≡ [] → desks ≡ [] → why ≡ cause.NoMemory → StopsAfter old events done replies desks why
-  at_event : (event : Event) → slice_get events done ≡ Some event → IsWorldAfter old (take done events) replies desks
+pub data StopsAfter (old : Past) (events : List Event) (done : ℕ) (replies : List Reply) (desks : List Shown) (packets : List (List ℕ)) (why : Cause) : Type 0 where
+  at_start : done ≡ 0 → replies ≡ [] → desks ≡ [] → packets ≡ [] → why ≡ cause.NoMemory → StopsAfter old events done replies desks packets why
+  at_event : (event : Event) → slice_get events done ≡ Some event → IsWorldAfter old (take done events) replies desks packets
       → (why ≡ cause.NoDesk) ↔ (length desks ≤ desk_of event)
-      → (why ≡ cause.TicksSpent → (histories : Histories) → AreDesksOf histories desks → IsSpent histories event)
-      → StopsAfter old events done replies desks why
+      → (why ≡ cause.NoPacket) ↔ LacksOnlyPacket (length desks) (length packets) event
+      → (why ≡ cause.TicksSpent → Spends desks packets event)
+      → StopsAfter old events done replies desks packets why

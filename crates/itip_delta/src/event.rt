@@ -1,11 +1,15 @@
 //! What happens to a world, and what it answers.
 use itip_lines::Bytes;
 
-/// What happens to a world of desks.
+/// What happens to a world of desks. Desks and packets are numbered from 0.
 #[derive(Debug, Drop)]
 pub enum Event {
-    /// A text comes to a desk, numbered from 0: it hears the items of the message, and nothing where the text is refused.
+    /// A text comes to a desk: it hears the items of the message, and nothing where the text is refused.
     Deliver { desk: usize, bytes: Bytes },
+    /// A desk posts what changed there after a tick: the next packet.
+    Post { desk: usize, since: u64 },
+    /// A packet comes to a desk, for the first time or again.
+    Arrive { packet: usize, desk: usize },
 }
 
 /// What a world answers to an event.
@@ -13,6 +17,8 @@ pub enum Event {
 pub enum Reply {
     /// The desk's tick after it heard the items, and how many UIDs moved.
     Taken { tick: u64, changed: usize },
+    /// The number of the packet, and how many items it has.
+    Posted { packet: usize, items: usize },
     /// The number of the refusal of the text; the desk is as before.
     Refused(u32),
 }

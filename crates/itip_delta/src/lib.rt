@@ -1,12 +1,21 @@
-//! Worlds of desks: events happen to desks one after another, and each desk keeps what the rules keep of all that it has heard.
+//! Worlds of desks: messages and deltas come to desks, late, twice and in any order, and each desk keeps what the rules keep of all that it has heard.
 #![tactic(auto)]
 
+mod cut;
+mod delta;
 mod event;
+mod laws;
+mod packet;
 mod run;
 mod stop;
+#[cfg(test)]
+mod tests;
 mod world;
 
+pub use delta::{read_delta, write_delta};
 pub use event::{Event, Reply};
+pub use laws::{delta_read_again, one_delta};
+pub use packet::Packet;
 pub use run::run_world;
 pub use std::alloc::AllocError as NoMemory;
 pub use stop::{Cause, Stopped};

@@ -19,6 +19,9 @@ pub enum Cause {
     /// There is no desk of this number (50).
     #[error("there is no such desk")]
     NoDesk,
+    /// There is no packet of this number (51).
+    #[error("there is no such packet")]
+    NoPacket,
 }
 
 /// A run that stopped: how many events were done, the world after them, and why the next was not done.

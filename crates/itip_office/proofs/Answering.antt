@@ -1,57 +1,75 @@
--- The answer to one command, over desks that are those of histories.
-use Rattle.std.proofs.Common.{◌≡◌, ℕ, zero, suc, ◌-◌, ◌<◌, ◌≤◌, Bool, List, [], ◌∷◌, ◌++◌, length, get_or, refl, sym, ap, subst, ◌∙◌, arith, Some, Result, Ok, Err}
+-- The answer to one command, over a world, whatever happened before.
+use Rattle.std.proofs.Common.{◌≡◌, ℕ, zero, suc, ◌-◌, ◌^◌, ◌<◌, ◌≤◌, min, Bool, List, [], ◌∷◌, ◌++◌, length, get_or, refl, sym, ap, subst, ◌∙◌, arith, Option, Some, None, Result, Ok, Err}
 use Rattle.std.specs.Prelude.{slice_get, OnOk, IfOk}
 use Rattle.std.proofs.lemmas.List.{length-append}
 use Rattle.itip_view.specs.declared.window.Window.{Window}
 use Rattle.itip_view.specs.ListText.{IsListText}
 use Rattle.itip_view.specs.Rows.{AreTooMany}
 use Rattle.itip_message.specs.declared.item.Item.{Item}
-use Rattle.itip_state.specs.Kept.{AreKept}
+use Rattle.itip_state.specs.Kept.{AreKept, HasEachOnce}
 use Rattle.itip_desk.specs.Heard.{heard}
 use Rattle.itip_desk.specs.Desk.{Shown, IsDeskOf}
-use Rattle.itip_delta.specs.Worlds.{Histories, AreDesksOf, StepsWorld, IsSpent}
+use Rattle.itip_delta.specs.Worlds.{Histories, AreDesksOf, Past, IsWorldOf, Spends, LacksOnlyPacket, desk_of}
+use Rattle.itip_delta.specs.Worlds as worlds
+use Rattle.itip_delta.specs.declared.event.Event.{Event}
 use Rattle.itip_delta.specs.declared.event.Reply.{Reply}
-use Rattle.itip_delta.specs.declared.event.Event.TheVariants.{Deliver}
 use Rattle.itip_delta.proofs.Desks.{slice_get-get_or}
+use Rattle.itip_delta.proofs.Packets.{texts_length}
 use Rattle.itip_office.specs.declared.fault.ScriptFault.{ScriptFault}
 use Rattle.itip_office.specs.declared.command.Command.{Command}
 use Rattle.itip_office.specs.declared.command.Command.TheVariants as command
-use Rattle.itip_office.specs.Orders.{Order, order_of, takes, lists}
-use Rattle.itip_office.specs.Running.{Answer, refused, listed, answer_text, answer_to, HasTick, is_refusal, IsNotAnswered, Step, takes_text, takes_at_no_desk, spends_ticks, lists_rows, lists_too_many, lists_no_desk, is_refused, Answers}
+use Rattle.itip_office.specs.Orders.{Order, order_of, lists, counts}
+use Rattle.itip_office.specs.Running.{Answer, refused, listed, counted, answer_text, answer_to, event_of, HasTick, is_refusal, IsNotAnswered, Step, Answers}
+use Rattle.itip_office.specs.Running.Happens.{is_done, at_no_desk, of_no_packet, spends_ticks}
+use Rattle.itip_office.specs.Running.Step.{happens, lists_rows, lists_too_many, lists_no_desk, counts_kept, counts_no_desk, is_refused}
 
 -- the step that an answer stands for
-pub record Steps (window : Window) (old : Histories) (order : Order) (answer : Answer) (desks : List Shown) : Type 0 where
-  pub histories : Histories
-  pub step : Step window old order answer histories
-  pub desks_are : AreDesksOf histories desks
+pub record Steps (window : Window) (old : Past) (order : Order) (answer : Answer) (desks : List Shown) (packets : List (List ℕ)) : Type 0 where
+  pub past : Past
+  pub step : Step window old order answer past
+  pub world_is : IsWorldOf past desks packets
 
-pub answered : (r : Result Bool ScriptFault) (window : Window) (order : Order) (old new : List Shown) (output more : List ℕ) (answer : Answer)
+-- the same, whatever happened before
+abbrev pub StepsFrom : Window → List Shown → List (List ℕ) → Order → Answer → List Shown → List (List ℕ) → Type 0
+StepsFrom window old_desks old_packets order answer desks packets = (past : Past) → IsWorldOf past old_desks old_packets → Steps window past order answer desks packets
+
+pub answered : (r : Result Bool ScriptFault) (window : Window) (order : Order) (old new : List Shown) (packets more_packets : List (List ℕ)) (output more : List ℕ) (answer : Answer)
     → OnOk r (more ≡ output ++ answer_text answer) → IfOk r (λ b. b ≡ is_refusal answer)
-    → ((histories : Histories) → AreDesksOf histories old → Steps window histories order answer new)
-    → IfOk r (Answers window order old new output more)
-answered (Ok b) window order old new output more answer text refusal steps =
-    λ histories are. let s = steps histories are in
-    record { answer = answer; histories = s.histories; step = s.step; desks_are = s.desks_are; output_is = text; refusal_is = refusal }
-answered (Err e) window order old new output more answer text refusal steps = tt
+    → StepsFrom window old packets order answer new more_packets → IfOk r (Answers window order old packets new more_packets output more)
+answered (Ok b) window order old new packets more_packets output more answer text refusal steps =
+    λ past is. let s = steps past is in
+    record { answer = answer; past = s.past; step = s.step; world_is = s.world_is; output_is = text; refusal_is = refusal }
+answered (Err e) window order old new packets more_packets output more answer text refusal steps = tt
 
-pub answered_anywhere : (r : Result Bool ScriptFault) (order : Order) (old new : List Shown) (output more : List ℕ) (answer : Answer)
+pub answered_anywhere : (r : Result Bool ScriptFault) (order : Order) (old new : List Shown) (packets more_packets : List (List ℕ)) (output more : List ℕ) (answer : Answer)
     → OnOk r (more ≡ output ++ answer_text answer) → IfOk r (λ b. b ≡ is_refusal answer)
-    → ((window : Window) (histories : Histories) → AreDesksOf histories old → Steps window histories order answer new)
-    → IfOk r (λ refusal. (window : Window) → Answers window order old new output more refusal)
-answered_anywhere (Ok b) order old new output more answer text refusal steps =
-    λ window histories are. let s = steps window histories are in
-    record { answer = answer; histories = s.histories; step = s.step; desks_are = s.desks_are; output_is = text; refusal_is = refusal }
-answered_anywhere (Err e) order old new output more answer text refusal steps = tt
+    → ((window : Window) → StepsFrom window old packets order answer new more_packets)
+    → IfOk r (λ refusal. (window : Window) → Answers window order old packets new more_packets output more refusal)
+answered_anywhere (Ok b) order old new packets more_packets output more answer text refusal steps =
+    λ window past is. let s = steps window past is in
+    record { answer = answer; past = s.past; step = s.step; world_is = s.world_is; output_is = text; refusal_is = refusal }
+answered_anywhere (Err e) order old new packets more_packets output more answer text refusal steps = tt
 
--- the same, where what the step wants is known once the reply is there
-pub answered_if : (r : Result Bool ScriptFault) (order : Order) (old new : List Shown) (output more : List ℕ) (answer : Answer) (P : Type 0)
+-- the same for each command that asks for an event, where what the step wants is known once the reply is there
+pub answered_event : (r : Result Bool ScriptFault) (event : Event) (old new : List Shown) (packets more_packets : List (List ℕ)) (output more : List ℕ) (answer : Answer) (P : Type 0)
     → OnOk r P → OnOk r (more ≡ output ++ answer_text answer) → IfOk r (λ b. b ≡ is_refusal answer)
-    → (P → (window : Window) (histories : Histories) → AreDesksOf histories old → Steps window histories order answer new)
-    → IfOk r (λ refusal. (window : Window) → Answers window order old new output more refusal)
-answered_if (Ok b) order old new output more answer P known text refusal steps =
-    λ window histories are. let s = steps known window histories are in
-    record { answer = answer; histories = s.histories; step = s.step; desks_are = s.desks_are; output_is = text; refusal_is = refusal }
-answered_if (Err e) order old new output more answer P known text refusal steps = tt
+    → (P → (window : Window) (order : Order) → event_of order ≡ Some event → StepsFrom window old packets order answer new more_packets)
+    → IfOk r (λ refusal. (window : Window) (order : Order) → event_of order ≡ Some event → Answers window order old packets new more_packets output more refusal)
+answered_event (Ok b) event old new packets more_packets output more answer P known text refusal steps =
+    λ window order asks past is. let s = steps known window order asks past is in
+    record { answer = answer; past = s.past; step = s.step; world_is = s.world_is; output_is = text; refusal_is = refusal }
+answered_event (Err e) event old new packets more_packets output more answer P known text refusal steps = tt
+
+pub always : {T E : Type 0} (r : Result T E) → OnOk r (Unit {0})
+always (Ok x) = tt
+always (Err e) = tt
+
+-- what holds at one command that asks for an event
+pub at_order : (r : Result Bool ScriptFault) (window : Window) (order : Order) (event : Event) (old new : List Shown) (packets more_packets : List (List ℕ)) (output more : List ℕ) → event_of order ≡ Some event
+    → IfOk r (λ refusal. (window : Window) (order : Order) → event_of order ≡ Some event → Answers window order old packets new more_packets output more refusal)
+    → IfOk r (Answers window order old packets new more_packets output more)
+at_order (Ok b) window order event old new packets more_packets output more asks answers = answers window order asks
+at_order (Err e) window order event old new packets more_packets output more asks answers = tt
 
 pub same_length : (histories : Histories) (desks : List Shown) → AreDesksOf histories desks → length histories ≡ length desks
 same_length [] [] are = refl
@@ -65,12 +83,13 @@ pub record HistoryAt (histories : Histories) (desk : ℕ) (shown : Shown) : Type
   pub there : slice_get histories desk ≡ Some history
   pub is : IsDeskOf history 0 shown
 
+some_shown : (a b : Shown) → Some a ≡ Some b → a ≡ b
+some_shown a b e = ap (λ (o : Option Shown). elim o [ None ↦ a | Some x ↦ x ]) e
+
 pub history_at : (histories : Histories) (desks : List Shown) (desk : ℕ) (shown : Shown) → AreDesksOf histories desks → slice_get desks desk ≡ Some shown → HistoryAt histories desk shown
 history_at histories [] desk shown are at = absurd cc
 history_at [] (d ∷ ds) desk shown are at = absurd are
-history_at (h ∷ hs) (d ∷ ds) zero shown are at =
-    let same : d ≡ shown = cc in
-    record { history = h; there = refl; is = subst (λ (s : Shown). IsDeskOf h 0 s) same are.0 }
+history_at (h ∷ hs) (d ∷ ds) zero shown are at = record { history = h; there = refl; is = subst (λ (s : Shown). IsDeskOf h 0 s) (some_shown d shown at) are.0 }
 history_at (h ∷ hs) (d ∷ ds) (suc desk) shown are at =
     let rest = history_at hs ds desk shown are.1 at in
     record { history = rest.history; there = rest.there; is = rest.is }
@@ -78,74 +97,101 @@ history_at (h ∷ hs) (d ∷ ds) (suc desk) shown are at =
 pub at_index : (desks : List Shown) (desk : ℕ) (shown : Shown) → desk < length desks → ((d : Shown) → shown ≡ get_or desks desk d) → slice_get desks desk ≡ Some shown
 at_index desks desk shown within is = slice_get-get_or desks desk shown within ∙ ap (λ (s : Shown). Some s) (sym (is shown))
 
-pub steps_list : (window : Window) (desks : List Shown) (desk : ℕ) (shown : Shown) (text : List ℕ) → slice_get desks desk ≡ Some shown
-    → ((all : List Item) → AreKept shown.kept all → IsListText all window text)
-    → (histories : Histories) → AreDesksOf histories desks → Steps window histories (lists desk) (listed desk text) desks
-steps_list window desks desk shown text at is histories are =
-    let h = history_at histories desks desk shown are at in
-    record { histories = histories; step = lists_rows desk h.history text h.there (is (heard h.history) h.is.kept); desks_are = are }
+module _ (window : Window) (desks : List Shown) (packets : List (List ℕ)) where
+  pub steps_list : (desk : ℕ) (shown : Shown) (text : List ℕ) → slice_get desks desk ≡ Some shown
+      → ((all : List Item) → AreKept shown.kept all → IsListText all window text) → StepsFrom window desks packets (lists desk) (listed desk text) desks packets
+  steps_list desk shown text at is past world =
+      let h = history_at past.histories desks desk shown world.desks_are at in
+      record { past = past; step = lists_rows desk h.history text h.there (is (heard h.history) h.is.kept); world_is = world }
 
-pub steps_too_many : (window : Window) (desks : List Shown) (desk : ℕ) (shown : Shown) → slice_get desks desk ≡ Some shown
-    → ((all : List Item) → AreKept shown.kept all → AreTooMany all window)
-    → (histories : Histories) → AreDesksOf histories desks → Steps window histories (lists desk) (refused 31) desks
-steps_too_many window desks desk shown at is histories are =
-    let h = history_at histories desks desk shown are at in
-    record { histories = histories; step = lists_too_many desk h.history h.there (is (heard h.history) h.is.kept); desks_are = are }
+  pub steps_too_many : (desk : ℕ) (shown : Shown) → slice_get desks desk ≡ Some shown
+      → ((all : List Item) → AreKept shown.kept all → AreTooMany all window) → StepsFrom window desks packets (lists desk) (refused 31) desks packets
+  steps_too_many desk shown at is past world =
+      let h = history_at past.histories desks desk shown world.desks_are at in
+      record { past = past; step = lists_too_many desk h.history h.there (is (heard h.history) h.is.kept); world_is = world }
 
-pub steps_no_list : (window : Window) (desks : List Shown) (desk : ℕ) → length desks ≤ desk
-    → (histories : Histories) → AreDesksOf histories desks → Steps window histories (lists desk) (refused 50) desks
-steps_no_list window desks desk past histories are =
-    record { histories = histories; step = lists_no_desk desk (omega (arith, same_length histories desks are)); desks_are = are }
+  pub steps_no_list : (desk : ℕ) → length desks ≤ desk → StepsFrom window desks packets (lists desk) (refused 50) desks packets
+  steps_no_list desk missing past world = record { past = past; step = lists_no_desk desk (omega (arith, same_length past.histories desks world.desks_are)); world_is = world }
 
-pub steps_no_take : (window : Window) (old new : List Shown) (desk : ℕ) (text : List ℕ) → length old ≤ desk → new ≡ old
-    → (histories : Histories) → AreDesksOf histories old → Steps window histories (takes desk text) (refused 50) new
-steps_no_take window old new desk text past same histories are =
-    record { histories = histories; step = takes_at_no_desk desk text (omega (arith, same_length histories old are)); desks_are = subst (λ (ds : List Shown). AreDesksOf histories ds) (sym same) are }
+  pub steps_count : (desk : ℕ) (shown : Shown) (entries : ℕ) → slice_get desks desk ≡ Some shown → HasEachOnce shown.kept → entries ≡ min (length shown.kept) (2 ^ 64 - 1)
+      → StepsFrom window desks packets (counts desk) (counted desk entries) desks packets
+  steps_count desk shown entries at once count past world =
+      let h = history_at past.histories desks desk shown world.desks_are at in
+      record {
+        past = past;
+        step = subst (λ (n : ℕ). Step window past (counts desk) (counted desk n) past) (sym count) (counts_kept desk h.history shown.kept h.there once h.is.kept);
+        world_is = world;
+      }
 
-pub steps_spent : (window : Window) (old new : List Shown) (desk : ℕ) (text bytes : List ℕ) → bytes ≡ text → new ≡ old
-    → ((histories : Histories) → AreDesksOf histories old → IsSpent histories (Deliver desk bytes))
-    → (histories : Histories) → AreDesksOf histories old → Steps window histories (takes desk text) (refused 21) new
-steps_spent window old new desk text bytes same unmoved spent histories are = record {
-  histories = histories;
-  step = spends_ticks desk text (subst (λ (t : List ℕ). IsSpent histories (Deliver desk t)) same (spent histories are));
-  desks_are = subst (λ (ds : List Shown). AreDesksOf histories ds) (sym unmoved) are;
-}
+  pub steps_no_count : (desk : ℕ) → length desks ≤ desk → StepsFrom window desks packets (counts desk) (refused 50) desks packets
+  steps_no_count desk missing past world = record { past = past; step = counts_no_desk desk (omega (arith, same_length past.histories desks world.desks_are)); world_is = world }
+
+  pub steps_refused : (order : Order) → IsNotAnswered order → StepsFrom window desks packets order (refused 60) desks packets
+  steps_refused order not past world = record { past = past; step = is_refused order not; world_is = world }
+
+-- a world that is as it was
+still : (past : Past) (old new : List Shown) (packets more_packets : List (List ℕ)) → new ≡ old → more_packets ≡ packets → IsWorldOf past old packets → IsWorldOf past new more_packets
+still past old new packets more_packets desks same world =
+    subst (λ (ds : List Shown). IsWorldOf past ds more_packets) (sym desks) (subst (λ (ps : List (List ℕ)). IsWorldOf past old ps) (sym same) world)
+
+module _ (old new : List Shown) (packets more_packets : List (List ℕ)) (event : Event) (unmoved : new ≡ old) (unposted : more_packets ≡ packets)
+    (window : Window) (order : Order) (asks : event_of order ≡ Some event) where
+  pub steps_no_desk : length old ≤ desk_of event → StepsFrom window old packets order (refused 50) new more_packets
+  steps_no_desk missing past world = record {
+    past = past;
+    step = happens order event (refused 50) past asks (at_no_desk (omega (arith, same_length past.histories old world.desks_are)));
+    world_is = still past old new packets more_packets unmoved unposted world;
+  }
+
+  pub steps_no_packet : LacksOnlyPacket (length old) (length packets) event → StepsFrom window old packets order (refused 51) new more_packets
+  steps_no_packet lacks past world = record {
+    past = past;
+    step = happens order event (refused 51) past asks (of_no_packet (
+      subst (λ (n : ℕ). LacksOnlyPacket n (length past.packets) event) (sym (same_length past.histories old world.desks_are))
+      (subst (λ (n : ℕ). LacksOnlyPacket (length old) n event) (sym (texts_length past.packets packets world.packets_are)) lacks)));
+    world_is = still past old new packets more_packets unmoved unposted world;
+  }
+
+  pub steps_spent : Spends old packets event → StepsFrom window old packets order (refused 21) new more_packets
+  steps_spent spent past world = record {
+    past = past;
+    step = happens order event (refused 21) past asks (spends_ticks (spent past world));
+    world_is = still past old new packets more_packets unmoved unposted world;
+  }
 
 get_last : (replies : List Reply) (r : Reply) → slice_get (replies ++ r ∷ []) (length replies) ≡ Some r
 get_last [] r = refl
 get_last (x ∷ replies) r = get_last replies r
 
+some_reply : (a b : Reply) → Some a ≡ Some b → a ≡ b
+some_reply a b e = ap (λ (o : Option Reply). elim o [ None ↦ a | Some x ↦ x ]) e
+
 last_of : (replies : List Reply) (r s : Reply) → Some s ≡ slice_get (replies ++ r ∷ []) (length (replies ++ r ∷ []) - 1) → s ≡ r
 last_of replies r s e =
     let count : length (replies ++ r ∷ []) - 1 ≡ length replies = omega (arith, length-append replies (r ∷ [])) in
-    let same : Some s ≡ Some r = e ∙ ap (slice_get (replies ++ r ∷ [])) count ∙ get_last replies r in
-    cc
+    some_reply s r (e ∙ ap (slice_get (replies ++ r ∷ [])) count ∙ get_last replies r)
 
-pub steps_take : (window : Window) (old new : List Shown) (desk : ℕ) (text bytes : List ℕ) (replies more : List Reply) (reply : Reply)
-    → bytes ≡ text → Some reply ≡ slice_get more (length more - 1)
-    → ((histories : Histories) → AreDesksOf histories old → StepsWorld histories (Deliver desk bytes) replies more new)
-    → HasTick reply → (histories : Histories) → AreDesksOf histories old → Steps window histories (takes desk text) (answer_to desk reply) new
-steps_take window old new desk text bytes replies more reply same last steps tick histories are =
-    let s = steps histories are in
-    let is : reply ≡ s.reply = last_of replies s.reply reply (subst (λ (rs : List Reply). Some reply ≡ slice_get rs (length rs - 1)) s.replies_are last) in
+pub steps_event : (old new : List Shown) (packets more_packets : List (List ℕ)) (event : Event) (before more : List Reply) (reply : Reply)
+    → Some reply ≡ slice_get more (length more - 1) → worlds.Steps old packets event before more new more_packets → HasTick reply
+    → (window : Window) (order : Order) → event_of order ≡ Some event → StepsFrom window old packets order (answer_to event reply) new more_packets
+steps_event old new packets more_packets event before more reply last steps tick window order asks past world =
+    let s = steps past world in
+    let is : reply ≡ s.reply = last_of before s.reply reply (subst (λ (rs : List Reply). Some reply ≡ slice_get rs (length rs - 1)) s.replies_are last) in
     record {
-      histories = s.histories;
-      step = subst (λ (r : Reply). Step window histories (takes desk text) (answer_to desk r) s.histories) (sym is)
-          (subst (λ (t : List ℕ). Step window histories (takes desk t) (answer_to desk s.reply) s.histories) same (takes_text desk bytes s.reply s.histories s.step (subst HasTick is tick)));
-      desks_are = s.desks_are;
+      past = s.past;
+      step = subst (λ (r : Reply). Step window past order (answer_to event r) s.past) (sym is)
+          (happens order event (answer_to event s.reply) s.past asks (is_done s.reply s.past s.step (subst HasTick is tick)));
+      world_is = s.world_is;
     }
 
-pub not_answered : (c : Command) → ((desk : ℕ) (text : _) → c ≡ command.Take desk text → ⊥) → ((desk : ℕ) → c ≡ command.List desk → ⊥) → IsNotAnswered (order_of c)
-not_answered (command.Take desk text) take list = take desk text refl
-not_answered (command.List desk) take list = list desk refl
-not_answered (command.Post desk since) take list = tt
-not_answered (command.Arrive packet desk) take list = tt
-not_answered (command.Report desk name) take list = tt
-not_answered (command.Resend desk uid) take list = tt
-not_answered (command.Next desk uid) take list = tt
-not_answered (command.Entries desk) take list = tt
-not_answered command.Malformed take list = tt
-
-pub steps_refused : (window : Window) (desks : List Shown) (order : Order) → IsNotAnswered order
-    → (histories : Histories) → AreDesksOf histories desks → Steps window histories order (refused 60) desks
-steps_refused window desks order not histories are = record { histories = histories; step = is_refused order not; desks_are = are }
+pub not_answered : (c : Command) → ((desk : ℕ) (text : _) → c ≡ command.Take desk text → ⊥) → ((desk since : ℕ) → c ≡ command.Post desk since → ⊥) → ((packet desk : ℕ) → c ≡ command.Arrive packet desk → ⊥)
+    → ((desk : ℕ) → c ≡ command.List desk → ⊥) → ((desk : ℕ) → c ≡ command.Entries desk → ⊥) → IsNotAnswered (order_of c)
+not_answered (command.Take desk text) take post arrive list entries = take desk text refl
+not_answered (command.List desk) take post arrive list entries = list desk refl
+not_answered (command.Post desk since) take post arrive list entries = post desk since refl
+not_answered (command.Arrive packet desk) take post arrive list entries = arrive packet desk refl
+not_answered (command.Report desk name) take post arrive list entries = tt
+not_answered (command.Resend desk uid) take post arrive list entries = tt
+not_answered (command.Next desk uid) take post arrive list entries = tt
+not_answered (command.Entries desk) take post arrive list entries = entries desk refl
+not_answered command.Malformed take post arrive list entries = tt

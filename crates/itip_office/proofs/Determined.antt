@@ -1,5 +1,5 @@
 -- What desks that heard the same answer is the same.
-use Rattle.std.proofs.Common.{◌≡◌, ℕ, zero, suc, ◌+◌, ◌-◌, ◌^◌, ◌<◌, ◌≤◌, Bool, true, false, List, [], ◌∷◌, ◌++◌, length, get_or, refl, sym, ap, subst, ◌∙◌, arith, inl, inr, Option, Some, None, append_assoc, append-nil}
+use Rattle.std.proofs.Common.{◌≡◌, ℕ, zero, suc, min, ◌+◌, ◌-◌, ◌^◌, ◌<◌, ◌≤◌, Bool, true, false, List, [], ◌∷◌, ◌++◌, length, get_or, refl, sym, ap, subst, ◌∙◌, arith, inl, inr, Option, Some, None, append_assoc, append-nil}
 use Rattle.std.specs.Prelude.{◌⊎◌, ◌↔◌, slice_get}
 use Rattle.std.specs.List.{AllPairs, Contains, flat_map, list_any}
 use Rattle.std.specs.Ordering.{nat_cmp}
@@ -17,7 +17,7 @@ use Rattle.itip_message.specs.Numbers.{number_of}
 use Rattle.itip_message.specs.KeyParts.{uid_of}
 use Rattle.itip_message.specs.declared.item.Item.{Item}
 use Rattle.itip_message.specs.declared.key.Key.{Key}
-use Rattle.itip_state.specs.Kept.{SameItems, IsKept, KeepSame, Moves, AreMoved, IsBest}
+use Rattle.itip_state.specs.Kept.{SameItems, IsKept, AreKept, KeepSame, Moves, AreMoved, IsBest, HasEachOnce}
 use Rattle.itip_state.proofs.Keeping.{kept_iff}
 use Rattle.itip_view.specs.declared.window.Window.{Window}
 use Rattle.itip_view.specs.declared.row.Row.{Row}
@@ -25,21 +25,27 @@ use Rattle.itip_view.specs.Rows.{AreRows, AreTooMany}
 use Rattle.itip_view.specs.ListText.{IsListText}
 use Rattle.itip_view.proofs.OfKept.{row_of_same}
 use Rattle.itip_view.proofs.OneList.{one_list_text, text_or_too_many}
-use Rattle.itip_desk.specs.Heard.{heard, TickStep, Ticks}
-use Rattle.itip_delta.specs.Worlds.{Histories, no_histories, with_step, Hears, EventStep, IsSpent}
+use Rattle.itip_desk.specs.Heard.{heard, TickStep, Ticks, MovedAfter}
+use Rattle.itip_desk.specs.Octets.{AscendOctets}
+use Rattle.itip_delta.specs.Worlds.{Histories, no_histories, with_step, Past, no_past, Takes, Hears, EventStep, IsSpent, IsPacketOf, IsBatchOf, desk_of, LacksOnlyPacket}
 use Rattle.itip_delta.specs.Worlds.Hears.{reads, refuses}
-use Rattle.itip_delta.specs.Worlds.EventStep.{delivers}
-use Rattle.itip_delta.specs.Worlds.IsSpent.{spends}
+use Rattle.itip_delta.specs.Worlds.EventStep.{delivers, posts, arrives}
+use Rattle.itip_delta.specs.Worlds.IsSpent.{spends, spends_arriving}
 use Rattle.itip_delta.specs.declared.event.Event.{Event}
-use Rattle.itip_delta.specs.declared.event.Event.TheVariants.{Deliver}
+use Rattle.itip_delta.specs.declared.event.Event.TheVariants.{Deliver, Post, Arrive}
 use Rattle.itip_delta.specs.declared.event.Reply.{Reply}
-use Rattle.itip_delta.specs.declared.event.Reply.TheVariants.{Taken, Refused}
+use Rattle.itip_delta.specs.declared.event.Reply.TheVariants.{Taken, Posted, Refused}
+use Rattle.itip_delta.proofs.Deltas.{one_order}
 use Rattle.itip_message.specs.declared.error.Fault.{Fault}
 use Rattle.itip_message.proofs.OneMessage.{one_message, one_cause, message_apart}
-use Rattle.itip_office.specs.Orders.{Order}
+use Rattle.itip_office.specs.Orders.{Order, takes, lists, reports, resends, asks_next, counts, malformed}
+use Rattle.itip_office.specs.Orders.Order.{posts as order_posts, arrives as order_arrives}
 use Rattle.itip_office.specs.Script.{orders_of}
-use Rattle.itip_office.specs.Running.{Answer, refused, listed, answer_text, answer_to, is_refusal, HasTick, IsNotAnswered, Step, takes_text, takes_at_no_desk, spends_ticks, lists_rows, lists_too_many, lists_no_desk, is_refused, Runs, Writes, IsOutput}
-use Rattle.itip_office.proofs.Ascending.{IsIn, in_contained, contained_in, ascending_same_pairs}
+use Rattle.itip_office.specs.Running.{Answer, refused, listed, counted, answer_text, answer_to, event_of, is_refusal, HasTick, IsNotAnswered, Happens, Step, Runs, Writes, IsOutput}
+use Rattle.itip_office.specs.Running.Happens.{is_done, at_no_desk, of_no_packet, spends_ticks}
+use Rattle.itip_office.specs.Running.Step.{happens, lists_rows, lists_too_many, lists_no_desk, counts_kept, counts_no_desk, is_refused}
+use Rattle.itip_office.proofs.Counting.{same_count}
+use Rattle.itip_delta.proofs.Ascending.{IsIn, in_contained, contained_in, ascending_same_pairs}
 
 -- A text is a message of some items or is refused for some cause, and of no others.
 pub record IsReadOnce (bytes : List ℕ) : Type 0 where
@@ -147,6 +153,9 @@ within_at [] desk x at = absurd cc
 within_at (a ∷ as') zero x at = omega arith
 within_at (a ∷ as') (suc desk) x at = omega (arith, within_at as' desk x at)
 
+some_items : (a b : List Item) → Some a ≡ Some b → a ≡ b
+some_items a b e = ap (λ (o : Option (List Item)). elim o [ None ↦ a | Some x ↦ x ]) e
+
 -- ---- ticks
 
 tick_one : (before before' step step' : List Item) (tick next next' : ℕ) → SameItems before before' → SameItems step step' → TickStep before step tick next → TickStep before' step' tick next' → next ≡ next'
@@ -230,23 +239,102 @@ list_or_too_many a b window text same is many = text_or_too_many a window text i
   many = many.many;
 })
 
+-- ---- packets
+
+tick_same : (before before' step step' : List Item) (tick next : ℕ) → SameItems before before' → SameItems step step' → TickStep before step tick next → TickStep before' step' tick next
+tick_same before before' step step' tick next same one (inl ((uid, moves), up)) =
+    inl ((uid, λ keeps. moves (keep_same_of uid before' before (before' ++ step') (before ++ step) (same_back before before' same) (same_back (before ++ step) (before' ++ step') (same_together before before' step step' same one)) keeps)), up)
+tick_same before before' step step' tick next same one (inr (keeps, stays)) =
+    inr (λ uid. keep_same_of uid before before' (before ++ step) (before' ++ step') same (same_together before before' step step' same one) (keeps uid), stays)
+
+moved_same : (before before' : List Item) (tick : ℕ) (steps steps' : List (List Item)) (since : ℕ) (uid : List ℕ) → SameItems before before' → SameSteps steps steps' → MovedAfter before tick steps since uid → MovedAfter before' tick steps' since uid
+moved_same before before' tick [] steps' since uid same steps moved = absurd moved
+moved_same before before' tick (a ∷ as') [] since uid same steps moved = absurd steps
+moved_same before before' tick (a ∷ as') (b ∷ bs) since uid same steps (next, one, inl (moves, above)) = (
+  next,
+  tick_same before before' a b tick next same steps.0 one,
+  inl (λ keeps. moves (keep_same_of uid before' before (before' ++ b) (before ++ a) (same_back before before' same) (same_back (before ++ a) (before' ++ b) (same_together before before' a b same steps.0)) keeps), above),
+)
+moved_same before before' tick (a ∷ as') (b ∷ bs) since uid same steps (next, one, inr later) =
+    (next, tick_same before before' a b tick next same steps.0 one, inr (moved_same (before ++ a) (before' ++ b) next as' bs since uid (same_together before before' a b same steps.0) steps.1 later))
+
+itself : (x : List Item) → SameItems x x
+itself x item = (λ h. h, λ h. h)
+
+packet_there : (h h' : List (List Item)) (since : ℕ) (p p' : List Item) → SameSteps h h' → IsPacketOf h since p → IsPacketOf h' since p' → (item : Item) → Contains p item → Contains p' item
+packet_there h h' since p p' same is is' item here =
+    let tells = (is item).0 here in
+    (is' item).1 ((same_heard h h' same item).0 tells.0, moved_same [] [] 0 h h' since (uid_of item.key) (itself []) same tells.1)
+
+packet_one : (h h' : List (List Item)) (since : ℕ) (p p' : List Item) → SameSteps h h' → IsPacketOf h since p → IsPacketOf h' since p' → SameItems p p'
+packet_one h h' since p p' same is is' item = (packet_there h h' since p p' same is is' item, packet_there h' h since p' p (steps_back h h' same) is' is item)
+
+kept_one : (a b kept kept' : List Item) → SameItems a b → AreKept kept a → AreKept kept' b → SameItems kept kept'
+kept_one a b kept kept' same are are' item = let iff = kept_iff a b same item in (λ h. (are' item).1 (iff.0 ((are item).0 h)), λ h. (are item).1 (iff.1 ((are' item).0 h)))
+
+batch_one : (p p' b b' : List Item) → SameItems p p' → IsBatchOf p b → IsBatchOf p' b' → b ≡ b'
+batch_one p p' b b' same is is' = one_order b b' is.ascend is'.ascend (kept_one p p' b b' same is.kept is'.kept)
+
+same_step_at : (a b : List (List Item)) (number : ℕ) (x y : List Item) → SameSteps a b → slice_get a number ≡ Some x → slice_get b number ≡ Some y → SameItems x y
+same_step_at [] b number x y same at there = absurd cc
+same_step_at (a ∷ as') [] number x y same at there = absurd same
+same_step_at (a ∷ as') (b ∷ bs) zero x y same at there =
+    subst (λ (h : List Item). SameItems h y) (some_items a x at) (subst (λ (h : List Item). SameItems a h) (some_items b y there) same.0)
+same_step_at (a ∷ as') (b ∷ bs) (suc number) x y same at there = same_step_at as' bs number x y same.1 at there
+
+steps_length : (a b : List (List Item)) → SameSteps a b → length a ≡ length b
+steps_length [] [] same = refl
+steps_length [] (b ∷ bs) same = absurd same
+steps_length (a ∷ as') [] same = absurd same
+steps_length (a ∷ as') (b ∷ bs) same = ap suc (steps_length as' bs same.1)
+
+step_within : (a : List (List Item)) (number : ℕ) (x : List Item) → slice_get a number ≡ Some x → number < length a
+step_within [] number x at = absurd cc
+step_within (a ∷ as') zero x at = omega arith
+step_within (a ∷ as') (suc number) x at = omega (arith, step_within as' number x at)
+
+-- ---- what happened, up to the order of items
+
+pub record SamePast (old old' : Past) : Type 0 where
+  pub desks : SameHistories old.histories old'.histories
+  pub packets : SameSteps old.packets old'.packets
+
+past_back : (old old' : Past) → SamePast old old' → SamePast old' old
+past_back old old' same = record { desks = histories_back old.histories old'.histories same.desks; packets = steps_back old.packets old'.packets same.packets }
+
 -- ---- one event
 
-hears_one : (h h' : List (List Item)) (bytes : List ℕ) (step step' : List Item) (reply reply' : Reply) → SameSteps h h' → IsReadOnce bytes → Hears h bytes step reply → Hears h' bytes step' reply' → (reply ≡ reply') × SameItems step step'
-hears_one h h' bytes step step' _ _ same once (reads items uids tick r s m t) (reads items' uids' tick' r' s' m' t') =
-    let one : SameItems step step' = same_then step items step' s (same_then items items' step' (once.items items items' r r') (same_back step' items' s')) in
-    let ticks : tick ≡ tick' = ticks_one [] [] 0 0 (h ++ step ∷ []) (h' ++ step' ∷ []) tick tick' (λ item. (λ k. k, λ k. k)) refl (same_one_more h h' step step' same one) t t' in
-    let moved = moved_one uids uids' (heard h) (heard h') step step' (same_heard h h' same) one m m' in
-    (ap (λ (n : ℕ). Taken n (length uids)) ticks ∙ ap (λ (us : List (List ℕ)). Taken tick' (length us)) moved, one)
-hears_one h h' bytes step step' _ _ same once (reads items uids tick r s m t) (refuses fault f e) = absurd (once.apart items fault r f)
-hears_one h h' bytes step step' _ _ same once (refuses fault f e) (reads items uids tick r s m t) = absurd (once.apart items fault r f)
-hears_one h h' bytes step step' _ _ same once (refuses fault f e) (refuses fault' f' e') =
-    (ap (λ (g : _). Refused (number_of g)) (once.fault fault fault' f f'), subst (λ (x : List Item). SameItems x step') (sym e) (subst (λ (x : List Item). SameItems [] x) (sym e') (λ item. (λ k. k, λ k. k))))
+takes_one : (h h' : List (List Item)) (step step' : List Item) (uids uids' : List (List ℕ)) (tick tick' : ℕ) → SameSteps h h' → SameItems step step' → Takes h step uids tick → Takes h' step' uids' tick' → Taken tick (length uids) ≡ Taken tick' (length uids')
+takes_one h h' step step' uids uids' tick tick' same one t t' =
+    let ticks : tick ≡ tick' = ticks_one [] [] 0 0 (h ++ step ∷ []) (h' ++ step' ∷ []) tick tick' (itself []) refl (same_one_more h h' step step' same one) t.ticks t'.ticks in
+    let moved = moved_one uids uids' (heard h) (heard h') step step' (same_heard h h' same) one t.moved t'.moved in
+    ap (λ (n : ℕ). Taken n (length uids)) ticks ∙ ap (λ (us : List (List ℕ)). Taken tick' (length us)) moved
 
-event_one : (old old' : Histories) (desk : ℕ) (text : List ℕ) (reply reply' : Reply) (new new' : Histories) → SameHistories old old' → IsReadOnce text → EventStep old (Deliver desk text) reply new → EventStep old' (Deliver desk text) reply' new' → (reply ≡ reply') × SameHistories new new'
-event_one old old' desk text reply reply' _ _ same once (delivers _ _ h step _ at hears) (delivers _ _ h' step' _ at' hears') =
-    let one = hears_one h h' text step step' reply reply' (same_at old old' desk h h' same at at') once hears hears' in
-    (one.0, same_with_step old old' desk step step' same one.1)
+hears_one : (h h' : List (List Item)) (bytes : List ℕ) (step step' : List Item) (reply reply' : Reply) → SameSteps h h' → IsReadOnce bytes → Hears h bytes step reply → Hears h' bytes step' reply' → (reply ≡ reply') × SameItems step step'
+hears_one h h' bytes step step' _ _ same once (reads items uids tick r s t) (reads items' uids' tick' r' s' t') =
+    let one : SameItems step step' = same_then step items step' s (same_then items items' step' (once.items items items' r r') (same_back step' items' s')) in
+    (takes_one h h' step step' uids uids' tick tick' same one t t', one)
+hears_one h h' bytes step step' _ _ same once (reads items uids tick r s t) (refuses fault f e) = absurd (once.apart items fault r f)
+hears_one h h' bytes step step' _ _ same once (refuses fault f e) (reads items uids tick r s t) = absurd (once.apart items fault r f)
+hears_one h h' bytes step step' _ _ same once (refuses fault f e) (refuses fault' f' e') =
+    (ap (λ (g : _). Refused (number_of g)) (once.fault fault fault' f f'), subst (λ (x : List Item). SameItems x step') (sym e) (subst (λ (x : List Item). SameItems [] x) (sym e') (itself [])))
+
+event_one : (old old' : Past) (event : Event) (reply reply' : Reply) (new new' : Past) → SamePast old old' → ((text : List ℕ) → IsReadOnce text) → EventStep old event reply new → EventStep old' event reply' new' → (reply ≡ reply') × SamePast new new'
+event_one old old' _ reply reply' _ _ same once (delivers desk text h step _ at hears) (delivers _ _ h' step' _ at' hears') =
+    let one = hears_one h h' text step step' reply reply' (same_at old.histories old'.histories desk h h' same.desks at at') (once text) hears hears' in
+    (one.0, record { desks = same_with_step old.histories old'.histories desk step step' same.desks one.1; packets = same.packets })
+event_one old old' _ _ _ _ _ same once (posts desk since h p b at is batch) (posts _ _ h' p' b' at' is' batch') =
+    let one = packet_one h h' since p p' (same_at old.histories old'.histories desk h h' same.desks at at') is is' in
+    let numbers = steps_length old.packets old'.packets same.packets in
+    let batches = batch_one p p' b b' one batch batch' in (
+      ap (λ (n : ℕ). Posted n (length b)) numbers ∙ ap (λ (items : List Item). Posted (length old'.packets) (length items)) batches,
+      record { desks = same.desks; packets = same_one_more old.packets old'.packets p p' same.packets one },
+    )
+event_one old old' _ _ _ _ _ same once (arrives packet desk items h uids tick there at t) (arrives _ _ items' h' uids' tick' there' at' t') =
+    let one = same_step_at old.packets old'.packets packet items items' same.packets there there' in (
+      takes_one h h' items items' uids uids' tick tick' (same_at old.histories old'.histories desk h h' same.desks at at') one t t',
+      record { desks = same_with_step old.histories old'.histories desk items items' same.desks one; packets = same.packets },
+    )
 
 spent_step : (before before' step step' : List Item) (tick next : ℕ) (uid : List ℕ) → SameItems before before' → SameItems step step' → tick ≡ 2 ^ 64 - 1 → TickStep before step tick next → Moves before' step' uid → next < 2 ^ 64 → ⊥
 spent_step before before' step step' tick next uid same one at (inl moved) moves has = let up = moved.1 in omega (arith, at, up)
@@ -254,70 +342,146 @@ spent_step before before' step step' tick next uid same one at (inr stays) moves
     moves (keep_same_of uid before before' (before ++ step) (before' ++ step') same (same_together before before' step step' same one) (stays.0 uid))
 
 -- a step that moves a UID at the last tick leaves no tick that there is
+takes_spent : (h h' : List (List Item)) (step step' : List Item) (uids : List (List ℕ)) (tick : ℕ) (uid : List ℕ) → SameSteps h h' → SameItems step step' → Takes h step uids tick → tick < 2 ^ 64
+    → Ticks [] 0 h' (2 ^ 64 - 1) → Moves (heard h') step' uid → ⊥
+takes_spent h h' step step' uids tick uid same one t has t' moves =
+    let split = ticks_split [] 0 h step tick t.ticks in
+    let mid : split.0 ≡ 2 ^ 64 - 1 = ticks_one [] [] 0 0 h h' split.0 (2 ^ 64 - 1) (itself []) refl same split.1 t' in
+    spent_step (heard h) (heard h') step step' split.0 tick uid (same_heard h h' same) one mid split.2 moves has
+
 hears_spent : (h h' : List (List Item)) (bytes : List ℕ) (step : List Item) (reply : Reply) (items' step' : List Item) (uid : List ℕ) → SameSteps h h' → IsReadOnce bytes → Hears h bytes step reply → HasTick reply
     → ReadsMessage bytes items' → SameItems step' items' → Ticks [] 0 h' (2 ^ 64 - 1) → Moves (heard h') step' uid → ⊥
-hears_spent h h' bytes step _ items' step' uid same once (reads items uids tick r s m t) has r' s' t' moves =
+hears_spent h h' bytes step _ items' step' uid same once (reads items uids tick r s t) has r' s' t' moves =
     let one : SameItems step step' = same_then step items step' s (same_then items items' step' (once.items items items' r r') (same_back step' items' s')) in
-    let split = ticks_split [] 0 h step tick t in
-    let mid : split.0 ≡ 2 ^ 64 - 1 = ticks_one [] [] 0 0 h h' split.0 (2 ^ 64 - 1) (λ item. (λ k. k, λ k. k)) refl same split.1 t' in
-    spent_step (heard h) (heard h') step step' split.0 tick uid (same_heard h h' same) one mid split.2 moves has
+    takes_spent h h' step step' uids tick uid same one t has t' moves
 hears_spent h h' bytes step _ items' step' uid same once (refuses fault f e) has r' s' t' moves = once.apart items' fault r' f
 
-event_within : (old : Histories) (desk : ℕ) (text : List ℕ) (reply : Reply) (new : Histories) → EventStep old (Deliver desk text) reply new → desk < length old
-event_within old desk text reply _ (delivers _ _ h step _ at hears) = within_at old desk h at
+event_spent : (old old' : Past) (event : Event) (reply : Reply) (new : Past) → SamePast old old' → ((text : List ℕ) → IsReadOnce text) → EventStep old event reply new → HasTick reply → IsSpent old' event → ⊥
+event_spent old old' _ reply _ same once (delivers desk text h step _ at hears) has (spends _ _ h' items' step' uid at' r' s' t' m') =
+    hears_spent h h' text step reply items' step' uid (same_at old.histories old'.histories desk h h' same.desks at at') (once text) hears has r' s' t' m'
+event_spent old old' _ _ _ same once (posts desk since h p b at is batch) has spent = elim spent [ ]
+event_spent old old' _ _ _ same once (arrives packet desk items h uids tick there at t) has (spends_arriving _ _ items' h' uid there' at' t' m') =
+    takes_spent h h' items items' uids tick uid (same_at old.histories old'.histories desk h h' same.desks at at') (same_step_at old.packets old'.packets packet items items' same.packets there there') t has t' m'
 
-spent_within : (old : Histories) (desk : ℕ) (text : List ℕ) → IsSpent old (Deliver desk text) → desk < length old
-spent_within old desk text (spends _ _ h items step uid at r s t m) = within_at old desk h at
+-- the desk and the packet that an event names are there
+event_desk : (old : Past) (event : Event) (reply : Reply) (new : Past) → EventStep old event reply new → desk_of event < length old.histories
+event_desk old _ reply _ (delivers desk text h step _ at hears) = within_at old.histories desk h at
+event_desk old _ _ _ (posts desk since h p b at is batch) = within_at old.histories desk h at
+event_desk old _ _ _ (arrives packet desk items h uids tick there at t) = within_at old.histories desk h at
 
-event_spent : (old old' : Histories) (desk : ℕ) (text : List ℕ) (reply : Reply) (new : Histories) → SameHistories old old' → IsReadOnce text → EventStep old (Deliver desk text) reply new → HasTick reply → IsSpent old' (Deliver desk text) → ⊥
-event_spent old old' desk text reply _ same once (delivers _ _ h step _ at hears) has (spends _ _ h' items' step' uid at' r' s' t' m') =
-    hears_spent h h' text step reply items' step' uid (same_at old old' desk h h' same at at') once hears has r' s' t' m'
+event_packet : (old : Past) (event : Event) (reply : Reply) (new : Past) (desks : ℕ) → EventStep old event reply new → LacksOnlyPacket desks (length old.packets) event → ⊥
+event_packet old _ reply _ desks (delivers desk text h step _ at hears) lacks = lacks.1
+event_packet old _ _ _ desks (posts desk since h p b at is batch) lacks = lacks.1
+event_packet old _ _ _ desks (arrives packet desk items h uids tick there at t) lacks = let missing = lacks.1 in omega (arith, step_within old.packets packet items there, missing)
+
+spent_desk : (old : Past) (event : Event) → IsSpent old event → desk_of event < length old.histories
+spent_desk old _ (spends desk text h items step uid at r s t m) = within_at old.histories desk h at
+spent_desk old _ (spends_arriving packet desk items h uid there at t m) = within_at old.histories desk h at
+
+spent_packet : (old : Past) (event : Event) (desks : ℕ) → IsSpent old event → LacksOnlyPacket desks (length old.packets) event → ⊥
+spent_packet old _ desks (spends desk text h items step uid at r s t m) lacks = lacks.1
+spent_packet old _ desks (spends_arriving packet desk items h uid there at t m) lacks = let missing = lacks.1 in omega (arith, step_within old.packets packet items there, missing)
+
+-- the same number of desks and packets
+module _ (old old' : Past) (same : SamePast old old') where
+  desks_same : length old.histories ≡ length old'.histories
+  desks_same = same_lengths old.histories old'.histories same.desks
+
+  lacks_back : (event : Event) → LacksOnlyPacket (length old'.histories) (length old'.packets) event → LacksOnlyPacket (length old'.histories) (length old.packets) event
+  lacks_back event lacks = subst (λ (n : ℕ). LacksOnlyPacket (length old'.histories) n event) (sym (steps_length old.packets old'.packets same.packets)) lacks
+
+happens_one : (old old' : Past) (event : Event) (a a' : Answer) (new new' : Past) → SamePast old old' → ((text : List ℕ) → IsReadOnce text) → Happens old event a new → Happens old' event a' new' → (a ≡ a') × SamePast new new'
+happens_one old old' event _ _ _ _ same once (is_done reply new es has) (is_done reply' new' es' has') =
+    let one = event_one old old' event reply reply' new new' same once es es' in (ap (answer_to event) one.0, one.1)
+happens_one old old' event _ _ _ _ same once (is_done reply new es has) (at_no_desk missing) = absurd (omega (arith, event_desk old event reply new es, desks_same old old' same))
+happens_one old old' event _ _ _ _ same once (is_done reply new es has) (of_no_packet lacks) = absurd (event_packet old event reply new (length old'.histories) es (lacks_back old old' same event lacks))
+happens_one old old' event _ _ _ _ same once (is_done reply new es has) (spends_ticks spent) = absurd (event_spent old old' event reply new same once es has spent)
+happens_one old old' event _ _ _ _ same once (at_no_desk missing) (is_done reply' new' es' has') = absurd (omega (arith, event_desk old' event reply' new' es', desks_same old old' same))
+happens_one old old' event _ _ _ _ same once (at_no_desk missing) (at_no_desk missing') = (refl, same)
+happens_one old old' event _ _ _ _ same once (at_no_desk missing) (of_no_packet lacks) = let here = lacks.0 in absurd (omega (arith, here, desks_same old old' same))
+happens_one old old' event _ _ _ _ same once (at_no_desk missing) (spends_ticks spent) = absurd (omega (arith, spent_desk old' event spent, desks_same old old' same))
+happens_one old old' event _ _ _ _ same once (of_no_packet lacks) (is_done reply' new' es' has') = absurd (event_packet old' event reply' new' (length old.histories) es' (lacks_back old' old (past_back old old' same) event lacks))
+happens_one old old' event _ _ _ _ same once (of_no_packet lacks) (at_no_desk missing') = let here = lacks.0 in absurd (omega (arith, here, desks_same old old' same))
+happens_one old old' event _ _ _ _ same once (of_no_packet lacks) (of_no_packet lacks') = (refl, same)
+happens_one old old' event _ _ _ _ same once (of_no_packet lacks) (spends_ticks spent) = absurd (spent_packet old' event (length old.histories) spent (lacks_back old' old (past_back old old' same) event lacks))
+happens_one old old' event _ _ _ _ same once (spends_ticks spent) (is_done reply' new' es' has') = absurd (event_spent old' old event reply' new' (past_back old old' same) once es' has' spent)
+happens_one old old' event _ _ _ _ same once (spends_ticks spent) (at_no_desk missing') = absurd (omega (arith, spent_desk old event spent, desks_same old old' same))
+happens_one old old' event _ _ _ _ same once (spends_ticks spent) (of_no_packet lacks) = absurd (spent_packet old event (length old'.histories) spent (lacks_back old old' same event lacks))
+happens_one old old' event _ _ _ _ same once (spends_ticks spent) (spends_ticks spent') = (refl, same)
 
 -- ---- one command
 
-pub step_one : (window : Window) (old old' : Histories) (order : Order) (a a' : Answer) (new new' : Histories) → SameHistories old old' → ((text : List ℕ) → IsReadOnce text) → Step window old order a new → Step window old' order a' new' → (a ≡ a') × SameHistories new new'
-step_one window old old' _ _ _ _ _ same once (takes_text desk text reply new es has) (takes_text _ _ reply' new' es' has') =
-    let one = event_one old old' desk text reply reply' new new' same (once text) es es' in
-    (ap (answer_to desk) one.0, one.1)
-step_one window old old' _ _ _ _ _ same once (takes_text desk text reply new es has) (takes_at_no_desk _ _ past) =
-    absurd (omega (arith, event_within old desk text reply new es, same_lengths old old' same))
-step_one window old old' _ _ _ _ _ same once (takes_text desk text reply new es has) (spends_ticks _ _ spent) = absurd (event_spent old old' desk text reply new same (once text) es has spent)
-step_one window old old' _ _ _ _ _ same once (takes_text desk text reply new es has) (is_refused _ none) = absurd none
-step_one window old old' _ _ _ _ _ same once (takes_at_no_desk desk text past) (takes_text _ _ reply' new' es' has') =
-    absurd (omega (arith, event_within old' desk text reply' new' es', same_lengths old old' same))
-step_one window old old' _ _ _ _ _ same once (takes_at_no_desk desk text past) (takes_at_no_desk _ _ past') = (refl, same)
-step_one window old old' _ _ _ _ _ same once (takes_at_no_desk desk text past) (spends_ticks _ _ spent) = absurd (omega (arith, spent_within old' desk text spent, same_lengths old old' same))
-step_one window old old' _ _ _ _ _ same once (takes_at_no_desk desk text past) (is_refused _ none) = absurd none
-step_one window old old' _ _ _ _ _ same once (spends_ticks desk text spent) (takes_text _ _ reply' new' es' has') = absurd (event_spent old' old desk text reply' new' (histories_back old old' same) (once text) es' has' spent)
-step_one window old old' _ _ _ _ _ same once (spends_ticks desk text spent) (takes_at_no_desk _ _ past) = absurd (omega (arith, spent_within old desk text spent, same_lengths old old' same))
-step_one window old old' _ _ _ _ _ same once (spends_ticks desk text spent) (spends_ticks _ _ spent') = (refl, same)
-step_one window old old' _ _ _ _ _ same once (spends_ticks desk text spent) (is_refused _ none) = absurd none
+asked_once : (order : Order) (event event' : Event) → event_of order ≡ Some event → event_of order ≡ Some event' → event ≡ event'
+asked_once order event event' asks asks' = ap (λ (o : Option Event). elim o [ None ↦ event | Some e ↦ e ]) (sym asks ∙ asks')
+
+none_asked : (event : Event) → None ≡ Some event → ⊥
+none_asked event asks = let e : true ≡ false = ap (λ (o : Option Event). elim o [ None ↦ true | Some x ↦ false ]) asks in absurd_bool e
+  where
+    absurd_bool : true ≡ false → ⊥
+    absurd_bool e = absurd cc
+
+-- a command that is not answered asks for no event
+not_asked : (order : Order) (event : Event) → IsNotAnswered order → event_of order ≡ Some event → ⊥
+not_asked (takes desk text) event none asks = none
+not_asked (lists desk) event none asks = none
+not_asked (order_posts desk since) event none asks = none
+not_asked (order_arrives packet desk) event none asks = none
+not_asked (reports desk name) event none asks = none_asked event asks
+not_asked (resends desk uid) event none asks = none_asked event asks
+not_asked (asks_next desk uid) event none asks = none_asked event asks
+not_asked (counts desk) event none asks = none
+not_asked malformed event none asks = none_asked event asks
+
+pub step_one : (window : Window) (old old' : Past) (order : Order) (a a' : Answer) (new new' : Past) → SamePast old old' → ((text : List ℕ) → IsReadOnce text) → Step window old order a new → Step window old' order a' new' → (a ≡ a') × SamePast new new'
+step_one window old old' order a a' new new' same once (happens _ event _ _ asks h) (happens _ event' _ _ asks' h') =
+    happens_one old old' event a a' new new' same once h (subst (λ (e : Event). Happens old' e a' new') (sym (asked_once order event event' asks asks')) h')
+step_one window old old' _ a _ new _ same once (happens _ event _ _ asks h) (lists_rows desk h' text' at' is') = absurd (none_asked event asks)
+step_one window old old' _ a _ new _ same once (happens _ event _ _ asks h) (lists_too_many desk h' at' many') = absurd (none_asked event asks)
+step_one window old old' _ a _ new _ same once (happens _ event _ _ asks h) (lists_no_desk desk past') = absurd (none_asked event asks)
+step_one window old old' _ a _ new _ same once (happens _ event _ _ asks h) (counts_kept desk h' kept' at' once' are') = absurd (none_asked event asks)
+step_one window old old' _ a _ new _ same once (happens _ event _ _ asks h) (counts_no_desk desk past') = absurd (none_asked event asks)
+step_one window old old' order a _ new _ same once (happens _ event _ _ asks h) (is_refused _ none) = absurd (not_asked order event none asks)
+step_one window old old' _ _ a' _ new' same once (lists_rows desk h text at is) (happens _ event _ _ asks h') = absurd (none_asked event asks)
 step_one window old old' _ _ _ _ _ same once (lists_rows desk h text at is) (lists_rows _ h' text' at' is') =
-    (ap (listed desk) (list_one (heard h) (heard h') window text text' (same_heard h h' (same_at old old' desk h h' same at at')) is is'), same)
+    (ap (listed desk) (list_one (heard h) (heard h') window text text' (same_heard h h' (same_at old.histories old'.histories desk h h' same.desks at at')) is is'), same)
 step_one window old old' _ _ _ _ _ same once (lists_rows desk h text at is) (lists_too_many _ h' at' many) =
-    absurd (list_or_too_many (heard h) (heard h') window text (same_heard h h' (same_at old old' desk h h' same at at')) is many)
-step_one window old old' _ _ _ _ _ same once (lists_rows desk h text at is) (lists_no_desk _ past) = absurd (omega (arith, within_at old desk h at, same_lengths old old' same))
+    absurd (list_or_too_many (heard h) (heard h') window text (same_heard h h' (same_at old.histories old'.histories desk h h' same.desks at at')) is many)
+step_one window old old' _ _ _ _ _ same once (lists_rows desk h text at is) (lists_no_desk _ past) = absurd (omega (arith, within_at old.histories desk h at, desks_same old old' same))
 step_one window old old' _ _ _ _ _ same once (lists_rows desk h text at is) (is_refused _ none) = absurd none
+step_one window old old' _ _ a' _ new' same once (lists_too_many desk h at many) (happens _ event _ _ asks h') = absurd (none_asked event asks)
 step_one window old old' _ _ _ _ _ same once (lists_too_many desk h at many) (lists_rows _ h' text' at' is') =
-    absurd (list_or_too_many (heard h') (heard h) window text' (same_back (heard h) (heard h') (same_heard h h' (same_at old old' desk h h' same at at'))) is' many)
+    absurd (list_or_too_many (heard h') (heard h) window text' (same_back (heard h) (heard h') (same_heard h h' (same_at old.histories old'.histories desk h h' same.desks at at'))) is' many)
 step_one window old old' _ _ _ _ _ same once (lists_too_many desk h at many) (lists_too_many _ h' at' many') = (refl, same)
-step_one window old old' _ _ _ _ _ same once (lists_too_many desk h at many) (lists_no_desk _ past) = absurd (omega (arith, within_at old desk h at, same_lengths old old' same))
+step_one window old old' _ _ _ _ _ same once (lists_too_many desk h at many) (lists_no_desk _ past) = absurd (omega (arith, within_at old.histories desk h at, desks_same old old' same))
 step_one window old old' _ _ _ _ _ same once (lists_too_many desk h at many) (is_refused _ none) = absurd none
-step_one window old old' _ _ _ _ _ same once (lists_no_desk desk past) (lists_rows _ h' text' at' is') = absurd (omega (arith, within_at old' desk h' at', same_lengths old old' same))
-step_one window old old' _ _ _ _ _ same once (lists_no_desk desk past) (lists_too_many _ h' at' many') = absurd (omega (arith, within_at old' desk h' at', same_lengths old old' same))
+step_one window old old' _ _ a' _ new' same once (lists_no_desk desk past) (happens _ event _ _ asks h') = absurd (none_asked event asks)
+step_one window old old' _ _ _ _ _ same once (lists_no_desk desk past) (lists_rows _ h' text' at' is') = absurd (omega (arith, within_at old'.histories desk h' at', desks_same old old' same))
+step_one window old old' _ _ _ _ _ same once (lists_no_desk desk past) (lists_too_many _ h' at' many') = absurd (omega (arith, within_at old'.histories desk h' at', desks_same old old' same))
 step_one window old old' _ _ _ _ _ same once (lists_no_desk desk past) (lists_no_desk _ past') = (refl, same)
 step_one window old old' _ _ _ _ _ same once (lists_no_desk desk past) (is_refused _ none) = absurd none
-step_one window old old' _ _ _ _ _ same once (is_refused _ none) (takes_text _ _ reply' new' es' has') = absurd none
-step_one window old old' _ _ _ _ _ same once (is_refused _ none) (takes_at_no_desk _ _ past') = absurd none
-step_one window old old' _ _ _ _ _ same once (is_refused _ none) (spends_ticks _ _ spent) = absurd none
+step_one window old old' _ _ a' _ new' same once (counts_kept desk h kept at each are) (happens _ event _ _ asks h') = absurd (none_asked event asks)
+step_one window old old' _ _ _ _ _ same once (counts_kept desk h kept at each are) (counts_kept _ h' kept' at' each' are') =
+    (ap (λ (n : ℕ). counted desk (min n (2 ^ 64 - 1))) (same_count kept kept' each each' (kept_one (heard h) (heard h') kept kept' (same_heard h h' (same_at old.histories old'.histories desk h h' same.desks at at')) are are')), same)
+step_one window old old' _ _ _ _ _ same once (counts_kept desk h kept at each are) (counts_no_desk _ past) = absurd (omega (arith, within_at old.histories desk h at, desks_same old old' same))
+step_one window old old' _ _ _ _ _ same once (counts_kept desk h kept at each are) (is_refused _ none) = absurd none
+step_one window old old' _ _ a' _ new' same once (counts_no_desk desk past) (happens _ event _ _ asks h') = absurd (none_asked event asks)
+step_one window old old' _ _ _ _ _ same once (counts_no_desk desk past) (counts_kept _ h' kept' at' each' are') = absurd (omega (arith, within_at old'.histories desk h' at', desks_same old old' same))
+step_one window old old' _ _ _ _ _ same once (counts_no_desk desk past) (counts_no_desk _ past') = (refl, same)
+step_one window old old' _ _ _ _ _ same once (counts_no_desk desk past) (is_refused _ none) = absurd none
+step_one window old old' order _ a' _ new' same once (is_refused _ none) (happens _ event _ _ asks h') = absurd (not_asked order event none asks)
 step_one window old old' _ _ _ _ _ same once (is_refused _ none) (lists_rows _ h' text' at' is') = absurd none
 step_one window old old' _ _ _ _ _ same once (is_refused _ none) (lists_too_many _ h' at' many') = absurd none
 step_one window old old' _ _ _ _ _ same once (is_refused _ none) (lists_no_desk _ past') = absurd none
+step_one window old old' _ _ _ _ _ same once (is_refused _ none) (counts_kept _ h' kept' at' each' are') = absurd none
+step_one window old old' _ _ _ _ _ same once (is_refused _ none) (counts_no_desk _ past') = absurd none
 step_one window old old' _ _ _ _ _ same once (is_refused order none) (is_refused _ none') = (refl, same)
+
+start_same : (desks : ℕ) → SamePast (no_past desks) (no_past desks)
+start_same desks = record { desks = same_start desks; packets = tt }
 
 -- ---- whole runs
 
-runs_one : (window : Window) (old old' : Histories) (orders : List Order) (answers answers' : List Answer) (new new' : Histories) → SameHistories old old' → ((text : List ℕ) → IsReadOnce text) → Runs window old orders answers new → Runs window old' orders answers' new' → answers ≡ answers'
+runs_one : (window : Window) (old old' : Past) (orders : List Order) (answers answers' : List Answer) (new new' : Past) → SamePast old old' → ((text : List ℕ) → IsReadOnce text) → Runs window old orders answers new → Runs window old' orders answers' new' → answers ≡ answers'
 runs_one window old old' [] [] [] new new' same once at at' = refl
 runs_one window old old' [] [] (b ∷ bs) new new' same once at at' = absurd at'
 runs_one window old old' [] (a ∷ as') bs new new' same once at at' = absurd at
@@ -330,7 +494,7 @@ runs_one window old old' (o ∷ os) (a ∷ as') (b ∷ bs) new new' same once at
 
 pub writes_one : (window : Window) (desks : ℕ) (orders : List Order) (output output' : List ℕ) (refusal refusal' : Bool) → ((text : List ℕ) → IsReadOnce text) → Writes window desks orders output refusal → Writes window desks orders output' refusal' → (output ≡ output') × (refusal ≡ refusal')
 writes_one window desks orders output output' refusal refusal' once w w' =
-    let same = runs_one window (no_histories desks) (no_histories desks) orders w.answers w'.answers w.histories w'.histories (same_start desks) once w.runs w'.runs in
+    let same = runs_one window (no_past desks) (no_past desks) orders w.answers w'.answers w.past w'.past (start_same desks) once w.runs w'.runs in
     (w.output_is ∙ ap (flat_map answer_text) same ∙ sym w'.output_is, w.refusal_is ∙ ap (list_any is_refusal) same ∙ sym w'.refusal_is)
 
 pub output_one : (window : Window) (desks : ℕ) (script output output' : List ℕ) (refusal refusal' : Bool) → IsOutput window desks script output refusal → IsOutput window desks script output' refusal' → (output ≡ output') × (refusal ≡ refusal')
@@ -341,15 +505,15 @@ output_one window desks script output output' refusal refusal' (inr (long, is, f
 
 -- ---- the first so many commands
 
-record Splits (window : Window) (old : Histories) (done left : List Order) (answers : List Answer) (new : Histories) : Type 0 where
+record Splits (window : Window) (old : Past) (done left : List Order) (answers : List Answer) (new : Past) : Type 0 where
   first : List Answer
   others : List Answer
-  mid : Histories
+  mid : Past
   whole : answers ≡ first ++ others
   before : Runs window old done first mid
   after : Runs window mid left others new
 
-runs_split : (window : Window) (old : Histories) (done left : List Order) (answers : List Answer) (new : Histories) → Runs window old (done ++ left) answers new → Splits window old done left answers new
+runs_split : (window : Window) (old : Past) (done left : List Order) (answers : List Answer) (new : Past) → Runs window old (done ++ left) answers new → Splits window old done left answers new
 runs_split window old [] left answers new at = record { first = []; others = answers; mid = old; whole = refl; before = refl; after = at }
 runs_split window old (o ∷ os) left [] new at = absurd at
 runs_split window old (o ∷ os) left (a ∷ as') new at =
@@ -358,8 +522,8 @@ runs_split window old (o ∷ os) left (a ∷ as') new at =
 
 pub front_one : (window : Window) (desks : ℕ) (done left : List Order) (output part : List ℕ) (refusal refusal' : Bool) → Writes window desks (done ++ left) output refusal → Writes window desks done part refusal' → (rest : List ℕ) × (output ≡ part ++ rest)
 front_one window desks done left output part refusal refusal' whole some =
-    let split = runs_split window (no_histories desks) done left whole.answers whole.histories whole.runs in
-    let same = runs_one window (no_histories desks) (no_histories desks) done split.first some.answers split.mid some.histories (same_start desks) read_once split.before some.runs in (
+    let split = runs_split window (no_past desks) done left whole.answers whole.past whole.runs in
+    let same = runs_one window (no_past desks) (no_past desks) done split.first some.answers split.mid some.past (start_same desks) read_once split.before some.runs in (
       flat_map answer_text split.others,
       whole.output_is ∙ ap (flat_map answer_text) split.whole ∙ flat_map-append answer_text split.first split.others
           ∙ ap (λ (t : List Answer). flat_map answer_text t ++ flat_map answer_text split.others) same ∙ ap (λ (t : List ℕ). t ++ flat_map answer_text split.others) (sym some.output_is),

@@ -6,5 +6,5 @@ pub mod Cuttings
 pub mod Spellings
 pub mod Answering
 pub mod Runnings
-pub mod Ascending
+pub mod Counting
 pub mod Determined

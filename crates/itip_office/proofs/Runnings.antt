@@ -11,7 +11,7 @@ use Rattle.std.proofs.lemmas.Bool.{cases_lt}
 use Rattle.std.proofs.Math.Bool.{or-false}
 use Rattle.itip_view.specs.declared.window.Window.{Window}
 use Rattle.itip_desk.specs.Desk.{Shown}
-use Rattle.itip_delta.specs.Worlds.{Histories, no_histories, AreDesksOf}
+use Rattle.itip_delta.specs.Worlds.{Past, no_past, IsWorldOf}
 use Rattle.itip_office.specs.Orders.{Order}
 use Rattle.itip_office.specs.Replies.{refused_text}
 use Rattle.itip_office.specs.Script.{orders_of}
@@ -22,34 +22,34 @@ pub on_err : {T E P : Type 0} (r : Result T E) → P → OnErr r P
 on_err (Ok x) p = tt
 on_err (Err e) p = p
 
-runs_more : (window : Window) (old : Histories) (orders : List Order) (answers : List Answer) (mid : Histories) (order : Order) (answer : Answer) (new : Histories)
+runs_more : (window : Window) (old : Past) (orders : List Order) (answers : List Answer) (mid : Past) (order : Order) (answer : Answer) (new : Past)
     → Runs window old orders answers mid → Step window mid order answer new → Runs window old (orders ++ order ∷ []) (answers ++ answer ∷ []) new
-runs_more window old [] [] mid order answer new at step = (new, subst (λ (h : Histories). Step window h order answer new) at step, refl)
+runs_more window old [] [] mid order answer new at step = (new, subst (λ (h : Past). Step window h order answer new) at step, refl)
 runs_more window old [] (a ∷ as') mid order answer new at step = absurd at
 runs_more window old (o ∷ os) [] mid order answer new at step = absurd at
 runs_more window old (o ∷ os) (a ∷ as') mid order answer new at step = (at.0, at.1, runs_more window at.0 os as' mid order answer new at.2 step)
 
 -- before the first command
-pub starts : (window : Window) (desks : ℕ) (old : Option (List ℕ)) (orders left : List Order) (shown : List Shown) (kept : List ℕ)
-    → AreDesksOf (no_histories desks) shown → orders ≡ left → kept ≡ [] → RunsSoFar window desks old old orders [] left shown kept false
-starts window desks old orders left shown kept are same none = record {
+pub starts : (window : Window) (desks : ℕ) (old : Option (List ℕ)) (orders left : List Order) (shown : List Shown) (packets : List (List ℕ)) (kept : List ℕ)
+    → IsWorldOf (no_past desks) shown packets → orders ≡ left → kept ≡ [] → RunsSoFar window desks old old orders [] left shown packets kept false
+starts window desks old orders left shown packets kept are same none = record {
   whole = same;
   answers = [];
-  histories = no_histories desks;
+  past = no_past desks;
   runs = refl;
-  desks_are = are;
+  world_is = are;
   refusal_is = refl;
   written = [];
   output_is = sym none;
   appended = Appends-nil old;
 }
 
-module _ (window : Window) (desks : ℕ) (old new : Option (List ℕ)) (orders done left : List Order) (shown : List Shown) (kept : List ℕ) (refusal : Bool)
-    (so_far : RunsSoFar window desks old new orders done left shown kept refusal) where
+module _ (window : Window) (desks : ℕ) (old new : Option (List ℕ)) (orders done left : List Order) (shown : List Shown) (packets : List (List ℕ)) (kept : List ℕ) (refusal : Bool)
+    (so_far : RunsSoFar window desks old new orders done left shown packets kept refusal) where
   writes_so_far : Writes window desks done (so_far.written ++ kept) refusal
   writes_so_far = record {
     answers = so_far.answers;
-    histories = so_far.histories;
+    past = so_far.past;
     runs = so_far.runs;
     output_is = sym so_far.output_is;
     refusal_is = so_far.refusal_is;
@@ -87,13 +87,13 @@ module _ (window : Window) (desks : ℕ) (old new : Option (List ℕ)) (orders d
       }
 
   -- a front of what is kept was written, and the rest is kept
-  pub moved_out : (newer : Option (List ℕ)) (rest : List ℕ) → MovesOut new newer kept rest → RunsSoFar window desks old newer orders done left shown rest refusal
+  pub moved_out : (newer : Option (List ℕ)) (rest : List ℕ) → MovesOut new newer kept rest → RunsSoFar window desks old newer orders done left shown packets rest refusal
   moved_out newer rest moves = record {
     whole = so_far.whole;
     answers = so_far.answers;
-    histories = so_far.histories;
+    past = so_far.past;
     runs = so_far.runs;
-    desks_are = so_far.desks_are;
+    world_is = so_far.world_is;
     refusal_is = so_far.refusal_is;
     written = so_far.written ++ moves.front;
     output_is = so_far.output_is ∙ ap (λ (t : List ℕ). so_far.written ++ t) moves.whole ∙ sym (append_assoc so_far.written moves.front rest);
@@ -101,18 +101,18 @@ module _ (window : Window) (desks : ℕ) (old new : Option (List ℕ)) (orders d
   }
 
   -- one command more
-  pub one_more : (order : Order) (others : List Order) (more : List Order) (newer_desks : List Shown) (more_kept : List ℕ) (is_refused : Bool)
-      → left ≡ order ∷ others → more ≡ done ++ order ∷ [] → Answers window order shown newer_desks kept more_kept is_refused
-      → RunsSoFar window desks old new orders more others newer_desks more_kept (refusal || is_refused)
-  one_more order others more newer_desks more_kept is_refused cut more_is answers =
-      let one = answers so_far.histories so_far.desks_are in
+  pub one_more : (order : Order) (others : List Order) (more : List Order) (newer_desks : List Shown) (newer_packets : List (List ℕ)) (more_kept : List ℕ) (is_refused : Bool)
+      → left ≡ order ∷ others → more ≡ done ++ order ∷ [] → Answers window order shown packets newer_desks newer_packets kept more_kept is_refused
+      → RunsSoFar window desks old new orders more others newer_desks newer_packets more_kept (refusal || is_refused)
+  one_more order others more newer_desks newer_packets more_kept is_refused cut more_is answers =
+      let one = answers so_far.past so_far.world_is in
       record {
         whole = so_far.whole ∙ ap (λ (t : List Order). done ++ t) cut ∙ sym (append_assoc done (order ∷ []) others) ∙ ap (λ (t : List Order). t ++ others) (sym more_is);
         answers = so_far.answers ++ one.answer ∷ [];
-        histories = one.histories;
-        runs = subst (λ (os : List Order). Runs window (no_histories desks) os (so_far.answers ++ one.answer ∷ []) one.histories) (sym more_is)
-            (runs_more window (no_histories desks) done so_far.answers so_far.histories order one.answer one.histories so_far.runs one.step);
-        desks_are = one.desks_are;
+        past = one.past;
+        runs = subst (λ (os : List Order). Runs window (no_past desks) os (so_far.answers ++ one.answer ∷ []) one.past) (sym more_is)
+            (runs_more window (no_past desks) done so_far.answers so_far.past order one.answer one.past so_far.runs one.step);
+        world_is = one.world_is;
         refusal_is = ap (λ (b : Bool). b || is_refused) so_far.refusal_is ∙ ap (λ (b : Bool). list_any is_refusal so_far.answers || b) (one.refusal_is ∙ sym (or-false (is_refusal one.answer)))
             ∙ sym (list_any-append is_refusal so_far.answers (one.answer ∷ []));
         written = so_far.written;
@@ -132,7 +132,7 @@ not_started window desks old orders = record {
   whole = refl;
   output = [];
   refusal = false;
-  writes = record { answers = []; histories = no_histories desks; runs = refl; output_is = refl; refusal_is = refl };
+  writes = record { answers = []; past = no_past desks; runs = refl; output_is = refl; refusal_is = refl };
   appended = record { front = []; rest = []; whole = refl; appended = Appends-nil old };
 }
 

@@ -1,19 +1,21 @@
 -- What a script writes, as a run of a machine over its commands, whose state is what each desk has heard (our own format).
-use Rattle.std.specs.Prelude.{◌≡◌, ℕ, ◌^◌, ◌<◌, ◌≤◌, ◌⊎◌, Bool, true, false, List, [], ◌∷◌, ◌++◌, length, Option, Some, slice_get}
+use Rattle.std.specs.Prelude.{◌≡◌, ℕ, ◌^◌, ◌-◌, ◌<◌, ◌≤◌, ◌⊎◌, Bool, true, false, List, [], ◌∷◌, ◌++◌, length, min, Option, Some, None, slice_get}
 use Rattle.std.specs.List.{flat_map, list_any}
 use Rattle.std.specs.Io.KnownBytes.{Appends}
 use Rattle.itip_view.specs.declared.window.Window.{Window}
 use Rattle.itip_view.specs.Rows.{AreTooMany}
 use Rattle.itip_view.specs.ListText.{IsListText}
+use Rattle.itip_state.specs.Kept.{AreKept, HasEachOnce}
 use Rattle.itip_desk.specs.Heard.{heard}
 use Rattle.itip_desk.specs.Desk.{Shown}
 use Rattle.itip_message.specs.declared.item.Item.{Item}
-use Rattle.itip_delta.specs.Worlds.{Histories, no_histories, EventStep, IsSpent, AreDesksOf}
-use Rattle.itip_delta.specs.declared.event.Event.TheVariants.{Deliver}
+use Rattle.itip_delta.specs.Worlds.{Past, no_past, EventStep, IsSpent, IsWorldOf, desk_of, LacksOnlyPacket}
+use Rattle.itip_delta.specs.declared.event.Event.{Event}
+use Rattle.itip_delta.specs.declared.event.Event.TheVariants.{Deliver, Post, Arrive}
 use Rattle.itip_delta.specs.declared.event.Reply.{Reply}
-use Rattle.itip_delta.specs.declared.event.Reply.TheVariants.{Taken, Refused}
+use Rattle.itip_delta.specs.declared.event.Reply.TheVariants.{Taken, Posted, Refused}
 use Rattle.itip_office.specs.Orders.{Order, takes, lists, posts, arrives, reports, resends, asks_next, counts, malformed}
-use Rattle.itip_office.specs.Replies.{refused_text, taken_text, listed_text}
+use Rattle.itip_office.specs.Replies.{refused_text, taken_text, posted_text, arrived_text, counted_text, listed_text}
 use Rattle.itip_office.specs.Script.{orders_of}
 use Rattle.itip_office.specs.Written.{AppendsFront}
 
@@ -23,66 +25,106 @@ pub data Answer : Type 0 where
   refused : ℕ → Answer
   -- the desk took a message, its tick then, and how many UIDs changed
   took : ℕ → ℕ → ℕ → Answer
+  -- the number of a packet, and how many items it has
+  posted : ℕ → ℕ → Answer
+  -- a packet arrived at a desk, its tick then, and how many UIDs changed
+  arrived : ℕ → ℕ → ℕ → ℕ → Answer
   -- the list of a desk
   listed : ℕ → List ℕ → Answer
+  -- how many items a desk keeps
+  counted : ℕ → ℕ → Answer
 
 abbrev pub answer_text : Answer → List ℕ
 answer_text (refused number) = refused_text number
 answer_text (took desk tick changed) = taken_text desk tick changed
+answer_text (posted packet items) = posted_text packet items
+answer_text (arrived packet desk tick changed) = arrived_text packet desk tick changed
 answer_text (listed desk text) = listed_text desk text
-
--- what is answered where a world replies so to a message
-abbrev pub answer_to : ℕ → Reply → Answer
-answer_to desk (Taken tick changed) = took desk tick changed
-answer_to desk (Refused number) = refused number
-
--- a tick is below 2 ^ 64
-abbrev pub HasTick : Reply → Type 0
-HasTick (Taken tick changed) = tick < 2 ^ 64
-HasTick (Refused number) = Unit {0}
+answer_text (counted desk entries) = counted_text desk entries
 
 abbrev pub is_refusal : Answer → Bool
 is_refusal (refused number) = true
 is_refusal (took desk tick changed) = false
+is_refusal (posted packet items) = false
+is_refusal (arrived packet desk tick changed) = false
 is_refusal (listed desk text) = false
+is_refusal (counted desk entries) = false
+
+-- the event that a command asks of a world
+abbrev pub event_of : Order → Option Event
+event_of (takes desk text) = Some (Deliver desk text)
+event_of (posts desk since) = Some (Post desk since)
+event_of (arrives packet desk) = Some (Arrive packet desk)
+event_of (lists desk) = None
+event_of (reports desk name) = None
+event_of (resends desk uid) = None
+event_of (asks_next desk uid) = None
+event_of (counts desk) = None
+event_of malformed = None
+
+-- what a desk says that has heard a message or a packet
+abbrev pub heard_at : Event → ℕ → ℕ → Answer
+heard_at (Deliver desk bytes) tick changed = took desk tick changed
+heard_at (Post desk since) tick changed = took desk tick changed
+heard_at (Arrive packet desk) tick changed = arrived packet desk tick changed
+
+-- what is answered where a world replies so to an event
+abbrev pub answer_to : Event → Reply → Answer
+answer_to event (Taken tick changed) = heard_at event tick changed
+answer_to event (Posted packet items) = posted packet items
+answer_to event (Refused number) = refused number
+
+-- a tick is below 2 ^ 64
+abbrev pub HasTick : Reply → Type 0
+HasTick (Taken tick changed) = tick < 2 ^ 64
+HasTick (Posted packet items) = Unit {0}
+HasTick (Refused number) = Unit {0}
 
 -- commands that are read and not answered: they are refused as what is malformed is
 abbrev pub IsNotAnswered : Order → Type 0
 IsNotAnswered (takes desk text) = ⊥
 IsNotAnswered (lists desk) = ⊥
-IsNotAnswered (posts desk since) = Unit {0}
-IsNotAnswered (arrives packet desk) = Unit {0}
+IsNotAnswered (posts desk since) = ⊥
+IsNotAnswered (arrives packet desk) = ⊥
 IsNotAnswered (reports desk name) = Unit {0}
 IsNotAnswered (resends desk uid) = Unit {0}
 IsNotAnswered (asks_next desk uid) = Unit {0}
-IsNotAnswered (counts desk) = Unit {0}
+IsNotAnswered (counts desk) = ⊥
 IsNotAnswered malformed = Unit {0}
 
--- One command: from what the desks have heard, its answer, and what they have heard then.
-pub data Step (window : Window) (old : Histories) : Order → Answer → Histories → Type 0 where
-  takes_text : (desk : ℕ) (text : List ℕ) (reply : Reply) (new : Histories)
-      → EventStep old (Deliver desk text) reply new → HasTick reply → Step window old (takes desk text) (answer_to desk reply) new
-  takes_at_no_desk : (desk : ℕ) (text : List ℕ) → length old ≤ desk → Step window old (takes desk text) (refused 50) old
-  spends_ticks : (desk : ℕ) (text : List ℕ) → IsSpent old (Deliver desk text) → Step window old (takes desk text) (refused 21) old
+-- What is answered where an event is asked of a world, and what happened then.
+pub data Happens (old : Past) (event : Event) : Answer → Past → Type 0 where
+  is_done : (reply : Reply) (new : Past) → EventStep old event reply new → HasTick reply → Happens old event (answer_to event reply) new
+  at_no_desk : length old.histories ≤ desk_of event → Happens old event (refused 50) old
+  of_no_packet : LacksOnlyPacket (length old.histories) (length old.packets) event → Happens old event (refused 51) old
+  spends_ticks : IsSpent old event → Happens old event (refused 21) old
+
+-- One command: from what happened before, its answer, and what happened then.
+pub data Step (window : Window) (old : Past) : Order → Answer → Past → Type 0 where
+  happens : (order : Order) (event : Event) (answer : Answer) (new : Past) → event_of order ≡ Some event → Happens old event answer new → Step window old order answer new
   lists_rows : (desk : ℕ) (history : List (List Item)) (text : List ℕ)
-      → slice_get old desk ≡ Some history → IsListText (heard history) window text → Step window old (lists desk) (listed desk text) old
+      → slice_get old.histories desk ≡ Some history → IsListText (heard history) window text → Step window old (lists desk) (listed desk text) old
   lists_too_many : (desk : ℕ) (history : List (List Item))
-      → slice_get old desk ≡ Some history → AreTooMany (heard history) window → Step window old (lists desk) (refused 31) old
-  lists_no_desk : (desk : ℕ) → length old ≤ desk → Step window old (lists desk) (refused 50) old
+      → slice_get old.histories desk ≡ Some history → AreTooMany (heard history) window → Step window old (lists desk) (refused 31) old
+  lists_no_desk : (desk : ℕ) → length old.histories ≤ desk → Step window old (lists desk) (refused 50) old
+  counts_kept : (desk : ℕ) (history : List (List Item)) (kept : List Item)
+      → slice_get old.histories desk ≡ Some history → HasEachOnce kept → AreKept kept (heard history)
+      → Step window old (counts desk) (counted desk (min (length kept) (2 ^ 64 - 1))) old
+  counts_no_desk : (desk : ℕ) → length old.histories ≤ desk → Step window old (counts desk) (refused 50) old
   is_refused : (order : Order) → IsNotAnswered order → Step window old order (refused 60) old
 
 -- the answers to commands, one after another
-abbrev pub Runs : Window → Histories → List Order → List Answer → Histories → Type 0
+abbrev pub Runs : Window → Past → List Order → List Answer → Past → Type 0
 Runs window old [] [] new = new ≡ old
-Runs window old (order ∷ orders) (answer ∷ answers) new = (mid : Histories) × Step window old order answer mid × Runs window mid orders answers new
+Runs window old (order ∷ orders) (answer ∷ answers) new = (mid : Past) × Step window old order answer mid × Runs window mid orders answers new
 Runs window old [] (answer ∷ answers) new = ⊥
 Runs window old (order ∷ orders) [] new = ⊥
 
 -- What commands write over desks that have heard nothing, and whether one of them is refused.
 pub record Writes (window : Window) (desks : ℕ) (orders : List Order) (output : List ℕ) (refusal : Bool) : Type 0 where
   pub answers : List Answer
-  pub histories : Histories
-  pub runs : Runs window (no_histories desks) orders answers histories
+  pub past : Past
+  pub runs : Runs window (no_past desks) orders answers past
   pub output_is : output ≡ flat_map answer_text answers
   pub refusal_is : refusal ≡ list_any is_refusal answers
 
@@ -120,31 +162,31 @@ WritesFront window desks old new script =
     ((length script ≤ 16777216) × WritesSome window desks old new (orders_of script))
     ⊎ ((16777216 < length script) × AppendsFront old new (refused_text 61))
 
--- One command, from the desks before it to those after, and the output so far.
-pub record AnswersOne (window : Window) (old : Histories) (order : Order) (desks : List Shown) (output more_output : List ℕ) (refusal : Bool) : Type 0 where
+-- One command, from the world before it to that after, and the output so far.
+pub record AnswersOne (window : Window) (old : Past) (order : Order) (desks : List Shown) (packets : List (List ℕ)) (output more_output : List ℕ) (refusal : Bool) : Type 0 where
   pub answer : Answer
-  pub histories : Histories
-  pub step : Step window old order answer histories
-  pub desks_are : AreDesksOf histories desks
+  pub past : Past
+  pub step : Step window old order answer past
+  pub world_is : IsWorldOf past desks packets
   pub output_is : more_output ≡ output ++ answer_text answer
   pub refusal_is : refusal ≡ is_refusal answer
 
--- The answer to an order, whatever the desks have heard, so that they are those of histories.
-abbrev pub Answers : Window → Order → List Shown → List Shown → List ℕ → List ℕ → Bool → Type 0
-Answers window order old new output more_output refusal =
-    (histories : Histories) → AreDesksOf histories old → AnswersOne window histories order new output more_output refusal
+-- The answer to an order, whatever happened to bring about these desks and packets.
+abbrev pub Answers : Window → Order → List Shown → List (List ℕ) → List Shown → List (List ℕ) → List ℕ → List ℕ → Bool → Type 0
+Answers window order old_desks old_packets new_desks new_packets output more_output refusal =
+    (past : Past) → IsWorldOf past old_desks old_packets → AnswersOne window past order new_desks new_packets output more_output refusal
 
--- the desks are those of some histories
-abbrev pub HaveHistories : List Shown → Type 0
-HaveHistories desks = (histories : Histories) × AreDesksOf histories desks
+-- something happened that brought about these desks and packets
+abbrev pub HaveHappened : List Shown → List (List ℕ) → Type 0
+HaveHappened desks packets = (past : Past) × IsWorldOf past desks packets
 
 -- A run over some commands: what they write is what was written and what is kept to be written.
-pub record RunsSoFar (window : Window) (desks : ℕ) (old new : Option (List ℕ)) (orders done left : List Order) (shown : List Shown) (kept : List ℕ) (refusal : Bool) : Type 0 where
+pub record RunsSoFar (window : Window) (desks : ℕ) (old new : Option (List ℕ)) (orders done left : List Order) (shown : List Shown) (packets : List (List ℕ)) (kept : List ℕ) (refusal : Bool) : Type 0 where
   pub whole : orders ≡ done ++ left
   pub answers : List Answer
-  pub histories : Histories
-  pub runs : Runs window (no_histories desks) done answers histories
-  pub desks_are : AreDesksOf histories shown
+  pub past : Past
+  pub runs : Runs window (no_past desks) done answers past
+  pub world_is : IsWorldOf past shown packets
   pub refusal_is : refusal ≡ list_any is_refusal answers
   pub written : List ℕ
   pub output_is : flat_map answer_text answers ≡ written ++ kept

@@ -1,6 +1,6 @@
 //! The texts of replies.
 ghost use Rattle.std.specs.Prelude.{◌≡◌, ◌++◌, ◌≤◌, length, OnOk};
-ghost use Rattle.itip_office.specs.Replies.{refused_text, taken_text, listed_text, rows_in, begins_row};
+ghost use Rattle.itip_office.specs.Replies.{refused_text, taken_text, posted_text, arrived_text, counted_text, listed_text, rows_in, begins_row};
 
 use crate::line::first_line;
 use std::alloc::{AllocError, Global};
@@ -11,6 +11,8 @@ pub(crate) const TICKS_SPENT: u32 = 21;
 pub(crate) const TOO_MANY_ROWS: u32 = 31;
 
 pub(crate) const NO_DESK: u32 = 50;
+
+pub(crate) const NO_PACKET: u32 = 51;
 
 pub(crate) const BAD_COMMAND: u32 = 60;
 
@@ -32,13 +34,54 @@ pub(crate) fn append_refused(
 pub(crate) fn append_taken(
     alloc: Global,
     output: &mut Vec<u8>,
-    desk: u64,
+    desk: usize,
     tick: u64,
     changed: usize,
 ) -> Result<(), AllocError>
     ensures { OnOk result (output.new.items ≡ output.old.items ++ taken_text desk tick changed) }
 {
     let line = format!(in alloc; "take {desk} tick {tick} changed {changed}\n")?;
+    output.extend_from_slice(line.as_bytes())
+}
+
+/// Appends what a desk says when it has posted a packet.
+pub(crate) fn append_posted(
+    alloc: Global,
+    output: &mut Vec<u8>,
+    packet: usize,
+    items: usize,
+) -> Result<(), AllocError>
+    ensures { OnOk result (output.new.items ≡ output.old.items ++ posted_text packet items) }
+{
+    let line = format!(in alloc; "post {packet} items {items}\n")?;
+    output.extend_from_slice(line.as_bytes())
+}
+
+/// Appends what a desk says when a packet has arrived.
+pub(crate) fn append_arrived(
+    alloc: Global,
+    output: &mut Vec<u8>,
+    packet: usize,
+    desk: usize,
+    tick: u64,
+    changed: usize,
+) -> Result<(), AllocError>
+    ensures { OnOk result (output.new.items ≡ output.old.items ++ arrived_text packet desk tick changed) }
+{
+    let line = format!(in alloc; "arrive {packet} {desk} tick {tick} changed {changed}\n")?;
+    output.extend_from_slice(line.as_bytes())
+}
+
+/// Appends how many items a desk keeps.
+pub(crate) fn append_counted(
+    alloc: Global,
+    output: &mut Vec<u8>,
+    desk: u64,
+    entries: usize,
+) -> Result<(), AllocError>
+    ensures { OnOk result (output.new.items ≡ output.old.items ++ counted_text desk entries) }
+{
+    let line = format!(in alloc; "entries {desk} {entries}\n")?;
     output.extend_from_slice(line.as_bytes())
 }
 

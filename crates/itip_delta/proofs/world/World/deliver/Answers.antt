@@ -7,7 +7,7 @@ use Rattle.itip_state.specs.Kept.{AreMoved, IsItemsOf}
 use Rattle.itip_desk.specs.Desk.{Shown, IsDeskOf}
 use Rattle.itip_desk.specs.Heard.{heard, Ticks}
 use Rattle.itip_desk.proofs.Steps.{nothing_more, moved_of_all, keep_same_down}
-use Rattle.itip_delta.specs.Worlds.{Histories, AreDesksOf, EventStep, StepsWorld, Hears, with_step, cause_of}
+use Rattle.itip_delta.specs.Worlds.{Past, AreDesksOf, IsWorldOf, past_with_step, with_step, cause_of}
 use Rattle.itip_delta.specs.Worlds.Hears.{reads, refuses}
 use Rattle.itip_delta.specs.Worlds.EventStep.{delivers}
 use Rattle.itip_delta.specs.Worlds.IsSpent.{spends}
@@ -16,25 +16,30 @@ use Rattle.itip_desk.specs.declared.error.DeskError.TheVariants as desk
 use Rattle.itip_delta.specs.declared.stop.Cause.{Cause}
 use Rattle.itip_delta.specs.declared.stop.Cause.TheVariants as cause
 use Rattle.itip_delta.specs.declared.event.Reply.TheVariants.{Taken, Refused}
+use Rattle.itip_delta.proofs.Events.{spent_at_desk}
 use Rattle.itip_delta.proofs.Desks.{HeardMore, heard_more, desk_there, set_itself, slice_get-get_or}
 use Rattle.itip_delta.proofs.world.World.deliver.Goals as goal
 
 pub returns-in-Err-Fault-clause-step : goal.returns-in-Err-Fault-clause-step
-returns-in-Err-Fault-clause-step c = λ histories are.
+returns-in-Err-Fault-clause-step c = λ past is_past.
+    let histories = past.histories in
+    let are = is_past.desks_are in
     let refused : RefusesMessage c.args.bytes.now c.in-Err-Fault.fault = rw c.in-Err-Fault.field-0-is at c.in-Err-Fault.ensures.fault in
     let within : c.args.desk < length c.args.self.now.desks.items = grind arith in
     let there = desk_there c.args.self.now.desks.items c.args.desk within in
     let more = heard_more histories c.args.self.now.desks.items c.args.desk [] there.0 there.0 are there.1 (λ history is. nothing_more history 0 there.0 is) in
     record {
       reply = Refused (number_of c.in-Err-Fault.fault);
-      histories = with_step histories c.args.desk [];
+      past = past_with_step past c.args.desk [];
       step = delivers c.args.desk c.args.bytes.now more.history [] (Refused (number_of c.in-Err-Fault.fault)) more.there (refuses c.in-Err-Fault.fault refused refl);
       replies_are = c.in_ok-push-in-Err-Fault.ensures.items ∙ ap (λ front. front ++ Refused c.number.result ∷ []) c.in_ok-reserve.ensures.items ∙ ap (λ n. c.args.self.now.replies.items ++ Refused n ∷ []) c.number.ensures;
-      desks_are = subst (λ (ds : List Shown). AreDesksOf (with_step histories c.args.desk []) ds) (set_itself c.args.self.now.desks.items c.args.desk there.0 there.1) more.are;
+      world_is = record { desks_are = subst (λ (ds : List Shown). AreDesksOf (with_step histories c.args.desk []) ds) (set_itself c.args.self.now.desks.items c.args.desk there.0 there.1) more.are; packets_are = is_past.packets_are };
     }
 
 pub returns-clause-step : goal.returns-clause-step
-returns-clause-step c = λ histories are.
+returns-clause-step c = λ past is_past.
+    let histories = past.histories in
+    let are = is_past.desks_are in
     let within : c.args.desk < length c.args.self.now.desks.items = grind arith in
     let old : Shown = c.index_mut.result.now in
     let stands : old ≡ get_or c.args.self.now.desks.items c.args.desk old = c.index_mut.ensures.value in
@@ -49,21 +54,17 @@ returns-clause-step c = λ histories are.
     let of : IsItemsOf batch c.in-Ok.items.items = c.in_ok-batch.ensures in
     record {
       reply = Taken (c.take.new.self).tick (length uids);
-      histories = with_step histories c.args.desk batch;
+      past = past_with_step past c.args.desk batch;
       step = delivers c.args.desk c.args.bytes.now more.history batch (Taken (c.take.new.self).tick (length uids)) more.there
-          (reads c.in-Ok.items.items uids (c.take.new.self).tick c.in-Ok.ensures.found of.same (moved_of_all uids old.kept (heard more.history) batch more.was.kept moved) (steps more.history more.was).tick);
+          (reads c.in-Ok.items.items uids (c.take.new.self).tick c.in-Ok.ensures.found of.same (record { moved = moved_of_all uids old.kept (heard more.history) batch more.was.kept moved; ticks = (steps more.history more.was).tick }));
       replies_are = c.in_ok-push.ensures.items ∙ ap (λ front. front ++ Taken c.in_ok-changed.changed.tick c.len-2.result ∷ []) c.in_ok-reserve.ensures.items ∙ ap (λ n. c.args.self.now.replies.items ++ Taken n c.len-2.result ∷ []) tick ∙ ap (λ n. c.args.self.now.replies.items ++ Taken (c.take.new.self).tick n ∷ []) count;
-      desks_are = more.are;
+      world_is = record { desks_are = more.are; packets_are = is_past.packets_are };
     }
 
--- a world says that the ticks are spent where its desk does
-spent_at_desk : {T : Type 0} (error : DeskError) (r : Result T Cause) → IsErrAnd r (λ e. e ≡ cause_of error) → IsErrOf r cause.TicksSpent → error ≡ desk.TicksSpent
-spent_at_desk desk.TicksSpent r is spent = refl
-spent_at_desk desk.NoMemory (Ok x) is spent = absurd is
-spent_at_desk desk.NoMemory (Err e) is spent = absurd cc
-
 pub returns-in_err-changed-clause-spent : goal.returns-in_err-changed-clause-spent
-returns-in_err-changed-clause-spent c = λ spent histories are.
+returns-in_err-changed-clause-spent c = λ spent past is_past.
+    let histories = past.histories in
+    let are = is_past.desks_are in
     let within : c.args.desk < length c.args.self.now.desks.items = grind arith in
     let old : Shown = c.index_mut.result.now in
     let stands : old ≡ get_or c.args.self.now.desks.items c.args.desk old = c.index_mut.ensures.value in

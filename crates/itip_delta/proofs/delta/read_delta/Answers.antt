@@ -1,0 +1,14 @@
+use Rattle.std.proofs.Common.{List, subst, sym}
+use Rattle.itip_message.specs.declared.item.Item.{Item}
+use Rattle.itip_delta.specs.Delta.{Continues}
+use Rattle.itip_delta.proofs.Deltas.{reads_more, ends_reading}
+use Rattle.itip_delta.proofs.delta.read_delta.Goals as goal
+
+pub loop-message-preserved : goal.loop-message-preserved
+loop-message-preserved c =
+    subst (λ (items : List Item). Continues c.args.octets.now c.in-Some.after.now items) (sym c.in_ok-append.ensures.items)
+    (reads_more c.args.octets.now c.loop-message.rest.now c.in-Some.message.now c.in-Some.after.now c.loop-message.items.items c.in_ok-given.given.items c.loop-message.invariant c.in-Some.ensures c.in_ok-given.ensures.found)
+
+pub returns-clause-found : goal.returns-clause-found
+returns-clause-found c =
+    ends_reading c.args.octets.now c.loop-message.rest.now c.loop-message.items.items c.in_ok-of_items.field-0 c.loop-message.invariant c.in_default.ensures c.in_ok-of_items.ensures

@@ -1,0 +1,11 @@
+use Rattle.itip_delta.proofs.Deltas.{one_batch, one_refusal, delta_apart}
+use Rattle.itip_delta.proofs.laws.one_delta.Goals as goal
+
+pub returns-clause-batch : goal.returns-clause-batch
+returns-clause-batch c = one_batch
+
+pub returns-clause-fault : goal.returns-clause-fault
+returns-clause-fault c = one_refusal
+
+pub returns-clause-apart : goal.returns-clause-apart
+returns-clause-apart c = delta_apart
