@@ -1,12 +1,16 @@
-use Rattle.std.proofs.Common.{◌≡◌, ◌++◌, ◌∷◌, [], ◌∙◌, sym, ap, subst, List, map, Option, Some, None}
-use Rattle.std.specs.List.{Contains}
+use Rattle.std.proofs.Common.{◌≡◌, ◌+◌, ℕ, take, take_all, ◌++◌, ◌∷◌, [], ◌∙◌, sym, ap, subst, List, map, Option, Some, None}
+use Rattle.std.specs.List.{Contains, AllPairs}
+use Rattle.std.specs.declared.cmp.Ordering.TheVariants.{Less}
+use Rattle.std.proofs.lemmas.List.{take_more}
+use Rattle.itip_moment.specs.Order.{moment_cmp}
+use Rattle.itip_state.proofs.Ascending.{pairs_ascend}
 use Rattle.itip_moment.specs.declared.moment.Moment.{Moment}
 use Rattle.itip_message.specs.declared.item.Item.{Item}
 use Rattle.itip_view.specs.OfUid.{IsWhole, IsAnswerAt, ArePlaces}
 use Rattle.itip_view.specs.declared.row.Row.{Row}
 use Rattle.itip_view.proofs.Collecting.{RowsUpTo, listed, rows_begin, rows_pass, rows_more, rows_of_places, earlier_before}
 use Rattle.itip_view.proofs.of_uid.rows_of_uid.Goals as goal
-use Rattle.itip_view.proofs.of_uid.rows_of_uid.Goals.{in-Some+in_ok-push, in_default}
+use Rattle.itip_view.proofs.of_uid.rows_of_uid.Goals.{in-Some+in_ok-push, in_default, in-Some-2+in_ok-push-2, in_default-2}
 
 pub loop-at-init : goal.loop-at-init
 loop-at-init c =
@@ -29,7 +33,36 @@ row_at-requires-clause-occurs c =
     places.each c.at-item.result (subst (λ (ms : List Moment). Contains ms c.at-item.result) c.deref-at-items.ensures.value here)
 
 pub loop-at-preserved : goal.loop-at-preserved
-loop-at-preserved c = ?
+loop-at-preserved c =
+    let items : List Item = map (λ item. item.now) c.args.items.now in
+    let places : ArePlaces items c.args.window c.args.uid.now c.in_ok-places.places.items =
+    c.in_ok-places.ensures c.args.uid.now c.requires.about c.in_ok-series.ensures (c.in_ok-whole.ensures items c.args.uid.now c.in_ok-series.ensures) in
+    let moments : List Moment = c.deref-at-items.result.now in
+    let i : ℕ = c.loop-at.at-index in
+    let at : Moment = c.at-item.result in
+    let rows : List Row = c.loop-at.rows.items in
+    let done : take (i + 1) moments ≡ take i moments ++ at ∷ [] = take_more moments i at c.loop-at-test.true ∙ ap (λ (m : Moment). take i moments ++ m ∷ []) (sym c.at-item.is) in
+    let pairs : AllPairs (λ (a b : Moment). moment_cmp a b ≡ Less) moments =
+    subst (λ (ms : List Moment). AllPairs (λ (a b : Moment). moment_cmp a b ≡ Less) ms) (sym c.deref-at-items.ensures.value) (pairs_ascend moment_cmp c.in_ok-places.places.items places.ascend) in
+    let later : (m : Moment) → Contains (take i moments) m → moment_cmp m at ≡ Less = earlier_before (λ (a b : Moment). moment_cmp a b ≡ Less) moments i at pairs c.loop-at-test.true c.at-item.is in
+    elim c.match-branch-8.branch [
+      | in-Some-2+in_ok-push-2 w ↦
+          let pushed : c.match-branch-8.rows.items ≡ rows ++ w.in-Some-2.row ∷ [] = ap (λ v. v.items) w.rows-is ∙ w.in_ok-push-2.ensures.items in
+          let is : IsAnswerAt items c.args.window c.args.uid.now (Some at) (Some w.in-Some-2.row) = subst (λ (o : Option Row). IsAnswerAt items c.args.window c.args.uid.now (Some at) o) w.in-Some-2.is c.in_ok-row-2.ensures in
+          subst (λ (rs : List Row). RowsUpTo items c.args.window c.args.uid.now (take (i + 1) moments) rs) (sym pushed)
+          (subst (λ (ms : List Moment). RowsUpTo items c.args.window c.args.uid.now ms (rows ++ w.in-Some-2.row ∷ [])) (sym done)
+          (rows_more items c.args.window c.args.uid.now (take i moments) at rows c.loop-at.invariant later w.in-Some-2.row is))
+      | in_default-2 w ↦
+          let none : IsAnswerAt items c.args.window c.args.uid.now (Some at) None = subst (λ (o : Option Row). IsAnswerAt items c.args.window c.args.uid.now (Some at) o) w.in_default-2.is c.in_ok-row-2.ensures in
+          subst (λ (rs : List Row). RowsUpTo items c.args.window c.args.uid.now (take (i + 1) moments) rs) (sym (ap (λ v. v.items) w.rows-is))
+          (subst (λ (ms : List Moment). RowsUpTo items c.args.window c.args.uid.now ms rows) (sym done) (rows_pass items c.args.window c.args.uid.now (take i moments) at rows c.loop-at.invariant none))
+    ]
 
 pub returns : goal.returns
-returns c = ?
+returns c =
+    let items : List Item = map (λ item. item.now) c.args.items.now in
+    let places : ArePlaces items c.args.window c.args.uid.now c.in_ok-places.places.items =
+    c.in_ok-places.ensures c.args.uid.now c.requires.about c.in_ok-series.ensures (c.in_ok-whole.ensures items c.args.uid.now c.in_ok-series.ensures) in
+    let all : take c.loop-at.at-index c.deref-at-items.result.now ≡ c.in_ok-places.places.items = take_all c.loop-at.at-index c.deref-at-items.result.now c.loop-at-test.false ∙ c.deref-at-items.ensures.value in
+    rows_of_places items c.args.window c.args.uid.now c.in_ok-places.places.items c.loop-at.rows.items places
+    (subst (λ (ms : List Moment). RowsUpTo items c.args.window c.args.uid.now ms c.loop-at.rows.items) all c.loop-at.invariant)
