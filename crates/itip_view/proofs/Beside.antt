@@ -1,12 +1,11 @@
 -- What stands beside the series item, and which answers count.
-use Rattle.std.proofs.Common.{◌≡◌, ◌≤◌, ◌<◌, ℕ, List, sym, subst, arith, Option, Some, None}
-use Rattle.std.specs.Prelude.{MatchOption}
+use Rattle.std.proofs.Common.{◌≤◌, ◌<◌, ℕ, List, subst, arith, Option, Some, None}
 use Rattle.itip_moment.specs.declared.moment.Moment.{Moment}
 use Rattle.itip_message.specs.declared.item.Item.{Item}
 use Rattle.itip_message.specs.declared.key.Key.{Key}
 use Rattle.itip_message.specs.declared.key.Key.TheVariants.{Series, Instance}
 use Rattle.itip_state.specs.Kept.{IsBest}
-use Rattle.itip_view.specs.Answers.{Counts, NoneCounts}
+use Rattle.itip_view.specs.Answers.{NoneCounts}
 use Rattle.itip_view.specs.OfUid.{IsSeriesItem, StandsBesideOf}
 use Rattle.itip_view.specs.Standing.{Stands, StandsBeside, NoneStands}
 use Rattle.itip_view.proofs.OneRow.{one_best}

@@ -1,5 +1,5 @@
 -- The rows of one UID, place by place.
-use Rattle.std.proofs.Common.{◌≡◌, ◌<◌, ℕ, List, [], ◌∷◌, ◌++◌, refl, sym, ◌∙◌, ap, subst, ◌⊎◌, inl, inr, arith, zero, suc, length, take, Option, Some, None, get_or}
+use Rattle.std.proofs.Common.{◌≡◌, ◌<◌, ℕ, List, [], ◌∷◌, ◌++◌, sym, ◌∙◌, ap, subst, ◌⊎◌, inl, inr, arith, zero, suc, length, take, Option, Some, None, get_or}
 use Rattle.std.specs.List.{Contains, AllPairs}
 use Rattle.std.specs.Option.{option_cmp}
 use Rattle.std.specs.Ordering.{nat_cmp, ordering_then}
@@ -15,7 +15,7 @@ use Rattle.itip_message.specs.declared.item.Item.{Item}
 use Rattle.itip_state.proofs.Members.{none_in, cons_cases, no_pairs}
 use Rattle.itip_view.specs.OfUid.{IsRowAt, IsAnswerAt, ArePlaces, AreRowsOf}
 use Rattle.itip_view.specs.Rows.{IsRow, IsInstanceRow, IsOccurrenceRow, IsSingleRow, IsOpaqueRow, AscendRows, moment_of, row_cmp}
-use Rattle.itip_view.specs.Standing.{IsLiveInstance, IsLiveSeries, NoneStands, Stands}
+use Rattle.itip_view.specs.Standing.{IsLiveSeries, Stands}
 use Rattle.itip_view.specs.declared.row.Row.{Row}
 use Rattle.itip_view.specs.declared.window.Window.{Window}
 use Rattle.itip_view.proofs.OfKey.{head_pair, tail_pairs}

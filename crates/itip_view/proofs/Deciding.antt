@@ -1,9 +1,9 @@
 -- Which answer decides, and whom the lines show, step by step.
-use Rattle.std.proofs.Common.{◌≡◌, ℕ, List, [], ◌∷◌, ◌++◌, refl, sym, ◌∙◌, ap, subst, inl, inr, Option, Some, None, append_assoc}
+use Rattle.std.proofs.Common.{◌≡◌, List, [], ◌∷◌, ◌++◌, refl, sym, ap, inr, Option, Some, None, append_assoc}
 use Rattle.itip_todo.specs.declared.property.Property.{Property}
 use Rattle.itip_message.specs.declared.item.Item.{Item}
 use Rattle.itip_message.specs.declared.key.Key.{Key}
-use Rattle.itip_view.specs.Answers.{Counts, NoneCounts, Decides, AreShown, shown_line, in_front}
+use Rattle.itip_view.specs.Answers.{NoneCounts, Decides, AreShown, shown_line, in_front}
 use Rattle.itip_view.specs.declared.row.ShownAttendee.{ShownAttendee}
 
 module _ (heard : List Item) (governing : Item) where

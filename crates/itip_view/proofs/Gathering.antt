@@ -1,5 +1,5 @@
 -- The rows of all UIDs, one UID after the other.
-use Rattle.std.proofs.Common.{◌≡◌, ◌+◌, ◌<◌, ◌≤◌, ℕ, List, [], ◌∷◌, ◌++◌, refl, sym, ◌∙◌, ap, subst, ◌⊎◌, inl, inr, length, length-append}
+use Rattle.std.proofs.Common.{◌≡◌, ◌+◌, ◌<◌, ℕ, List, [], ◌∷◌, ◌++◌, sym, ◌∙◌, ap, subst, ◌⊎◌, inl, inr, length, length-append}
 use Rattle.std.specs.List.{Contains}
 use Rattle.std.specs.Option.{option_cmp}
 use Rattle.std.specs.Ordering.{nat_cmp, ordering_then}
@@ -9,8 +9,7 @@ use Rattle.std.proofs.lemmas.List.Elements.{Contains-append_cases, Contains-appe
 use Rattle.itip_moment.specs.Order.{moment_cmp}
 use Rattle.itip_message.specs.KeyParts.{uid_of}
 use Rattle.itip_message.specs.declared.item.Item.{Item}
-use Rattle.itip_message.specs.declared.key.Key.TheVariants as key
-use Rattle.itip_state.specs.Kept.{IsBest, ArePart, AreUidsOf}
+use Rattle.itip_state.specs.Kept.{ArePart, AreUidsOf}
 use Rattle.itip_state.proofs.Members.{none_in, no_pairs, pairs_append}
 use Rattle.itip_view.specs.OfUid.{AreRowsOf}
 use Rattle.itip_view.specs.Rows.{IsRow, IsInstanceRow, IsOccurrenceRow, IsSingleRow, IsOpaqueRow, AreRows, AreTooMany, AscendRows, row_limit, moment_of, row_cmp}

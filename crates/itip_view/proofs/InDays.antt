@@ -1,5 +1,5 @@
 -- The test of a day says whether it is in the window.
-use Rattle.std.proofs.Common.{◌≡◌, Bool, true, false, ◌&&◌, not, refl, sym, subst, Option, Some, None, ℤ, ◌≤ℤ◌, ◌<ℤ◌}
+use Rattle.std.proofs.Common.{◌≡◌, Bool, true, false, not, refl, sym, subst, Option, Some, None, ℤ, ◌≤ℤ◌, ◌<ℤ◌}
 use Rattle.std.specs.Prelude.{int_lt}
 use Rattle.std.proofs.Math.Dec.{T}
 use lib.Signed.{lt_z_yes, lt_z_no, <ℤ-≤ℤ_trans, <ℤ_irrefl}

@@ -1,17 +1,15 @@
 -- The occurrences of a to-do as a whole.
-use Rattle.std.proofs.Common.{◌≡◌, ◌↔◌, ℕ, List, [], refl, sym, ap, subst, ℤ, Option, Some, None}
+use Rattle.std.proofs.Common.{◌≡◌, ℕ, List, [], subst, Some, None}
 use Rattle.std.specs.List.{Contains}
 use Rattle.itip_moment.specs.declared.moment.Moment.{Moment}
 use Rattle.itip_recur.specs.Occurrences.{OccursIn, AreOccurrences}
 use Rattle.itip_recur.specs.ToDoShape.{IsShape, IsSeriesOf}
 use Rattle.itip_recur.specs.declared.series.Series.{Series}
-use Rattle.itip_recur.specs.declared.series.Shape.{Shape}
 use Rattle.itip_recur.specs.declared.series.Shape.TheVariants as shape
 use Rattle.itip_message.specs.declared.item.Item.{Item}
 use Rattle.itip_message.specs.declared.key.Key.TheVariants as key
 use Rattle.itip_state.proofs.Members.{none_in}
 use Rattle.itip_view.specs.OfUid.{IsWhole, IsOccurrence, AreOccurrencesOf}
-use Rattle.itip_view.specs.Standing.{IsLiveSeries}
 use Rattle.itip_view.specs.declared.whole.Whole.{Whole}
 use Rattle.itip_view.specs.declared.window.Window.{Window}
 use Rattle.itip_view.proofs.OneRow.{one_best}

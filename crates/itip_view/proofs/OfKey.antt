@@ -1,5 +1,5 @@
 -- Of items in the order of their keys, each is the best of its key.
-use Rattle.std.proofs.Common.{◌≡◌, ◌<◌, List, [], ◌∷◌, zero, suc, refl, sym, ◌∙◌, ap, subst, inl, inr, arith, length, Option, Some, None}
+use Rattle.std.proofs.Common.{◌≡◌, List, [], ◌∷◌, zero, suc, sym, ◌∙◌, ap, subst, inl, inr, arith, Option, Some, None}
 use Rattle.std.specs.Prelude.{MatchOption}
 use Rattle.std.specs.List.{Contains, AllPairs}
 use Rattle.std.specs.Cmp.{tied_itself}

@@ -1,6 +1,6 @@
 -- The rows of one UID need only its part of a set.
 use Rattle.std.proofs.Common.{◌≡◌, ◌↔◌, ℕ, List, [], ◌∷◌, refl, sym, ◌∙◌, ap, subst, inl, inr, Option, Some, None}
-use Rattle.std.specs.List.{Contains, AllByRecursion}
+use Rattle.std.specs.List.{AllByRecursion}
 use Rattle.itip_moment.specs.declared.moment.Moment.{Moment}
 use Rattle.itip_todo.specs.declared.property.Property.{Property}
 use Rattle.itip_message.specs.KeyParts.{uid_of}
@@ -8,9 +8,9 @@ use Rattle.itip_message.specs.declared.item.Item.{Item}
 use Rattle.itip_message.specs.declared.key.Key.{Key}
 use Rattle.itip_message.specs.declared.key.Key.TheVariants as key
 use Rattle.itip_state.specs.Kept.{IsBest, ArePart}
-use Rattle.itip_view.specs.Answers.{Counts, NoneCounts, Decides, AreShown, answer_key}
+use Rattle.itip_view.specs.Answers.{Counts, NoneCounts, Decides, AreShown}
 use Rattle.itip_view.specs.Rows.{IsRow, instance_keys, occurrence_keys, series_keys, NoneStandsAtStart}
-use Rattle.itip_view.specs.Standing.{Stands, NoneStands, IsLiveSeries, IsLiveInstance}
+use Rattle.itip_view.specs.Standing.{Stands, NoneStands, IsLiveSeries}
 use Rattle.itip_view.specs.declared.row.Row.{Row}
 use Rattle.itip_view.specs.declared.row.ShownAttendee.{ShownAttendee}
 use Rattle.itip_view.specs.declared.window.Window.{Window}

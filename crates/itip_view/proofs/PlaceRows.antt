@@ -6,14 +6,12 @@ use Rattle.itip_recur.specs.declared.series.Series.{Series}
 use Rattle.itip_recur.specs.declared.series.Shape.TheVariants as shape
 use Rattle.itip_message.specs.declared.item.Item.{Item}
 use Rattle.itip_message.specs.declared.key.Key.TheVariants as key
-use Rattle.itip_state.specs.Kept.{IsBest}
 use Rattle.itip_view.specs.Answers.{AreShown}
 use Rattle.itip_view.specs.OfUid.{IsRowOf, IsRowAt, IsOccurrence}
 use Rattle.itip_view.specs.Rows.{IsInstanceRow, IsOccurrenceRow, IsSingleRow, IsOpaqueRow, IsDueOf, NoneStandsAtStart, moment_of, instance_day, day_of, instance_keys, occurrence_keys, series_keys}
 use Rattle.itip_view.specs.Standing.{Stands, NoneStands, IsLive, IsLiveSeries, IsLiveInstance}
 use Rattle.itip_view.specs.Window.{IsInWindow}
 use Rattle.itip_view.specs.declared.row.Row.{Row}
-use Rattle.itip_view.specs.declared.row.RowId.{RowId}
 use Rattle.itip_view.specs.declared.row.RowId.TheVariants as id
 use Rattle.itip_view.specs.declared.window.Window.{Window}
 use Rattle.itip_view.proofs.OneRow.{one_best}
@@ -161,7 +159,7 @@ module _ (items : List Item) (window : Window) (uid : List ℕ) where
       | inl p ↦
           let same : p.item ≡ item = series_of_whole item p.item row.uid at.uid_is live p.live in
           not (subst (λ (i : Item). NoneStandsAtStart items uid i.todo.start) same (subst (λ (u : List ℕ). NoneStandsAtStart items u p.item.todo.start) at.uid_is p.none_stands))
-              (subst (λ (i : Item). IsInWindow window.from window.to (day_of i.todo.start i.todo.due)) same p.in_window)
+          (subst (λ (i : Item). IsInWindow window.from window.to (day_of i.todo.start i.todo.due)) same p.in_window)
       | inr p ↦ single (subst (λ (i : Item). Recurs i.todo) (series_of_whole item p.item row.uid at.uid_is live p.live) p.opaque.0)
     ]
 

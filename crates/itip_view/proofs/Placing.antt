@@ -1,5 +1,5 @@
 -- The moments at which rows may stand.
-use Rattle.std.proofs.Common.{◌≡◌, ◌↔◌, ℕ, List, [], ◌∷◌, ◌++◌, refl, sym, ◌∙◌, ap, subst, ◌⊎◌, inl, inr, Option, Some, None}
+use Rattle.std.proofs.Common.{◌≡◌, ◌↔◌, ℕ, List, [], ◌∷◌, ◌++◌, sym, ◌∙◌, ap, subst, ◌⊎◌, inl, inr, Option}
 use Rattle.std.specs.List.{Contains}
 use Rattle.std.specs.List.Sorted.{IsStrictlySortedBy}
 use Rattle.std.proofs.lemmas.List.Elements.{Contains-append_left, Contains-push, Contains-push_cases}
@@ -9,10 +9,9 @@ use Rattle.itip_message.specs.KeyParts.{uid_of}
 use Rattle.itip_message.specs.declared.item.Item.{Item}
 use Rattle.itip_message.specs.declared.key.Key.{Key}
 use Rattle.itip_message.specs.declared.key.Key.TheVariants as key
-use Rattle.itip_state.specs.Kept.{IsBest, AscendKeys}
+use Rattle.itip_state.specs.Kept.{AscendKeys}
 use Rattle.itip_state.proofs.Members.{none_in}
 use Rattle.itip_view.specs.OfUid.{AreOf, IsSeriesItem, StandsBesideOf, AreOccurrencesOf, ArePlaces}
-use Rattle.itip_view.specs.Standing.{Stands}
 use Rattle.itip_view.specs.declared.window.Window.{Window}
 use Rattle.itip_view.proofs.Beside.{stands_from, beside_from}
 use Rattle.itip_view.proofs.OfKey.{best_in}

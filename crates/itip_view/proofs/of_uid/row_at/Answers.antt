@@ -1,4 +1,4 @@
-use Rattle.std.proofs.Common.{◌≡◌, subst, List, map, Option, Some, Bor}
+use Rattle.std.proofs.Common.{subst, List, map, Option, Some, Bor}
 use Rattle.std.specs.Prelude.{MatchOption}
 use Rattle.std.specs.Option.{option_copied}
 use Rattle.itip_message.specs.declared.item.Item.{Item}

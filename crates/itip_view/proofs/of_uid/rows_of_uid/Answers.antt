@@ -6,7 +6,7 @@ use Rattle.itip_moment.specs.Order.{moment_cmp}
 use Rattle.itip_state.proofs.Ascending.{pairs_ascend}
 use Rattle.itip_moment.specs.declared.moment.Moment.{Moment}
 use Rattle.itip_message.specs.declared.item.Item.{Item}
-use Rattle.itip_view.specs.OfUid.{IsWhole, IsAnswerAt, ArePlaces}
+use Rattle.itip_view.specs.OfUid.{IsAnswerAt, ArePlaces}
 use Rattle.itip_view.specs.declared.row.Row.{Row}
 use Rattle.itip_view.proofs.Collecting.{RowsUpTo, listed, rows_begin, rows_pass, rows_more, rows_of_places, earlier_before}
 use Rattle.itip_view.proofs.of_uid.rows_of_uid.Goals as goal

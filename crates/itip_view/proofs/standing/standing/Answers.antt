@@ -2,9 +2,7 @@ use Rattle.std.proofs.Common.{◌≡◌, ◌∙◌, sym, List, map, ℕ, true, f
 use Rattle.std.specs.Option.{option_copied}
 use Rattle.itip_moment.specs.declared.moment.Moment.{Moment}
 use Rattle.itip_message.specs.declared.item.Item.{Item}
-use Rattle.itip_message.specs.declared.key.Key.{Key}
 use Rattle.itip_message.specs.declared.key.Key.TheVariants.{Instance}
-use Rattle.itip_state.specs.Kept.{AscendKeys, IsBest}
 use Rattle.itip_view.proofs.Beside.{stands_from, none_found, none_beside}
 use Rattle.itip_view.proofs.OfKey.{best_in}
 use Rattle.itip_view.proofs.standing.standing.Goals as goal

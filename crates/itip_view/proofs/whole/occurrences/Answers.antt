@@ -1,4 +1,4 @@
-use Rattle.std.proofs.Common.{◌≡◌, List, ℕ, Option, subst, inl, inr, rules, w32}
+use Rattle.std.proofs.Common.{List, ℕ, Option, subst, inl, inr, rules, w32}
 use Rattle.std.specs.Prelude.{IfOk}
 use Rattle.std.proofs.lemmas.Int.{to_z-of_z}
 use mir.Val.{SFits}
