@@ -147,8 +147,8 @@ module _ (old new : List Shown) (packets more_packets : List (List ℕ)) (event 
   steps_no_packet lacks past world = record {
     past = past;
     step = happens order event (refused 51) past asks (of_no_packet (
-      subst (λ (n : ℕ). LacksOnlyPacket n (length past.packets) event) (sym (same_length past.histories old world.desks_are))
-      (subst (λ (n : ℕ). LacksOnlyPacket (length old) n event) (sym (texts_length past.packets packets world.packets_are)) lacks)));
+        subst (λ (n : ℕ). LacksOnlyPacket n (length past.packets) event) (sym (same_length past.histories old world.desks_are))
+        (subst (λ (n : ℕ). LacksOnlyPacket (length old) n event) (sym (texts_length past.packets packets world.packets_are)) lacks)));
     world_is = still past old new packets more_packets unmoved unposted world;
   }
 

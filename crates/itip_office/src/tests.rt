@@ -262,8 +262,10 @@ fn window() -> Result<Window, Fail> {
 #[test]
 fn a_script_is_answered_and_goes_on(rt: HostRuntime) -> Result<(), Fail> {
     // A missing desk comes before a missing packet, and a refused post takes no number.
-    let script = b"!foo\n\nstray\n!list 8\n!take 8\nA:b\n!post 8 0\n!arrive 7 9\n!arrive 0 0\n!post 0 0\n!arrive 0 0\n!entries 0\n!entries 8\n".as_slice();
-    let output = b"refused 60\nrefused 60\nrefused 50\nrefused 50\nrefused 50\nrefused 50\nrefused 51\npost 0 items 0\narrive 0 0 tick 0 changed 0\nentries 0 0\nrefused 50\n".as_slice();
+    let script =
+        b"!foo\n\nstray\n!list 8\n!take 8\nA:b\n!post 8 0\n!arrive 7 9\n!arrive 0 0\n!post 0 0\n!arrive 0 0\n!entries 0\n!entries 8\n".as_slice();
+    let output =
+        b"refused 60\nrefused 60\nrefused 50\nrefused 50\nrefused 50\nrefused 50\nrefused 51\npost 0 items 0\narrive 0 0 tick 0 changed 0\nentries 0 0\nrefused 50\n".as_slice();
     for (room, fails_at, wanted) in [
         (999, 99, Ok(true)),
         (0, 99, Err(ScriptFault::Write)),
