@@ -86,7 +86,13 @@ pub(crate) fn about(alloc: Global, number: u64) -> Result<Vec<String>, AllocErro
     Ok(texts)
 }
 
-fn stating(alloc: Global, method: &str, uid: &str, lines: &str) -> Result<String, AllocError> {
+/// A message of this method about a to-do of these lines.
+pub(crate) fn stating(
+    alloc: Global,
+    method: &str,
+    uid: &str,
+    lines: &str,
+) -> Result<String, AllocError> {
     let mut text = format!(in alloc; "BEGIN:VCALENDAR\r\nVERSION:2.0\r\nMETHOD:{method}\r\n")?;
     text.push_str("BEGIN:VTODO\r\n")?;
     text.push_str(uid)?;

@@ -7,17 +7,21 @@ mod attendees;
 mod desks;
 mod error;
 mod joins;
+mod lists;
 mod load;
 mod messages;
 mod recurrence;
+mod scripts;
 mod threads;
 
 use crate::attendees::measure_attendees;
 use crate::desks::measure_desks;
 use crate::error::BenchError;
 use crate::joins::measure_joins;
+use crate::lists::measure_lists;
 use crate::messages::measure_messages;
 use crate::recurrence::measure_recurrence;
+use crate::scripts::measure_scripts;
 use crate::threads::measure_threads;
 use std::env;
 use std::process::ExitCode;
@@ -50,6 +54,8 @@ fn run<R: AllocGlobal + Clock + Env + Print + Threads + Sync>(rt: &R) -> Result<
         "threads" => measure_threads(rt, size),
         "recurrence" => measure_recurrence(rt, size),
         "desks" => measure_desks(rt, size),
+        "lists" => measure_lists(rt, size),
+        "scripts" => measure_scripts(rt, size),
         _ => Err(BenchError::Words),
     }
 }
