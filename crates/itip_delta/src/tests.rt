@@ -1,5 +1,7 @@
-use crate::{Cause, Event, NoMemory, Reply, World, read_delta, run_world, write_delta};
-use itip_desk::Batch;
+ghost use Rattle.std.specs.Prelude.{◌≤◌};
+
+use crate::{Cause, Event, NoMemory, Packet, Reply, World, read_delta, run_world, write_delta};
+use itip_desk::{Batch, Desk};
 use itip_lines::Bytes;
 use itip_message::{Fault, Item, ReadError, read_message};
 use std::alloc::Global;
@@ -43,10 +45,27 @@ fn items(rt: &impl Abort, alloc: Global, text: &[u8]) -> Vec<Item> {
 }
 
 /// The world after events of which none is refused.
-fn world(rt: &impl Abort, alloc: Global, desks: usize, events: &[Event]) -> World {
+fn world(rt: &impl Abort, alloc: Global, desks: usize, events: &[Event]) -> World
+    requires some { 1 ≤ desks }
+    requires few { desks ≤ 8 }
+{
     match run_world(alloc, desks, events) {
         Ok(world) => world,
         Err(_) => panic!(rt; "a run stopped"),
+    }
+}
+
+fn desk<'a>(rt: &impl Abort, world: &'a World, number: usize) -> &'a Desk {
+    match world.desks.get(number) {
+        Some(desk) => desk,
+        None => panic!(rt; "a desk is missing"),
+    }
+}
+
+fn first_packet<'a>(rt: &impl Abort, world: &'a World) -> &'a Packet {
+    match world.packets.first() {
+        Some(packet) => packet,
+        None => panic!(rt; "no packet was posted"),
     }
 }
 
@@ -98,8 +117,12 @@ fn two_desks_cross(rt: HostRuntime) -> Result<(), Fail> {
         },
     ];
     assert!(rt; world.replies.as_slice() == replies.as_slice());
-    assert!(rt; world.desks[0].state().equal(world.desks[1].state()));
-    assert_eq!(rt; world.desks[0].entries(), 1);
+    assert!(rt;
+        desk(&rt, &world, 0)
+            .state()
+            .equal(desk(&rt, &world, 1).state())
+    );
+    assert_eq!(rt; desk(&rt, &world, 0).entries(), 1);
     for packet in &world.packets {
         assert_eq!(rt; packet.as_slice(), CANONICAL);
     }
@@ -115,13 +138,17 @@ fn a_packet_has_the_kept_items_by_octets(rt: HostRuntime) -> Result<(), Fail> {
     events.push(Event::Post { desk: 0, since: 0 })?;
     events.push(Event::Arrive { packet: 0, desk: 1 })?;
     let world = world(&rt, alloc, 2, &events);
-    assert_eq!(rt; world.packets[0].as_slice().len(), 737);
-    let batch = world.packets[0].batch(alloc)?;
+    assert_eq!(rt; first_packet(&rt, &world).as_slice().len(), 737);
+    let batch = first_packet(&rt, &world).batch(alloc)?;
     let lengths = [230, 273, 234];
     for (item, length) in batch.as_slice().iter().zip(&lengths) {
         assert_eq!(rt; item.bytes.as_slice().len(), *length);
     }
-    assert!(rt; world.desks[0].state().equal(world.desks[1].state()));
+    assert!(rt;
+        desk(&rt, &world, 0)
+            .state()
+            .equal(desk(&rt, &world, 1).state())
+    );
     Ok(())
 }
 
@@ -158,8 +185,8 @@ fn a_run_stops_where_a_desk_or_a_packet_is_missing(rt: HostRuntime) -> Result<()
             Err(stopped) => {
                 assert_eq!(rt; stopped.done, 1);
                 assert_eq!(rt; stopped.cause, cause);
-                assert_eq!(rt; stopped.world.desks[0].tick(), 1);
-                assert_eq!(rt; stopped.world.desks[0].entries(), 1);
+                assert_eq!(rt; desk(&rt, &stopped.world, 0).tick(), 1);
+                assert_eq!(rt; desk(&rt, &stopped.world, 0).entries(), 1);
             }
         }
     }
@@ -173,7 +200,7 @@ fn a_refused_message_is_a_reply(rt: HostRuntime) -> Result<(), Fail> {
     events.push(deliver(alloc, 0, b"A:b\n")?)?;
     let world = world(&rt, alloc, 1, &events);
     assert!(rt; world.replies.as_slice() == [Reply::Refused(5)].as_slice());
-    assert_eq!(rt; world.desks[0].tick(), 0);
+    assert_eq!(rt; desk(&rt, &world, 0).tick(), 0);
     Ok(())
 }
 
