@@ -1,4 +1,4 @@
--- What a call of the program asks for.
+-- What a call of the program asks for (our own form).
 use Rattle.itip_app.specs.declared.words.Call.{Call}
 use Rattle.itip_app.specs.declared.words.Task.{Task}
 use Rattle.itip_app.specs.declared.words.Task.TheVariants.{Run, Check}

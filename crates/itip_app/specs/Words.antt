@@ -1,4 +1,4 @@
--- What the words of the program stand for.
+-- What the words of the program stand for (our own form).
 use Rattle.std.specs.Prelude.{◌≡◌, ℕ, ◌≤◌, nat_le, ◌&&◌, if◌then◌else◌, List, Option, Some, None, Bool}
 use Rattle.std.specs.Option.{option_and_then}
 use Rattle.itip_office.specs.Orders.{number_of}

@@ -1,4 +1,4 @@
--- What is known while lines and octets are passed.
+-- What is known while lines and octets are passed (our own form).
 use Rattle.std.specs.Prelude.{◌≡◌, ◌<◌, ℕ, Bool, false, List, ◌∷◌, ◌++◌, length, map}
 use Rattle.std.specs.List.{AllByRecursion, concat, list_all}
 use Rattle.std.specs.Char.{to_ascii_uppercase}

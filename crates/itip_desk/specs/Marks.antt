@@ -1,4 +1,4 @@
--- How the ticks of UIDs change in a step.
+-- How the ticks of UIDs change in a step (our own form).
 use Rattle.std.specs.Prelude.{◌≡◌, ℕ, List, Bool, Option, Some, None, ◌⊎◌}
 use Rattle.std.specs.List.{list_any}
 use Rattle.std.specs.Ordering.{nat_cmp, is_eq}

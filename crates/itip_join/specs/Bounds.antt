@@ -1,4 +1,4 @@
--- Least upper bounds: in an order of knowledge, the least that tells what two values tell.
+-- Least upper bounds: in an order of knowledge, the least that tells what two values tell (our own form).
 use Rattle.std.specs.Prelude.{◌≡◌, ◌↔◌, List, [], ◌∷◌}
 use Rattle.std.specs.List.{Contains}
 

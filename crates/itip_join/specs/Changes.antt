@@ -1,4 +1,4 @@
--- What is to be put into a map so that it tells what another map tells too.
+-- What is to be put into a map so that it tells what another map tells too (our own form).
 use Rattle.std.specs.Prelude.{◌≡◌, Bool, true, false, cond, ◌||◌, List, [], ◌∷◌, ◌++◌, map, Option, Some, None, is_some}
 use Rattle.std.specs.Ordering.{is_eq}
 use Rattle.std.specs.declared.cmp.Ordering.{Ordering}

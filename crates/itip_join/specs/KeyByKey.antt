@@ -1,4 +1,4 @@
--- The order of maps, key by key. A map is the list of its entries, in the order of their keys.
+-- The order of maps, key by key. A map is the list of its entries, in the order of their keys (our own form).
 use Rattle.std.specs.Prelude.{◌≡◌, Bool, true, false, not, ◌&&◌, List, [], ◌∷◌, Option, T, cond, filter}
 use Rattle.std.proofs.Common.{sym, ap, refl, ◌∙◌, Some}
 use Rattle.std.specs.Map.{lookup, keys_of}

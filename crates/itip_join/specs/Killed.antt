@@ -1,4 +1,4 @@
--- Maps under a guard: what is alive in them, and when they are the same.
+-- Maps under a guard: what is alive in them, and when they are the same (our own form).
 use Rattle.std.specs.Prelude.{◌≡◌, Bool, true, false, not, ◌&&◌, cond, List, [], ◌∷◌, Some}
 use Rattle.std.proofs.Common.{sym, ap, refl, ◌∙◌}
 use Rattle.std.specs.Map.{keys_of}

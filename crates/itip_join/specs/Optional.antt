@@ -1,4 +1,4 @@
--- What a map has at one key, in order: no value is below every value.
+-- What a map has at one key, in order: no value is below every value (our own form).
 use Rattle.std.specs.Prelude.{◌≡◌, Bool, true, false, cond, Option, Some, None, ◌⊎◌}
 use Rattle.std.proofs.Common.{ap, refl, inl, inr}
 

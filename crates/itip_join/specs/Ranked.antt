@@ -1,4 +1,4 @@
--- The order of values that a comparison ranks: x is up to y where it is not greater.
+-- The order of values that a comparison ranks: x is up to y where it is not greater (our own form).
 use Rattle.std.specs.Prelude.{◌≡◌, false, true, ◌⊎◌, Option, Some, None}
 use Rattle.std.proofs.Common.{sym, ◌∙◌, ap, refl, inl, inr}
 use Rattle.std.specs.Ordering.{is_gt, is_lt, ordering_reverse}

@@ -1,4 +1,4 @@
--- The parts of a line, as one scan from left to right cuts them off.
+-- The parts of a line, as one scan from left to right cuts them off (our own form).
 use Rattle.std.specs.Prelude.{◌≡◌, ℕ, Bool, false, ◌==◌, ◌||◌, IsTrue, ◌+◌, ◌<◌, List, [], ◌∷◌, ◌++◌, length}
 use Rattle.std.specs.List.{list_all}
 use Rattle.std.specs.Str.{IsUtf8}

@@ -1,4 +1,4 @@
--- The stretches and lines of a text from a place on, computed: what one scan finds.
+-- The stretches and lines of a text from a place on, computed: what one scan finds (our own form).
 use Rattle.std.specs.Prelude.{◌≡◌, ◌≢◌, ◌⊎◌, false, IsTrue, ℕ, cond, ◌==◌, Option, Some, None, List, [], ◌∷◌, ◌++◌}
 use Rattle.std.specs.List.{slice_split}
 use Rattle.itip_lines.specs.Cutting.{unfolded_onto, is_blank, without_empty}

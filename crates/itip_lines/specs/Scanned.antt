@@ -1,4 +1,4 @@
--- What a scan has found where a stretch ends.
+-- What a scan has found where a stretch ends (our own form).
 use Rattle.std.specs.Prelude.{◌≡◌, ◌<◌, ◌⊎◌, ◌++◌, ℕ, ◌+◌, Option, Some, None, List, [], ◌∷◌, length}
 use Rattle.itip_lines.specs.Scan.{lines_onto, lines_behind}
 use Rattle.itip_lines.specs.declared.scan.End.{End}

@@ -1,4 +1,4 @@
--- Faults of lines and of to-dos, as those of a message.
+-- Faults of lines and of to-dos, as those of a message (our own form).
 use Rattle.itip_lines.specs.declared.error.Fault as line_fault
 use Rattle.itip_lines.specs.declared.error.LineError as line_error
 use Rattle.itip_todo.specs.declared.error.Fault as todo_fault

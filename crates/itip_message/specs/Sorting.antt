@@ -1,4 +1,4 @@
--- Lines that are sorted so far, and what they are with those that follow.
+-- Lines that are sorted so far, and what they are with those that follow (our own form).
 use Rattle.std.specs.Prelude.{◌≡◌, List, ◌∷◌, ◌++◌}
 use Rattle.itip_lines.specs.declared.line.Line.{Line}
 use Rattle.itip_message.specs.Frame.{calendar_lines, todos_within}

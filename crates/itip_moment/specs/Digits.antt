@@ -1,4 +1,4 @@
--- Decimal digits: two for a number below 100, and four for one below 10,000.
+-- Decimal digits: two for a number below 100, and four for one below 10,000 (our own form).
 use Rattle.std.specs.Prelude.{ℕ, ◌+◌, ◌/◌, ◌%◌, List, [], ◌∷◌, ◌++◌}
 
 -- 48 is '0'

@@ -1,4 +1,4 @@
--- The parts of a moment: its form, its day, its second of the day, its zone.
+-- The parts of a moment: its form, its day, its second of the day, its zone (our own form).
 use Rattle.std.specs.Prelude.{ℕ, ℤ, Option, Some, None, List, []}
 use Rattle.itip_moment.specs.declared.moment.Form as form
 use Rattle.itip_moment.specs.declared.moment.Form.{Form}

@@ -1,4 +1,4 @@
--- The orders of stamps and of moments are total.
+-- The orders of stamps and of moments are total (our own form).
 use Rattle.std.specs.Cmp.{IsTotalOrder}
 use Rattle.std.specs.Cmp.Lexicographic.{options_total, lists_total}
 use Rattle.std.proofs.lemmas.Cmp.{then_total, on_total, nat_cmp_total, int_cmp_total}

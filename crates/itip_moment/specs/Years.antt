@@ -1,4 +1,4 @@
--- The days of the years 0000 to 9999, numbered from 1970-01-01.
+-- The days of the years 0000 to 9999, numbered from 1970-01-01 (our own form).
 use Rattle.std.specs.Prelude.{ℤ, pos, neg_ℤ}
 use Rattle.jiff.specs.Words.{IsBetween}
 

@@ -1,4 +1,4 @@
--- That the physical lines of some bytes are a cutting of them, and the only one.
+-- That the physical lines of some bytes are a cutting of them, and the only one (our own form).
 use Rattle.std.specs.Prelude.{◌≡◌, ◌≢◌, ◌<◌, ◌⊎◌, ◌++◌, ℕ, List, [], ◌∷◌, length}
 use Rattle.std.specs.List.{AllByRecursion, concat}
 

@@ -1,4 +1,4 @@
--- The commands that an iterator over a script has not given yet.
+-- The commands that an iterator over a script has not given yet (our own form).
 use Rattle.std.specs.Prelude.{List}
 use Rattle.itip_office.specs.declared.cut.Commands.{Commands}
 use Rattle.itip_office.specs.Orders.{Order}

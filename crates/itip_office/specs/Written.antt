@@ -1,4 +1,4 @@
--- What a writer holds after some of an output was written.
+-- What a writer holds after some of an output was written (our own form).
 use Rattle.std.specs.Prelude.{◌≡◌, ℕ, List, ◌++◌, Option}
 use Rattle.std.specs.Io.KnownBytes.{Appends}
 

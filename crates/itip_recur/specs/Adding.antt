@@ -1,4 +1,4 @@
--- What a step of a listing adds to the moments that were found; they are the keys of a set.
+-- What a step of a listing adds to the moments that were found; they are the keys of a set (our own form).
 use Rattle.std.specs.Prelude.{◌≡◌, ◌↔◌, ℕ, ◌<◌, ◌≤◌, ◌⊎◌, List, length, Result, Ok, Err, ℤ, ◌≤ℤ◌, ◌<ℤ◌}
 use Rattle.std.specs.List.{Contains}
 use Rattle.std.specs.List.Sorted.{IsStrictlySortedBy}

@@ -1,4 +1,4 @@
--- The weekday, the week, the month and the year of a day, which is given by its number from 1970-01-01 (Gregorian calendar).
+-- The weekday, the week, the month and the year of a day, which is given by its number from 1970-01-01 (Gregorian calendar, our own form).
 use Rattle.std.specs.Prelude.{◌≡◌, ℕ, ◌+◌, ◌-◌, ◌*◌, ◌/◌, ◌%◌, ℤ, pos, neg_ℤ, ◌+ℤ◌, unsigned_abs}
 use Rattle.jiff.specs.Words.{days_in_month, monday_zero, IsBetween}
 use Rattle.jiff_core.specs.declared.civil.date.Date.{Date}

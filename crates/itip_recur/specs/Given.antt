@@ -1,4 +1,4 @@
--- Whether a to-do has a property that makes it recur, as a test.
+-- Whether a to-do has a property that makes it recur, as a test (our own form).
 use Rattle.std.specs.Prelude.{ℕ, ◌==◌, ◌||◌, not, Bool, List, length}
 use Rattle.itip_lines.specs.declared.line.Line.{Line}
 use Rattle.itip_moment.specs.declared.moment.Moment.{Moment}

@@ -1,4 +1,4 @@
--- What a rule's text is read as.
+-- What a rule's text is read as (our own form).
 use Rattle.std.specs.Prelude.{ℕ, List}
 use Rattle.itip_recur.specs.declared.read.Reading.{Reading}
 use Rattle.itip_recur.specs.declared.read.Reading.TheVariants.{Plain, Opaque}

@@ -1,4 +1,4 @@
--- What the walk over the days of a rule finds.
+-- What the walk over the days of a rule finds (our own form).
 use Rattle.std.specs.Prelude.{◌≢◌, ℕ, ◌<◌, List, length, ℤ, ◌≤ℤ◌, ◌<ℤ◌}
 use Rattle.std.specs.List.{Contains}
 use Rattle.std.specs.declared.cmp.Ordering.TheVariants.{Greater}

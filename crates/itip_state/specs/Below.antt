@@ -1,4 +1,4 @@
--- What is held of a UID tells no more than what another holds of it, and the UIDs of which it does.
+-- What is held of a UID tells no more than what another holds of it, and the UIDs of which it does (our own form).
 use Rattle.std.specs.Prelude.{◌≡◌, ℕ, List, [], ◌∷◌, Some, ◌⊎◌}
 use Rattle.std.specs.Map.{keys_of}
 use Rattle.std.specs.Ordering.{nat_cmp}

@@ -1,4 +1,4 @@
--- What is kept, as a test of each item.
+-- What is kept, as a test of each item (our own form).
 use Rattle.std.specs.Prelude.{Bool, not, ◌&&◌, List}
 use Rattle.std.specs.List.{list_any}
 use Rattle.std.specs.Ordering.{is_eq, is_gt}

@@ -1,4 +1,4 @@
--- The order of revisions tells all items apart.
+-- The order of revisions tells all items apart (our own form).
 use Rattle.std.specs.Ordering.{nat_cmp}
 use Rattle.std.specs.declared.cmp.Ordering.{Ordering}
 use Rattle.std.specs.Cmp.{IsTotalOrder}

@@ -1,4 +1,4 @@
--- What the lines so far say of a to-do, as the reader keeps it.
+-- What the lines so far say of a to-do, as the reader keeps it (our own form).
 use Rattle.std.specs.Prelude.{◌≡◌, ◌≢◌, ◌<◌, ◌≤◌, ℕ, ◌||◌, Bool, cond, slice_index, List, [], ◌∷◌, ◌++◌, length, map, unwrap_or, Some}
 use Rattle.std.specs.BTreeSet.{BTreeSet, contains, IsOrdered}
 use Rattle.std.specs.Cmp.Lexicographic.{slice_cmp}

@@ -1,4 +1,4 @@
--- The parts of a to-do that the program holds.
+-- The parts of a to-do that the program holds (our own form).
 use Rattle.itip_todo.specs.Parts.{Parts}
 use Rattle.itip_todo.specs.declared.todo.Todo.{Todo}
 
