@@ -1,5 +1,5 @@
 //! Examples of RFC 5545 3.8.5.3 that lie in the profile, taken as dates: an UNTIL of 19971224T000000Z, before
-//! which the last day is 19971223, is that date.
+//! which the last day is 19971223, is that date. They were typed from memory, and still have to be held against the text.
 use super::{day, listed};
 use std::process::Abort;
 use std::test::Fail;
