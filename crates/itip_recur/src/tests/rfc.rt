@@ -1,11 +1,11 @@
-//! Examples of RFC 5545 3.8.5.3 that lie in the profile, taken as dates: an UNTIL of 19971224T000000Z, before
-//! which the last day is 19971223, is that date. They were typed from memory, and still have to be held against the text.
+//! The examples of RFC 5545 3.8.5.3 that lie in the profile, with the days that its text gives, taken as dates: an UNTIL of
+//! 19971224T000000Z, before which the last day is 19971223, is that date. Where the RFC goes on for ever or leaves days out, a window holds days that it lists.
 use super::{day, listed};
 use std::process::Abort;
 use std::test::Fail;
 
 /// The start, the rule, the window as dates, and the dates in it.
-const EXAMPLES: [(&str, &str, &str, &str, &str); 21] = [
+const EXAMPLES: [(&str, &str, &str, &str, &str); 24] = [
     (
         "19970902",
         "FREQ=DAILY;COUNT=10",
@@ -24,8 +24,15 @@ const EXAMPLES: [(&str, &str, &str, &str, &str); 21] = [
         "19970902",
         "FREQ=DAILY;INTERVAL=2",
         "19970901",
-        "19970913",
-        "19970902 19970904 19970906 19970908 19970910 19970912",
+        "19970909",
+        "19970902 19970904 19970906 19970908",
+    ),
+    (
+        "19970902",
+        "FREQ=DAILY;INTERVAL=2",
+        "19971022",
+        "19971106",
+        "19971022 19971024 19971026 19971028 19971030 19971101 19971103 19971105",
     ),
     (
         "19970902",
@@ -52,8 +59,15 @@ const EXAMPLES: [(&str, &str, &str, &str, &str); 21] = [
         "19970902",
         "FREQ=WEEKLY;INTERVAL=2;WKST=SU",
         "19970901",
-        "19971101",
-        "19970902 19970916 19970930 19971014 19971028",
+        "19980218",
+        "19970902 19970916 19970930 19971014 19971028 19971111 19971125 19971209 19971223 19980106 19980120 19980203 19980217",
+    ),
+    (
+        "19970902",
+        "FREQ=WEEKLY;UNTIL=19971006;WKST=SU;BYDAY=TU,TH",
+        "19970101",
+        "19980101",
+        "19970902 19970904 19970909 19970911 19970916 19970918 19970923 19970925 19970930 19971002",
     ),
     (
         "19970902",
@@ -152,6 +166,13 @@ const EXAMPLES: [(&str, &str, &str, &str, &str); 21] = [
         "19970801",
         "19970901",
         "19970805 19970810 19970819 19970824",
+    ),
+    (
+        "19970805",
+        "FREQ=WEEKLY;INTERVAL=2;COUNT=4;BYDAY=TU,SU;WKST=SU",
+        "19970801",
+        "19970901",
+        "19970805 19970817 19970819 19970831",
     ),
 ];
 
