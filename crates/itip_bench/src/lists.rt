@@ -51,13 +51,13 @@ pub(crate) fn measure_lists<R: AllocGlobal + Clock + Print>(
     list(rt, &desk, "daily series")
 }
 
-fn about(alloc: Global, number: u64) -> Result<String, BenchError> {
+pub(crate) fn about(alloc: Global, number: u64) -> Result<String, BenchError> {
     Ok(format!(in alloc;
         "UID:to-do-{number}@example.com\r\nSEQUENCE:1\r\nDTSTAMP:20260102T090000Z\r\n"
     )?)
 }
 
-fn hear(
+pub(crate) fn hear(
     desk: &mut Desk,
     alloc: Global,
     method: &str,

@@ -11,6 +11,7 @@ mod lists;
 mod load;
 mod messages;
 mod recurrence;
+mod reports;
 mod scripts;
 mod threads;
 
@@ -21,6 +22,7 @@ use crate::joins::measure_joins;
 use crate::lists::measure_lists;
 use crate::messages::measure_messages;
 use crate::recurrence::measure_recurrence;
+use crate::reports::measure_reports;
 use crate::scripts::measure_scripts;
 use crate::threads::measure_threads;
 use std::env;
@@ -55,6 +57,7 @@ fn run<R: AllocGlobal + Clock + Env + Print + Threads + Sync>(rt: &R) -> Result<
         "recurrence" => measure_recurrence(rt, size),
         "desks" => measure_desks(rt, size),
         "lists" => measure_lists(rt, size),
+        "reports" => measure_reports(rt, size),
         "scripts" => measure_scripts(rt, size),
         _ => Err(BenchError::Words),
     }
