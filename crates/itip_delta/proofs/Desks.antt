@@ -3,13 +3,13 @@ use Rattle.std.proofs.Common.{◌≡◌, ℕ, zero, suc, ◌+◌, ◌<◌, List,
 use Rattle.std.specs.Prelude.{slice_get, slice_set, replicate}
 use Rattle.itip_message.specs.declared.item.Item.{Item}
 use Rattle.itip_desk.specs.Desk.{Shown, IsDeskOf}
-use Rattle.itip_delta.specs.Worlds.{Histories, AreDesksOf, with_step, no_histories}
+use Rattle.itip_delta.specs.Worlds.{History, Histories, AreDesksOf, with_step, no_histories}
 
 -- one desk heard one more step, and the others are as before
 pub record HeardMore (histories : Histories) (desks : List Shown) (desk : ℕ) (step : List Item) (old : Shown) (new_desks : List Shown) : Type 0 where
-  pub history : List (List Item)
+  pub history : History
   pub there : slice_get histories desk ≡ Some history
-  pub was : IsDeskOf history 0 old
+  pub was : IsDeskOf history.steps history.start old
   pub are : AreDesksOf (with_step histories desk step) new_desks
 
 some_same : {A : Type 0} (a b : A) → Some a ≡ Some b → a ≡ b
@@ -19,16 +19,16 @@ none_there : {A : Type 0} (a : A) → None ≡ Some a → ⊥
 none_there a e = cc
 
 More : List Item → Shown → Shown → Type 0
-More step old new = (history : List (List Item)) → IsDeskOf history 0 old → IsDeskOf (history ++ step ∷ []) 0 new
+More step old new = (steps : List (List Item)) (start : ℕ) → IsDeskOf steps start old → IsDeskOf (steps ++ step ∷ []) start new
 
-heard_first : (h : List (List Item)) (hs : Histories) (d : Shown) (ds : List Shown) (step : List Item) (old new : Shown) → IsDeskOf h 0 d → AreDesksOf hs ds → d ≡ old → More step old new
+heard_first : (h : History) (hs : Histories) (d : Shown) (ds : List Shown) (step : List Item) (old new : Shown) → IsDeskOf h.steps h.start d → AreDesksOf hs ds → d ≡ old → More step old new
     → HeardMore (h ∷ hs) (d ∷ ds) zero step old (new ∷ ds)
 unfolding More
 heard_first h hs d ds step old new is are same more =
-    let was : IsDeskOf h 0 old = subst (λ (x : Shown). IsDeskOf h 0 x) same is in
-    record { history = h; there = refl; was = was; are = (more h was, are) }
+    let was : IsDeskOf h.steps h.start old = subst (λ (x : Shown). IsDeskOf h.steps h.start x) same is in
+    record { history = h; there = refl; was = was; are = (more h.steps h.start was, are) }
 
-heard_later : (h : List (List Item)) (hs : Histories) (d : Shown) (ds : List Shown) (desk : ℕ) (step : List Item) (old : Shown) (new_desks : List Shown) → IsDeskOf h 0 d → HeardMore hs ds desk step old new_desks
+heard_later : (h : History) (hs : Histories) (d : Shown) (ds : List Shown) (desk : ℕ) (step : List Item) (old : Shown) (new_desks : List Shown) → IsDeskOf h.steps h.start d → HeardMore hs ds desk step old new_desks
     → HeardMore (h ∷ hs) (d ∷ ds) (suc desk) step old (d ∷ new_desks)
 heard_later h hs d ds desk step old new_desks is rest =
     record { history = rest.history; there = rest.there; was = rest.was; are = (is, rest.are) }
@@ -40,7 +40,7 @@ heard_more_lem (d ∷ ds) (h ∷ hs) zero step old new are at more = heard_first
 heard_more_lem (d ∷ ds) (h ∷ hs) (suc desk) step old new are at more = heard_later h hs d ds desk step old (slice_set ds desk new) are.0 (heard_more_lem ds hs desk step old new are.1 at more)
 
 pub heard_more : (histories : Histories) (desks : List Shown) (desk : ℕ) (step : List Item) (old new : Shown) → AreDesksOf histories desks → slice_get desks desk ≡ Some old
-    → ((history : List (List Item)) → IsDeskOf history 0 old → IsDeskOf (history ++ step ∷ []) 0 new) → HeardMore histories desks desk step old (slice_set desks desk new)
+    → ((steps : List (List Item)) (start : ℕ) → IsDeskOf steps start old → IsDeskOf (steps ++ step ∷ []) start new) → HeardMore histories desks desk step old (slice_set desks desk new)
 unfolding More
 heard_more histories desks desk step old new are at more = heard_more_lem desks histories desk step old new are at more
 

@@ -28,7 +28,7 @@ pub steps_post : (desks : List Shown) (packets more_packets : List (List ℕ)) (
     → slice_get desks desk ≡ Some shown → IsDeltaOf shown since batch → octets ≡ delta_octets batch → more_packets ≡ packets ++ octets ∷ [] → more_replies ≡ replies ++ Posted (length packets) (length batch) ∷ []
     → Steps desks packets (Post desk since) replies more_replies desks more_packets
 steps_post desks packets more_packets desk since shown batch octets replies more_replies there delta written grown replied past is =
-    let at = heard_more past.histories desks desk [] shown shown is.desks_are there (λ history d. nothing_more history 0 shown d) in
+    let at = heard_more past.histories desks desk [] shown shown is.desks_are there (λ steps start d. nothing_more steps start shown d) in
     let told = posted at.history shown since batch at.was delta in
     record {
       reply = Posted (length past.packets) (length batch);
@@ -57,19 +57,19 @@ module _ (desks : List Shown) (packets : List (List ℕ)) (packet desk : ℕ) (o
 
   -- an arrival
   pub steps_arrive : (new : Shown) (uids : List (List ℕ)) (replies more_replies : List Reply)
-      → AreMoved uids old.kept batch → ((history : List (List Item)) → IsDeskOf history 0 old → IsDeskOf (history ++ batch ∷ []) 0 new)
+      → AreMoved uids old.kept batch → ((steps : List (List Item)) (start : ℕ) → IsDeskOf steps start old → IsDeskOf (steps ++ batch ∷ []) start new)
       → more_replies ≡ replies ++ Taken new.tick (length uids) ∷ [] → Steps desks packets (Arrive packet desk) replies more_replies (slice_set desks desk new) packets
   steps_arrive new uids replies more_replies moved step replied past is =
       let told = told_by past is in
       let alike : AreAlike batch told.at.told = kept_alike_whole batch told.at.told told.kept in
-      let steps : (history : List (List Item)) → IsDeskOf history 0 old → IsDeskOf (history ++ told.at.told ∷ []) 0 new = λ history d. desk_swap history 0 new batch told.at.told alike (step history d) in
+      let steps : (steps : List (List Item)) (start : ℕ) → IsDeskOf steps start old → IsDeskOf (steps ++ told.at.told ∷ []) start new = λ steps start d. desk_swap steps start new batch told.at.told alike (step steps start d) in
       let more = heard_more past.histories desks desk told.at.told old new is.desks_are there steps in
       record {
         reply = Taken new.tick (length uids);
         past = past_with_step past desk told.at.told;
         step = arrives packet desk told.at.told more.history uids new.tick told.at.there more.there (record {
-          moved = moved_whole uids (heard more.history) batch told.at.told told.kept (moved_of_all uids old.kept (heard more.history) batch more.was.kept moved);
-          ticks = (steps more.history more.was).tick;
+          moved = moved_whole uids (heard more.history.steps) batch told.at.told told.kept (moved_of_all uids old.kept (heard more.history.steps) batch more.was.kept moved);
+          ticks = (steps more.history.steps more.history.start more.was).tick;
         });
         replies_are = replied;
         world_is = record { desks_are = more.are; packets_are = is.packets_are };
@@ -80,10 +80,10 @@ module _ (desks : List Shown) (packets : List (List ℕ)) (packet desk : ℕ) (o
   spends_arrive uid last moves past is =
       let told = told_by past is in
       let alike : AreAlike batch told.at.told = kept_alike_whole batch told.at.told told.kept in
-      let at = heard_more past.histories desks desk [] old old is.desks_are there (λ history d. nothing_more history 0 old d) in
+      let at = heard_more past.histories desks desk [] old old is.desks_are there (λ steps start d. nothing_more steps start old d) in
       spends_arriving packet desk told.at.told at.history uid told.at.there at.there
-      (subst (λ (t : ℕ). Ticks [] 0 at.history t) last at.was.tick)
-      (λ same. moves (keep_same_down uid old.kept (heard at.history) batch at.was.kept (keep_same_swap uid (heard at.history) told.at.told batch (alike_back batch told.at.told alike) same)))
+      (subst (λ (t : ℕ). Ticks [] at.history.start at.history.steps t) last at.was.tick)
+      (λ same. moves (keep_same_down uid old.kept (heard at.history.steps) batch at.was.kept (keep_same_swap uid (heard at.history.steps) told.at.told batch (alike_back batch told.at.told alike) same)))
 
 -- a world says that the ticks are spent where its desk does
 pub spent_at_desk : {T : Type 0} (error : DeskError) (r : Result T Cause) → IsErrAnd r (λ e. e ≡ cause_of error) → IsErrOf r cause.TicksSpent → error ≡ desk_error.TicksSpent

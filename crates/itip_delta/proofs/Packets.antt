@@ -12,7 +12,7 @@ use Rattle.itip_state.specs.Kept.{AreKept, IsKept}
 use Rattle.itip_desk.specs.Desk.{Shown, IsDeskOf, IsDeltaOf, CarriesAfter}
 use Rattle.itip_desk.specs.Heard.{heard, MovedAfter}
 use Rattle.itip_desk.proofs.Told.{kept_alike}
-use Rattle.itip_delta.specs.Worlds.{IsPacketOf, IsBatchOf, IsPacketText, ArePacketTexts}
+use Rattle.itip_delta.specs.Worlds.{History, IsPacketOf, IsBatchOf, IsPacketText, ArePacketTexts}
 use Rattle.itip_delta.proofs.Ascending.{IsIn, in_contained, contained_in}
 
 -- ---- the items of a list that a test lets through
@@ -67,20 +67,20 @@ carrying changed since uid h = at_some since (value_at (slice_cmp nat_cmp) chang
 
 -- ---- the packet of a post
 
-module _ (history : List (List Item)) (desk : Shown) (since : ℕ) (batch : List Item) (is : IsDeskOf history 0 desk) (delta : IsDeltaOf desk since batch) where
+module _ (history : History) (desk : Shown) (since : ℕ) (batch : List Item) (is : IsDeskOf history.steps history.start desk) (delta : IsDeltaOf desk since batch) where
   tells : Item → Bool
   tells item = carries desk.changed since (uid_of item.key)
 
   its_packet : List Item
-  its_packet = filter tells (heard history)
+  its_packet = filter tells (heard history.steps)
 
-  packet_from : (item : Item) → Contains its_packet item → Contains (heard history) item × (carries desk.changed since (uid_of item.key) ≡ true)
+  packet_from : (item : Item) → Contains its_packet item → Contains (heard history.steps) item × (carries desk.changed since (uid_of item.key) ≡ true)
   unfolding its_packet tells
-  packet_from item h = let r = let_through tells (heard history) item (in_contained its_packet item h) in (contained_in (heard history) item r.0, r.1)
+  packet_from item h = let r = let_through tells (heard history.steps) item (in_contained its_packet item h) in (contained_in (heard history.steps) item r.0, r.1)
 
-  packet_to : (item : Item) → Contains (heard history) item → carries desk.changed since (uid_of item.key) ≡ true → Contains its_packet item
+  packet_to : (item : Item) → Contains (heard history.steps) item → carries desk.changed since (uid_of item.key) ≡ true → Contains its_packet item
   unfolding its_packet tells
-  packet_to item h pass = contained_in its_packet item (goes_through tells (heard history) item (in_contained (heard history) item h) pass)
+  packet_to item h pass = contained_in its_packet item (goes_through tells (heard history.steps) item (in_contained (heard history.steps) item h) pass)
 
   is_packet : IsPacketOf history since its_packet
   is_packet item = (
@@ -88,8 +88,8 @@ module _ (history : List (List Item)) (desk : Shown) (since : ℕ) (batch : List
     λ (h, m). packet_to item h (carried desk.changed since (uid_of item.key) ((is.changed since (uid_of item.key)).1 m)),
   )
 
-  same_of_uid : (uid : List ℕ) → carries desk.changed since uid ≡ true → (i : Item) → uid_of i.key ≡ uid → IsKept (heard history) i ↔ IsKept its_packet i
-  same_of_uid uid pass = kept_alike uid (heard history) its_packet (λ j about. (
+  same_of_uid : (uid : List ℕ) → carries desk.changed since uid ≡ true → (i : Item) → uid_of i.key ≡ uid → IsKept (heard history.steps) i ↔ IsKept its_packet i
+  same_of_uid uid pass = kept_alike uid (heard history.steps) its_packet (λ j about. (
     λ h. packet_to j h (subst (λ (u : List ℕ). carries desk.changed since u ≡ true) (sym about) pass),
     λ h. (packet_from j h).0,
   ))

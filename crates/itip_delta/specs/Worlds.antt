@@ -20,18 +20,31 @@ use Rattle.itip_delta.specs.declared.event.Reply.TheVariants.{Taken, Posted, Ref
 use Rattle.itip_delta.specs.declared.stop.Cause.{Cause}
 use Rattle.itip_delta.specs.declared.stop.Cause.TheVariants as cause
 
--- the steps that each desk has heard, the desks numbered from 0
+-- the tick at which a desk began, and the steps that it has heard since
+pub record History : Type 0 where
+  pub start : ℕ
+  pub steps : List (List Item)
+
+-- nothing heard, from tick 0
+abbrev pub no_history : History
+no_history = record { start = 0; steps = [] }
+
+-- one more step heard
+abbrev pub with_one_more : History → List Item → History
+with_one_more history step = record { start = history.start; steps = history.steps ++ step ∷ [] }
+
+-- the histories of desks, numbered from 0
 abbrev pub Histories : Type 0
-Histories = List (List (List Item))
+Histories = List History
 
 -- no desk has heard anything
 abbrev pub no_histories : ℕ → Histories
-no_histories desks = replicate desks []
+no_histories desks = replicate desks no_history
 
 -- a desk hears one more step
 abbrev pub with_step : Histories → ℕ → List Item → Histories
 with_step [] desk step = []
-with_step (history ∷ histories) zero step = (history ++ step ∷ []) ∷ histories
+with_step (history ∷ histories) zero step = with_one_more history step ∷ histories
 with_step (history ∷ histories) (suc desk) step = history ∷ with_step histories desk step
 
 -- What happened: what each desk has heard, and all that each packet tells, the packets numbered from 0.
@@ -50,19 +63,19 @@ abbrev pub past_with_packet : Past → List Item → Past
 past_with_packet past packet = record { histories = past.histories; packets = past.packets ++ packet ∷ [] }
 
 -- A desk of this history hears a step of these items: its tick then, and the UIDs that move.
-pub record Takes (history : List (List Item)) (step : List Item) (uids : List (List ℕ)) (tick : ℕ) : Type 0 where
-  pub moved : AreMoved uids (heard history) step
-  pub ticks : Ticks [] 0 (history ++ step ∷ []) tick
+pub record Takes (history : History) (step : List Item) (uids : List (List ℕ)) (tick : ℕ) : Type 0 where
+  pub moved : AreMoved uids (heard history.steps) step
+  pub ticks : Ticks [] history.start (history.steps ++ step ∷ []) tick
 
 -- What a text adds to a desk of this history, and the reply: the items of the message, or nothing where it is refused.
-pub data Hears (history : List (List Item)) (bytes : List ℕ) (step : List Item) : Reply → Type 0 where
+pub data Hears (history : History) (bytes : List ℕ) (step : List Item) : Reply → Type 0 where
   reads : (items : List Item) (uids : List (List ℕ)) (tick : ℕ) → ReadsMessage bytes items → SameItems step items
       → Takes history step uids tick → Hears history bytes step (Taken tick (length uids))
   refuses : (fault : Fault) → RefusesMessage bytes fault → step ≡ [] → Hears history bytes step (Refused (number_of fault))
 
 -- A packet tells everything that a desk has heard of the UIDs that moved after this tick.
-abbrev pub IsPacketOf : List (List Item) → ℕ → List Item → Type 0
-IsPacketOf history since packet = (item : Item) → Contains packet item ↔ (Contains (heard history) item × MovedAfter [] 0 history since (uid_of item.key))
+abbrev pub IsPacketOf : History → ℕ → List Item → Type 0
+IsPacketOf history since packet = (item : Item) → Contains packet item ↔ (Contains (heard history.steps) item × MovedAfter [] history.start history.steps since (uid_of item.key))
 
 -- what is kept of a packet, by canonical octets, each once
 pub record IsBatchOf (packet batch : List Item) : Type 0 where
@@ -71,23 +84,23 @@ pub record IsBatchOf (packet batch : List Item) : Type 0 where
 
 -- one event
 pub data EventStep (old : Past) : Event → Reply → Past → Type 0 where
-  delivers : (desk : ℕ) (bytes : List ℕ) (history : List (List Item)) (step : List Item) (reply : Reply)
+  delivers : (desk : ℕ) (bytes : List ℕ) (history : History) (step : List Item) (reply : Reply)
       → slice_get old.histories desk ≡ Some history → Hears history bytes step reply
       → EventStep old (Deliver desk bytes) reply (past_with_step old desk step)
-  posts : (desk since : ℕ) (history : List (List Item)) (packet batch : List Item)
+  posts : (desk since : ℕ) (history : History) (packet batch : List Item)
       → slice_get old.histories desk ≡ Some history → IsPacketOf history since packet → IsBatchOf packet batch
       → EventStep old (Post desk since) (Posted (length old.packets) (length batch)) (past_with_packet old packet)
-  arrives : (packet desk : ℕ) (items : List Item) (history : List (List Item)) (uids : List (List ℕ)) (tick : ℕ)
+  arrives : (packet desk : ℕ) (items : List Item) (history : History) (uids : List (List ℕ)) (tick : ℕ)
       → slice_get old.packets packet ≡ Some items → slice_get old.histories desk ≡ Some history → Takes history items uids tick
       → EventStep old (Arrive packet desk) (Taken tick (length uids)) (past_with_step old desk items)
 
 -- an event would move a UID of a desk at the last tick
 pub data IsSpent (old : Past) : Event → Type 0 where
-  spends : (desk : ℕ) (bytes : List ℕ) (history : List (List Item)) (items step : List Item) (uid : List ℕ)
-      → slice_get old.histories desk ≡ Some history → ReadsMessage bytes items → SameItems step items → Ticks [] 0 history (2 ^ 64 - 1) → Moves (heard history) step uid
+  spends : (desk : ℕ) (bytes : List ℕ) (history : History) (items step : List Item) (uid : List ℕ)
+      → slice_get old.histories desk ≡ Some history → ReadsMessage bytes items → SameItems step items → Ticks [] history.start history.steps (2 ^ 64 - 1) → Moves (heard history.steps) step uid
       → IsSpent old (Deliver desk bytes)
-  spends_arriving : (packet desk : ℕ) (items : List Item) (history : List (List Item)) (uid : List ℕ)
-      → slice_get old.packets packet ≡ Some items → slice_get old.histories desk ≡ Some history → Ticks [] 0 history (2 ^ 64 - 1) → Moves (heard history) items uid
+  spends_arriving : (packet desk : ℕ) (items : List Item) (history : History) (uid : List ℕ)
+      → slice_get old.packets packet ≡ Some items → slice_get old.histories desk ≡ Some history → Ticks [] history.start history.steps (2 ^ 64 - 1) → Moves (heard history.steps) items uid
       → IsSpent old (Arrive packet desk)
 
 -- these replies to these events, one after another
@@ -97,12 +110,12 @@ Runs old (event ∷ events) (reply ∷ replies) new = (mid : Past) × EventStep 
 Runs old [] (reply ∷ replies) new = ⊥
 Runs old (event ∷ events) [] new = ⊥
 
--- each desk is that of its history, from tick 0
+-- each desk is that of its history
 abbrev pub AreDesksOf : Histories → List Shown → Type 0
 AreDesksOf [] [] = Unit {0}
 AreDesksOf [] (desk ∷ desks) = ⊥
 AreDesksOf (history ∷ histories) [] = ⊥
-AreDesksOf (history ∷ histories) (desk ∷ desks) = IsDeskOf history 0 desk × AreDesksOf histories desks
+AreDesksOf (history ∷ histories) (desk ∷ desks) = IsDeskOf history.steps history.start desk × AreDesksOf histories desks
 
 -- The octets of a packet are those of what is kept of all that it tells.
 pub record IsPacketText (packet : List Item) (octets : List ℕ) : Type 0 where

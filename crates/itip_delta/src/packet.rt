@@ -31,7 +31,7 @@ impl Packet {
     ghost use Rattle.itip_delta.specs.Delta.{delta_octets, IsDelta};
 
     /// The octets of a batch, written by [`write_delta`](crate::write_delta).
-    pub fn of_batch(alloc: Global, batch: &Batch) -> Result<Packet, NoMemory>
+    pub(crate) fn of_batch(alloc: Global, batch: &Batch) -> Result<Packet, NoMemory>
         ensures { IfOk result (λ packet. packet ≡ delta_octets batch.now) }
     {
         let octets = write_delta(alloc, batch)?;

@@ -26,7 +26,7 @@ returns-clause-step c =
     let tick : c.in_ok-changed.changed.tick ≡ (c.take.new.self).tick = c.in_ok-changed.ensures.tick in
     let count : c.len-3.result ≡ length uids = grind arith in
     steps_arrive c.args.self.now.desks.items c.args.self.now.packets.items c.args.packet c.args.desk old octets batch posted there c.in_ok-batch.ensures.octets c.in_ok-batch.ensures.ascend
-    c.take.new.self uids c.args.self.now.replies.items c.push.new.self.items c.in_ok-changed.ensures.uids (λ history is. c.in_ok-changed.ensures.step history 0 is)
+    c.take.new.self uids c.args.self.now.replies.items c.push.new.self.items c.in_ok-changed.ensures.uids (λ steps start is. c.in_ok-changed.ensures.step steps start is)
     (c.in_ok-push.ensures.items ∙ ap (λ front. front ++ Taken c.in_ok-changed.changed.tick c.len-3.result ∷ []) c.in_ok-reserve.ensures.items
     ∙ ap (λ n. c.args.self.now.replies.items ++ Taken n c.len-3.result ∷ []) tick ∙ ap (λ n. c.args.self.now.replies.items ++ Taken (c.take.new.self).tick n ∷ []) count)
 

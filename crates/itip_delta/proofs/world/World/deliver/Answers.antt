@@ -27,7 +27,7 @@ returns-in-Err-Fault-clause-step c = λ past is_past.
     let refused : RefusesMessage c.args.bytes.now c.in-Err-Fault.fault = rw c.in-Err-Fault.field-0-is at c.in-Err-Fault.ensures.fault in
     let within : c.args.desk < length c.args.self.now.desks.items = grind arith in
     let there = desk_there c.args.self.now.desks.items c.args.desk within in
-    let more = heard_more histories c.args.self.now.desks.items c.args.desk [] there.0 there.0 are there.1 (λ history is. nothing_more history 0 there.0 is) in
+    let more = heard_more histories c.args.self.now.desks.items c.args.desk [] there.0 there.0 are there.1 (λ steps start is. nothing_more steps start there.0 is) in
     record {
       reply = Refused (number_of c.in-Err-Fault.fault);
       past = past_with_step past c.args.desk [];
@@ -45,7 +45,7 @@ returns-clause-step c = λ past is_past.
     let stands : old ≡ get_or c.args.self.now.desks.items c.args.desk old = c.index_mut.ensures.value in
     let there : slice_get c.args.self.now.desks.items c.args.desk ≡ Some old = slice_get-get_or c.args.self.now.desks.items c.args.desk old within ∙ ap Some (sym stands) in
     let batch : List Item = c.in_ok-batch.batch in
-    let steps : (history : List (List Item)) → IsDeskOf history 0 old → IsDeskOf (history ++ batch ∷ []) 0 c.take.new.self = λ history is. c.in_ok-changed.ensures.step history 0 is in
+    let steps : (steps : List (List Item)) (start : ℕ) → IsDeskOf steps start old → IsDeskOf (steps ++ batch ∷ []) start c.take.new.self = λ steps start is. c.in_ok-changed.ensures.step steps start is in
     let more = heard_more histories c.args.self.now.desks.items c.args.desk batch old c.take.new.self are there steps in
     let uids : List (List ℕ) = c.in_ok-changed.changed.uids.items in
     let moved : AreMoved uids old.kept batch = c.in_ok-changed.ensures.uids in
@@ -56,7 +56,7 @@ returns-clause-step c = λ past is_past.
       reply = Taken (c.take.new.self).tick (length uids);
       past = past_with_step past c.args.desk batch;
       step = delivers c.args.desk c.args.bytes.now more.history batch (Taken (c.take.new.self).tick (length uids)) more.there
-          (reads c.in-Ok.items.items uids (c.take.new.self).tick c.in-Ok.ensures.found of.same (record { moved = moved_of_all uids old.kept (heard more.history) batch more.was.kept moved; ticks = (steps more.history more.was).tick }));
+          (reads c.in-Ok.items.items uids (c.take.new.self).tick c.in-Ok.ensures.found of.same (record { moved = moved_of_all uids old.kept (heard more.history.steps) batch more.was.kept moved; ticks = (steps more.history.steps more.history.start more.was).tick }));
       replies_are = c.in_ok-push.ensures.items ∙ ap (λ front. front ++ Taken c.in_ok-changed.changed.tick c.len-2.result ∷ []) c.in_ok-reserve.ensures.items ∙ ap (λ n. c.args.self.now.replies.items ++ Taken n c.len-2.result ∷ []) tick ∙ ap (λ n. c.args.self.now.replies.items ++ Taken (c.take.new.self).tick n ∷ []) count;
       world_is = record { desks_are = more.are; packets_are = is_past.packets_are };
     }
@@ -69,11 +69,11 @@ returns-in_err-changed-clause-spent c = λ spent past is_past.
     let old : Shown = c.index_mut.result.now in
     let stands : old ≡ get_or c.args.self.now.desks.items c.args.desk old = c.index_mut.ensures.value in
     let there : slice_get c.args.self.now.desks.items c.args.desk ≡ Some old = slice_get-get_or c.args.self.now.desks.items c.args.desk old within ∙ ap Some (sym stands) in
-    let at = heard_more histories c.args.self.now.desks.items c.args.desk [] old old are there (λ history is. nothing_more history 0 old is) in
+    let at = heard_more histories c.args.self.now.desks.items c.args.desk [] old old are there (λ steps start is. nothing_more steps start old is) in
     let batch : List Item = c.in_ok-batch.batch in
     let of : IsItemsOf batch c.in-Ok.items.items = c.in_ok-batch.ensures in
     let error : c.in_err-changed.field-0.0 ≡ desk.TicksSpent = spent_at_desk c.in_err-changed.field-0.0 c.from_residual-in_err-changed.result c.from_residual-in_err-changed.ensures.1 spent in
     let at_desk = c.in_err-changed.ensures.spent (ap (λ (e : DeskError). Err e) error) in
     spends c.args.desk c.args.bytes.now at.history c.in-Ok.items.items batch at_desk.1.0 at.there c.in-Ok.ensures.found of.same
-    (subst (λ (t : ℕ). Ticks [] 0 at.history t) at_desk.0 at.was.tick)
-    (λ same. at_desk.1.1 (keep_same_down at_desk.1.0 old.kept (heard at.history) batch at.was.kept same))
+    (subst (λ (t : ℕ). Ticks [] at.history.start at.history.steps t) at_desk.0 at.was.tick)
+    (λ same. at_desk.1.1 (keep_same_down at_desk.1.0 old.kept (heard at.history.steps) batch at.was.kept same))
