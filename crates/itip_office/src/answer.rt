@@ -11,6 +11,7 @@ use crate::reply::{
     BAD_COMMAND, NO_DESK, NO_PACKET, TICKS_SPENT, TOO_MANY_ROWS, append_arrived, append_counted,
     append_listed, append_posted, append_refused, append_taken,
 };
+use crate::reports::{next, report, resend};
 use itip_delta::{Cause, Event, Reply, World};
 use itip_lines::Bytes;
 use itip_view::{ViewError, Window};
@@ -54,7 +55,10 @@ pub(crate) fn answer_command(
         }
         Command::List { desk } => list(alloc, world, window, *desk, output),
         Command::Entries { desk } => entries(alloc, world, *desk, output),
-        _ => refuse(alloc, output, BAD_COMMAND),
+        Command::Report { desk, name } => report(alloc, world, window, *desk, *name, output),
+        Command::Resend { desk, uid } => resend(alloc, world, *desk, uid, output),
+        Command::Next { desk, uid } => next(alloc, world, *desk, uid, output),
+        Command::Malformed => refuse(alloc, output, BAD_COMMAND),
     }
 }
 
@@ -166,7 +170,11 @@ fn entries(
     Ok(false)
 }
 
-fn refuse(alloc: Global, output: &mut Vec<u8>, number: u32) -> Result<bool, ScriptFault>
+pub(crate) fn refuse(
+    alloc: Global,
+    output: &mut Vec<u8>,
+    number: u32,
+) -> Result<bool, ScriptFault>
     ensures text { OnOk result (output.new.items ≡ output.old.items ++ refused_text number) }
     ensures refusal { IfOk result (λ refusal. refusal ≡ true) }
     ensures fault { IfErr result (λ fault. fault ≡ ScriptFault.Memory) }

@@ -1,0 +1,4 @@
+pub mod OfKept
+pub mod OneOrder
+pub mod OneReport
+pub mod SentAgain
