@@ -170,11 +170,7 @@ fn entries(
     Ok(false)
 }
 
-pub(crate) fn refuse(
-    alloc: Global,
-    output: &mut Vec<u8>,
-    number: u32,
-) -> Result<bool, ScriptFault>
+pub(crate) fn refuse(alloc: Global, output: &mut Vec<u8>, number: u32) -> Result<bool, ScriptFault>
     ensures text { OnOk result (output.new.items ≡ output.old.items ++ refused_text number) }
     ensures refusal { IfOk result (λ refusal. refusal ≡ true) }
     ensures fault { IfErr result (λ fault. fault ≡ ScriptFault.Memory) }

@@ -171,7 +171,7 @@ pub(crate) fn append_resent(
     desk: u64,
     messages: Option<&[u8]>,
 ) -> Result<(), AllocError>
-    ensures { OnOk result (output.new.items ≡ output.old.items ++ resent_text desk (option_map (λ bytes. bytes.now) messages)) }
+    ensures { OnOk result (output.new.items ≡ output.old.items ++ resent_text desk (option_map (λ bytes. bytes.now) messages.entry)) }
 {
     let Some(bytes) = messages else {
         let line = format!(in alloc; "resend {desk} none\n")?;

@@ -44,7 +44,15 @@ fn a_question_may_be_refused(rt: HostRuntime) -> Result<(), Fail> {
         b"refused 50\nrefused 50\nrefused 50\nrefused 60\nrefused 60\nresend 0 none\nnext 0 0\nreport 0 refresh 0\nreport 0 cancelled 0\n".as_slice();
     let mut reader = script;
     let mut output = Vec::new(rt.alloc());
-    assert!(rt; run_script(rt.alloc(), &mut reader, &mut output, 1, Window::new(20_454, 20_819)?)?);
+    assert!(rt;
+        run_script(
+            rt.alloc(),
+            &mut reader,
+            &mut output,
+            1,
+            Window::new(20_454, 20_819)?
+        )?
+    );
     assert_eq!(rt; output.as_slice(), wanted);
     Ok(())
 }

@@ -34,8 +34,8 @@ module _ (x y : List Item) (same : KeepAlike x y) where
       let found = best_above y item h in
       let best : IsBest y (Instance uid id) found.0 = subst (λ (k : Key). IsBest y k found.0) at found.1 in
       let alive : ¬ IsDead y found.0 = λ dead.
-          let of_uid : IsBest y (Series uid) dead.series = subst (λ (k : Key). IsBest y (Series (uid_of k)) dead.series) best.about dead.best in
-          no_series_alike uid no_series dead.series of_uid.is_heard of_uid.about in
+      let of_uid : IsBest y (Series uid) dead.series = subst (λ (k : Key). IsBest y (Series (uid_of k)) dead.series) best.about dead.best in
+      no_series_alike uid no_series dead.series of_uid.is_heard of_uid.about in
       let kept : IsKept y found.0 = record { best = subst (λ (k : Key). IsBest y k found.0) (sym best.about) best; alive = alive } in
       none found.0 ((same found.0).1 kept).best.is_heard best.about
 

@@ -15,4 +15,19 @@ returns-in_default-clause-answers c =
     (λ window. steps_no_next window desks packets c.args.desk c.args.uid.now (subst (λ ds. length ds ≤ c.args.desk) c.deref.ensures.value c.in_default.ensures.lookup.3))
 
 pub returns-clause-answers : goal.returns-clause-answers
-returns-clause-answers c = ?
+returns-clause-answers c = λ window past world.
+    let desk = c.args.desk in
+    let uid = c.args.uid.now in
+    let at = c.in-Some.ensures.lookup.3 in
+    let told = c.in_ok-sequence.sequence in
+    let s = steps_next window c.args.world.now.desks.items c.args.world.now.packets.items desk uid c.in-Some.asked.now told
+    (rw (← c.deref.ensures.value) (at_index c.deref.result.now desk c.in-Some.asked.now at.0 at.1))
+    (subst (λ (items : List Item). IsNext items uid told) c.state.ensures c.in_ok-sequence.ensures) past world in
+    record {
+      answer = next_is desk told;
+      past = s.past;
+      step = s.step;
+      world_is = s.world_is;
+      output_is = c.in_ok-append_next.ensures;
+      refusal_is = refl;
+    }

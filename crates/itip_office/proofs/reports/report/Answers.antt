@@ -30,7 +30,7 @@ returns-in_ok-append_reported-in-Ok-clause-answers c =
       past = s.past;
       step = s.step;
       world_is = s.world_is;
-      output_is = c.in_ok-append_reported-in-Ok.ensures;
+      output_is = c.in_ok-append_reported-in-Ok.ensures ∙ ap (λ ls. c.args.output.now.items ++ answer_text (reported desk c.args.name (map string_bytes ls))) c.deref-in-Ok.ensures.value;
       refusal_is = refl;
     }
 
