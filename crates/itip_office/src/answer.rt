@@ -33,10 +33,7 @@ pub(crate) fn answer_command(
 {
     match command {
         Command::Take { desk, text } => {
-            let event = Event::Deliver {
-                desk: *desk as usize,
-                bytes: Bytes::new(Vec::from_slice(alloc, text)?),
-            };
+            let event = delivery(alloc, *desk, text)?;
             happen(alloc, world, &event, output)
         }
         Command::Post { desk, since } => {
@@ -60,6 +57,15 @@ pub(crate) fn answer_command(
         Command::Next { desk, uid } => next(alloc, world, *desk, uid, output),
         Command::Malformed => refuse(alloc, output, BAD_COMMAND),
     }
+}
+
+fn delivery(alloc: Global, desk: u64, text: &[u8]) -> Result<Event, AllocError>
+    ensures { IfOk result (λ event. event ≡ Event.Deliver desk text.now) }
+{
+    Ok(Event::Deliver {
+        desk: desk as usize,
+        bytes: Bytes::new(Vec::from_slice(alloc, text)?),
+    })
 }
 
 /// Does the event that a command asks for.
