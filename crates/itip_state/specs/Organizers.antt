@@ -1,5 +1,5 @@
 -- The sequences that organizers have used (our own rule): those of REQUEST, ADD and CANCEL, also where it takes out an attendee.
-use Rattle.std.specs.Prelude.{◌≡◌, ◌≤◌, ℕ, List, Option, Some, None, Bool, true, false, if◌then◌else◌}
+use Rattle.std.specs.Prelude.{◌≡◌, ◌≤◌, ℕ, max, List, [], ◌∷◌, Option, Some, None, Bool, true, false, if◌then◌else◌}
 use Rattle.itip_message.specs.KeyParts.{uid_of}
 use Rattle.itip_message.specs.declared.item.Item.{Item}
 use Rattle.itip_message.specs.declared.kind.Kind.{Kind}
@@ -34,3 +34,14 @@ pub record IsUsed (heard : List Item) (uid : List ℕ) (sequence : ℕ) : Type 0
 abbrev pub IsLastUsed : List Item → List ℕ → Option ℕ → Type 0
 IsLastUsed heard uid None = (item : Item) → ¬ IsOrganizers heard uid item
 IsLastUsed heard uid (Some sequence) = IsUsed heard uid sequence × ((item : Item) → IsOrganizers heard uid item → item.eff ≤ sequence)
+
+-- the greater of two sequences, where there are any
+abbrev pub greater : Option ℕ → Option ℕ → Option ℕ
+greater None used = used
+greater (Some last) None = Some last
+greater (Some last) (Some used) = Some (max last used)
+
+-- the greatest of a sequence and those used by items
+abbrev pub greatest : Option ℕ → List Item → Option ℕ
+greatest last [] = last
+greatest last (item ∷ items) = greatest (greater last (used_by item)) items

@@ -1,5 +1,5 @@
 //! The state of a desk.
-ghost use Rattle.std.specs.Prelude.{◌≡◌, ◌↔◌, ℕ, List, [], ◌∷◌, ◌++◌, Some, cond, IsTrue, IfOk, OnOk, OnErr, IsOk, MatchOption, length, min, map};
+ghost use Rattle.std.specs.Prelude.{◌≡◌, ◌↔◌, ℕ, List, [], ◌∷◌, ◌++◌, Some, None, cond, IsTrue, IfOk, OnOk, OnErr, IsOk, MatchOption, length, min, map};
 ghost use Rattle.std.specs.List.{Contains};
 ghost use Rattle.std.specs.Ordering.{nat_cmp, is_eq};
 ghost use Rattle.std.specs.Cmp.Lexicographic.{slice_cmp};
@@ -10,7 +10,7 @@ ghost use Rattle.std.specs.Map.{keys_of};
 ghost use Rattle.itip_join.specs.Optional.{IsBelowAt};
 ghost use Rattle.itip_state.specs.Held.{shapes, shape_items, entry_items, HoldKept, Shape};
 ghost use Rattle.itip_state.specs.Below.{IsShapeBelow, AreNews};
-ghost use Rattle.itip_state.specs.Organizers.{used_by};
+ghost use Rattle.itip_state.specs.Organizers.{used_by, greater, greatest};
 
 use crate::NoMemory;
 use crate::revision::Best;
@@ -123,6 +123,31 @@ fn used_by(item: &Item) -> Option<u32>
         Kind::Request | Kind::Add | Kind::Remove | Kind::Cancel => Some(item.eff),
         Kind::Reply | Kind::Refresh => None,
     }
+}
+
+/// The greater of two sequences, where there are any.
+fn greater(last: Option<u32>, used: Option<u32>) -> Option<u32>
+    ensures { result ≡ greater last used }
+{
+    match (last, used) {
+        (None, used) => used,
+        (last, None) => last,
+        (Some(last), Some(used)) => Some(last.max(used)),
+    }
+}
+
+/// The greatest effective sequence of the items of one UID that its organizer has sent.
+fn greatest(series: &SeriesState) -> Option<u32>
+    ensures { result ≡ greatest None (shape_items (record { series = series.now.guard; entries = series.now.entries.map })) }
+{
+    let mut last = match &series.guard {
+        Lift::Nothing => None,
+        Lift::Known(best) => used_by(&best.value.item),
+    };
+    for (_, best) in series.entries.map.iter() {
+        last = greater(last, used_by(&best.value.item));
+    }
+    last
 }
 
 /// The kept items of a set: of each key the best, the dead left out. It is seen as the list of these items, each once.
@@ -292,15 +317,10 @@ impl State {
     pub fn last_used(&self, uid: &Uid) -> Option<u32>
         ensures { IsLastUsed self.now uid.now result }
     {
-        let held = self.held.get(uid)?;
-        let mut last = match &held.guard {
-            Lift::Nothing => None,
-            Lift::Known(best) => used_by(&best.value.item),
-        };
-        for (_, best) in held.entries.map.iter() {
-            last = last.max(used_by(&best.value.item));
+        match self.held.get(uid) {
+            None => None,
+            Some(series) => greatest(series),
         }
-        last
     }
 
     /// Whether both keep the same items. It takes no memory.

@@ -45,7 +45,7 @@ pub fn stands_beside(series: Option<&Item>, item: &Item) -> bool
 }
 
 /// The item that stands at an instance, among the kept items of the UID.
-pub fn standing<'a>(
+pub fn standing_item<'a>(
     items: &[&'a Item],
     series: Option<&Item>,
     uid: &Uid,
