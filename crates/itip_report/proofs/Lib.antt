@@ -1,3 +1,4 @@
+pub mod Effective
 pub mod OfKept
 pub mod OneOrder
 pub mod OneReport

@@ -1,21 +1,19 @@
 -- The reports need only what is kept.
-use Rattle.std.proofs.Common.{◌≡◌, ℕ, zero, suc, List, ◌∷◌, subst, sym, inl, inr, ◌↔◌, Option, Some, None}
-use Rattle.std.specs.List.{Contains}
+use Rattle.std.proofs.Common.{ℕ, zero, suc, List, subst, sym, inl, inr, Option, Some, None}
 use Rattle.itip_moment.specs.declared.moment.Moment.{Moment}
 use Rattle.itip_message.specs.KeyParts.{uid_of}
 use Rattle.itip_message.specs.declared.item.Item.{Item}
 use Rattle.itip_message.specs.declared.key.Key.{Key}
 use Rattle.itip_message.specs.declared.key.Key.TheVariants.{Series, Instance}
-use Rattle.itip_state.specs.Kept.{IsBest, IsDead, IsKept, CanDie, AreKept}
+use Rattle.itip_state.specs.Kept.{IsBest, IsDead, IsKept, AreKept}
 use Rattle.itip_state.specs.Organizers.{IsOrganizers, IsLastUsed}
 use Rattle.itip_state.specs.Slots.{instance_of}
 use Rattle.itip_state.proofs.Best.{best_above}
 use Rattle.itip_state.proofs.Keeping.{kept_again, series_kept}
-use Rattle.itip_view.specs.Standing.{Stands, IsLiveSeries}
+use Rattle.itip_view.specs.Standing.{Stands}
 use Rattle.itip_view.proofs.Alike.{KeepAlike, alike_back, series_alike, stands_alike, live_series_alike, governs_alike}
-use Rattle.itip_report.specs.Lines.{AreReported, AreLinesOf}
-use Rattle.itip_report.specs.Organizing.{AreStanding, IsResend, IsResendOf, IsNext, last_sequence}
-use Rattle.itip_report.specs.Reports.{IsCancelledSeries, IsCancelledInstance, IsCancellation, NoneAt, NoneAtInstance, IsOrphan, IsWanted, IsReported, AreReportLines}
+use Rattle.itip_report.specs.Organizing.{AreStanding, IsResendOf, IsNext, last_sequence}
+use Rattle.itip_report.specs.Reports.{IsCancellation, NoneAt, NoneAtInstance, IsOrphan, IsWanted, IsReported, AreReportLines}
 use Rattle.itip_report.specs.declared.report.Report.{Report}
 use Rattle.itip_report.specs.declared.report.Report.TheVariants as report
 

@@ -1,5 +1,5 @@
 -- Lists in one order that have the same members are one list.
-use Rattle.std.proofs.Common.{◌≡◌, ℕ, suc, ◌<◌, List, [], ◌∷◌, length, refl, sym, ◌∙◌, subst, inl, inr, arith, ◌↔◌}
+use Rattle.std.proofs.Common.{◌≡◌, suc, List, [], ◌∷◌, refl, sym, ◌∙◌, subst, inl, inr, arith, ◌↔◌}
 use Rattle.std.specs.List.{Contains, AllPairs}
 use Rattle.itip_state.proofs.Members.{none_in, cons_cases, cons_first, cons_later}
 

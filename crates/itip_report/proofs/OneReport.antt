@@ -1,5 +1,5 @@
 -- Each report has one answer.
-use Rattle.std.proofs.Common.{◌≡◌, ℕ, zero, suc, ◌≤◌, ◌<◌, List, ◌∷◌, refl, sym, ◌∙◌, ap, subst, arith, Option, Some, None}
+use Rattle.std.proofs.Common.{◌≡◌, ℕ, zero, suc, ◌≤◌, List, ◌∷◌, refl, sym, ◌∙◌, ap, arith, Option, Some, None}
 use Rattle.std.specs.Prelude.{map}
 use Rattle.std.specs.List.{Contains, flat_map}
 use Rattle.std.specs.Cmp.{IsTotalOrder, tied_itself}
@@ -10,12 +10,11 @@ use Rattle.std.proofs.lemmas.Cmp.{on_total, then_total, nat_cmp_total, nat_list_
 use Rattle.itip_moment.specs.OrderLaws.{moment_total}
 use Rattle.itip_message.specs.KeyParts.{uid_of}
 use Rattle.itip_message.specs.declared.item.Item.{Item}
-use Rattle.itip_message.specs.declared.key.Key.{Key}
 use Rattle.itip_message.specs.declared.key.Key.TheVariants.{Series}
 use Rattle.itip_state.specs.Organizers.{IsLastUsed}
 use Rattle.itip_state.specs.Slots.{rank_of, instance_of, attendee_of}
 use Rattle.itip_view.proofs.OneRow.{one_best}
-use Rattle.itip_report.specs.Lines.{place_cmp, AscendPlaces, AreReported, AreLinesOf}
+use Rattle.itip_report.specs.Lines.{place_cmp, AscendPlaces}
 use Rattle.itip_report.specs.Organizing.{IsResend, IsResendOf, IsNext, last_sequence}
 use Rattle.itip_report.specs.Reports.{AreReportLines, line_of}
 use Rattle.itip_report.specs.declared.report.Report.{Report}
