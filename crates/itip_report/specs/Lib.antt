@@ -2,3 +2,4 @@ pub mod Lines
 pub mod Reports
 pub mod Load
 pub mod Organizing
+pub mod Live
