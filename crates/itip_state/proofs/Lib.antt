@@ -19,3 +19,4 @@ pub mod Selecting
 pub mod Moving
 pub mod Parting
 pub mod Finding
+pub mod Using

@@ -6,3 +6,4 @@ pub mod Held
 pub mod Dying
 pub mod Below
 pub mod Plain
+pub mod Organizers

@@ -1,5 +1,5 @@
 //! The state of a desk.
-ghost use Rattle.std.specs.Prelude.{◌≡◌, ◌↔◌, ℕ, List, [], ◌∷◌, ◌++◌, Some, cond, IsTrue, IfOk, OnOk, OnErr, IsOk, MatchOption, length, min, map};
+ghost use Rattle.std.specs.Prelude.{◌≡◌, ◌↔◌, ℕ, List, [], ◌∷◌, ◌++◌, Some, None, cond, IsTrue, IfOk, OnOk, OnErr, IsOk, MatchOption, length, min, map};
 ghost use Rattle.std.specs.List.{Contains};
 ghost use Rattle.std.specs.Ordering.{nat_cmp, is_eq};
 ghost use Rattle.std.specs.Cmp.Lexicographic.{slice_cmp};
@@ -10,6 +10,7 @@ ghost use Rattle.std.specs.Map.{keys_of};
 ghost use Rattle.itip_join.specs.Optional.{IsBelowAt};
 ghost use Rattle.itip_state.specs.Held.{shapes, shape_items, entry_items, HoldKept, Shape};
 ghost use Rattle.itip_state.specs.Below.{IsShapeBelow, AreNews};
+ghost use Rattle.itip_state.specs.Organizers.{used_by, greater, greatest};
 
 use crate::NoMemory;
 use crate::revision::Best;
@@ -17,7 +18,7 @@ use crate::series::{SeriesState, of_item, of_nothing};
 use crate::slot::{Slot, compare, uid};
 use crate::sorted::by_octets;
 use itip_join::{Join, Keyed, Lift};
-use itip_message::{Item, Key};
+use itip_message::{Item, Key, Kind};
 use itip_todo::Uid;
 use std::alloc::Global;
 use std::marker::Model;
@@ -114,6 +115,41 @@ fn find<'a>(entries: &'a Keyed<Slot, Best>, key: &Key) -> Option<&'a Item>
     None
 }
 
+/// The effective sequence of an item that an organizer has sent.
+fn used_by(item: &Item) -> Option<u32>
+    ensures { result ≡ used_by item.now }
+{
+    match item.kind {
+        Kind::Request | Kind::Add | Kind::Remove | Kind::Cancel => Some(item.eff),
+        Kind::Reply | Kind::Refresh => None,
+    }
+}
+
+/// The greater of two sequences, where there are any.
+fn greater(last: Option<u32>, used: Option<u32>) -> Option<u32>
+    ensures { result ≡ greater last used }
+{
+    match (last, used) {
+        (None, used) => used,
+        (last, None) => last,
+        (Some(last), Some(used)) => Some(last.max(used)),
+    }
+}
+
+/// The greatest effective sequence of the items of one UID that its organizer has sent.
+fn greatest(series: &SeriesState) -> Option<u32>
+    ensures { result ≡ greatest None (shape_items (record { series = series.now.guard; entries = series.now.entries.map })) }
+{
+    let mut last = match &series.guard {
+        Lift::Nothing => None,
+        Lift::Known(best) => used_by(&best.value.item),
+    };
+    for (_, best) in series.entries.map.iter() {
+        last = greater(last, used_by(&best.value.item));
+    }
+    last
+}
+
 /// The kept items of a set: of each key the best, the dead left out. It is seen as the list of these items, each once.
 #[derive(Debug, Drop)]
 pub struct State {
@@ -142,6 +178,7 @@ impl Model for State {
 impl State {
     ghost use Rattle.itip_state.specs.Kept.{AreKept, ArePart, ArePartOf, AreMoved, IsItemsOf, AreSeriesOf, AreUidsOf, SameItems, HasEachOnce, AscendKeys};
     ghost use Rattle.itip_state.specs.Order.{IsState, IsBelow};
+    ghost use Rattle.itip_state.specs.Organizers.{IsLastUsed};
 
     /// The state of nothing heard. It takes no memory.
     pub fn empty(alloc: Global) -> State
@@ -274,6 +311,16 @@ impl State {
         };
         show(held, &mut items)?;
         Ok(items)
+    }
+
+    /// The greatest effective sequence of the kept items that the organizer of a UID has sent, or `None` where there is none. It takes no memory.
+    pub fn last_used(&self, uid: &Uid) -> Option<u32>
+        ensures { IsLastUsed self.now uid.now result }
+    {
+        match self.held.get(uid) {
+            None => None,
+            Some(series) => greatest(series),
+        }
     }
 
     /// Whether both keep the same items. It takes no memory.

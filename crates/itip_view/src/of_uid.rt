@@ -15,7 +15,7 @@ use crate::NoMemory;
 use crate::answers::shown_attendees;
 use crate::dates::{day_of, due_of, instance_day};
 use crate::row::{Row, RowId};
-use crate::standing::{is_live, series_item, standing};
+use crate::standing::{is_live, series_item, standing_item};
 use crate::whole::{Whole, places, whole_of};
 use crate::window::Window;
 use itip_lines::Text;
@@ -117,7 +117,7 @@ fn is_replaced(items: &[&Item], uid: &Uid, series: &Item) -> Result<bool, NoMemo
         (NoneStandsAtStart (map (λ item. item.now) items.now) uid.now series.now.todo.start)) }
 {
     match &series.todo.start {
-        Some(start) => Ok(standing(items, Some(series), uid, start)?.is_some()),
+        Some(start) => Ok(standing_item(items, Some(series), uid, start)?.is_some()),
         None => Ok(false),
     }
 }
@@ -138,7 +138,7 @@ fn row_at(
     requires occurs { NoneStands (map (λ item. item.now) items.now) uid.now at.now → IsOccurrence (map (λ item. item.now) items.now) window uid.now at.now }
     ensures { IfOk result (IsAnswerAt (map (λ item. item.now) items.now) window uid.now (Some at.now)) }
 {
-    match standing(items, series, uid, at)? {
+    match standing_item(items, series, uid, at)? {
         Some(item) => instance_row(alloc, items, uid, item, window, at),
         None => occurrence_row(alloc, items, uid, whole, at),
     }

@@ -14,14 +14,14 @@ use itip_state::find;
 use itip_todo::Uid;
 
 /// Whether an item of this kind asks for something, and cancels nothing.
-pub(crate) fn is_live(kind: Kind) -> bool
+pub fn is_live(kind: Kind) -> bool
     ensures { result ≡ is_live kind }
 {
     matches!(kind, Kind::Request | Kind::Add)
 }
 
 /// The series item of a UID among its kept items.
-pub(crate) fn series_item<'a>(items: &[&'a Item], uid: &Uid) -> Result<Option<&'a Item>, NoMemory>
+pub fn series_item<'a>(items: &[&'a Item], uid: &Uid) -> Result<Option<&'a Item>, NoMemory>
     requires { AscendKeys (map (λ item. item.now) items.now) }
     ensures { IfOk result (λ series. IsSeriesItem (map (λ item. item.now) items.now) uid.now (option_copied series)) }
 {
@@ -29,7 +29,7 @@ pub(crate) fn series_item<'a>(items: &[&'a Item], uid: &Uid) -> Result<Option<&'
 }
 
 /// Whether an instance item stands beside the series item of its UID, where there is one.
-pub(crate) fn stands_beside(series: Option<&Item>, item: &Item) -> bool
+pub fn stands_beside(series: Option<&Item>, item: &Item) -> bool
     ensures { IsTrue result ↔ StandsBesideOf (option_copied series.entry) item.now }
 {
     match series {
@@ -45,7 +45,7 @@ pub(crate) fn stands_beside(series: Option<&Item>, item: &Item) -> bool
 }
 
 /// The item that stands at an instance, among the kept items of the UID.
-pub(crate) fn standing<'a>(
+pub fn standing_item<'a>(
     items: &[&'a Item],
     series: Option<&Item>,
     uid: &Uid,

@@ -13,8 +13,8 @@ replaced : (items : List Item) (uid : List ℕ) (start : Moment) (o : Option (Bo
 replaced items uid start None r e h = subst (λ b. MatchBool b (NoneStands items uid start → ⊥) (NoneStands items uid start)) (sym e) h
 replaced items uid start (Some i) r e h = subst (λ b. MatchBool b (NoneStands items uid start → ⊥) (NoneStands items uid start)) (sym e) (λ none. none i.now h)
 
-pub returns-in_ok-standing-in-Some : goal.returns-in_ok-standing-in-Some
-returns-in_ok-standing-in-Some c =
+pub returns-in_ok-standing_item-in-Some : goal.returns-in_ok-standing_item-in-Some
+returns-in_ok-standing_item-in-Some c =
     let items : List Item = map (λ item. item.now) c.args.items.now in
     subst (λ (s : Option Moment). MatchBool c.is_some.result (NoneStandsAtStart items c.args.uid.now s → ⊥) (NoneStandsAtStart items c.args.uid.now s)) (sym c.in-Some.is)
-    (replaced items c.args.uid.now c.in-Some.start c.in_ok-standing-in-Some.field-0 c.is_some.result c.is_some.ensures c.in_ok-standing-in-Some.ensures)
+    (replaced items c.args.uid.now c.in-Some.start c.in_ok-standing_item-in-Some.field-0 c.is_some.result c.is_some.ensures c.in_ok-standing_item-in-Some.ensures)

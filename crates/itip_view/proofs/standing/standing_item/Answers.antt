@@ -5,8 +5,8 @@ use Rattle.itip_message.specs.declared.item.Item.{Item}
 use Rattle.itip_message.specs.declared.key.Key.TheVariants.{Instance}
 use Rattle.itip_view.proofs.Beside.{stands_from, none_found, none_beside}
 use Rattle.itip_view.proofs.OfKey.{best_in}
-use Rattle.itip_view.proofs.standing.standing.Goals as goal
-use Rattle.itip_view.proofs.standing.standing.Goals.{in_default-via-in-Some+else-stands_beside, in_default-via-in_default}
+use Rattle.itip_view.proofs.standing.standing_item.Goals as goal
+use Rattle.itip_view.proofs.standing.standing_item.Goals.{in_default-via-in-Some+else-stands_beside, in_default-via-in_default}
 
 same_key : (u v : List ℕ) (m n : Moment) → u ≡ v → m ≡ n → Instance u m ≡ Instance v n
 same_key u v m n p q = λ i. Instance (p i) (q i)

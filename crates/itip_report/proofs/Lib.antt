@@ -1,0 +1,5 @@
+pub mod Effective
+pub mod OfKept
+pub mod OneOrder
+pub mod OneReport
+pub mod SentAgain

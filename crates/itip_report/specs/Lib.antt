@@ -1,0 +1,5 @@
+pub mod Lines
+pub mod Reports
+pub mod Load
+pub mod Organizing
+pub mod Live

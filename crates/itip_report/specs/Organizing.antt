@@ -1,0 +1,37 @@
+-- The messages that an organizer sends again, and the next sequence to use (our own rules; SEQUENCE: RFC 5545 3.8.7.4).
+use Rattle.std.specs.Prelude.{◌≡◌, ◌<◌, ℕ, zero, suc, List, ◌∷◌, Option, Some, None}
+use Rattle.std.specs.List.{Contains, flat_map}
+use Rattle.itip_moment.specs.declared.moment.Moment.{Moment}
+use Rattle.itip_message.specs.declared.item.Item.{Item}
+use Rattle.itip_state.specs.Organizers.{IsLastUsed}
+use Rattle.itip_view.specs.Standing.{Stands, IsLiveSeries}
+use Rattle.itip_report.specs.Lines.{AscendPlaces}
+
+-- the instance items of a UID that stand, by the moments of their instances
+pub record AreStanding (heard : List Item) (uid : List ℕ) (items : List Item) : Type 0 where
+  pub ascend : AscendPlaces items
+  pub each : (item : Item) → Contains items item → (id : Moment) × Stands heard uid id item
+  pub all : (id : Moment) (item : Item) → Stands heard uid id item → Contains items item
+
+-- the canonical messages of the live series item, and then of the instance items that stand
+pub record IsResend (heard : List Item) (uid : List ℕ) (bytes : List ℕ) : Type 0 where
+  pub series : Item
+  pub live : IsLiveSeries heard uid series
+  pub instances : List Item
+  pub standing : AreStanding heard uid instances
+  pub bytes_are : bytes ≡ flat_map (λ (item : Item). item.bytes) (series ∷ instances)
+
+-- what is sent again of a UID: nothing where no series item is live
+abbrev pub IsResendOf : List Item → List ℕ → Option (List ℕ) → Type 0
+IsResendOf heard uid None = (item : Item) → ¬ IsLiveSeries heard uid item
+IsResendOf heard uid (Some bytes) = IsResend heard uid bytes
+
+-- the greatest SEQUENCE that there is (our own limit)
+abbrev pub last_sequence : ℕ
+last_sequence = 2_147_483_647
+
+-- One more than the greatest effective sequence of the kept items of the organizer of a UID, or 0 where there is none; none is left after the greatest there is.
+abbrev pub IsNext : List Item → List ℕ → Option ℕ → Type 0
+IsNext heard uid None = IsLastUsed heard uid (Some last_sequence)
+IsNext heard uid (Some zero) = IsLastUsed heard uid None
+IsNext heard uid (Some (suc n)) = IsLastUsed heard uid (Some n) × (n < last_sequence)

@@ -1,0 +1,27 @@
+//! The laws of reports, of every finite set of items. They hold with no code: each function is empty.
+ghost use Rattle.std.specs.Prelude.{◌≡◌, ◌∷◌, [], ℕ, List, Option};
+ghost use Rattle.itip_message.specs.Message.{ReadsMessage};
+ghost use Rattle.itip_message.specs.declared.item.Item.{Item};
+ghost use Rattle.itip_state.specs.Kept.{AreKept};
+ghost use Rattle.itip_report.specs.Reports.{AreReportLines};
+ghost use Rattle.itip_report.specs.Organizing.{IsResend, IsResendOf, IsNext};
+ghost use Rattle.itip_report.specs.declared.report.Report.{Report};
+
+/// What the reports say of what is kept is what they say of all that was heard (our own rules).
+pub fn reports_of_kept()
+    ensures lines { (kept heard : List Item) → AreKept kept heard → (report : Report) (lines : List (List ℕ)) → AreReportLines report kept lines → AreReportLines report heard lines }
+    ensures resend { (kept heard : List Item) → AreKept kept heard → (uid : List ℕ) (bytes : Option (List ℕ)) → IsResendOf kept uid bytes → IsResendOf heard uid bytes }
+    ensures next { (kept heard : List Item) → AreKept kept heard → (uid : List ℕ) (next : Option ℕ) → IsNext kept uid next → IsNext heard uid next }
+{}
+
+/// Each report has one answer (our own rules).
+pub fn one_report()
+    ensures lines { (heard : List Item) (report : Report) (lines others : List (List ℕ)) → AreReportLines report heard lines → AreReportLines report heard others → lines ≡ others }
+    ensures resend { (heard : List Item) (uid : List ℕ) (bytes others : Option (List ℕ)) → IsResendOf heard uid bytes → IsResendOf heard uid others → bytes ≡ others }
+    ensures next { (heard : List Item) (uid : List ℕ) (next other : Option ℕ) → IsNext heard uid next → IsNext heard uid other → next ≡ other }
+{}
+
+/// What is sent again of a to-do of which no instance stands is a message that gives its one item.
+pub fn resend_is_read()
+    ensures { (heard : List Item) (uid bytes : List ℕ) (sent : IsResend heard uid bytes) → sent.instances ≡ [] → ReadsMessage bytes (sent.series ∷ []) }
+{}

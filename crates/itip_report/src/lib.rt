@@ -1,0 +1,16 @@
+//! What an office asks of a desk beside its list: who carries how much, what is cancelled, which answers belong to nothing, who waits for a newer
+//! revision, what to send again, and the next sequence to use.
+#![tactic(auto)]
+
+mod laws;
+mod lines;
+mod load;
+mod organizing;
+mod report;
+
+pub use laws::{one_report, reports_of_kept, resend_is_read};
+pub use lines::{cancelled, orphans, refresh_wanted};
+pub use load::load_by_attendee;
+pub use organizing::{next_seq, resend};
+pub use report::Report;
+pub use std::alloc::AllocError as NoMemory;

@@ -1,0 +1,13 @@
+//! The reports over kept items.
+
+/// A report over the kept items of a desk. Its lines are by UID, then the to-do as a whole before its instances by moment, then by attendee, an answer
+/// before a refresh request.
+#[derive(Clone, Copy, Debug, PartialEq, Eq)]
+pub enum Report {
+    /// What is cancelled.
+    Cancelled,
+    /// Answers and refresh requests that belong to nothing.
+    Orphans,
+    /// Refresh requests that wait for an answer.
+    Refresh,
+}
