@@ -14,10 +14,10 @@ use Rattle.itip_join.specs.KeyByKey.{value_at}
 use Rattle.itip_join.specs.Optional.{IsBelowAt, IsBelowAt-refl}
 use Rattle.itip_message.specs.KeyParts.{uid_of}
 use Rattle.itip_message.specs.declared.item.Item.{Item}
+use Rattle.itip_message.specs.declared.key.Key.{Key}
 use Rattle.itip_state.specs.Kept.{AreKept}
-use Rattle.itip_state.specs.Held.{Best, Shape, slot, best, is_series, shapes, items_of, shape_items, alone, IsPlaced, ArePlaced, HoldKept}
+use Rattle.itip_state.specs.Held.{Best, Shape, best, is_series, shapes, items_of, shape_items, alone, IsPlaced, ArePlaced, HoldKept}
 use Rattle.itip_state.specs.Below.{IsShapeBelow}
-use Rattle.itip_state.specs.declared.slot.Slot.{Slot}
 use Rattle.itip_state.proofs.Members.{by_bool, none_in}
 use Rattle.itip_state.proofs.Lookups.{one_key}
 use Rattle.itip_state.proofs.Keeping.{are_kept_by, kept_beside}
@@ -29,21 +29,21 @@ use Rattle.itip_state.proofs.Maps.{uid_cmp, IsHeldBelow, shape, AreInOrder, join
 -- one item alone is placed, and is the only one
 alone_placed : (item : Item) → IsPlaced (uid_of item.key) (alone item) × (0 < length (shape_items (alone item)))
 alone_placed item =
-    elim (is_series item.key) as (λ b. is_series item.key ≡ b → IsPlaced (uid_of item.key) (cond b (record { series = Known (best item); entries = [] }) (record { series = Nothing; entries = (slot item.key, best item) ∷ [] }))
-    × (0 < length (shape_items (cond b (record { series = Known (best item); entries = [] }) (record { series = Nothing; entries = (slot item.key, best item) ∷ [] }))))) [
+    elim (is_series item.key) as (λ b. is_series item.key ≡ b → IsPlaced (uid_of item.key) (cond b (record { series = Known (best item); entries = [] }) (record { series = Nothing; entries = (item.key, best item) ∷ [] }))
+    × (0 < length (shape_items (cond b (record { series = Known (best item); entries = [] }) (record { series = Nothing; entries = (item.key, best item) ∷ [] }))))) [
       | true ↦ λ e. (record { series = series_key item.key e; entries = tt }, omega arith)
       | false ↦ λ e. (record { series = tt; entries = (record { in_place = refl; about = refl; other = e }, tt) }, omega arith)
     ] refl
 
 alone_items : (item : Item) → shape_items (alone item) ≡ item ∷ []
 alone_items item =
-    elim (is_series item.key) as (λ b. shape_items (cond b (record { series = Known (best item); entries = [] }) (record { series = Nothing; entries = (slot item.key, best item) ∷ [] })) ≡ item ∷ []) [ true ↦ refl | false ↦ refl ]
+    elim (is_series item.key) as (λ b. shape_items (cond b (record { series = Known (best item); entries = [] }) (record { series = Nothing; entries = (item.key, best item) ∷ [] })) ≡ item ∷ []) [ true ↦ refl | false ↦ refl ]
 
 one_sorted : {V : Type 0} (cmp : V → V → Ordering) (k : V) → IsStrictlySortedBy cmp (k ∷ [])
 unfolding IsStrictlySortedBy
 one_sorted cmp k = (tt, tt)
 
-module _ {V : Type 0} (series : V → Lift Best) (entries : V → List (Slot × Best)) (whole : (v : V) → IsWhole (record { series = series v; entries = entries v })) where
+module _ {V : Type 0} (series : V → Lift Best) (entries : V → List (Key × Best)) (whole : (v : V) → IsWhole (record { series = series v; entries = entries v })) where
   abbrev le : V → V → Type 0
   le = IsHeldBelow (shape series entries whole) whole
 

@@ -92,10 +92,10 @@ fn show<'a>(series: &'a SeriesState, items: &mut Vec<&'a Item>) -> Result<(), No
         ≡ map (λ item. item.now) items.old.items ++ shape_items (record { series = series.now.guard; entries = series.now.entries.map })) }
 {
     if let Lift::Known(best) = &series.guard {
-        items.push(&best.value.item)?;
+        items.push(best.value.item())?;
     }
     for (_, best) in series.entries.map.iter() {
-        items.push(&best.value.item)?;
+        items.push(best.value.item())?;
     }
     Ok(())
 }
@@ -106,7 +106,7 @@ fn find<'a>(entries: &'a Keyed<Slot, Best>, key: &Key) -> Option<&'a Item>
         (λ item. Contains (entry_items entries.now.map) item × (item.key ≡ key.now)) }
 {
     for (_, best) in entries.map.iter() {
-        let item = &best.value.item;
+        let item = best.value.item();
         if compare(&item.key, key).is_eq() {
             return Some(item);
         }
@@ -232,7 +232,7 @@ impl State {
         let mut items = Vec::new(self.alloc);
         for (_, series) in self.held.map.iter() {
             if let Lift::Known(newest) = &series.guard {
-                items.push(&newest.value.item)?;
+                items.push(newest.value.item())?;
             }
         }
         Ok(items)
@@ -257,7 +257,7 @@ impl State {
         match key {
             Key::Series(_) => match &series.guard {
                 Lift::Nothing => None,
-                Lift::Known(best) => Some(&best.value.item),
+                Lift::Known(best) => Some(best.value.item()),
             },
             _ => find(&series.entries, key),
         }
