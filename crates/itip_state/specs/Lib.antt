@@ -5,4 +5,5 @@ pub mod Revisions
 pub mod Held
 pub mod Dying
 pub mod Below
+pub mod Told
 pub mod Plain

@@ -1,15 +1,17 @@
 //! The state of a desk.
-ghost use Rattle.std.specs.Prelude.{◌≡◌, ◌↔◌, ℕ, List, [], ◌∷◌, ◌++◌, Some, cond, IsTrue, IfOk, OnOk, OnErr, IsOk, MatchOption, length, min, map};
+ghost use Rattle.std.specs.Prelude.{◌≡◌, ◌↔◌, ℕ, List, [], ◌∷◌, ◌++◌, Some, cond, IsTrue, IfOk, OnOk, OnErr, IsOk, MatchOption, length, min, map, is_some};
 ghost use Rattle.std.specs.List.{Contains};
 ghost use Rattle.std.specs.Ordering.{nat_cmp, is_eq};
 ghost use Rattle.std.specs.Cmp.Lexicographic.{slice_cmp};
 ghost use Rattle.std.specs.Option.{option_copied};
+ghost use Rattle.itip_message.specs.Later.{IsLater};
 ghost use Rattle.itip_message.specs.declared.item.Item.{Item};
 ghost use Rattle.itip_join.specs.KeyByKey.{value_at};
 ghost use Rattle.std.specs.Map.{keys_of};
 ghost use Rattle.itip_join.specs.Optional.{IsBelowAt};
-ghost use Rattle.itip_state.specs.Held.{shapes, shape_items, entry_items, HoldKept, Shape};
+ghost use Rattle.itip_state.specs.Held.{shapes, items_of, shape_items, entry_items, HoldKept, ArePlaced, Shape};
 ghost use Rattle.itip_state.specs.Below.{IsShapeBelow, AreNews};
+ghost use Rattle.itip_state.specs.Told.{IsTold, HoldsNoEarlier};
 
 use crate::NoMemory;
 use crate::revision::Best;
@@ -29,11 +31,59 @@ fn hear(held: &mut Keyed<Uid, SeriesState>, alloc: Global, item: &Item) -> Resul
 {
     let uid = uid(&item.key);
     let one = of_item(alloc, item)?;
-    let before = held.insert(uid.clone()?, of_nothing(alloc))?;
-    let mut series = before.unwrap_or(of_nothing(alloc));
-    series.join(&one)?;
-    held.insert(uid.clone()?, series)?;
+    if has(held, uid) {
+        let before = held.insert(uid.clone()?, of_nothing(alloc))?;
+        let mut series = before.unwrap_or(of_nothing(alloc));
+        series.join(&one)?;
+        held.insert(uid.clone()?, series)?;
+        return Ok(());
+    }
+    held.insert(uid.clone()?, one)?;
     Ok(())
+}
+
+/// Whether something is held of a UID.
+fn has(held: &Keyed<Uid, SeriesState>, uid: &Uid) -> bool
+    ensures { result ≡ is_some (value_at (slice_cmp nat_cmp) held.now.map uid.now) }
+{
+    held.get(uid).is_some()
+}
+
+/// Whether `item` is not later than what is held at its key.
+fn is_no_later(item: &Item, best: &Best) -> bool
+    ensures { IsTrue result → ¬ IsLater item.now best.now.value }
+{
+    item.cmp_rev(best.value.item()).is_le()
+}
+
+/// Whether what is held of the UID of `item` at its key is no earlier than it.
+fn holds_no_earlier(alloc: Global, series: &SeriesState, item: &Item) -> Result<bool, NoMemory>
+    ensures { IfOk result (λ holds. IsTrue holds → HoldsNoEarlier (record { series = series.now.guard; entries = series.now.entries.map }) item.now) }
+{
+    match &item.key {
+        Key::Series(_) => match &series.guard {
+            Lift::Nothing => Ok(false),
+            Lift::Known(best) => Ok(is_no_later(item, best)),
+        },
+        _ => {
+            let slot = Slot::new(alloc, item.key.clone()?)?;
+            match series.entries.get(&slot) {
+                None => Ok(false),
+                Some(best) => Ok(is_no_later(item, best)),
+            }
+        }
+    }
+}
+
+/// Whether an item of the same key is held that is no earlier. What is dead is not looked for.
+fn tells(alloc: Global, held: &Keyed<Uid, SeriesState>, item: &Item) -> Result<bool, NoMemory>
+    ensures { IfOk result (λ tells. IsTrue tells → ArePlaced (shapes held.now.map (λ v. v.guard) (λ v. v.entries.map))
+        → IsTold (items_of (shapes held.now.map (λ v. v.guard) (λ v. v.entries.map))) item.now) }
+{
+    match held.get(uid(&item.key)) {
+        None => Ok(false),
+        Some(series) => holds_no_earlier(alloc, series, item),
+    }
 }
 
 /// Whether what is held of a UID tells all that `theirs` tells of it.
@@ -140,7 +190,7 @@ impl Model for State {
 }
 
 impl State {
-    ghost use Rattle.itip_state.specs.Kept.{AreKept, ArePart, ArePartOf, AreMoved, IsItemsOf, AreSeriesOf, AreUidsOf, SameItems, HasEachOnce, AscendKeys};
+    ghost use Rattle.itip_state.specs.Kept.{AreKept, IsKept, ArePart, ArePartOf, AreMoved, IsItemsOf, AreSeriesOf, AreUidsOf, SameItems, HasEachOnce, AscendKeys};
     ghost use Rattle.itip_state.specs.Order.{IsState, IsBelow};
 
     /// The state of nothing heard. It takes no memory.
@@ -162,6 +212,23 @@ impl State {
             hear(&mut held, alloc, item)?;
         }
         Ok(State { alloc, held })
+    }
+
+    /// What is kept of these items but for those that this state tells already. Beside this state it counts as much as all of them.
+    pub fn news_of(&self, items: &[Item]) -> Result<State, NoMemory>
+        ensures { IfOk result (λ news. (item : Item) → IsKept (self.now ++ news) item ↔ IsKept (self.now ++ items.now) item) }
+    {
+        let mut held = Keyed::empty(self.alloc);
+        for item in items {
+            if tells(self.alloc, &self.held, item)? {
+                continue;
+            }
+            hear(&mut held, self.alloc, item)?;
+        }
+        Ok(State {
+            alloc: self.alloc,
+            held,
+        })
     }
 
     /// Hears another state: their least upper bound. A refusal, for want of memory, changes nothing.
