@@ -13,7 +13,7 @@ use Rattle.itip_message.specs.declared.item.Item.{Item}
 use Rattle.itip_state.specs.Kept.{AreKept, HasEachOnce}
 use Rattle.itip_desk.specs.Heard.{heard}
 use Rattle.itip_desk.specs.Desk.{Shown, IsDeskOf}
-use Rattle.itip_delta.specs.Worlds.{Histories, AreDesksOf, Past, IsWorldOf, Spends, LacksOnlyPacket, desk_of}
+use Rattle.itip_delta.specs.Worlds.{History, Histories, AreDesksOf, Past, IsWorldOf, Spends, LacksOnlyPacket, desk_of}
 use Rattle.itip_delta.specs.Worlds as worlds
 use Rattle.itip_delta.specs.declared.event.Event.{Event}
 use Rattle.itip_delta.specs.declared.event.Reply.{Reply}
@@ -83,9 +83,9 @@ same_length (h ∷ hs) (d ∷ ds) are = ap suc (same_length hs ds are.1)
 
 -- the history of a desk that is there
 pub record HistoryAt (histories : Histories) (desk : ℕ) (shown : Shown) : Type 0 where
-  pub history : List (List Item)
+  pub history : History
   pub there : slice_get histories desk ≡ Some history
-  pub is : IsDeskOf history 0 shown
+  pub is : IsDeskOf history.steps history.start shown
 
 some_shown : (a b : Shown) → Some a ≡ Some b → a ≡ b
 some_shown a b e = ap (λ (o : Option Shown). elim o [ None ↦ a | Some x ↦ x ]) e
@@ -93,7 +93,7 @@ some_shown a b e = ap (λ (o : Option Shown). elim o [ None ↦ a | Some x ↦ x
 pub history_at : (histories : Histories) (desks : List Shown) (desk : ℕ) (shown : Shown) → AreDesksOf histories desks → slice_get desks desk ≡ Some shown → HistoryAt histories desk shown
 history_at histories [] desk shown are at = absurd cc
 history_at [] (d ∷ ds) desk shown are at = absurd are
-history_at (h ∷ hs) (d ∷ ds) zero shown are at = record { history = h; there = refl; is = subst (λ (s : Shown). IsDeskOf h 0 s) (some_shown d shown at) are.0 }
+history_at (h ∷ hs) (d ∷ ds) zero shown are at = record { history = h; there = refl; is = subst (λ (s : Shown). IsDeskOf h.steps h.start s) (some_shown d shown at) are.0 }
 history_at (h ∷ hs) (d ∷ ds) (suc desk) shown are at =
     let rest = history_at hs ds desk shown are.1 at in
     record { history = rest.history; there = rest.there; is = rest.is }
@@ -118,13 +118,13 @@ module _ (window : Window) (desks : List Shown) (packets : List (List ℕ)) wher
       → ((all : List Item) → AreKept shown.kept all → IsListText all window text) → StepsFrom window desks packets (lists desk) (listed desk text) desks packets
   steps_list desk shown text at is past world =
       let h = history_at past.histories desks desk shown world.desks_are at in
-      record { past = past; step = lists_rows desk h.history text h.there (is (heard h.history) h.is.kept); world_is = world }
+      record { past = past; step = lists_rows desk h.history text h.there (is (heard h.history.steps) h.is.kept); world_is = world }
 
   pub steps_too_many : (desk : ℕ) (shown : Shown) → slice_get desks desk ≡ Some shown
       → ((all : List Item) → AreKept shown.kept all → AreTooMany all window) → StepsFrom window desks packets (lists desk) (refused 31) desks packets
   steps_too_many desk shown at is past world =
       let h = history_at past.histories desks desk shown world.desks_are at in
-      record { past = past; step = lists_too_many desk h.history h.there (is (heard h.history) h.is.kept); world_is = world }
+      record { past = past; step = lists_too_many desk h.history h.there (is (heard h.history.steps) h.is.kept); world_is = world }
 
   pub steps_no_list : (desk : ℕ) → length desks ≤ desk → StepsFrom window desks packets (lists desk) (refused 50) desks packets
   steps_no_list desk missing past world = record { past = past; step = lists_no_desk desk (omega (arith, same_length past.histories desks world.desks_are)); world_is = world }
@@ -146,7 +146,7 @@ module _ (window : Window) (desks : List Shown) (packets : List (List ℕ)) wher
       → StepsFrom window desks packets (reports desk named) (reported desk named lines) desks packets
   steps_report desk named shown lines at is past world =
       let h = history_at past.histories desks desk shown world.desks_are at in
-      record { past = past; step = reports_lines desk named h.history lines h.there (report_of_kept shown.kept (heard h.history) h.is.kept window named lines is); world_is = world }
+      record { past = past; step = reports_lines desk named h.history lines h.there (report_of_kept shown.kept (heard h.history.steps) h.is.kept window named lines is); world_is = world }
 
   pub steps_no_load : (desk : ℕ) (named : ReportName) (shown : Shown) → slice_get desks desk ≡ Some shown → named ≡ name.Load → AreTooMany shown.kept window
       → StepsFrom window desks packets (reports desk named) (refused 31) desks packets
@@ -155,7 +155,7 @@ module _ (window : Window) (desks : List Shown) (packets : List (List ℕ)) wher
       record {
         past = past;
         step = subst (λ (n : ReportName). Step window past (reports desk n) (refused 31) past) (sym load)
-            (reports_too_many desk h.history h.there (too_many_of_kept shown.kept (heard h.history) h.is.kept window many));
+            (reports_too_many desk h.history h.there (too_many_of_kept shown.kept (heard h.history.steps) h.is.kept window many));
         world_is = world;
       }
 
@@ -167,7 +167,7 @@ module _ (window : Window) (desks : List Shown) (packets : List (List ℕ)) wher
       → StepsFrom window desks packets (resends desk uid) (resent desk bytes) desks packets
   steps_resend desk uid shown bytes at is past world =
       let h = history_at past.histories desks desk shown world.desks_are at in
-      record { past = past; step = resends_messages desk uid h.history bytes h.there (resend_of_kept shown.kept (heard h.history) h.is.kept uid bytes is); world_is = world }
+      record { past = past; step = resends_messages desk uid h.history bytes h.there (resend_of_kept shown.kept (heard h.history.steps) h.is.kept uid bytes is); world_is = world }
 
   pub steps_no_resend : (desk : ℕ) (uid : List ℕ) → length desks ≤ desk → StepsFrom window desks packets (resends desk uid) (refused 50) desks packets
   steps_no_resend desk uid missing past world =
@@ -177,7 +177,7 @@ module _ (window : Window) (desks : List Shown) (packets : List (List ℕ)) wher
       → StepsFrom window desks packets (asks_next desk uid) (next_is desk sequence) desks packets
   steps_next desk uid shown sequence at is past world =
       let h = history_at past.histories desks desk shown world.desks_are at in
-      record { past = past; step = tells_next desk uid h.history sequence h.there (next_of_kept shown.kept (heard h.history) h.is.kept uid sequence is); world_is = world }
+      record { past = past; step = tells_next desk uid h.history sequence h.there (next_of_kept shown.kept (heard h.history.steps) h.is.kept uid sequence is); world_is = world }
 
   pub steps_no_next : (desk : ℕ) (uid : List ℕ) → length desks ≤ desk → StepsFrom window desks packets (asks_next desk uid) (refused 50) desks packets
   steps_no_next desk uid missing past world =

@@ -34,7 +34,7 @@ use Rattle.itip_report.proofs.OfKept.{lines_alike, resend_alike, next_alike}
 use Rattle.itip_report.proofs.OneReport.{one_lines, one_resend, one_next}
 use Rattle.itip_desk.specs.Heard.{heard, TickStep, Ticks, MovedAfter}
 use Rattle.itip_desk.specs.Octets.{AscendOctets}
-use Rattle.itip_delta.specs.Worlds.{Histories, no_histories, with_step, Past, no_past, Takes, Hears, EventStep, IsSpent, IsPacketOf, IsBatchOf, desk_of, LacksOnlyPacket}
+use Rattle.itip_delta.specs.Worlds.{History, with_one_more, Histories, no_histories, with_step, Past, no_past, Takes, Hears, EventStep, IsSpent, IsPacketOf, IsBatchOf, desk_of, LacksOnlyPacket}
 use Rattle.itip_delta.specs.Worlds.Hears.{reads, refuses}
 use Rattle.itip_delta.specs.Worlds.EventStep.{delivers, posts, arrives}
 use Rattle.itip_delta.specs.Worlds.IsSpent.{spends, spends_arriving}
@@ -101,11 +101,15 @@ SameSteps [] (b ∷ bs) = ⊥
 SameSteps (a ∷ as') [] = ⊥
 SameSteps (a ∷ as') (b ∷ bs) = SameItems a b × SameSteps as' bs
 
+pub record SameHistory (a b : History) : Type 0 where
+  pub start : a.start ≡ b.start
+  pub steps : SameSteps a.steps b.steps
+
 abbrev pub SameHistories : Histories → Histories → Type 0
 SameHistories [] [] = Unit {0}
 SameHistories [] (b ∷ bs) = ⊥
 SameHistories (a ∷ as') [] = ⊥
-SameHistories (a ∷ as') (b ∷ bs) = SameSteps a b × SameHistories as' bs
+SameHistories (a ∷ as') (b ∷ bs) = SameHistory a b × SameHistories as' bs
 
 same_heard : (a b : List (List Item)) → SameSteps a b → SameItems (heard a) (heard b)
 same_heard [] [] same = λ item. (λ h. h, λ h. h)
@@ -125,20 +129,24 @@ same_lengths [] (b ∷ bs) same = absurd same
 same_lengths (a ∷ as') [] same = absurd same
 same_lengths (a ∷ as') (b ∷ bs) same = ap suc (same_lengths as' bs same.1)
 
-same_at : (a b : Histories) (desk : ℕ) (x y : List (List Item)) → SameHistories a b → slice_get a desk ≡ Some x → slice_get b desk ≡ Some y → SameSteps x y
+some_history : (a b : History) → Some a ≡ Some b → a ≡ b
+some_history a b e = ap (λ (o : Option History). elim o [ None ↦ a | Some x ↦ x ]) e
+
+same_at : (a b : Histories) (desk : ℕ) (x y : History) → SameHistories a b → slice_get a desk ≡ Some x → slice_get b desk ≡ Some y → SameHistory x y
 same_at [] b desk x y same at there = absurd cc
 same_at (a ∷ as') [] desk x y same at there = absurd same
 same_at (a ∷ as') (b ∷ bs) zero x y same at there =
-    let first : a ≡ x = cc in
-    let second : b ≡ y = cc in
-    subst (λ (h : List (List Item)). SameSteps h y) first (subst (λ (h : List (List Item)). SameSteps a h) second same.0)
+    subst (λ (h : History). SameHistory h y) (some_history a x at) (subst (λ (h : History). SameHistory a h) (some_history b y there) same.0)
 same_at (a ∷ as') (b ∷ bs) (suc desk) x y same at there = same_at as' bs desk x y same.1 at there
+
+same_more : (a b : History) (x y : List Item) → SameHistory a b → SameItems x y → SameHistory (with_one_more a x) (with_one_more b y)
+same_more a b x y same one = record { start = same.start; steps = same_one_more a.steps b.steps x y same.steps one }
 
 same_with_step : (a b : Histories) (desk : ℕ) (x y : List Item) → SameHistories a b → SameItems x y → SameHistories (with_step a desk x) (with_step b desk y)
 same_with_step [] [] desk x y same one = tt
 same_with_step [] (b ∷ bs) desk x y same one = absurd same
 same_with_step (a ∷ as') [] desk x y same one = absurd same
-same_with_step (a ∷ as') (b ∷ bs) zero x y same one = (same_one_more a b x y same.0 one, same.1)
+same_with_step (a ∷ as') (b ∷ bs) zero x y same one = (same_more a b x y same.0 one, same.1)
 same_with_step (a ∷ as') (b ∷ bs) (suc desk) x y same one = (same.0, same_with_step as' bs desk x y same.1 one)
 
 steps_back : (a b : List (List Item)) → SameSteps a b → SameSteps b a
@@ -147,17 +155,20 @@ steps_back [] (b ∷ bs) same = absurd same
 steps_back (a ∷ as') [] same = absurd same
 steps_back (a ∷ as') (b ∷ bs) same = (same_back a b same.0, steps_back as' bs same.1)
 
+history_back : (a b : History) → SameHistory a b → SameHistory b a
+history_back a b same = record { start = sym same.start; steps = steps_back a.steps b.steps same.steps }
+
 histories_back : (a b : Histories) → SameHistories a b → SameHistories b a
 histories_back [] [] same = tt
 histories_back [] (b ∷ bs) same = absurd same
 histories_back (a ∷ as') [] same = absurd same
-histories_back (a ∷ as') (b ∷ bs) same = (steps_back a b same.0, histories_back as' bs same.1)
+histories_back (a ∷ as') (b ∷ bs) same = (history_back a b same.0, histories_back as' bs same.1)
 
 pub same_start : (desks : ℕ) → SameHistories (no_histories desks) (no_histories desks)
 same_start zero = tt
-same_start (suc n) = (tt, same_start n)
+same_start (suc n) = (record { start = refl; steps = tt }, same_start n)
 
-within_at : (a : Histories) (desk : ℕ) (x : List (List Item)) → slice_get a desk ≡ Some x → desk < length a
+within_at : (a : Histories) (desk : ℕ) (x : History) → slice_get a desk ≡ Some x → desk < length a
 within_at [] desk x at = absurd cc
 within_at (a ∷ as') zero x at = omega arith
 within_at (a ∷ as') (suc desk) x at = omega (arith, within_at as' desk x at)
@@ -299,13 +310,14 @@ moved_same before before' tick (a ∷ as') (b ∷ bs) since uid same steps (next
 itself : (x : List Item) → SameItems x x
 itself x item = (λ h. h, λ h. h)
 
-packet_there : (h h' : List (List Item)) (since : ℕ) (p p' : List Item) → SameSteps h h' → IsPacketOf h since p → IsPacketOf h' since p' → (item : Item) → Contains p item → Contains p' item
+packet_there : (h h' : History) (since : ℕ) (p p' : List Item) → SameHistory h h' → IsPacketOf h since p → IsPacketOf h' since p' → (item : Item) → Contains p item → Contains p' item
 packet_there h h' since p p' same is is' item here =
     let tells = (is item).0 here in
-    (is' item).1 ((same_heard h h' same item).0 tells.0, moved_same [] [] 0 h h' since (uid_of item.key) (itself []) same tells.1)
+    (is' item).1 ((same_heard h.steps h'.steps same.steps item).0 tells.0,
+    subst (λ (t : ℕ). MovedAfter [] t h'.steps since (uid_of item.key)) same.start (moved_same [] [] h.start h.steps h'.steps since (uid_of item.key) (itself []) same.steps tells.1))
 
-packet_one : (h h' : List (List Item)) (since : ℕ) (p p' : List Item) → SameSteps h h' → IsPacketOf h since p → IsPacketOf h' since p' → SameItems p p'
-packet_one h h' since p p' same is is' item = (packet_there h h' since p p' same is is' item, packet_there h' h since p' p (steps_back h h' same) is' is item)
+packet_one : (h h' : History) (since : ℕ) (p p' : List Item) → SameHistory h h' → IsPacketOf h since p → IsPacketOf h' since p' → SameItems p p'
+packet_one h h' since p p' same is is' item = (packet_there h h' since p p' same is is' item, packet_there h' h since p' p (history_back h h' same) is' is item)
 
 kept_one : (a b kept kept' : List Item) → SameItems a b → AreKept kept a → AreKept kept' b → SameItems kept kept'
 kept_one a b kept kept' same are are' item = let iff = kept_iff a b same item in (λ h. (are' item).1 (iff.0 ((are item).0 h)), λ h. (are item).1 (iff.1 ((are' item).0 h)))
@@ -342,13 +354,13 @@ past_back old old' same = record { desks = histories_back old.histories old'.his
 
 -- ---- one event
 
-takes_one : (h h' : List (List Item)) (step step' : List Item) (uids uids' : List (List ℕ)) (tick tick' : ℕ) → SameSteps h h' → SameItems step step' → Takes h step uids tick → Takes h' step' uids' tick' → Taken tick (length uids) ≡ Taken tick' (length uids')
+takes_one : (h h' : History) (step step' : List Item) (uids uids' : List (List ℕ)) (tick tick' : ℕ) → SameHistory h h' → SameItems step step' → Takes h step uids tick → Takes h' step' uids' tick' → Taken tick (length uids) ≡ Taken tick' (length uids')
 takes_one h h' step step' uids uids' tick tick' same one t t' =
-    let ticks : tick ≡ tick' = ticks_one [] [] 0 0 (h ++ step ∷ []) (h' ++ step' ∷ []) tick tick' (itself []) refl (same_one_more h h' step step' same one) t.ticks t'.ticks in
-    let moved = moved_one uids uids' (heard h) (heard h') step step' (same_heard h h' same) one t.moved t'.moved in
+    let ticks : tick ≡ tick' = ticks_one [] [] h.start h'.start (h.steps ++ step ∷ []) (h'.steps ++ step' ∷ []) tick tick' (itself []) same.start (same_one_more h.steps h'.steps step step' same.steps one) t.ticks t'.ticks in
+    let moved = moved_one uids uids' (heard h.steps) (heard h'.steps) step step' (same_heard h.steps h'.steps same.steps) one t.moved t'.moved in
     ap (λ (n : ℕ). Taken n (length uids)) ticks ∙ ap (λ (us : List (List ℕ)). Taken tick' (length us)) moved
 
-hears_one : (h h' : List (List Item)) (bytes : List ℕ) (step step' : List Item) (reply reply' : Reply) → SameSteps h h' → IsReadOnce bytes → Hears h bytes step reply → Hears h' bytes step' reply' → (reply ≡ reply') × SameItems step step'
+hears_one : (h h' : History) (bytes : List ℕ) (step step' : List Item) (reply reply' : Reply) → SameHistory h h' → IsReadOnce bytes → Hears h bytes step reply → Hears h' bytes step' reply' → (reply ≡ reply') × SameItems step step'
 hears_one h h' bytes step step' _ _ same once (reads items uids tick r s t) (reads items' uids' tick' r' s' t') =
     let one : SameItems step step' = same_then step items step' s (same_then items items' step' (once.items items items' r r') (same_back step' items' s')) in
     (takes_one h h' step step' uids uids' tick tick' same one t t', one)
@@ -380,15 +392,15 @@ spent_step before before' step step' tick next uid same one at (inr stays) moves
     moves (keep_same_of uid before before' (before ++ step) (before' ++ step') same (same_together before before' step step' same one) (stays.0 uid))
 
 -- a step that moves a UID at the last tick leaves no tick that there is
-takes_spent : (h h' : List (List Item)) (step step' : List Item) (uids : List (List ℕ)) (tick : ℕ) (uid : List ℕ) → SameSteps h h' → SameItems step step' → Takes h step uids tick → tick < 2 ^ 64
-    → Ticks [] 0 h' (2 ^ 64 - 1) → Moves (heard h') step' uid → ⊥
+takes_spent : (h h' : History) (step step' : List Item) (uids : List (List ℕ)) (tick : ℕ) (uid : List ℕ) → SameHistory h h' → SameItems step step' → Takes h step uids tick → tick < 2 ^ 64
+    → Ticks [] h'.start h'.steps (2 ^ 64 - 1) → Moves (heard h'.steps) step' uid → ⊥
 takes_spent h h' step step' uids tick uid same one t has t' moves =
-    let split = ticks_split [] 0 h step tick t.ticks in
-    let mid : split.0 ≡ 2 ^ 64 - 1 = ticks_one [] [] 0 0 h h' split.0 (2 ^ 64 - 1) (itself []) refl same split.1 t' in
-    spent_step (heard h) (heard h') step step' split.0 tick uid (same_heard h h' same) one mid split.2 moves has
+    let split = ticks_split [] h.start h.steps step tick t.ticks in
+    let mid : split.0 ≡ 2 ^ 64 - 1 = ticks_one [] [] h.start h'.start h.steps h'.steps split.0 (2 ^ 64 - 1) (itself []) same.start same.steps split.1 t' in
+    spent_step (heard h.steps) (heard h'.steps) step step' split.0 tick uid (same_heard h.steps h'.steps same.steps) one mid split.2 moves has
 
-hears_spent : (h h' : List (List Item)) (bytes : List ℕ) (step : List Item) (reply : Reply) (items' step' : List Item) (uid : List ℕ) → SameSteps h h' → IsReadOnce bytes → Hears h bytes step reply → HasTick reply
-    → ReadsMessage bytes items' → SameItems step' items' → Ticks [] 0 h' (2 ^ 64 - 1) → Moves (heard h') step' uid → ⊥
+hears_spent : (h h' : History) (bytes : List ℕ) (step : List Item) (reply : Reply) (items' step' : List Item) (uid : List ℕ) → SameHistory h h' → IsReadOnce bytes → Hears h bytes step reply → HasTick reply
+    → ReadsMessage bytes items' → SameItems step' items' → Ticks [] h'.start h'.steps (2 ^ 64 - 1) → Moves (heard h'.steps) step' uid → ⊥
 hears_spent h h' bytes step _ items' step' uid same once (reads items uids tick r s t) has r' s' t' moves =
     let one : SameItems step step' = same_then step items step' s (same_then items items' step' (once.items items items' r r') (same_back step' items' s')) in
     takes_spent h h' step step' uids tick uid same one t has t' moves
@@ -468,13 +480,13 @@ step_one window old old' _ a _ new _ same once (happens _ event _ _ asks h) (cou
 step_one window old old' _ a _ new _ same once (happens _ event _ _ asks h) (counts_no_desk desk past') = absurd (none_asked event asks)
 step_one window old old' _ _ a' _ new' same once (lists_rows desk h text at is) (happens _ event _ _ asks h') = absurd (none_asked event asks)
 step_one window old old' _ _ _ _ _ same once (lists_rows desk h text at is) (lists_rows _ h' text' at' is') =
-    (ap (listed desk) (list_one (heard h) (heard h') window text text' (same_heard h h' (same_at old.histories old'.histories desk h h' same.desks at at')) is is'), same)
+    (ap (listed desk) (list_one (heard h.steps) (heard h'.steps) window text text' (same_heard h.steps h'.steps (same_at old.histories old'.histories desk h h' same.desks at at').steps) is is'), same)
 step_one window old old' _ _ _ _ _ same once (lists_rows desk h text at is) (lists_too_many _ h' at' many) =
-    absurd (list_or_too_many (heard h) (heard h') window text (same_heard h h' (same_at old.histories old'.histories desk h h' same.desks at at')) is many)
+    absurd (list_or_too_many (heard h.steps) (heard h'.steps) window text (same_heard h.steps h'.steps (same_at old.histories old'.histories desk h h' same.desks at at').steps) is many)
 step_one window old old' _ _ _ _ _ same once (lists_rows desk h text at is) (lists_no_desk _ past) = absurd (omega (arith, within_at old.histories desk h at, desks_same old old' same))
 step_one window old old' _ _ a' _ new' same once (lists_too_many desk h at many) (happens _ event _ _ asks h') = absurd (none_asked event asks)
 step_one window old old' _ _ _ _ _ same once (lists_too_many desk h at many) (lists_rows _ h' text' at' is') =
-    absurd (list_or_too_many (heard h') (heard h) window text' (same_back (heard h) (heard h') (same_heard h h' (same_at old.histories old'.histories desk h h' same.desks at at'))) is' many)
+    absurd (list_or_too_many (heard h'.steps) (heard h.steps) window text' (same_back (heard h.steps) (heard h'.steps) (same_heard h.steps h'.steps (same_at old.histories old'.histories desk h h' same.desks at at').steps)) is' many)
 step_one window old old' _ _ _ _ _ same once (lists_too_many desk h at many) (lists_too_many _ h' at' many') = (refl, same)
 step_one window old old' _ _ _ _ _ same once (lists_too_many desk h at many) (lists_no_desk _ past) = absurd (omega (arith, within_at old.histories desk h at, desks_same old old' same))
 step_one window old old' _ _ a' _ new' same once (lists_no_desk desk past) (happens _ event _ _ asks h') = absurd (none_asked event asks)
@@ -483,7 +495,7 @@ step_one window old old' _ _ _ _ _ same once (lists_no_desk desk past) (lists_to
 step_one window old old' _ _ _ _ _ same once (lists_no_desk desk past) (lists_no_desk _ past') = (refl, same)
 step_one window old old' _ _ a' _ new' same once (counts_kept desk h kept at each are) (happens _ event _ _ asks h') = absurd (none_asked event asks)
 step_one window old old' _ _ _ _ _ same once (counts_kept desk h kept at each are) (counts_kept _ h' kept' at' each' are') =
-    (ap (λ (n : ℕ). counted desk (min n (2 ^ 64 - 1))) (same_count kept kept' each each' (kept_one (heard h) (heard h') kept kept' (same_heard h h' (same_at old.histories old'.histories desk h h' same.desks at at')) are are')), same)
+    (ap (λ (n : ℕ). counted desk (min n (2 ^ 64 - 1))) (same_count kept kept' each each' (kept_one (heard h.steps) (heard h'.steps) kept kept' (same_heard h.steps h'.steps (same_at old.histories old'.histories desk h h' same.desks at at').steps) are are')), same)
 step_one window old old' _ _ _ _ _ same once (counts_kept desk h kept at each are) (counts_no_desk _ past) = absurd (omega (arith, within_at old.histories desk h at, desks_same old old' same))
 step_one window old old' _ _ a' _ new' same once (counts_no_desk desk past) (happens _ event _ _ asks h') = absurd (none_asked event asks)
 step_one window old old' _ _ _ _ _ same once (counts_no_desk desk past) (counts_kept _ h' kept' at' each' are') = absurd (omega (arith, within_at old'.histories desk h' at', desks_same old old' same))
@@ -498,13 +510,13 @@ step_one window old old' _ a _ new _ same once (happens _ event _ _ asks h) (tel
 step_one window old old' _ a _ new _ same once (happens _ event _ _ asks h) (is_refused) = absurd (none_asked event asks)
 step_one window old old' _ _ a' _ new' same once (reports_lines desk named h lines at is) (happens _ event _ _ asks h') = absurd (none_asked event asks)
 step_one window old old' _ _ _ _ _ same once (reports_lines desk named h lines at is) (reports_lines _ _ h' lines' at' is') =
-    (ap (reported desk named) (report_one (heard h) (heard h') window named lines lines' (same_heard h h' (same_at old.histories old'.histories desk h h' same.desks at at')) is is'), same)
+    (ap (reported desk named) (report_one (heard h.steps) (heard h'.steps) window named lines lines' (same_heard h.steps h'.steps (same_at old.histories old'.histories desk h h' same.desks at at').steps) is is'), same)
 step_one window old old' _ _ _ _ _ same once (reports_lines desk _ h lines at is) (reports_too_many _ h' at' many') =
-    absurd (load_or_too_many (heard h) (heard h') window lines (same_heard h h' (same_at old.histories old'.histories desk h h' same.desks at at')) is many')
+    absurd (load_or_too_many (heard h.steps) (heard h'.steps) window lines (same_heard h.steps h'.steps (same_at old.histories old'.histories desk h h' same.desks at at').steps) is many')
 step_one window old old' _ _ _ _ _ same once (reports_lines desk named h lines at is) (reports_no_desk _ _ past') = absurd (omega (arith, within_at old.histories desk h at, desks_same old old' same))
 step_one window old old' _ _ a' _ new' same once (reports_too_many desk h at many) (happens _ event _ _ asks h') = absurd (none_asked event asks)
 step_one window old old' _ _ _ _ _ same once (reports_too_many desk h at many) (reports_lines _ _ h' lines' at' is') =
-    absurd (load_or_too_many (heard h') (heard h) window lines' (same_back (heard h) (heard h') (same_heard h h' (same_at old.histories old'.histories desk h h' same.desks at at'))) is' many)
+    absurd (load_or_too_many (heard h'.steps) (heard h.steps) window lines' (same_back (heard h.steps) (heard h'.steps) (same_heard h.steps h'.steps (same_at old.histories old'.histories desk h h' same.desks at at').steps)) is' many)
 step_one window old old' _ _ _ _ _ same once (reports_too_many desk h at many) (reports_too_many _ h' at' many') = (refl, same)
 step_one window old old' _ _ _ _ _ same once (reports_too_many desk h at many) (reports_no_desk _ _ past') = absurd (omega (arith, within_at old.histories desk h at, desks_same old old' same))
 step_one window old old' _ _ a' _ new' same once (reports_no_desk desk named past) (happens _ event _ _ asks h') = absurd (none_asked event asks)
@@ -513,14 +525,14 @@ step_one window old old' _ _ _ _ _ same once (reports_no_desk desk _ past) (repo
 step_one window old old' _ _ _ _ _ same once (reports_no_desk desk named past) (reports_no_desk _ _ past') = (refl, same)
 step_one window old old' _ _ a' _ new' same once (resends_messages desk uid h bytes at is) (happens _ event _ _ asks h') = absurd (none_asked event asks)
 step_one window old old' _ _ _ _ _ same once (resends_messages desk uid h bytes at is) (resends_messages _ _ h' bytes' at' is') =
-    (ap (resent desk) (resend_one (heard h) (heard h') uid bytes bytes' (same_heard h h' (same_at old.histories old'.histories desk h h' same.desks at at')) is is'), same)
+    (ap (resent desk) (resend_one (heard h.steps) (heard h'.steps) uid bytes bytes' (same_heard h.steps h'.steps (same_at old.histories old'.histories desk h h' same.desks at at').steps) is is'), same)
 step_one window old old' _ _ _ _ _ same once (resends_messages desk uid h bytes at is) (resends_no_desk _ _ past') = absurd (omega (arith, within_at old.histories desk h at, desks_same old old' same))
 step_one window old old' _ _ a' _ new' same once (resends_no_desk desk uid past) (happens _ event _ _ asks h') = absurd (none_asked event asks)
 step_one window old old' _ _ _ _ _ same once (resends_no_desk desk uid past) (resends_messages _ _ h' bytes' at' is') = absurd (omega (arith, within_at old'.histories desk h' at', desks_same old old' same))
 step_one window old old' _ _ _ _ _ same once (resends_no_desk desk uid past) (resends_no_desk _ _ past') = (refl, same)
 step_one window old old' _ _ a' _ new' same once (tells_next desk uid h next at is) (happens _ event _ _ asks h') = absurd (none_asked event asks)
 step_one window old old' _ _ _ _ _ same once (tells_next desk uid h next at is) (tells_next _ _ h' next' at' is') =
-    (ap (next_is desk) (next_one (heard h) (heard h') uid next next' (same_heard h h' (same_at old.histories old'.histories desk h h' same.desks at at')) is is'), same)
+    (ap (next_is desk) (next_one (heard h.steps) (heard h'.steps) uid next next' (same_heard h.steps h'.steps (same_at old.histories old'.histories desk h h' same.desks at at').steps) is is'), same)
 step_one window old old' _ _ _ _ _ same once (tells_next desk uid h next at is) (tells_no_desk _ _ past') = absurd (omega (arith, within_at old.histories desk h at, desks_same old old' same))
 step_one window old old' _ _ a' _ new' same once (tells_no_desk desk uid past) (happens _ event _ _ asks h') = absurd (none_asked event asks)
 step_one window old old' _ _ _ _ _ same once (tells_no_desk desk uid past) (tells_next _ _ h' next' at' is') = absurd (omega (arith, within_at old'.histories desk h' at', desks_same old old' same))

@@ -10,7 +10,7 @@ use Rattle.itip_state.specs.Kept.{AreKept, HasEachOnce}
 use Rattle.itip_desk.specs.Heard.{heard}
 use Rattle.itip_desk.specs.Desk.{Shown}
 use Rattle.itip_message.specs.declared.item.Item.{Item}
-use Rattle.itip_delta.specs.Worlds.{Past, no_past, EventStep, IsSpent, IsWorldOf, desk_of, LacksOnlyPacket}
+use Rattle.itip_delta.specs.Worlds.{History, Past, no_past, EventStep, IsSpent, IsWorldOf, desk_of, LacksOnlyPacket}
 use Rattle.itip_delta.specs.declared.event.Event.{Event}
 use Rattle.itip_delta.specs.declared.event.Event.TheVariants.{Deliver, Post, Arrive}
 use Rattle.itip_delta.specs.declared.event.Reply.{Reply}
@@ -123,26 +123,26 @@ pub data Happens (old : Past) (event : Event) : Answer → Past → Type 0 where
 -- One command: from what happened before, its answer, and what happened then.
 pub data Step (window : Window) (old : Past) : Order → Answer → Past → Type 0 where
   happens : (order : Order) (event : Event) (answer : Answer) (new : Past) → event_of order ≡ Some event → Happens old event answer new → Step window old order answer new
-  lists_rows : (desk : ℕ) (history : List (List Item)) (text : List ℕ)
-      → slice_get old.histories desk ≡ Some history → IsListText (heard history) window text → Step window old (lists desk) (listed desk text) old
-  lists_too_many : (desk : ℕ) (history : List (List Item))
-      → slice_get old.histories desk ≡ Some history → AreTooMany (heard history) window → Step window old (lists desk) (refused 31) old
+  lists_rows : (desk : ℕ) (history : History) (text : List ℕ)
+      → slice_get old.histories desk ≡ Some history → IsListText (heard history.steps) window text → Step window old (lists desk) (listed desk text) old
+  lists_too_many : (desk : ℕ) (history : History)
+      → slice_get old.histories desk ≡ Some history → AreTooMany (heard history.steps) window → Step window old (lists desk) (refused 31) old
   lists_no_desk : (desk : ℕ) → length old.histories ≤ desk → Step window old (lists desk) (refused 50) old
-  counts_kept : (desk : ℕ) (history : List (List Item)) (kept : List Item)
-      → slice_get old.histories desk ≡ Some history → HasEachOnce kept → AreKept kept (heard history)
+  counts_kept : (desk : ℕ) (history : History) (kept : List Item)
+      → slice_get old.histories desk ≡ Some history → HasEachOnce kept → AreKept kept (heard history.steps)
       → Step window old (counts desk) (counted desk (min (length kept) (2 ^ 64 - 1))) old
   counts_no_desk : (desk : ℕ) → length old.histories ≤ desk → Step window old (counts desk) (refused 50) old
-  reports_lines : (desk : ℕ) (named : ReportName) (history : List (List Item)) (lines : List (List ℕ))
-      → slice_get old.histories desk ≡ Some history → IsReportOf named (heard history) window lines
+  reports_lines : (desk : ℕ) (named : ReportName) (history : History) (lines : List (List ℕ))
+      → slice_get old.histories desk ≡ Some history → IsReportOf named (heard history.steps) window lines
       → Step window old (reports desk named) (reported desk named lines) old
-  reports_too_many : (desk : ℕ) (history : List (List Item))
-      → slice_get old.histories desk ≡ Some history → AreTooMany (heard history) window → Step window old (reports desk name.Load) (refused 31) old
+  reports_too_many : (desk : ℕ) (history : History)
+      → slice_get old.histories desk ≡ Some history → AreTooMany (heard history.steps) window → Step window old (reports desk name.Load) (refused 31) old
   reports_no_desk : (desk : ℕ) (named : ReportName) → length old.histories ≤ desk → Step window old (reports desk named) (refused 50) old
-  resends_messages : (desk : ℕ) (uid : List ℕ) (history : List (List Item)) (bytes : Option (List ℕ))
-      → slice_get old.histories desk ≡ Some history → IsResendOf (heard history) uid bytes → Step window old (resends desk uid) (resent desk bytes) old
+  resends_messages : (desk : ℕ) (uid : List ℕ) (history : History) (bytes : Option (List ℕ))
+      → slice_get old.histories desk ≡ Some history → IsResendOf (heard history.steps) uid bytes → Step window old (resends desk uid) (resent desk bytes) old
   resends_no_desk : (desk : ℕ) (uid : List ℕ) → length old.histories ≤ desk → Step window old (resends desk uid) (refused 50) old
-  tells_next : (desk : ℕ) (uid : List ℕ) (history : List (List Item)) (sequence : Option ℕ)
-      → slice_get old.histories desk ≡ Some history → IsNext (heard history) uid sequence → Step window old (asks_next desk uid) (next_is desk sequence) old
+  tells_next : (desk : ℕ) (uid : List ℕ) (history : History) (sequence : Option ℕ)
+      → slice_get old.histories desk ≡ Some history → IsNext (heard history.steps) uid sequence → Step window old (asks_next desk uid) (next_is desk sequence) old
   tells_no_desk : (desk : ℕ) (uid : List ℕ) → length old.histories ≤ desk → Step window old (asks_next desk uid) (refused 50) old
   is_refused : Step window old malformed (refused 60) old
 

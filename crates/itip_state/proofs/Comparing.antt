@@ -15,11 +15,10 @@ use Rattle.itip_message.specs.declared.item.Item.{Item}
 use Rattle.itip_message.specs.declared.key.Key.{Key}
 use Rattle.itip_message.specs.declared.key.Key.TheVariants.{Series}
 use Rattle.itip_state.specs.Kept.{IsBest, IsDead, IsKept, AreKept}
-use Rattle.itip_state.specs.Slots.{slot_cmp}
-use Rattle.itip_state.specs.Held.{Best, Shape, slot, best, is_series, can_die, kills, shape_items}
+use Rattle.itip_state.specs.Slots.{key_cmp}
+use Rattle.itip_state.specs.Held.{Best, Shape, best, is_series, can_die, kills, shape_items}
 use Rattle.itip_state.specs.Dying.{IsNoLater, eff_up_to, less_from}
 use Rattle.itip_state.specs.Below.{IsShapeBelow}
-use Rattle.itip_state.specs.declared.slot.Slot.{Slot}
 use Rattle.itip_state.proofs.Members.{by_bool}
 use Rattle.itip_state.proofs.Best.{best_above, not_later_itself, later_transitive, greater_eff}
 use Rattle.itip_state.proofs.Later.{up_to_not_later, not_later_up_to, neither_later}
@@ -34,7 +33,7 @@ IsToldBy b j = ((w : Item) × Contains (shape_items b) w × (w.key ≡ j.key) ×
 pub series_lives : (s : Lift Best) (key : Key) (i : Item) → is_series key ≡ true → kills s key i ≡ true → ⊥
 series_lives Nothing key i e d = let x : false ≡ true = d in cc
 series_lives (Known s) key i e d =
-    let c : can_die (Series (uid_of key)) ≡ true = ap can_die (sym (series_key key e)) ∙ (killed s.value.item key i d).0 in
+    let c : can_die (Series (uid_of key)) ≡ true = ap can_die (sym (series_key key e)) ∙ (killed s.value key i d).0 in
     let x : false ≡ true = c in cc
 
 module _ (uid : List ℕ) (a b : Shape) (sound_a : IsSound uid a) (sound_b : IsSound uid b) where
@@ -46,19 +45,19 @@ module _ (uid : List ℕ) (a b : Shape) (sound_a : IsSound uid a) (sound_b : IsS
 
   by_series : (j : Item) → j.key ≡ Series uid → (s : Lift Best) → b.series ≡ s → IsLiftedBelow IsNoLater (Known (best j)) s → IsToldBy b j
   by_series j key Nothing e l = absurd l
-  by_series j key (Known w) e l = inl (w.value.item, series_held uid b sound_b w.value.item e, known_key uid b sound_b w.value.item e ∙ sym key, l)
+  by_series j key (Known w) e l = inl (w.value, series_held uid b sound_b w.value e, known_key uid b sound_b w.value e ∙ sym key, l)
 
-  by_entry : (j : Item) (o : Option Best) → value_at slot_cmp b.entries (slot j.key) ≡ o → IsBelowUnder (is_killed b.series (slot j.key)) IsNoLater (Some (best j)) o → IsToldBy b j
+  by_entry : (j : Item) (o : Option Best) → value_at key_cmp b.entries j.key ≡ o → IsBelowUnder (is_killed b.series j.key) IsNoLater (Some (best j)) o → IsToldBy b j
   by_entry j None e d = inr d
   by_entry j (Some w) e (inl d) = inr d
-  by_entry j (Some w) e (inr l) = inl (w.value.item, entry_held uid b sound_b (slot j.key) w e, (entry_key uid b sound_b (slot j.key) w e).in_place, l)
+  by_entry j (Some w) e (inr l) = inl (w.value, entry_held uid b sound_b j.key w e, (entry_key uid b sound_b j.key w e).in_place, l)
 
   -- what the one tells the other tells too, or it is dead there
   pub told : IsShapeBelow a b → (j : Item) → Contains x j → IsToldBy b j
   told le j h = elim (held_as uid a sound_a j h) [
     | inl first ↦ by_series j (known_key uid a sound_a j first.0) b.series refl (subst (λ (s : Lift Best). IsLiftedBelow IsNoLater s b.series) first.0 le.0)
-    | inr other ↦ by_entry j (value_at slot_cmp b.entries (slot j.key)) refl
-        (subst (λ (o : Option Best). IsBelowUnder (is_killed b.series (slot j.key)) IsNoLater o (value_at slot_cmp b.entries (slot j.key))) other.0 (le.1 (slot j.key)))
+    | inr other ↦ by_entry j (value_at key_cmp b.entries j.key) refl
+        (subst (λ (o : Option Best). IsBelowUnder (is_killed b.series j.key) IsNoLater o (value_at key_cmp b.entries j.key)) other.0 (le.1 j.key))
   ]
 
   -- nothing that is told is later than what the other holds of its key
@@ -72,10 +71,10 @@ module _ (uid : List ℕ) (a b : Shape) (sound_a : IsSound uid a) (sound_b : IsS
       by : (s : Lift Best) → b.series ≡ s → kills s j.key j ≡ true → kills b.series i.key i ≡ false → ⊥
       by Nothing e k n = let y : false ≡ true = k in cc
       by (Known s) e k n =
-          let parts = killed s.value.item j.key j k in
+          let parts = killed s.value j.key j k in
           by_bool (kills (Known s) i.key i) ⊥
           (λ t. let y : true ≡ false = sym t ∙ sym (ap (λ (r : Lift Best). kills r i.key i) e) ∙ n in cc)
-          (λ f. not_later_itself i (later_transitive i j i (greater_eff i j (high s.value.item parts.0 parts.1 f)) later))
+          (λ f. not_later_itself i (later_transitive i j i (greater_eff i j (high s.value parts.0 parts.1 f)) later))
         where
           less_than : (m n : ℕ) → j.eff < n → nat_lt m n ≡ false → j.eff < m
           less_than m n low over = grind (arith, nat_tests)
@@ -140,31 +139,31 @@ module _ (uid : List ℕ) (a b : Shape) (sound_a : IsSound uid a) (sound_b : IsS
   series_in kept t is = series_is uid b sound_b t ((kept t).1 (series_kept (x ++ z) uid t is)) (ap is_series is.about)
 
   pub kept_below : AreKept z (x ++ z) → IsShapeBelow a b
-  kept_below kept = (series_below a.series refl, λ k. entry_below k (value_at slot_cmp a.entries k) refl)
+  kept_below kept = (series_below a.series refl, λ k. entry_below k (value_at key_cmp a.entries k) refl)
     where
       series_below : (s : Lift Best) → a.series ≡ s → IsLiftedBelow IsNoLater s b.series
       series_below Nothing e = tt
       series_below (Known s) e =
-          let here : Contains x s.value.item = series_held uid a sound_a s.value.item e in
-          let found = best_above (x ++ z) s.value.item (Contains-append_left x z s.value.item here) in
-          let key : s.value.item.key ≡ Series uid = known_key uid a sound_a s.value.item e in
+          let here : Contains x s.value = series_held uid a sound_a s.value e in
+          let found = best_above (x ++ z) s.value (Contains-append_left x z s.value here) in
+          let key : s.value.key ≡ Series uid = known_key uid a sound_a s.value e in
           let is : IsBest (x ++ z) (Series uid) found.0 = subst (λ (k : Key). IsBest (x ++ z) k found.0) key found.1 in
           subst (λ (t : Lift Best). IsLiftedBelow IsNoLater (Known s) t) (sym (series_in kept found.0 is))
-          (not_later_up_to s.value.item found.0 (is.none_later s.value.item (Contains-append_left x z s.value.item here) key))
+          (not_later_up_to s.value found.0 (is.none_later s.value (Contains-append_left x z s.value here) key))
 
-      entry_below : (k : Slot) (o : Option Best) → value_at slot_cmp a.entries k ≡ o → IsBelowUnder (is_killed b.series k) IsNoLater o (value_at slot_cmp b.entries k)
+      entry_below : (k : Key) (o : Option Best) → value_at key_cmp a.entries k ≡ o → IsBelowUnder (is_killed b.series k) IsNoLater o (value_at key_cmp b.entries k)
       entry_below k None e = tt
-      entry_below k (Some v) e = by_bool (kills b.series k.key i) (IsBelowUnder (is_killed b.series k) IsNoLater (Some v) (value_at slot_cmp b.entries k))
-          (λ d. dead d (value_at slot_cmp b.entries k))
+      entry_below k (Some v) e = by_bool (kills b.series k i) (IsBelowUnder (is_killed b.series k) IsNoLater (Some v) (value_at key_cmp b.entries k))
+          (λ d. dead d (value_at key_cmp b.entries k))
           (λ n. subst (IsBelowUnder (is_killed b.series k) IsNoLater (Some v)) (sym (there n)) (inr (not_later_up_to i found.0 no_later)))
         where
           i : Item
-          i = v.value.item
+          i = v.value
 
           here : Contains x i
           here = entry_held uid a sound_a k v e
 
-          key : i.key ≡ k.key
+          key : i.key ≡ k
           key = (entry_key uid a sound_a k v e).in_place
 
           of_uid : uid_of i.key ≡ uid
@@ -176,21 +175,21 @@ module _ (uid : List ℕ) (a b : Shape) (sound_a : IsSound uid a) (sound_b : IsS
           no_later : ¬ IsLater i found.0
           no_later = (found.1).none_later i (Contains-append_left x z i here) refl
 
-          dead : kills b.series k.key i ≡ true → (o : Option Best) → IsBelowUnder (is_killed b.series k) IsNoLater (Some v) o
+          dead : kills b.series k i ≡ true → (o : Option Best) → IsBelowUnder (is_killed b.series k) IsNoLater (Some v) o
           dead d None = d
           dead d (Some w) = inl d
 
-          alive : kills b.series k.key i ≡ false → ¬ IsDead (x ++ z) found.0
+          alive : kills b.series k i ≡ false → ¬ IsDead (x ++ z) found.0
           alive n gone =
               let same : uid_of (found.0).key ≡ uid = ap uid_of (found.1).about ∙ of_uid in
               let known = series_in kept gone.series (subst (λ u. IsBest (x ++ z) (Series u) gone.series) same gone.best) in
               let low : (found.0).eff < gone.series.eff = gone.below in
               let up : i.eff ≤ (found.0).eff = eff_up_to i found.0 (not_later_up_to i found.0 no_later) in
-              let c : can_die k.key ≡ true = ap can_die (sym key ∙ sym (found.1).about) ∙ can (found.0).key gone.can_die in
-              let y : true ≡ false = sym (kill gone.series k.key i c (omega arith)) ∙ sym (ap (λ (s : Lift Best). kills s k.key i) known) ∙ n in cc
+              let c : can_die k ≡ true = ap can_die (sym key ∙ sym (found.1).about) ∙ can (found.0).key gone.can_die in
+              let y : true ≡ false = sym (kill gone.series k i c (omega arith)) ∙ sym (ap (λ (s : Lift Best). kills s k i) known) ∙ n in cc
 
-          there : kills b.series k.key i ≡ false → value_at slot_cmp b.entries k ≡ Some (best found.0)
+          there : kills b.series k i ≡ false → value_at key_cmp b.entries k ≡ Some (best found.0)
           there n =
               let is : IsKept (x ++ z) found.0 = record { best = subst (λ (q : Key). IsBest (x ++ z) q found.0) (sym (found.1).about) found.1; alive = alive n } in
               let other : is_series (found.0).key ≡ false = ap is_series ((found.1).about ∙ key) ∙ (entry_key uid a sound_a k v e).other in
-              subst (λ (q : Key). value_at slot_cmp b.entries (slot q) ≡ Some (best found.0)) ((found.1).about ∙ key) (entry_is uid b sound_b found.0 ((kept found.0).1 is) other)
+              subst (λ (q : Key). value_at key_cmp b.entries q ≡ Some (best found.0)) ((found.1).about ∙ key) (entry_is uid b sound_b found.0 ((kept found.0).1 is) other)

@@ -13,6 +13,7 @@ pub mod Joining
 pub mod Maps
 pub mod Merging
 pub mod Hearing
+pub mod News
 pub mod Ordered
 pub mod Reading
 pub mod Selecting

@@ -16,10 +16,10 @@ use Rattle.itip_join.specs.KeyByKey.{value_at, IsMapBelow}
 use Rattle.itip_join.specs.Optional.{IsBelowAt}
 use Rattle.itip_message.specs.KeyParts.{uid_of}
 use Rattle.itip_message.specs.declared.item.Item.{Item}
+use Rattle.itip_message.specs.declared.key.Key.{Key}
 use Rattle.itip_state.specs.Kept.{IsBest, AreKept, ArePart, SameItems, KeepSame}
 use Rattle.itip_state.specs.Held.{Best, Shape, shape_items, shapes, items_of, IsPlaced, ArePlaced}
 use Rattle.itip_state.specs.Below.{IsShapeBelow}
-use Rattle.itip_state.specs.declared.slot.Slot.{Slot}
 use Rattle.itip_state.proofs.Members.{by_bool, none_in, cons_first}
 use Rattle.itip_state.proofs.Lookups.{one_key, itself, at_head, at_other, none_in_tail, value_from_all, all_from_values}
 use Rattle.itip_state.proofs.Best.{best_above}
@@ -169,7 +169,7 @@ module _ {V : Type 0} (shape : V → Shape) (whole : (v : V) → IsWhole (shape 
       some.0 (Contains-append_left (shape_items (shape a)) (shape_items (shape b)) some.0 some.1)
 
 -- ---- maps
-module _ {V : Type 0} (series : V → Lift Best) (entries : V → List (Slot × Best)) (whole : (v : V) → IsWhole (record { series = series v; entries = entries v })) where
+module _ {V : Type 0} (series : V → Lift Best) (entries : V → List (Key × Best)) (whole : (v : V) → IsWhole (record { series = series v; entries = entries v })) where
   abbrev pub shape : V → Shape
   shape v = record { series = series v; entries = entries v }
 

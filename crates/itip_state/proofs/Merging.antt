@@ -7,17 +7,17 @@ use Rattle.itip_join.specs.Bounds.{IsJoinOf}
 use Rattle.itip_join.specs.KeyByKey.{value_at, IsMapBelow}
 use Rattle.itip_join.specs.Optional.{IsBelowAt}
 use Rattle.itip_message.specs.declared.item.Item.{Item}
+use Rattle.itip_message.specs.declared.key.Key.{Key}
 use Rattle.itip_state.specs.Kept.{AreKept, SameItems}
 use Rattle.itip_state.specs.Order.{IsBelow}
 use Rattle.itip_state.specs.Held.{Best, Shape, shapes, ArePlaced}
-use Rattle.itip_state.specs.declared.slot.Slot.{Slot}
 use Rattle.itip_state.proofs.Keeping.{below_both_ways, below_from_same}
 use Rattle.itip_state.proofs.Lookups.{joined_at}
 use Rattle.itip_state.proofs.Shapes.{IsWhole}
 use Rattle.itip_state.proofs.Maps.{uid_cmp, IsHeldBelow, shape, all_items, AreInOrder, map_below_kept, map_kept_below, map_state, joined_placed, joined_kept}
 
 -- maps with their order beside them
-module _ {V : Type 0} (series : V → Lift Best) (entries : V → List (Slot × Best)) (whole : (v : V) → IsWhole (record { series = series v; entries = entries v }))
+module _ {V : Type 0} (series : V → Lift Best) (entries : V → List (Key × Best)) (whole : (v : V) → IsWhole (record { series = series v; entries = entries v }))
     {T : Type 0} (map_of : T → List (List ℕ × V)) (ordered : (t : T) → AreInOrder series entries whole (map_of t)) where
   abbrev pub items : T → List Item
   items t = all_items series entries whole (map_of t)

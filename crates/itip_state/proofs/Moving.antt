@@ -8,17 +8,17 @@ use Rattle.itip_join.specs.declared.lift.Lift.{Lift}
 use Rattle.itip_join.specs.KeyByKey.{value_at}
 use Rattle.itip_join.specs.Optional.{IsBelowAt}
 use Rattle.itip_message.specs.declared.item.Item.{Item}
+use Rattle.itip_message.specs.declared.key.Key.{Key}
 use Rattle.itip_state.specs.Kept.{AreMoved, KeepSame, AscendTexts}
 use Rattle.itip_state.specs.Held.{Best, Shape, shapes, items_of, ArePlaced}
 use Rattle.itip_state.specs.Below.{IsShapeBelow, IsKnown, AreNews}
-use Rattle.itip_state.specs.declared.slot.Slot.{Slot}
 use Rattle.itip_state.proofs.Ascending.{pairs_ascend}
 use Rattle.itip_state.proofs.Shapes.{IsWhole}
 use Rattle.itip_state.proofs.Selecting.{chosen_sorted, chosen_each, chosen_others}
 use Rattle.itip_state.proofs.Maps.{uid_cmp, shape, IsHeldBelow, AreInOrder, knows_keeps, keeps_knows}
 use Rattle.itip_state.proofs.Reading.{in_order, found_none, found_some}
 
-module _ {V : Type 0} (series : V → Lift Best) (entries : V → List (Slot × Best)) (whole : (v : V) → IsWhole (record { series = series v; entries = entries v }))
+module _ {V : Type 0} (series : V → Lift Best) (entries : V → List (Key × Best)) (whole : (v : V) → IsWhole (record { series = series v; entries = entries v }))
     (xs ys : List (List ℕ × V)) (s : AreInOrder series entries whole xs) (t : AreInOrder series entries whole ys) (p : ArePlaced (shapes xs series entries)) (q : ArePlaced (shapes ys series entries)) where
   abbrev le : V → V → Type 0
   le = IsHeldBelow (shape series entries whole) whole

@@ -21,9 +21,8 @@ use Rattle.itip_message.specs.declared.item.Item.{Item}
 use Rattle.itip_message.specs.declared.key.Key.{Key}
 use Rattle.itip_message.specs.declared.key.Key.TheVariants.{Series, Instance, Answer, Refresh}
 use Rattle.itip_state.specs.Kept.{AreSeriesOf, AreUidsOf, IsSeries, HasEachOnce, AscendKeys}
-use Rattle.itip_state.specs.Slots.{slot_cmp, key_cmp, key_total, rank_of, instance_of, attendee_of}
-use Rattle.itip_state.specs.Held.{Best, Shape, slot, is_series, series_items, entry_items, shape_items, items_of, IsEntryAt, ArePlaced}
-use Rattle.itip_state.specs.declared.slot.Slot.{Slot}
+use Rattle.itip_state.specs.Slots.{key_cmp, key_total, rank_of, instance_of, attendee_of}
+use Rattle.itip_state.specs.Held.{Best, Shape, is_series, series_items, entry_items, shape_items, items_of, IsEntryAt, ArePlaced}
 use Rattle.itip_state.proofs.Ascending.{pairs_ascend}
 use Rattle.itip_state.proofs.Members.{none_in, cons_cases, cons_first, cons_later, all_each, no_pairs, pairs_append}
 use Rattle.itip_state.proofs.Shapes.{AreSorted, IsSound, known_items, known_key, held_as, about, entry_there}
@@ -45,23 +44,23 @@ series_before (Answer u i a) uid e s = tie_uid (Series uid) (Answer u i a) (sym 
 series_before (Refresh u i a) uid e s = tie_uid (Series uid) (Refresh u i a) (sym e)
 
 -- ---- one UID
-all_after : (uid : List ℕ) (k : Key) (es : List (Slot × Best)) → AllByRecursion (λ (y : Slot). slot_cmp (slot k) y ≡ Less) (keys_of es) → AllByRecursion (λ e. IsEntryAt uid e.0 e.1) es
+all_after : (uid : List ℕ) (k : Key) (es : List (Key × Best)) → AllByRecursion (λ (y : Key). key_cmp k y ≡ Less) (keys_of es) → AllByRecursion (λ e. IsEntryAt uid e.0 e.1) es
     → (i : Item) → Contains (entry_items es) i → key_cmp k i.key ≡ Less
 all_after uid k [] a p i h = absurd (none_in i h)
-all_after uid k (e ∷ es) a p i h = elim (cons_cases e.1.value.item (entry_items es) i h) [
+all_after uid k (e ∷ es) a p i h = elim (cons_cases e.1.value (entry_items es) i h) [
   | inl same ↦ subst (λ (q : Key). key_cmp k q ≡ Less) (sym p.0.in_place ∙ ap (λ (j : Item). j.key) same) a.0
   | inr rest ↦ all_after uid k es a.1 p.1 i rest
 ]
 
-entries_ascend : (uid : List ℕ) (es : List (Slot × Best)) → AreSorted es → AllByRecursion (λ e. IsEntryAt uid e.0 e.1) es → AllPairs IsBefore (entry_items es)
+entries_ascend : (uid : List ℕ) (es : List (Key × Best)) → AreSorted es → AllByRecursion (λ e. IsEntryAt uid e.0 e.1) es → AllPairs IsBefore (entry_items es)
 entries_ascend uid [] s p = no_pairs IsBefore
-entries_ascend uid (e ∷ es) s p = AllPairs-cons IsBefore e.1.value.item (entry_items es)
-    (all_each (IsBefore e.1.value.item) (entry_items es) (λ i h. subst (λ (q : Key). key_cmp q i.key ≡ Less) (sym p.0.in_place) (all_after uid e.0.key es (sorted_head slot_cmp e.0 (keys_of es) s) p.1 i h)))
-    (entries_ascend uid es (sorted_tail slot_cmp e.0 (keys_of es) s) p.1)
+entries_ascend uid (e ∷ es) s p = AllPairs-cons IsBefore e.1.value (entry_items es)
+    (all_each (IsBefore e.1.value) (entry_items es) (λ i h. subst (λ (q : Key). key_cmp q i.key ≡ Less) (sym p.0.in_place) (all_after uid e.0 es (sorted_head key_cmp e.0 (keys_of es) s) p.1 i h)))
+    (entries_ascend uid es (sorted_tail key_cmp e.0 (keys_of es) s) p.1)
 
 one_pair : (s : Lift Best) → AllPairs IsBefore (series_items s)
 one_pair Nothing = no_pairs IsBefore
-one_pair (Known s) = AllPairs-cons IsBefore s.value.item [] (all_each (IsBefore s.value.item) [] (λ i h. absurd (none_in i h))) (no_pairs IsBefore)
+one_pair (Known s) = AllPairs-cons IsBefore s.value [] (all_each (IsBefore s.value) [] (λ i h. absurd (none_in i h))) (no_pairs IsBefore)
 
 pub shape_ascends : (uid : List ℕ) (sh : Shape) → IsSound uid sh → AscendKeys (shape_items sh)
 shape_ascends uid sh sound = pairs_append IsBefore (series_items sh.series) (entry_items sh.entries) (one_pair sh.series) (entries_ascend uid sh.entries sound.whole.sorted sound.placed.entries)
@@ -125,7 +124,7 @@ series_all (e ∷ es) s i h is = elim (Contains-append_cases (shape_items e.1) (
 
 one_series : (s : Lift Best) → AllPairs IsUidBefore (series_items s)
 one_series Nothing = no_pairs IsUidBefore
-one_series (Known s) = AllPairs-cons IsUidBefore s.value.item [] (all_each (IsUidBefore s.value.item) [] (λ i h. absurd (none_in i h))) (no_pairs IsUidBefore)
+one_series (Known s) = AllPairs-cons IsUidBefore s.value [] (all_each (IsUidBefore s.value) [] (λ i h. absurd (none_in i h))) (no_pairs IsUidBefore)
 
 series_ascend : (es : List (List ℕ × Shape)) → IsStrictlySortedBy (slice_cmp nat_cmp) (keys_of es) → AreSound es → AllPairs IsUidBefore (series_list es)
 series_ascend [] s p = no_pairs IsUidBefore

@@ -10,9 +10,9 @@ use Rattle.itip_join.specs.declared.lift.Lift.{Lift}
 use Rattle.itip_join.specs.KeyByKey.{value_at}
 use Rattle.itip_message.specs.KeyParts.{uid_of}
 use Rattle.itip_message.specs.declared.item.Item.{Item}
+use Rattle.itip_message.specs.declared.key.Key.{Key}
 use Rattle.itip_state.specs.Kept.{ArePartOf}
 use Rattle.itip_state.specs.Held.{Best, shapes, items_of, ArePlaced}
-use Rattle.itip_state.specs.declared.slot.Slot.{Slot}
 use Rattle.itip_state.proofs.Members.{by_bool, none_in, cons_cases, cons_first, cons_later}
 use Rattle.itip_state.proofs.Lookups.{one_key, itself}
 use Rattle.itip_state.proofs.Shapes.{IsWhole}
@@ -74,7 +74,7 @@ in_listed (u ∷ us) q h = elim (cons_cases u us q h) [
   | inr rest ↦ or_right (is_eq (uid_cmp u q)) (is_listed us q) (in_listed us q rest)
 ]
 
-module _ {V : Type 0} (series : V → Lift Best) (entries : V → List (Slot × Best)) (whole : (v : V) → IsWhole (record { series = series v; entries = entries v }))
+module _ {V : Type 0} (series : V → Lift Best) (entries : V → List (Key × Best)) (whole : (v : V) → IsWhole (record { series = series v; entries = entries v }))
     (es ps : List (List ℕ × V)) (s : AreInOrder series entries whole es) (t : AreInOrder series entries whole ps) (p : ArePlaced (shapes es series entries))
     (us : List (List ℕ)) (is : (q : List ℕ) → value_at uid_cmp ps q ≡ cond (is_listed us q) (value_at uid_cmp es q) None) where
   abbrev at_items : Option V → List Item

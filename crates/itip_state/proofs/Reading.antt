@@ -14,7 +14,6 @@ use Rattle.itip_message.specs.declared.item.Item.{Item}
 use Rattle.itip_state.specs.Kept.{ArePart, AreSeriesOf, AreUidsOf, HasEachOnce, AscendKeys}
 use Rattle.itip_state.specs.Order.{IsState}
 use Rattle.itip_state.specs.Held.{Best, Shape, best, is_series, series_items, entry_items, shape_items, shapes, items_of, IsEntryAt, IsSeriesAt, ArePlaced}
-use Rattle.itip_state.specs.declared.slot.Slot.{Slot}
 use Rattle.std.proofs.lemmas.List.Elements.{Contains-append_cases, Contains-append_right}
 use Rattle.itip_message.specs.KeyParts.{uid_of}
 use Rattle.itip_message.specs.declared.key.Key.{Key}
@@ -24,11 +23,11 @@ use Rattle.itip_state.proofs.Shapes.{IsWhole, IsSound, series_is, series_held, k
 use Rattle.itip_state.proofs.Ordered.{AreSound, shape_ascends, items_ascend, once_from_ascending, series_list, series_of, uids_of}
 use Rattle.itip_state.proofs.Maps.{uid_cmp, shape, items_at, IsPlacedAt, AreInOrder, placed_at, part_at, map_state}
 
-pub entries_long : (es : List (Slot × Best)) → length (entry_items es) ≡ length es
+pub entries_long : (es : List (Key × Best)) → length (entry_items es) ≡ length es
 entries_long [] = refl
 entries_long (e ∷ es) = ap suc (entries_long es)
 
-module _ {V : Type 0} (series : V → Lift Best) (entries : V → List (Slot × Best)) (whole : (v : V) → IsWhole (record { series = series v; entries = entries v })) where
+module _ {V : Type 0} (series : V → Lift Best) (entries : V → List (Key × Best)) (whole : (v : V) → IsWhole (record { series = series v; entries = entries v })) where
   pub each_sound : (es : List (List ℕ × V)) → ArePlaced (shapes es series entries) → AreSound (shapes es series entries)
   each_sound [] p = tt
   each_sound (e ∷ es) p = (record { placed = p.0.0; whole = whole e.1 }, each_sound es p.1)
@@ -108,11 +107,11 @@ pub none_more : (sh : Shape) (rest : List Item) → ((b : Best) → sh.series �
 none_more sh rest n = let x = shape_long sh rest in let y = none_long sh.series n in omega arith
 
 -- ---- the series items, by a test
-none_pass : (uid : List ℕ) (es : List (Slot × Best)) → AllByRecursion (λ e. IsEntryAt uid e.0 e.1) es → filter (λ (i : Item). is_series i.key) (entry_items es) ≡ []
+none_pass : (uid : List ℕ) (es : List (Key × Best)) → AllByRecursion (λ e. IsEntryAt uid e.0 e.1) es → filter (λ (i : Item). is_series i.key) (entry_items es) ≡ []
 none_pass uid [] p = refl
 none_pass uid (e ∷ es) p =
-    let no : is_series e.1.value.item.key ≡ false = ap is_series p.0.in_place ∙ p.0.other in
-    ap (λ b. cond b (e.1.value.item ∷ filter (λ (i : Item). is_series i.key) (entry_items es)) (filter (λ (i : Item). is_series i.key) (entry_items es))) no ∙ none_pass uid es p.1
+    let no : is_series e.1.value.key ≡ false = ap is_series p.0.in_place ∙ p.0.other in
+    ap (λ b. cond b (e.1.value ∷ filter (λ (i : Item). is_series i.key) (entry_items es)) (filter (λ (i : Item). is_series i.key) (entry_items es))) no ∙ none_pass uid es p.1
 
 filter_both : (p : Item → Bool) (xs ys : List Item) → filter p (xs ++ ys) ≡ filter p xs ++ filter p ys
 filter_both p [] ys = refl
@@ -123,7 +122,7 @@ filter_both p (x ∷ xs) ys = elim (p x) as (λ b. cond b (x ∷ filter p (xs ++
 
 one_passes : (uid : List ℕ) (s : Lift Best) → IsSeriesAt uid s → filter (λ (i : Item). is_series i.key) (series_items s) ≡ series_items s
 one_passes uid Nothing h = refl
-one_passes uid (Known b) h = ap (λ t. cond t (b.value.item ∷ []) []) (ap is_series h)
+one_passes uid (Known b) h = ap (λ t. cond t (b.value ∷ []) []) (ap is_series h)
 
 pub series_filtered : (es : List (List ℕ × Shape)) → AreSound es → filter (λ (i : Item). is_series i.key) (items_of es) ≡ series_list es
 series_filtered [] s = refl
@@ -134,7 +133,7 @@ series_filtered (e ∷ es) s =
     ∙ append-nil (series_items e.1.series)) x ++ series_filtered es s.1 x)
 
 -- ---- by key
-module _ {V : Type 0} (series : V → Lift Best) (entries : V → List (Slot × Best)) (whole : (v : V) → IsWhole (record { series = series v; entries = entries v }))
+module _ {V : Type 0} (series : V → Lift Best) (entries : V → List (Key × Best)) (whole : (v : V) → IsWhole (record { series = series v; entries = entries v }))
     (es : List (List ℕ × V)) (s : AreInOrder series entries whole es) (p : ArePlaced (shapes es series entries)) (key : Key) where
   pub no_item_about : value_at uid_cmp es (uid_of key) ≡ None → (i : Item) → Contains (items_of (shapes es series entries)) i → i.key ≡ key → ⊥
   no_item_about e i h same = none_in i ((held_no_part series entries whole es s p (uid_of key) e i).1 (h, ap uid_of same))
@@ -157,10 +156,10 @@ module _ {V : Type 0} (series : V → Lift Best) (entries : V → List (Slot × 
         let known : series v ≡ Known (best i) = series_is (uid_of key) sh sound i (in_shape i h same) (ap is_series (same ∙ is)) in
         let x : Nothing ≡ Known (best i) = sym none ∙ known in cc
 
-    pub the_series : (uid : List ℕ) → key ≡ Series uid → (b : Best) → series v ≡ Known b → Contains (items_of (shapes es series entries)) b.value.item × (b.value.item.key ≡ key)
+    pub the_series : (uid : List ℕ) → key ≡ Series uid → (b : Best) → series v ≡ Known b → Contains (items_of (shapes es series entries)) b.value × (b.value.key ≡ key)
     the_series uid is b known = (
-      from_shape b.value.item (series_held (uid_of key) sh sound b.value.item known),
-      known_key (uid_of key) sh sound b.value.item known ∙ ap Series (ap uid_of is) ∙ sym is,
+      from_shape b.value (series_held (uid_of key) sh sound b.value known),
+      known_key (uid_of key) sh sound b.value known ∙ ap Series (ap uid_of is) ∙ sym is,
     )
 
     no_other : ((uid : List ℕ) → key ≡ Series uid → ⊥) → ((i : Item) → Contains (entry_items (entries v)) i → i.key ≡ key → ⊥) → (i : Item) → Contains (items_of (shapes es series entries)) i → i.key ≡ key → ⊥

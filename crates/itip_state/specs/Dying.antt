@@ -15,11 +15,10 @@ use Rattle.itip_join.specs.declared.lift.Lift.{Lift}
 use Rattle.itip_join.specs.declared.lift.Lift.TheVariants.{Nothing, Known}
 use Rattle.itip_join.specs.Ranked.{IsUpTo}
 use Rattle.itip_join.specs.Lifted.{IsLiftedBelow}
-use Rattle.itip_state.specs.Revisions.{item_cmp}
 use Rattle.itip_state.specs.Held.{Best, kills, can_die}
 
 abbrev pub IsNoLater : Best → Best → Type 0
-IsNoLater x y = IsUpTo item_cmp x.value y.value
+IsNoLater x y = IsUpTo revision_cmp x.value y.value
 
 -- a revision that is up to another has no greater effective sequence
 pub eff_up_to : (i j : Item) → IsUpTo revision_cmp i j → i.eff ≤ j.eff
@@ -51,15 +50,15 @@ from_less a b h = grind (arith, nat_tests)
 
 pub kills_below : (s : Lift Best) (key : Key) (i j : Item) → kills s key j ≡ true → IsUpTo revision_cmp i j → kills s key i ≡ true
 kills_below Nothing key i j d up = absurd (cc)
-kills_below (Known s) key i j d up = with_second (can_die key) (nat_lt j.eff s.value.item.eff) (nat_lt i.eff s.value.item.eff) d (λ e.
-    let x : j.eff < s.value.item.eff = less_from j.eff s.value.item.eff e in
+kills_below (Known s) key i j d up = with_second (can_die key) (nat_lt j.eff s.value.eff) (nat_lt i.eff s.value.eff) d (λ e.
+    let x : j.eff < s.value.eff = less_from j.eff s.value.eff e in
     let y : i.eff ≤ j.eff = eff_up_to i j up in
-    from_less i.eff s.value.item.eff (omega arith))
+    from_less i.eff s.value.eff (omega arith))
 
 pub kills_more : (s t : Lift Best) (key : Key) (i : Item) → IsLiftedBelow IsNoLater s t → kills s key i ≡ true → kills t key i ≡ true
 kills_more Nothing t key i up d = absurd (cc)
 kills_more (Known s) Nothing key i up d = absurd up
-kills_more (Known s) (Known t) key i up d = with_second (can_die key) (nat_lt i.eff s.value.item.eff) (nat_lt i.eff t.value.item.eff) d (λ e.
-    let x : i.eff < s.value.item.eff = less_from i.eff s.value.item.eff e in
-    let y : s.value.item.eff ≤ t.value.item.eff = eff_up_to s.value.item t.value.item up in
-    from_less i.eff t.value.item.eff (omega arith))
+kills_more (Known s) (Known t) key i up d = with_second (can_die key) (nat_lt i.eff s.value.eff) (nat_lt i.eff t.value.eff) d (λ e.
+    let x : i.eff < s.value.eff = less_from i.eff s.value.eff e in
+    let y : s.value.eff ≤ t.value.eff = eff_up_to s.value t.value up in
+    from_less i.eff t.value.eff (omega arith))

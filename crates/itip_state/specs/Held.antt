@@ -11,17 +11,12 @@ use Rattle.itip_join.specs.declared.greatest.Greatest.{Greatest}
 use Rattle.itip_join.specs.declared.lift.Lift.{Lift}
 use Rattle.itip_join.specs.declared.lift.Lift.TheVariants.{Nothing, Known}
 use Rattle.itip_state.specs.Kept.{AreKept}
-use Rattle.itip_state.specs.declared.slot.Slot.{Slot}
-use Rattle.itip_state.specs.declared.revision.Revision.{Revision}
 
 abbrev pub Best : Type 0
-Best = Greatest Revision
-
-abbrev pub slot : Key → Slot
-slot key = record { key = key }
+Best = Greatest Item
 
 abbrev pub best : Item → Best
-best item = record { value = record { item = item } }
+best item = record { value = item }
 
 abbrev pub is_series : Key → Bool
 is_series (Series uid) = true
@@ -44,26 +39,26 @@ is_below series item = can_die item.key && (is_eq (slice_cmp nat_cmp (uid_of ser
 -- whether a series item, where there is one, makes an item of the key dead
 abbrev pub kills : Lift Best → Key → Item → Bool
 kills Nothing key item = false
-kills (Known series) key item = can_die key && nat_lt item.eff series.value.item.eff
+kills (Known series) key item = can_die key && nat_lt item.eff series.value.eff
 
 -- what is held of one UID
 pub record Shape : Type 0 where
   pub series : Lift Best
   -- the items of the other keys
-  pub entries : List (Slot × Best)
+  pub entries : List (Key × Best)
 
 -- a map by UID, seen as what it holds
-abbrev pub shapes : {V : Type 0} → List (List ℕ × V) → (V → Lift Best) → (V → List (Slot × Best)) → List (List ℕ × Shape)
+abbrev pub shapes : {V : Type 0} → List (List ℕ × V) → (V → Lift Best) → (V → List (Key × Best)) → List (List ℕ × Shape)
 shapes [] series entries = []
 shapes (e ∷ es) series entries = (e.0, record { series = series e.1; entries = entries e.1 }) ∷ shapes es series entries
 
 abbrev pub series_items : Lift Best → List Item
 series_items Nothing = []
-series_items (Known series) = series.value.item ∷ []
+series_items (Known series) = series.value ∷ []
 
-abbrev pub entry_items : List (Slot × Best) → List Item
+abbrev pub entry_items : List (Key × Best) → List Item
 entry_items [] = []
-entry_items (e ∷ es) = e.1.value.item ∷ entry_items es
+entry_items (e ∷ es) = e.1.value ∷ entry_items es
 
 abbrev pub shape_items : Shape → List Item
 shape_items shape = series_items shape.series ++ entry_items shape.entries
@@ -76,13 +71,13 @@ items_of (e ∷ es) = shape_items e.1 ++ items_of es
 -- the item is a series item of the UID
 abbrev pub IsSeriesAt : List ℕ → Lift Best → Type 0
 IsSeriesAt uid Nothing = Unit {0}
-IsSeriesAt uid (Known series) = series.value.item.key ≡ Series uid
+IsSeriesAt uid (Known series) = series.value.key ≡ Series uid
 
 -- another item of the UID is held at its key
-pub record IsEntryAt (uid : List ℕ) (slot : Slot) (held : Best) : Type 0 where
-  pub in_place : held.value.item.key ≡ slot.key
-  pub about : uid_of slot.key ≡ uid
-  pub other : is_series slot.key ≡ false
+pub record IsEntryAt (uid : List ℕ) (key : Key) (held : Best) : Type 0 where
+  pub in_place : held.value.key ≡ key
+  pub about : uid_of key ≡ uid
+  pub other : is_series key ≡ false
 
 -- each item is held under its UID and at its key
 pub record IsPlaced (uid : List ℕ) (shape : Shape) : Type 0 where
@@ -95,7 +90,7 @@ ArePlaced es = AllByRecursion (λ e. IsPlaced e.0 e.1 × (0 < length (shape_item
 
 -- one item alone
 abbrev pub alone : Item → Shape
-alone item = cond (is_series item.key) (record { series = Known (best item); entries = [] }) (record { series = Nothing; entries = (slot item.key, best item) ∷ [] })
+alone item = cond (is_series item.key) (record { series = Known (best item); entries = [] }) (record { series = Nothing; entries = (item.key, best item) ∷ [] })
 
 -- what is held is what is kept of what was heard
 pub record HoldKept (heard : List Item) (es : List (List ℕ × Shape)) : Type 0 where

@@ -5,5 +5,6 @@ pub mod Revisions
 pub mod Held
 pub mod Dying
 pub mod Below
+pub mod Told
 pub mod Plain
 pub mod Organizers

@@ -17,7 +17,6 @@ use Rattle.itip_message.specs.KeyParts.{uid_of}
 use Rattle.itip_message.specs.declared.key.Key.{Key}
 use Rattle.itip_message.specs.declared.key.Key.TheVariants.{Series, Instance, Answer, Refresh}
 use Rattle.itip_join.specs.Ranked.{exact_option}
-use Rattle.itip_state.specs.declared.slot.Slot.{Slot}
 
 -- the place of the kinds of key
 abbrev pub rank_of : Key → ℕ
@@ -47,17 +46,11 @@ key_cmp a b =
     (ordering_then (nat_cmp (rank_of a) (rank_of b))
     (ordering_then (option_cmp moment_cmp (instance_of a) (instance_of b)) (slice_cmp nat_cmp (attendee_of a) (attendee_of b))))
 
-abbrev pub slot_cmp : Slot → Slot → Ordering
-slot_cmp a b = key_cmp a.key b.key
-
 pub key_total : IsTotalOrder key_cmp
 key_total =
     then_total (on_total uid_of nat_list_cmp_total)
     (then_total (on_total rank_of nat_cmp_total)
     (then_total (on_total instance_of (options_total moment_total)) (on_total attendee_of nat_list_cmp_total)))
-
-pub slot_total : IsTotalOrder slot_cmp
-slot_total = on_total (λ (s : Slot). s.key) key_total
 
 -- where one order and then another answer Equal, each does
 pub then_equal : (r s : Ordering) → ordering_then r s ≡ Equal → (r ≡ Equal) × (s ≡ Equal)
@@ -89,6 +82,3 @@ key_exact a b e =
     let second = then_equal (nat_cmp (rank_of a) (rank_of b)) _ first.1 in
     let third = then_equal (option_cmp moment_cmp (instance_of a) (instance_of b)) _ second.1 in
     from_parts a b (exact_bytes _ _ first.0) (exact_unsigned _ _ second.0) (exact_option moment_cmp moment_equal _ _ third.0) (exact_bytes _ _ third.1)
-
-pub slot_exact : CmpEqualImpliesEq slot_cmp
-slot_exact a b e = λ i. record { key = key_exact a.key b.key e i }

@@ -17,17 +17,17 @@ pub(crate) type SeriesState = Guarded<Lift<Best>, Keyed<Slot, Best>>;
 
 /// A series item kills what can die and is below it.
 impl Guard<Slot, Best> for Lift<Best> {
-    ghost is_dead = { λ s k v. series_kills s k.key v.value.item };
+    ghost is_dead = { λ s k v. series_kills s k v.value };
 
-    ghost below_dead = { λ s k v w. kills_below s k.key v.value.item w.value.item };
+    ghost below_dead = { λ s k v w. kills_below s k v.value w.value };
 
-    ghost dead_stays_dead = { λ s t k v. kills_more s t k.key v.value.item };
+    ghost dead_stays_dead = { λ s t k v. kills_more s t k v.value };
 
     fn kills(&self, key: &Slot, value: &Best) -> bool {
         match self {
             Lift::Nothing => false,
             Lift::Known(series) => {
-                can_die(&key.key) && value.value.item.eff < series.value.item.eff
+                can_die(key.key()) && value.value.item().eff < series.value.item().eff
             }
         }
     }
@@ -50,9 +50,7 @@ pub(crate) fn of_item(alloc: Global, item: &Item) -> Result<SeriesState, NoMemor
     ensures entries { IfOk result (λ one. one.entries.map ≡ (alone item.now).entries) }
 {
     let best = Greatest {
-        value: Revision {
-            item: item.clone()?,
-        },
+        value: Revision::new(alloc, item.clone()?)?,
     };
     if let Key::Series(_) = &item.key {
         return Ok(Guarded {
@@ -60,9 +58,7 @@ pub(crate) fn of_item(alloc: Global, item: &Item) -> Result<SeriesState, NoMemor
             entries: Keyed::empty(alloc),
         });
     }
-    let slot = Slot {
-        key: item.key.clone()?,
-    };
+    let slot = Slot::new(alloc, item.key.clone()?)?;
     Ok(Guarded {
         guard: Lift::Nothing,
         entries: Keyed::of_one(alloc, slot, best)?,

@@ -8,18 +8,53 @@ ghost use Rattle.itip_moment.specs.Order.{moment_cmp};
 ghost use Rattle.itip_message.specs.KeyParts.{uid_of};
 ghost use Rattle.itip_message.specs.declared.item.Item.{Item};
 ghost use Rattle.itip_state.specs.Kept.{AscendKeys};
-ghost use Rattle.itip_state.specs.Slots.{rank_of, instance_of, attendee_of, key_cmp};
+ghost use Rattle.itip_state.specs.Slots.{rank_of, instance_of, attendee_of, key_cmp, key_total};
 
 use itip_join::{Exact, NoMemory};
 use itip_message::{Item, Key};
 use itip_moment::Moment;
 use itip_todo::Uid;
+use std::alloc::Global;
 use std::cmp::Ordering;
+use std::marker::Model;
+use std::sync::Arc;
 
-/// The key of an item, in the order in which a state holds its items: those of a UID are neighbours, and its series item is the first of them.
+/// The key of an item, in the order in which a state holds its items: those of a UID are neighbours, and its series item is the first of them. It is shared, as a revision is.
 #[derive(Debug, Drop)]
 pub(crate) struct Slot {
-    pub(crate) key: Key,
+    shared: Arc<Key>,
+}
+
+impl Model for Slot {
+    ghost use Rattle.itip_message.specs.declared.key.Key.{Key};
+
+    ghost Value = { Key };
+
+    ghost use Rattle.itip_message.specs.contracts.key.Key as key;
+
+    ghost coded = { key.the_row.coded };
+
+    ghost use Rattle.std.specs.Arc.{arc_value};
+
+    ghost view = { λ s. arc_value s.shared };
+}
+
+impl Slot {
+    /// The place of this key.
+    pub(crate) fn new(alloc: Global, key: Key) -> Result<Slot, NoMemory>
+        ensures { IfOk result (λ slot. slot ≡ key) }
+    {
+        Ok(Slot {
+            shared: Arc::new(alloc, key)?,
+        })
+    }
+
+    /// The key.
+    pub(crate) fn key(&self) -> &Key
+        ensures { result.now ≡ self.now }
+    {
+        &self.shared
+    }
 }
 
 /// The UID that a key is about.
@@ -100,11 +135,9 @@ pub fn find<'a>(items: &[&'a Item], key: &Key) -> Option<&'a Item>
 }
 
 impl PartialEq for Slot {
-    ghost use Rattle.itip_state.specs.Slots.{slot_cmp, slot_total};
+    ghost eq = { eq_by_cmp key_cmp };
 
-    ghost eq = { eq_by_cmp slot_cmp };
-
-    ghost laws = { partial_equiv_from_equiv (eq_by_cmp_equiv slot_total) };
+    ghost laws = { partial_equiv_from_equiv (eq_by_cmp_equiv key_total) };
 
     fn eq(&self, other: &Slot) -> bool {
         self.cmp(other) == Ordering::Equal
@@ -112,17 +145,13 @@ impl PartialEq for Slot {
 }
 
 impl Eq for Slot {
-    ghost use Rattle.itip_state.specs.Slots.{slot_total};
-
-    ghost laws = { eq_by_cmp_equiv slot_total };
+    ghost laws = { eq_by_cmp_equiv key_total };
 }
 
 impl PartialOrd for Slot {
-    ghost use Rattle.itip_state.specs.Slots.{slot_cmp, slot_total};
+    ghost partial_cmp = { as_partial_cmp key_cmp };
 
-    ghost partial_cmp = { as_partial_cmp slot_cmp };
-
-    ghost laws = { partial_order_from_total slot_total };
+    ghost laws = { partial_order_from_total key_total };
 
     fn partial_cmp(&self, other: &Slot) -> Option<Ordering> {
         Some(self.cmp(other))
@@ -130,29 +159,27 @@ impl PartialOrd for Slot {
 }
 
 impl Ord for Slot {
-    ghost use Rattle.itip_state.specs.Slots.{slot_cmp, slot_total};
+    ghost cmp = { key_cmp };
 
-    ghost cmp = { slot_cmp };
-
-    ghost total = { slot_total };
+    ghost total = { key_total };
 
     ghost matches_partial_cmp = { λ x y. refl };
 
     ghost matches_eq = { λ x y. refl };
 
     fn cmp(&self, other: &Slot) -> Ordering {
-        compare(&self.key, &other.key)
+        compare(self.key(), other.key())
     }
 }
 
 impl Exact for Slot {
-    ghost use Rattle.itip_state.specs.Slots.{slot_exact};
+    ghost use Rattle.itip_state.specs.Slots.{key_exact};
 
-    ghost exact = { slot_exact };
+    ghost exact = { key_exact };
 
     fn copy(&self) -> Result<Slot, NoMemory> {
         Ok(Slot {
-            key: self.key.clone()?,
+            shared: self.shared.clone()?,
         })
     }
 }

@@ -1,16 +1,18 @@
 //! The state of a desk.
-ghost use Rattle.std.specs.Prelude.{◌≡◌, ◌↔◌, ℕ, List, [], ◌∷◌, ◌++◌, Some, None, cond, IsTrue, IfOk, OnOk, OnErr, IsOk, MatchOption, length, min, map};
+ghost use Rattle.std.specs.Prelude.{◌≡◌, ◌↔◌, ℕ, List, [], ◌∷◌, ◌++◌, Some, None, cond, IsTrue, IfOk, OnOk, OnErr, IsOk, MatchOption, length, min, map, is_some};
 ghost use Rattle.std.specs.List.{Contains};
 ghost use Rattle.std.specs.Ordering.{nat_cmp, is_eq};
 ghost use Rattle.std.specs.Cmp.Lexicographic.{slice_cmp};
 ghost use Rattle.std.specs.Option.{option_copied};
+ghost use Rattle.itip_message.specs.Later.{IsLater};
 ghost use Rattle.itip_message.specs.declared.item.Item.{Item};
 ghost use Rattle.itip_join.specs.KeyByKey.{value_at};
 ghost use Rattle.std.specs.Map.{keys_of};
 ghost use Rattle.itip_join.specs.Optional.{IsBelowAt};
-ghost use Rattle.itip_state.specs.Held.{shapes, shape_items, entry_items, HoldKept, Shape};
+ghost use Rattle.itip_state.specs.Held.{shapes, items_of, shape_items, entry_items, HoldKept, ArePlaced, Shape};
 ghost use Rattle.itip_state.specs.Below.{IsShapeBelow, AreNews};
 ghost use Rattle.itip_state.specs.Organizers.{used_by, greater, greatest};
+ghost use Rattle.itip_state.specs.Told.{IsTold, HoldsNoEarlier};
 
 use crate::NoMemory;
 use crate::revision::Best;
@@ -30,11 +32,59 @@ fn hear(held: &mut Keyed<Uid, SeriesState>, alloc: Global, item: &Item) -> Resul
 {
     let uid = uid(&item.key);
     let one = of_item(alloc, item)?;
-    let before = held.insert(uid.clone()?, of_nothing(alloc))?;
-    let mut series = before.unwrap_or(of_nothing(alloc));
-    series.join(&one)?;
-    held.insert(uid.clone()?, series)?;
+    if has(held, uid) {
+        let before = held.insert(uid.clone()?, of_nothing(alloc))?;
+        let mut series = before.unwrap_or(of_nothing(alloc));
+        series.join(&one)?;
+        held.insert(uid.clone()?, series)?;
+        return Ok(());
+    }
+    held.insert(uid.clone()?, one)?;
     Ok(())
+}
+
+/// Whether something is held of a UID.
+fn has(held: &Keyed<Uid, SeriesState>, uid: &Uid) -> bool
+    ensures { result ≡ is_some (value_at (slice_cmp nat_cmp) held.now.map uid.now) }
+{
+    held.get(uid).is_some()
+}
+
+/// Whether `item` is not later than what is held at its key.
+fn is_no_later(item: &Item, best: &Best) -> bool
+    ensures { IsTrue result → ¬ IsLater item.now best.now.value }
+{
+    item.cmp_rev(best.value.item()).is_le()
+}
+
+/// Whether what is held of the UID of `item` at its key is no earlier than it.
+fn holds_no_earlier(alloc: Global, series: &SeriesState, item: &Item) -> Result<bool, NoMemory>
+    ensures { IfOk result (λ holds. IsTrue holds → HoldsNoEarlier (record { series = series.now.guard; entries = series.now.entries.map }) item.now) }
+{
+    match &item.key {
+        Key::Series(_) => match &series.guard {
+            Lift::Nothing => Ok(false),
+            Lift::Known(best) => Ok(is_no_later(item, best)),
+        },
+        _ => {
+            let slot = Slot::new(alloc, item.key.clone()?)?;
+            match series.entries.get(&slot) {
+                None => Ok(false),
+                Some(best) => Ok(is_no_later(item, best)),
+            }
+        }
+    }
+}
+
+/// Whether an item of the same key is held that is no earlier. What is dead is not looked for.
+fn tells(alloc: Global, held: &Keyed<Uid, SeriesState>, item: &Item) -> Result<bool, NoMemory>
+    ensures { IfOk result (λ tells. IsTrue tells → ArePlaced (shapes held.now.map (λ v. v.guard) (λ v. v.entries.map))
+        → IsTold (items_of (shapes held.now.map (λ v. v.guard) (λ v. v.entries.map))) item.now) }
+{
+    match held.get(uid(&item.key)) {
+        None => Ok(false),
+        Some(series) => holds_no_earlier(alloc, series, item),
+    }
 }
 
 /// Whether what is held of a UID tells all that `theirs` tells of it.
@@ -93,10 +143,10 @@ fn show<'a>(series: &'a SeriesState, items: &mut Vec<&'a Item>) -> Result<(), No
         ≡ map (λ item. item.now) items.old.items ++ shape_items (record { series = series.now.guard; entries = series.now.entries.map })) }
 {
     if let Lift::Known(best) = &series.guard {
-        items.push(&best.value.item)?;
+        items.push(best.value.item())?;
     }
     for (_, best) in series.entries.map.iter() {
-        items.push(&best.value.item)?;
+        items.push(best.value.item())?;
     }
     Ok(())
 }
@@ -107,7 +157,7 @@ fn find<'a>(entries: &'a Keyed<Slot, Best>, key: &Key) -> Option<&'a Item>
         (λ item. Contains (entry_items entries.now.map) item × (item.key ≡ key.now)) }
 {
     for (_, best) in entries.map.iter() {
-        let item = &best.value.item;
+        let item = best.value.item();
         if compare(&item.key, key).is_eq() {
             return Some(item);
         }
@@ -142,10 +192,10 @@ fn greatest(series: &SeriesState) -> Option<u32>
 {
     let mut last = match &series.guard {
         Lift::Nothing => None,
-        Lift::Known(best) => used_by(&best.value.item),
+        Lift::Known(best) => used_by(best.value.item()),
     };
     for (_, best) in series.entries.map.iter() {
-        last = greater(last, used_by(&best.value.item));
+        last = greater(last, used_by(best.value.item()));
     }
     last
 }
@@ -176,7 +226,7 @@ impl Model for State {
 }
 
 impl State {
-    ghost use Rattle.itip_state.specs.Kept.{AreKept, ArePart, ArePartOf, AreMoved, IsItemsOf, AreSeriesOf, AreUidsOf, SameItems, HasEachOnce, AscendKeys};
+    ghost use Rattle.itip_state.specs.Kept.{AreKept, IsKept, ArePart, ArePartOf, AreMoved, IsItemsOf, AreSeriesOf, AreUidsOf, SameItems, HasEachOnce, AscendKeys};
     ghost use Rattle.itip_state.specs.Order.{IsState, IsBelow};
     ghost use Rattle.itip_state.specs.Organizers.{IsLastUsed};
 
@@ -199,6 +249,23 @@ impl State {
             hear(&mut held, alloc, item)?;
         }
         Ok(State { alloc, held })
+    }
+
+    /// What is kept of these items but for those that this state tells already. Beside this state it counts as much as all of them.
+    pub fn news_of(&self, items: &[Item]) -> Result<State, NoMemory>
+        ensures { IfOk result (λ news. (item : Item) → IsKept (self.now ++ news) item ↔ IsKept (self.now ++ items.now) item) }
+    {
+        let mut held = Keyed::empty(self.alloc);
+        for item in items {
+            if tells(self.alloc, &self.held, item)? {
+                continue;
+            }
+            hear(&mut held, self.alloc, item)?;
+        }
+        Ok(State {
+            alloc: self.alloc,
+            held,
+        })
     }
 
     /// Hears another state: their least upper bound. A refusal, for want of memory, changes nothing.
@@ -269,7 +336,7 @@ impl State {
         let mut items = Vec::new(self.alloc);
         for (_, series) in self.held.map.iter() {
             if let Lift::Known(newest) = &series.guard {
-                items.push(&newest.value.item)?;
+                items.push(newest.value.item())?;
             }
         }
         Ok(items)
@@ -294,7 +361,7 @@ impl State {
         match key {
             Key::Series(_) => match &series.guard {
                 Lift::Nothing => None,
-                Lift::Known(best) => Some(&best.value.item),
+                Lift::Known(best) => Some(best.value.item()),
             },
             _ => find(&series.entries, key),
         }

@@ -13,21 +13,21 @@ use Rattle.itip_state.proofs.state.find.Goals as goal
 pub returns-then-is_eq : goal.returns-then-is_eq
 returns-then-is_eq c = record {
   found = (
-    c.loop-best.invariant.among c.in-Some.best.now.value.item
-        (subst (λ es. Contains (entry_items es) c.in-Some.best.now.value.item) (sym c.in-Some.ensures.steps) (cons_first c.in-Some.best.now.value.item (entry_items c.next.new.self))),
-    one_key key_total key_exact c.in-Some.best.now.value.item.key c.args.key.now (sym (ap is_eq c.compare.ensures) ∙ sym c.is_eq.ensures ∙ c.if-is_eq.true),
+    subst (λ (i : Item). Contains (entry_items c.args.entries.now.map) i) (sym c.item-item.ensures) (c.loop-best.invariant.among c.in-Some.best.now.value
+        (subst (λ es. Contains (entry_items es) c.in-Some.best.now.value) (sym c.in-Some.ensures.steps) (cons_first c.in-Some.best.now.value (entry_items c.next.new.self)))),
+    one_key key_total key_exact c.item-item.result.now.key c.args.key.now (sym (ap is_eq c.compare.ensures) ∙ sym c.is_eq.ensures ∙ c.if-is_eq.true),
   );
 }
 
 pub loop-best-preserved : goal.loop-best-preserved
 loop-best-preserved c = record {
-  to_come = λ i h same. elim (cons_cases c.in-Some.best.now.value.item (entry_items c.next.new.self) i (subst (λ es. Contains (entry_items es) i) c.in-Some.ensures.steps (c.loop-best.invariant.to_come i h same))) [
+  to_come = λ i h same. elim (cons_cases c.in-Some.best.now.value (entry_items c.next.new.self) i (subst (λ es. Contains (entry_items es) i) c.in-Some.ensures.steps (c.loop-best.invariant.to_come i h same))) [
     | inl one ↦
-        let equal : is_eq (key_cmp c.in-Some.best.now.value.item.key c.args.key.now) ≡ true = ap is_eq (ap (λ (k : Key). key_cmp k c.args.key.now) (ap (λ (j : Item). j.key) one ∙ same) ∙ tied_itself key_total c.args.key.now) in
+        let equal : is_eq (key_cmp c.item-item.result.now.key c.args.key.now) ≡ true = ap is_eq (ap (λ (k : Key). key_cmp k c.args.key.now) (ap (λ (j : Item). j.key) (c.item-item.ensures ∙ one) ∙ same) ∙ tied_itself key_total c.args.key.now) in
         let x : true ≡ false = sym equal ∙ sym (ap is_eq c.compare.ensures) ∙ sym c.is_eq.ensures ∙ c.if-is_eq.false in absurd (cc)
     | inr rest ↦ rest
   ];
-  among = λ i h. c.loop-best.invariant.among i (subst (λ es. Contains (entry_items es) i) (sym c.in-Some.ensures.steps) (cons_later c.in-Some.best.now.value.item (entry_items c.next.new.self) i h));
+  among = λ i h. c.loop-best.invariant.among i (subst (λ es. Contains (entry_items es) i) (sym c.in-Some.ensures.steps) (cons_later c.in-Some.best.now.value (entry_items c.next.new.self) i h));
 }
 
 pub returns : goal.returns
