@@ -15,6 +15,26 @@ use std::alloc::{AllocError, Global};
 /// The most desks of a run.
 const MAX_DESKS: u64 = 8;
 
+/// What a script is, and what is written.
+const RUN_HELP: &str = "A script is read from standard input. Its commands are the lines that begin with `!`:
+
+  !take D         desk D takes the message on the lines behind the command
+  !list D         the task list of desk D in the window
+  !post D T       desk D posts what changed after its tick T, as a packet
+  !arrive K D     packet K reaches desk D
+  !entries D      how many items desk D keeps
+  !report D NAME  a report of desk D: load, cancelled, orphans or refresh
+  !resend D UID   the messages of a to-do to send again
+  !next D UID     the next SEQUENCE to use for a to-do
+
+Each command has its reply on standard output, in order, or `refused N`. Desks and packets are numbered from 0.
+
+Exit status:
+  0  no reply was a refusal
+  1  a reply was a refusal
+  2  the words or the window are bad
+  3  a read or a write failed, or there was no memory";
+
 /// What a call of the program asks for.
 #[derive(Clone, Copy)]
 pub(crate) enum Task {
@@ -90,6 +110,7 @@ fn command<'a>(alloc: Global) -> Result<Command<'a>, AllocError> {
         .help("The day after the last that lists show, at most 3660 days later");
     let run = Command::new(alloc, "run")
         .about("Runs a script from standard input")
+        .after_help(RUN_HELP)
         .arg(desks)?
         .arg(from)?
         .arg(to)?;

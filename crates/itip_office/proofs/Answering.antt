@@ -5,6 +5,10 @@ use Rattle.std.proofs.lemmas.List.{length-append}
 use Rattle.itip_view.specs.declared.window.Window.{Window}
 use Rattle.itip_view.specs.ListText.{IsListText}
 use Rattle.itip_view.specs.Rows.{AreTooMany}
+use Rattle.itip_view.proofs.OfKept.{rows_of_kept, too_many_of_kept}
+use Rattle.itip_report.specs.Organizing.{IsResendOf, IsNext}
+use Rattle.itip_report.specs.declared.report.Report.TheVariants as report
+use Rattle.itip_report.proofs.OfKept.{lines_of_kept, resend_of_kept, next_of_kept}
 use Rattle.itip_message.specs.declared.item.Item.{Item}
 use Rattle.itip_state.specs.Kept.{AreKept, HasEachOnce}
 use Rattle.itip_desk.specs.Heard.{heard}
@@ -16,12 +20,12 @@ use Rattle.itip_delta.specs.declared.event.Reply.{Reply}
 use Rattle.itip_delta.proofs.Desks.{slice_get-get_or}
 use Rattle.itip_delta.proofs.Packets.{texts_length}
 use Rattle.itip_office.specs.declared.fault.ScriptFault.{ScriptFault}
-use Rattle.itip_office.specs.declared.command.Command.{Command}
-use Rattle.itip_office.specs.declared.command.Command.TheVariants as command
-use Rattle.itip_office.specs.Orders.{Order, order_of, lists, counts}
-use Rattle.itip_office.specs.Running.{Answer, refused, listed, counted, answer_text, answer_to, event_of, HasTick, is_refusal, IsNotAnswered, Step, Answers}
+use Rattle.itip_office.specs.declared.command.ReportName.{ReportName}
+use Rattle.itip_office.specs.declared.command.ReportName.TheVariants as name
+use Rattle.itip_office.specs.Orders.{Order, lists, counts, reports, resends, asks_next, malformed}
+use Rattle.itip_office.specs.Running.{Answer, refused, listed, counted, reported, resent, next_is, answer_text, answer_to, event_of, HasTick, is_refusal, IsReportOf, Step, Answers}
 use Rattle.itip_office.specs.Running.Happens.{is_done, at_no_desk, of_no_packet, spends_ticks}
-use Rattle.itip_office.specs.Running.Step.{happens, lists_rows, lists_too_many, lists_no_desk, counts_kept, counts_no_desk, is_refused}
+use Rattle.itip_office.specs.Running.Step.{happens, lists_rows, lists_too_many, lists_no_desk, counts_kept, counts_no_desk, reports_lines, reports_too_many, reports_no_desk, resends_messages, resends_no_desk, tells_next, tells_no_desk, is_refused}
 
 -- the step that an answer stands for
 pub record Steps (window : Window) (old : Past) (order : Order) (answer : Answer) (desks : List Shown) (packets : List (List ℕ)) : Type 0 where
@@ -97,6 +101,18 @@ history_at (h ∷ hs) (d ∷ ds) (suc desk) shown are at =
 pub at_index : (desks : List Shown) (desk : ℕ) (shown : Shown) → desk < length desks → ((d : Shown) → shown ≡ get_or desks desk d) → slice_get desks desk ≡ Some shown
 at_index desks desk shown within is = slice_get-get_or desks desk shown within ∙ ap (λ (s : Shown). Some s) (sym (is shown))
 
+-- a report over what is kept is the report over all that was heard
+report_of_kept : (kept all : List Item) → AreKept kept all → (window : Window) (named : ReportName) (lines : List (List ℕ)) → IsReportOf named kept window lines → IsReportOf named all window lines
+report_of_kept kept all are window name.Load lines is = record {
+  rows = is.rows;
+  are_rows = rows_of_kept kept all are window is.rows is.are_rows;
+  few = is.few;
+  lines_are = is.lines_are;
+}
+report_of_kept kept all are window name.Cancelled lines is = lines_of_kept kept all are report.Cancelled lines is
+report_of_kept kept all are window name.Orphans lines is = lines_of_kept kept all are report.Orphans lines is
+report_of_kept kept all are window name.Refresh lines is = lines_of_kept kept all are report.Refresh lines is
+
 module _ (window : Window) (desks : List Shown) (packets : List (List ℕ)) where
   pub steps_list : (desk : ℕ) (shown : Shown) (text : List ℕ) → slice_get desks desk ≡ Some shown
       → ((all : List Item) → AreKept shown.kept all → IsListText all window text) → StepsFrom window desks packets (lists desk) (listed desk text) desks packets
@@ -126,8 +142,49 @@ module _ (window : Window) (desks : List Shown) (packets : List (List ℕ)) wher
   pub steps_no_count : (desk : ℕ) → length desks ≤ desk → StepsFrom window desks packets (counts desk) (refused 50) desks packets
   steps_no_count desk missing past world = record { past = past; step = counts_no_desk desk (omega (arith, same_length past.histories desks world.desks_are)); world_is = world }
 
-  pub steps_refused : (order : Order) → IsNotAnswered order → StepsFrom window desks packets order (refused 60) desks packets
-  steps_refused order not past world = record { past = past; step = is_refused order not; world_is = world }
+  pub steps_report : (desk : ℕ) (named : ReportName) (shown : Shown) (lines : List (List ℕ)) → slice_get desks desk ≡ Some shown → IsReportOf named shown.kept window lines
+      → StepsFrom window desks packets (reports desk named) (reported desk named lines) desks packets
+  steps_report desk named shown lines at is past world =
+      let h = history_at past.histories desks desk shown world.desks_are at in
+      record { past = past; step = reports_lines desk named h.history lines h.there (report_of_kept shown.kept (heard h.history) h.is.kept window named lines is); world_is = world }
+
+  pub steps_no_load : (desk : ℕ) (named : ReportName) (shown : Shown) → slice_get desks desk ≡ Some shown → named ≡ name.Load → AreTooMany shown.kept window
+      → StepsFrom window desks packets (reports desk named) (refused 31) desks packets
+  steps_no_load desk named shown at load many past world =
+      let h = history_at past.histories desks desk shown world.desks_are at in
+      record {
+        past = past;
+        step = subst (λ (n : ReportName). Step window past (reports desk n) (refused 31) past) (sym load)
+            (reports_too_many desk h.history h.there (too_many_of_kept shown.kept (heard h.history) h.is.kept window many));
+        world_is = world;
+      }
+
+  pub steps_no_report : (desk : ℕ) (named : ReportName) → length desks ≤ desk → StepsFrom window desks packets (reports desk named) (refused 50) desks packets
+  steps_no_report desk named missing past world =
+      record { past = past; step = reports_no_desk desk named (omega (arith, same_length past.histories desks world.desks_are)); world_is = world }
+
+  pub steps_resend : (desk : ℕ) (uid : List ℕ) (shown : Shown) (bytes : Option (List ℕ)) → slice_get desks desk ≡ Some shown → IsResendOf shown.kept uid bytes
+      → StepsFrom window desks packets (resends desk uid) (resent desk bytes) desks packets
+  steps_resend desk uid shown bytes at is past world =
+      let h = history_at past.histories desks desk shown world.desks_are at in
+      record { past = past; step = resends_messages desk uid h.history bytes h.there (resend_of_kept shown.kept (heard h.history) h.is.kept uid bytes is); world_is = world }
+
+  pub steps_no_resend : (desk : ℕ) (uid : List ℕ) → length desks ≤ desk → StepsFrom window desks packets (resends desk uid) (refused 50) desks packets
+  steps_no_resend desk uid missing past world =
+      record { past = past; step = resends_no_desk desk uid (omega (arith, same_length past.histories desks world.desks_are)); world_is = world }
+
+  pub steps_next : (desk : ℕ) (uid : List ℕ) (shown : Shown) (sequence : Option ℕ) → slice_get desks desk ≡ Some shown → IsNext shown.kept uid sequence
+      → StepsFrom window desks packets (asks_next desk uid) (next_is desk sequence) desks packets
+  steps_next desk uid shown sequence at is past world =
+      let h = history_at past.histories desks desk shown world.desks_are at in
+      record { past = past; step = tells_next desk uid h.history sequence h.there (next_of_kept shown.kept (heard h.history) h.is.kept uid sequence is); world_is = world }
+
+  pub steps_no_next : (desk : ℕ) (uid : List ℕ) → length desks ≤ desk → StepsFrom window desks packets (asks_next desk uid) (refused 50) desks packets
+  steps_no_next desk uid missing past world =
+      record { past = past; step = tells_no_desk desk uid (omega (arith, same_length past.histories desks world.desks_are)); world_is = world }
+
+  pub steps_refused : StepsFrom window desks packets malformed (refused 60) desks packets
+  steps_refused past world = record { past = past; step = is_refused; world_is = world }
 
 -- a world that is as it was
 still : (past : Past) (old new : List Shown) (packets more_packets : List (List ℕ)) → new ≡ old → more_packets ≡ packets → IsWorldOf past old packets → IsWorldOf past new more_packets
@@ -183,15 +240,3 @@ steps_event old new packets more_packets event before more reply last steps tick
           (happens order event (answer_to event s.reply) s.past asks (is_done s.reply s.past s.step (subst HasTick is tick)));
       world_is = s.world_is;
     }
-
-pub not_answered : (c : Command) → ((desk : ℕ) (text : _) → c ≡ command.Take desk text → ⊥) → ((desk since : ℕ) → c ≡ command.Post desk since → ⊥) → ((packet desk : ℕ) → c ≡ command.Arrive packet desk → ⊥)
-    → ((desk : ℕ) → c ≡ command.List desk → ⊥) → ((desk : ℕ) → c ≡ command.Entries desk → ⊥) → IsNotAnswered (order_of c)
-not_answered (command.Take desk text) take post arrive list entries = take desk text refl
-not_answered (command.List desk) take post arrive list entries = list desk refl
-not_answered (command.Post desk since) take post arrive list entries = post desk since refl
-not_answered (command.Arrive packet desk) take post arrive list entries = arrive packet desk refl
-not_answered (command.Report desk name) take post arrive list entries = tt
-not_answered (command.Resend desk uid) take post arrive list entries = tt
-not_answered (command.Next desk uid) take post arrive list entries = tt
-not_answered (command.Entries desk) take post arrive list entries = entries desk refl
-not_answered command.Malformed take post arrive list entries = tt

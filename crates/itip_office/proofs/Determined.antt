@@ -1,12 +1,10 @@
 -- What desks that heard the same answer is the same.
-use Rattle.std.proofs.Common.{◌≡◌, ℕ, zero, suc, min, ◌+◌, ◌-◌, ◌^◌, ◌<◌, ◌≤◌, Bool, true, false, List, [], ◌∷◌, ◌++◌, length, get_or, refl, sym, ap, subst, ◌∙◌, arith, inl, inr, Option, Some, None, append_assoc, append-nil}
+use Rattle.std.proofs.Common.{◌≡◌, ℕ, zero, suc, min, ◌-◌, ◌^◌, ◌<◌, Bool, true, false, List, [], ◌∷◌, ◌++◌, length, refl, sym, ap, subst, ◌∙◌, arith, inl, inr, Option, Some, None, append_assoc, append-nil}
 use Rattle.std.specs.Prelude.{◌⊎◌, ◌↔◌, slice_get}
-use Rattle.std.specs.List.{AllPairs, Contains, flat_map, list_any}
+use Rattle.std.specs.List.{Contains, flat_map, list_any}
 use Rattle.std.specs.Ordering.{nat_cmp}
-use Rattle.std.specs.Cmp.{IsTotalOrder}
 use Rattle.std.specs.Cmp.Lexicographic.{slice_cmp}
-use Rattle.std.specs.declared.cmp.Ordering.{Ordering}
-use Rattle.std.specs.declared.cmp.Ordering.TheVariants.{Less, Equal, Greater}
+use Rattle.std.specs.declared.cmp.Ordering.TheVariants.{Less}
 use Rattle.std.specs.Str.{bytes_eq}
 use Rattle.std.proofs.lemmas.Cmp.{nat_list_cmp_total}
 use Rattle.std.proofs.lemmas.List.Elements.{Contains-append_left, Contains-append_right, Contains-append_cases}
@@ -16,34 +14,39 @@ use Rattle.itip_message.specs.Message.{ReadsMessage, RefusesMessage}
 use Rattle.itip_message.specs.Numbers.{number_of}
 use Rattle.itip_message.specs.KeyParts.{uid_of}
 use Rattle.itip_message.specs.declared.item.Item.{Item}
-use Rattle.itip_message.specs.declared.key.Key.{Key}
-use Rattle.itip_state.specs.Kept.{SameItems, IsKept, AreKept, KeepSame, Moves, AreMoved, IsBest, HasEachOnce}
+use Rattle.itip_state.specs.Kept.{SameItems, IsKept, AreKept, KeepSame, Moves, AreMoved}
 use Rattle.itip_state.proofs.Keeping.{kept_iff}
 use Rattle.itip_view.specs.declared.window.Window.{Window}
 use Rattle.itip_view.specs.declared.row.Row.{Row}
 use Rattle.itip_view.specs.Rows.{AreRows, AreTooMany}
-use Rattle.itip_view.specs.ListText.{IsListText}
+use Rattle.itip_view.specs.ListText.{IsListText, list_text}
 use Rattle.itip_view.proofs.OfKept.{row_of_same}
-use Rattle.itip_view.proofs.OneList.{one_list_text, text_or_too_many}
+use Rattle.itip_view.proofs.OneList.{one_view, one_list_text, text_or_too_many}
+use Rattle.itip_report.specs.Load.{load_lines}
+use Rattle.itip_report.specs.Organizing.{IsResendOf, IsNext}
+use Rattle.itip_report.specs.Reports.{AreReportLines}
+use Rattle.itip_report.specs.declared.report.Report.{Report}
+use Rattle.itip_report.specs.declared.report.Report.TheVariants as report
+use Rattle.itip_report.proofs.OfKept.{lines_alike, resend_alike, next_alike}
+use Rattle.itip_report.proofs.OneReport.{one_lines, one_resend, one_next}
 use Rattle.itip_desk.specs.Heard.{heard, TickStep, Ticks, MovedAfter}
-use Rattle.itip_desk.specs.Octets.{AscendOctets}
 use Rattle.itip_delta.specs.Worlds.{Histories, no_histories, with_step, Past, no_past, Takes, Hears, EventStep, IsSpent, IsPacketOf, IsBatchOf, desk_of, LacksOnlyPacket}
 use Rattle.itip_delta.specs.Worlds.Hears.{reads, refuses}
 use Rattle.itip_delta.specs.Worlds.EventStep.{delivers, posts, arrives}
 use Rattle.itip_delta.specs.Worlds.IsSpent.{spends, spends_arriving}
 use Rattle.itip_delta.specs.declared.event.Event.{Event}
-use Rattle.itip_delta.specs.declared.event.Event.TheVariants.{Deliver, Post, Arrive}
 use Rattle.itip_delta.specs.declared.event.Reply.{Reply}
 use Rattle.itip_delta.specs.declared.event.Reply.TheVariants.{Taken, Posted, Refused}
 use Rattle.itip_delta.proofs.Deltas.{one_order}
 use Rattle.itip_message.specs.declared.error.Fault.{Fault}
 use Rattle.itip_message.proofs.OneMessage.{one_message, one_cause, message_apart}
-use Rattle.itip_office.specs.Orders.{Order, takes, lists, reports, resends, asks_next, counts, malformed}
-use Rattle.itip_office.specs.Orders.Order.{posts as order_posts, arrives as order_arrives}
+use Rattle.itip_office.specs.declared.command.ReportName.{ReportName}
+use Rattle.itip_office.specs.declared.command.ReportName.TheVariants as name
+use Rattle.itip_office.specs.Orders.{Order}
 use Rattle.itip_office.specs.Script.{orders_of}
-use Rattle.itip_office.specs.Running.{Answer, refused, listed, counted, answer_text, answer_to, event_of, is_refusal, HasTick, IsNotAnswered, Happens, Step, Runs, Writes, IsOutput}
+use Rattle.itip_office.specs.Running.{Answer, listed, counted, reported, resent, next_is, answer_text, answer_to, event_of, is_refusal, HasTick, IsLoad, IsReportOf, Happens, Step, Runs, Writes, IsOutput}
 use Rattle.itip_office.specs.Running.Happens.{is_done, at_no_desk, of_no_packet, spends_ticks}
-use Rattle.itip_office.specs.Running.Step.{happens, lists_rows, lists_too_many, lists_no_desk, counts_kept, counts_no_desk, is_refused}
+use Rattle.itip_office.specs.Running.Step.{happens, lists_rows, lists_too_many, lists_no_desk, counts_kept, counts_no_desk, reports_lines, reports_too_many, reports_no_desk, resends_messages, resends_no_desk, tells_next, tells_no_desk, is_refused}
 use Rattle.itip_office.proofs.Counting.{same_count}
 use Rattle.itip_delta.proofs.Ascending.{IsIn, in_contained, contained_in, ascending_same_pairs}
 
@@ -239,6 +242,35 @@ list_or_too_many a b window text same is many = text_or_too_many a window text i
   many = many.many;
 })
 
+-- ---- reports, messages to send again, sequences
+
+-- what one of two sets that have the same items keeps, the other keeps
+kept_same : (a b : List Item) → SameItems a b → (item : Item) → IsKept b item ↔ IsKept a item
+kept_same a b same = kept_iff b a (same_back a b same)
+
+load_one : (a b : List Item) (window : Window) (lines lines' : List (List ℕ)) → SameItems a b → IsLoad a window lines → IsLoad b window lines' → lines ≡ lines'
+load_one a b window lines lines' same is is' =
+    is.lines_are ∙ ap load_lines (one_view a window is.rows is'.rows is.are_rows (rows_same a b window is'.rows same is'.are_rows)) ∙ sym is'.lines_are
+
+lines_one : (a b : List Item) (asked : Report) (lines lines' : List (List ℕ)) → SameItems a b → AreReportLines asked a lines → AreReportLines asked b lines' → lines ≡ lines'
+lines_one a b asked lines lines' same are are' = one_lines a asked lines lines' are (lines_alike b a (kept_same a b same) asked lines' are')
+
+report_one : (a b : List Item) (window : Window) (named : ReportName) (lines lines' : List (List ℕ)) → SameItems a b → IsReportOf named a window lines → IsReportOf named b window lines' → lines ≡ lines'
+report_one a b window name.Load lines lines' same is is' = load_one a b window lines lines' same is is'
+report_one a b window name.Cancelled lines lines' same is is' = lines_one a b report.Cancelled lines lines' same is is'
+report_one a b window name.Orphans lines lines' same is is' = lines_one a b report.Orphans lines lines' same is is'
+report_one a b window name.Refresh lines lines' same is is' = lines_one a b report.Refresh lines lines' same is is'
+
+load_or_too_many : (a b : List Item) (window : Window) (lines : List (List ℕ)) → SameItems a b → IsLoad a window lines → AreTooMany b window → ⊥
+load_or_too_many a b window lines same is many =
+    list_or_too_many a b window (list_text is.rows) same (record { rows = is.rows; are_rows = is.are_rows; few = is.few; text_is = refl }) many
+
+resend_one : (a b : List Item) (uid : List ℕ) (bytes bytes' : Option (List ℕ)) → SameItems a b → IsResendOf a uid bytes → IsResendOf b uid bytes' → bytes ≡ bytes'
+resend_one a b uid bytes bytes' same is is' = one_resend a uid bytes bytes' is (resend_alike b a (kept_same a b same) uid bytes' is')
+
+next_one : (a b : List Item) (uid : List ℕ) (next next' : Option ℕ) → SameItems a b → IsNext a uid next → IsNext b uid next' → next ≡ next'
+next_one a b uid next next' same is is' = one_next a uid next next' is (next_alike b a (kept_same a b same) uid next' is')
+
 -- ---- packets
 
 tick_same : (before before' step step' : List Item) (tick next : ℕ) → SameItems before before' → SameItems step step' → TickStep before step tick next → TickStep before' step' tick next
@@ -420,18 +452,6 @@ none_asked event asks = let e : true ≡ false = ap (λ (o : Option Event). elim
     absurd_bool : true ≡ false → ⊥
     absurd_bool e = absurd cc
 
--- a command that is not answered asks for no event
-not_asked : (order : Order) (event : Event) → IsNotAnswered order → event_of order ≡ Some event → ⊥
-not_asked (takes desk text) event none asks = none
-not_asked (lists desk) event none asks = none
-not_asked (order_posts desk since) event none asks = none
-not_asked (order_arrives packet desk) event none asks = none
-not_asked (reports desk name) event none asks = none_asked event asks
-not_asked (resends desk uid) event none asks = none_asked event asks
-not_asked (asks_next desk uid) event none asks = none_asked event asks
-not_asked (counts desk) event none asks = none
-not_asked malformed event none asks = none_asked event asks
-
 pub step_one : (window : Window) (old old' : Past) (order : Order) (a a' : Answer) (new new' : Past) → SamePast old old' → ((text : List ℕ) → IsReadOnce text) → Step window old order a new → Step window old' order a' new' → (a ≡ a') × SamePast new new'
 step_one window old old' order a a' new new' same once (happens _ event _ _ asks h) (happens _ event' _ _ asks' h') =
     happens_one old old' event a a' new new' same once h (subst (λ (e : Event). Happens old' e a' new') (sym (asked_once order event event' asks asks')) h')
@@ -440,41 +460,67 @@ step_one window old old' _ a _ new _ same once (happens _ event _ _ asks h) (lis
 step_one window old old' _ a _ new _ same once (happens _ event _ _ asks h) (lists_no_desk desk past') = absurd (none_asked event asks)
 step_one window old old' _ a _ new _ same once (happens _ event _ _ asks h) (counts_kept desk h' kept' at' once' are') = absurd (none_asked event asks)
 step_one window old old' _ a _ new _ same once (happens _ event _ _ asks h) (counts_no_desk desk past') = absurd (none_asked event asks)
-step_one window old old' order a _ new _ same once (happens _ event _ _ asks h) (is_refused _ none) = absurd (not_asked order event none asks)
 step_one window old old' _ _ a' _ new' same once (lists_rows desk h text at is) (happens _ event _ _ asks h') = absurd (none_asked event asks)
 step_one window old old' _ _ _ _ _ same once (lists_rows desk h text at is) (lists_rows _ h' text' at' is') =
     (ap (listed desk) (list_one (heard h) (heard h') window text text' (same_heard h h' (same_at old.histories old'.histories desk h h' same.desks at at')) is is'), same)
 step_one window old old' _ _ _ _ _ same once (lists_rows desk h text at is) (lists_too_many _ h' at' many) =
     absurd (list_or_too_many (heard h) (heard h') window text (same_heard h h' (same_at old.histories old'.histories desk h h' same.desks at at')) is many)
 step_one window old old' _ _ _ _ _ same once (lists_rows desk h text at is) (lists_no_desk _ past) = absurd (omega (arith, within_at old.histories desk h at, desks_same old old' same))
-step_one window old old' _ _ _ _ _ same once (lists_rows desk h text at is) (is_refused _ none) = absurd none
 step_one window old old' _ _ a' _ new' same once (lists_too_many desk h at many) (happens _ event _ _ asks h') = absurd (none_asked event asks)
 step_one window old old' _ _ _ _ _ same once (lists_too_many desk h at many) (lists_rows _ h' text' at' is') =
     absurd (list_or_too_many (heard h') (heard h) window text' (same_back (heard h) (heard h') (same_heard h h' (same_at old.histories old'.histories desk h h' same.desks at at'))) is' many)
 step_one window old old' _ _ _ _ _ same once (lists_too_many desk h at many) (lists_too_many _ h' at' many') = (refl, same)
 step_one window old old' _ _ _ _ _ same once (lists_too_many desk h at many) (lists_no_desk _ past) = absurd (omega (arith, within_at old.histories desk h at, desks_same old old' same))
-step_one window old old' _ _ _ _ _ same once (lists_too_many desk h at many) (is_refused _ none) = absurd none
 step_one window old old' _ _ a' _ new' same once (lists_no_desk desk past) (happens _ event _ _ asks h') = absurd (none_asked event asks)
 step_one window old old' _ _ _ _ _ same once (lists_no_desk desk past) (lists_rows _ h' text' at' is') = absurd (omega (arith, within_at old'.histories desk h' at', desks_same old old' same))
 step_one window old old' _ _ _ _ _ same once (lists_no_desk desk past) (lists_too_many _ h' at' many') = absurd (omega (arith, within_at old'.histories desk h' at', desks_same old old' same))
 step_one window old old' _ _ _ _ _ same once (lists_no_desk desk past) (lists_no_desk _ past') = (refl, same)
-step_one window old old' _ _ _ _ _ same once (lists_no_desk desk past) (is_refused _ none) = absurd none
 step_one window old old' _ _ a' _ new' same once (counts_kept desk h kept at each are) (happens _ event _ _ asks h') = absurd (none_asked event asks)
 step_one window old old' _ _ _ _ _ same once (counts_kept desk h kept at each are) (counts_kept _ h' kept' at' each' are') =
     (ap (λ (n : ℕ). counted desk (min n (2 ^ 64 - 1))) (same_count kept kept' each each' (kept_one (heard h) (heard h') kept kept' (same_heard h h' (same_at old.histories old'.histories desk h h' same.desks at at')) are are')), same)
 step_one window old old' _ _ _ _ _ same once (counts_kept desk h kept at each are) (counts_no_desk _ past) = absurd (omega (arith, within_at old.histories desk h at, desks_same old old' same))
-step_one window old old' _ _ _ _ _ same once (counts_kept desk h kept at each are) (is_refused _ none) = absurd none
 step_one window old old' _ _ a' _ new' same once (counts_no_desk desk past) (happens _ event _ _ asks h') = absurd (none_asked event asks)
 step_one window old old' _ _ _ _ _ same once (counts_no_desk desk past) (counts_kept _ h' kept' at' each' are') = absurd (omega (arith, within_at old'.histories desk h' at', desks_same old old' same))
 step_one window old old' _ _ _ _ _ same once (counts_no_desk desk past) (counts_no_desk _ past') = (refl, same)
-step_one window old old' _ _ _ _ _ same once (counts_no_desk desk past) (is_refused _ none) = absurd none
-step_one window old old' order _ a' _ new' same once (is_refused _ none) (happens _ event _ _ asks h') = absurd (not_asked order event none asks)
-step_one window old old' _ _ _ _ _ same once (is_refused _ none) (lists_rows _ h' text' at' is') = absurd none
-step_one window old old' _ _ _ _ _ same once (is_refused _ none) (lists_too_many _ h' at' many') = absurd none
-step_one window old old' _ _ _ _ _ same once (is_refused _ none) (lists_no_desk _ past') = absurd none
-step_one window old old' _ _ _ _ _ same once (is_refused _ none) (counts_kept _ h' kept' at' each' are') = absurd none
-step_one window old old' _ _ _ _ _ same once (is_refused _ none) (counts_no_desk _ past') = absurd none
-step_one window old old' _ _ _ _ _ same once (is_refused order none) (is_refused _ none') = (refl, same)
+step_one window old old' _ a _ new _ same once (happens _ event _ _ asks h) (reports_lines desk named h' lines' at' is') = absurd (none_asked event asks)
+step_one window old old' _ a _ new _ same once (happens _ event _ _ asks h) (reports_too_many desk h' at' many') = absurd (none_asked event asks)
+step_one window old old' _ a _ new _ same once (happens _ event _ _ asks h) (reports_no_desk desk named past') = absurd (none_asked event asks)
+step_one window old old' _ a _ new _ same once (happens _ event _ _ asks h) (resends_messages desk uid h' bytes' at' is') = absurd (none_asked event asks)
+step_one window old old' _ a _ new _ same once (happens _ event _ _ asks h) (resends_no_desk desk uid past') = absurd (none_asked event asks)
+step_one window old old' _ a _ new _ same once (happens _ event _ _ asks h) (tells_next desk uid h' next' at' is') = absurd (none_asked event asks)
+step_one window old old' _ a _ new _ same once (happens _ event _ _ asks h) (tells_no_desk desk uid past') = absurd (none_asked event asks)
+step_one window old old' _ a _ new _ same once (happens _ event _ _ asks h) (is_refused) = absurd (none_asked event asks)
+step_one window old old' _ _ a' _ new' same once (reports_lines desk named h lines at is) (happens _ event _ _ asks h') = absurd (none_asked event asks)
+step_one window old old' _ _ _ _ _ same once (reports_lines desk named h lines at is) (reports_lines _ _ h' lines' at' is') =
+    (ap (reported desk named) (report_one (heard h) (heard h') window named lines lines' (same_heard h h' (same_at old.histories old'.histories desk h h' same.desks at at')) is is'), same)
+step_one window old old' _ _ _ _ _ same once (reports_lines desk _ h lines at is) (reports_too_many _ h' at' many') =
+    absurd (load_or_too_many (heard h) (heard h') window lines (same_heard h h' (same_at old.histories old'.histories desk h h' same.desks at at')) is many')
+step_one window old old' _ _ _ _ _ same once (reports_lines desk named h lines at is) (reports_no_desk _ _ past') = absurd (omega (arith, within_at old.histories desk h at, desks_same old old' same))
+step_one window old old' _ _ a' _ new' same once (reports_too_many desk h at many) (happens _ event _ _ asks h') = absurd (none_asked event asks)
+step_one window old old' _ _ _ _ _ same once (reports_too_many desk h at many) (reports_lines _ _ h' lines' at' is') =
+    absurd (load_or_too_many (heard h') (heard h) window lines' (same_back (heard h) (heard h') (same_heard h h' (same_at old.histories old'.histories desk h h' same.desks at at'))) is' many)
+step_one window old old' _ _ _ _ _ same once (reports_too_many desk h at many) (reports_too_many _ h' at' many') = (refl, same)
+step_one window old old' _ _ _ _ _ same once (reports_too_many desk h at many) (reports_no_desk _ _ past') = absurd (omega (arith, within_at old.histories desk h at, desks_same old old' same))
+step_one window old old' _ _ a' _ new' same once (reports_no_desk desk named past) (happens _ event _ _ asks h') = absurd (none_asked event asks)
+step_one window old old' _ _ _ _ _ same once (reports_no_desk desk named past) (reports_lines _ _ h' lines' at' is') = absurd (omega (arith, within_at old'.histories desk h' at', desks_same old old' same))
+step_one window old old' _ _ _ _ _ same once (reports_no_desk desk _ past) (reports_too_many _ h' at' many') = absurd (omega (arith, within_at old'.histories desk h' at', desks_same old old' same))
+step_one window old old' _ _ _ _ _ same once (reports_no_desk desk named past) (reports_no_desk _ _ past') = (refl, same)
+step_one window old old' _ _ a' _ new' same once (resends_messages desk uid h bytes at is) (happens _ event _ _ asks h') = absurd (none_asked event asks)
+step_one window old old' _ _ _ _ _ same once (resends_messages desk uid h bytes at is) (resends_messages _ _ h' bytes' at' is') =
+    (ap (resent desk) (resend_one (heard h) (heard h') uid bytes bytes' (same_heard h h' (same_at old.histories old'.histories desk h h' same.desks at at')) is is'), same)
+step_one window old old' _ _ _ _ _ same once (resends_messages desk uid h bytes at is) (resends_no_desk _ _ past') = absurd (omega (arith, within_at old.histories desk h at, desks_same old old' same))
+step_one window old old' _ _ a' _ new' same once (resends_no_desk desk uid past) (happens _ event _ _ asks h') = absurd (none_asked event asks)
+step_one window old old' _ _ _ _ _ same once (resends_no_desk desk uid past) (resends_messages _ _ h' bytes' at' is') = absurd (omega (arith, within_at old'.histories desk h' at', desks_same old old' same))
+step_one window old old' _ _ _ _ _ same once (resends_no_desk desk uid past) (resends_no_desk _ _ past') = (refl, same)
+step_one window old old' _ _ a' _ new' same once (tells_next desk uid h next at is) (happens _ event _ _ asks h') = absurd (none_asked event asks)
+step_one window old old' _ _ _ _ _ same once (tells_next desk uid h next at is) (tells_next _ _ h' next' at' is') =
+    (ap (next_is desk) (next_one (heard h) (heard h') uid next next' (same_heard h h' (same_at old.histories old'.histories desk h h' same.desks at at')) is is'), same)
+step_one window old old' _ _ _ _ _ same once (tells_next desk uid h next at is) (tells_no_desk _ _ past') = absurd (omega (arith, within_at old.histories desk h at, desks_same old old' same))
+step_one window old old' _ _ a' _ new' same once (tells_no_desk desk uid past) (happens _ event _ _ asks h') = absurd (none_asked event asks)
+step_one window old old' _ _ _ _ _ same once (tells_no_desk desk uid past) (tells_next _ _ h' next' at' is') = absurd (omega (arith, within_at old'.histories desk h' at', desks_same old old' same))
+step_one window old old' _ _ _ _ _ same once (tells_no_desk desk uid past) (tells_no_desk _ _ past') = (refl, same)
+step_one window old old' _ _ a' _ new' same once (is_refused) (happens _ event _ _ asks h') = absurd (none_asked event asks)
+step_one window old old' _ _ _ _ _ same once (is_refused) (is_refused) = (refl, same)
 
 start_same : (desks : ℕ) → SamePast (no_past desks) (no_past desks)
 start_same desks = record { desks = same_start desks; packets = tt }

@@ -8,3 +8,4 @@ pub mod Answering
 pub mod Runnings
 pub mod Counting
 pub mod Determined
+pub mod Uids

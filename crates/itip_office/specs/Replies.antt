@@ -1,7 +1,10 @@
 -- The texts of replies (our own format). Each line ends with LF.
-use Rattle.std.specs.Prelude.{ℕ, Bool, false, ◌==◌, List, [], ◌∷◌, ◌++◌, count_by, codes}
+use Rattle.std.specs.Prelude.{ℕ, Bool, false, ◌==◌, List, [], ◌∷◌, ◌++◌, length, count_by, codes, Option, Some, None}
 use Rattle.std.specs.Fmt.{decimal}
+use Rattle.std.specs.List.{flat_map}
 use Rattle.itip_office.specs.Lines.{lines_of}
+use Rattle.itip_office.specs.Spelling.{name_text}
+use Rattle.itip_office.specs.declared.command.ReportName.{ReportName}
 
 abbrev pub refused_text : ℕ → List ℕ
 refused_text number = codes "refused " ++ decimal number ++ 10 ∷ []
@@ -34,3 +37,23 @@ rows_in text = count_by begins_row (lines_of text)
 
 abbrev pub listed_text : ℕ → List ℕ → List ℕ
 listed_text desk text = codes "list " ++ decimal desk ++ codes " rows " ++ decimal (rows_in text) ++ 10 ∷ text
+
+-- the line before those of a report, with how many they are
+abbrev pub report_head : ℕ → ReportName → ℕ → List ℕ
+report_head desk named count = codes "report " ++ decimal desk ++ codes " " ++ name_text named ++ codes " " ++ decimal count ++ 10 ∷ []
+
+abbrev pub ended : List ℕ → List ℕ
+ended line = line ++ 10 ∷ []
+
+abbrev pub reported_text : ℕ → ReportName → List (List ℕ) → List ℕ
+reported_text desk named lines = report_head desk named (length lines) ++ flat_map ended lines
+
+-- the octets of the messages to send again stand as they are, behind a line with their number
+abbrev pub resent_text : ℕ → Option (List ℕ) → List ℕ
+resent_text desk (Some bytes) = codes "resend " ++ decimal desk ++ codes " bytes " ++ decimal (length bytes) ++ 10 ∷ bytes
+resent_text desk None = codes "resend " ++ decimal desk ++ codes " none" ++ 10 ∷ []
+
+-- the next sequence to use, where there is one left
+abbrev pub next_text : ℕ → Option ℕ → List ℕ
+next_text desk (Some sequence) = codes "next " ++ decimal desk ++ codes " " ++ decimal sequence ++ 10 ∷ []
+next_text desk None = codes "next " ++ decimal desk ++ codes " none" ++ 10 ∷ []

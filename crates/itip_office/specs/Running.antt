@@ -3,7 +3,8 @@ use Rattle.std.specs.Prelude.{◌≡◌, ℕ, ◌^◌, ◌-◌, ◌<◌, ◌≤�
 use Rattle.std.specs.List.{flat_map, list_any}
 use Rattle.std.specs.Io.KnownBytes.{Appends}
 use Rattle.itip_view.specs.declared.window.Window.{Window}
-use Rattle.itip_view.specs.Rows.{AreTooMany}
+use Rattle.itip_view.specs.Rows.{AreRows, AreTooMany, row_limit}
+use Rattle.itip_view.specs.declared.row.Row.{Row}
 use Rattle.itip_view.specs.ListText.{IsListText}
 use Rattle.itip_state.specs.Kept.{AreKept, HasEachOnce}
 use Rattle.itip_desk.specs.Heard.{heard}
@@ -14,8 +15,14 @@ use Rattle.itip_delta.specs.declared.event.Event.{Event}
 use Rattle.itip_delta.specs.declared.event.Event.TheVariants.{Deliver, Post, Arrive}
 use Rattle.itip_delta.specs.declared.event.Reply.{Reply}
 use Rattle.itip_delta.specs.declared.event.Reply.TheVariants.{Taken, Posted, Refused}
+use Rattle.itip_report.specs.Load.{load_lines}
+use Rattle.itip_report.specs.Organizing.{IsResendOf, IsNext}
+use Rattle.itip_report.specs.Reports.{AreReportLines}
+use Rattle.itip_report.specs.declared.report.Report.TheVariants as report
+use Rattle.itip_office.specs.declared.command.ReportName.{ReportName}
+use Rattle.itip_office.specs.declared.command.ReportName.TheVariants as name
 use Rattle.itip_office.specs.Orders.{Order, takes, lists, posts, arrives, reports, resends, asks_next, counts, malformed}
-use Rattle.itip_office.specs.Replies.{refused_text, taken_text, posted_text, arrived_text, counted_text, listed_text}
+use Rattle.itip_office.specs.Replies.{refused_text, taken_text, posted_text, arrived_text, counted_text, listed_text, reported_text, resent_text, next_text}
 use Rattle.itip_office.specs.Script.{orders_of}
 use Rattle.itip_office.specs.Written.{AppendsFront}
 
@@ -33,6 +40,12 @@ pub data Answer : Type 0 where
   listed : ℕ → List ℕ → Answer
   -- how many items a desk keeps
   counted : ℕ → ℕ → Answer
+  -- the lines of a report of a desk
+  reported : ℕ → ReportName → List (List ℕ) → Answer
+  -- what a desk sends again of a UID, or that there is nothing to send
+  resent : ℕ → Option (List ℕ) → Answer
+  -- the next sequence of a UID at a desk, or that none is left
+  next_is : ℕ → Option ℕ → Answer
 
 abbrev pub answer_text : Answer → List ℕ
 answer_text (refused number) = refused_text number
@@ -41,6 +54,9 @@ answer_text (posted packet items) = posted_text packet items
 answer_text (arrived packet desk tick changed) = arrived_text packet desk tick changed
 answer_text (listed desk text) = listed_text desk text
 answer_text (counted desk entries) = counted_text desk entries
+answer_text (reported desk named lines) = reported_text desk named lines
+answer_text (resent desk bytes) = resent_text desk bytes
+answer_text (next_is desk sequence) = next_text desk sequence
 
 abbrev pub is_refusal : Answer → Bool
 is_refusal (refused number) = true
@@ -49,6 +65,9 @@ is_refusal (posted packet items) = false
 is_refusal (arrived packet desk tick changed) = false
 is_refusal (listed desk text) = false
 is_refusal (counted desk entries) = false
+is_refusal (reported desk named lines) = false
+is_refusal (resent desk bytes) = false
+is_refusal (next_is desk sequence) = false
 
 -- the event that a command asks of a world
 abbrev pub event_of : Order → Option Event
@@ -80,17 +99,19 @@ HasTick (Taken tick changed) = tick < 2 ^ 64
 HasTick (Posted packet items) = Unit {0}
 HasTick (Refused number) = Unit {0}
 
--- commands that are read and not answered: they are refused as what is malformed is
-abbrev pub IsNotAnswered : Order → Type 0
-IsNotAnswered (takes desk text) = ⊥
-IsNotAnswered (lists desk) = ⊥
-IsNotAnswered (posts desk since) = ⊥
-IsNotAnswered (arrives packet desk) = ⊥
-IsNotAnswered (reports desk name) = Unit {0}
-IsNotAnswered (resends desk uid) = Unit {0}
-IsNotAnswered (asks_next desk uid) = Unit {0}
-IsNotAnswered (counts desk) = ⊥
-IsNotAnswered malformed = Unit {0}
+-- The load is that of the rows of the window, of which there are no more than the limit.
+pub record IsLoad (heard : List Item) (window : Window) (lines : List (List ℕ)) : Type 0 where
+  pub rows : List Row
+  pub are_rows : AreRows heard window rows
+  pub few : length rows ≤ row_limit
+  pub lines_are : lines ≡ load_lines rows
+
+-- the lines of a report over what was heard
+abbrev pub IsReportOf : ReportName → List Item → Window → List (List ℕ) → Type 0
+IsReportOf name.Load all window lines = IsLoad all window lines
+IsReportOf name.Cancelled all window lines = AreReportLines report.Cancelled all lines
+IsReportOf name.Orphans all window lines = AreReportLines report.Orphans all lines
+IsReportOf name.Refresh all window lines = AreReportLines report.Refresh all lines
 
 -- What is answered where an event is asked of a world, and what happened then.
 pub data Happens (old : Past) (event : Event) : Answer → Past → Type 0 where
@@ -111,7 +132,19 @@ pub data Step (window : Window) (old : Past) : Order → Answer → Past → Typ
       → slice_get old.histories desk ≡ Some history → HasEachOnce kept → AreKept kept (heard history)
       → Step window old (counts desk) (counted desk (min (length kept) (2 ^ 64 - 1))) old
   counts_no_desk : (desk : ℕ) → length old.histories ≤ desk → Step window old (counts desk) (refused 50) old
-  is_refused : (order : Order) → IsNotAnswered order → Step window old order (refused 60) old
+  reports_lines : (desk : ℕ) (named : ReportName) (history : List (List Item)) (lines : List (List ℕ))
+      → slice_get old.histories desk ≡ Some history → IsReportOf named (heard history) window lines
+      → Step window old (reports desk named) (reported desk named lines) old
+  reports_too_many : (desk : ℕ) (history : List (List Item))
+      → slice_get old.histories desk ≡ Some history → AreTooMany (heard history) window → Step window old (reports desk name.Load) (refused 31) old
+  reports_no_desk : (desk : ℕ) (named : ReportName) → length old.histories ≤ desk → Step window old (reports desk named) (refused 50) old
+  resends_messages : (desk : ℕ) (uid : List ℕ) (history : List (List Item)) (bytes : Option (List ℕ))
+      → slice_get old.histories desk ≡ Some history → IsResendOf (heard history) uid bytes → Step window old (resends desk uid) (resent desk bytes) old
+  resends_no_desk : (desk : ℕ) (uid : List ℕ) → length old.histories ≤ desk → Step window old (resends desk uid) (refused 50) old
+  tells_next : (desk : ℕ) (uid : List ℕ) (history : List (List Item)) (sequence : Option ℕ)
+      → slice_get old.histories desk ≡ Some history → IsNext (heard history) uid sequence → Step window old (asks_next desk uid) (next_is desk sequence) old
+  tells_no_desk : (desk : ℕ) (uid : List ℕ) → length old.histories ≤ desk → Step window old (asks_next desk uid) (refused 50) old
+  is_refused : Step window old malformed (refused 60) old
 
 -- the answers to commands, one after another
 abbrev pub Runs : Window → Past → List Order → List Answer → Past → Type 0

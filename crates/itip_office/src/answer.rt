@@ -11,6 +11,7 @@ use crate::reply::{
     BAD_COMMAND, NO_DESK, NO_PACKET, TICKS_SPENT, TOO_MANY_ROWS, append_arrived, append_counted,
     append_listed, append_posted, append_refused, append_taken,
 };
+use crate::reports::{next, report, resend};
 use itip_delta::{Cause, Event, Reply, World};
 use itip_lines::Bytes;
 use itip_view::{ViewError, Window};
@@ -32,10 +33,7 @@ pub(crate) fn answer_command(
 {
     match command {
         Command::Take { desk, text } => {
-            let event = Event::Deliver {
-                desk: *desk as usize,
-                bytes: Bytes::new(Vec::from_slice(alloc, text)?),
-            };
+            let event = delivery(alloc, *desk, text)?;
             happen(alloc, world, &event, output)
         }
         Command::Post { desk, since } => {
@@ -54,8 +52,20 @@ pub(crate) fn answer_command(
         }
         Command::List { desk } => list(alloc, world, window, *desk, output),
         Command::Entries { desk } => entries(alloc, world, *desk, output),
-        _ => refuse(alloc, output, BAD_COMMAND),
+        Command::Report { desk, name } => report(alloc, world, window, *desk, *name, output),
+        Command::Resend { desk, uid } => resend(alloc, world, *desk, uid, output),
+        Command::Next { desk, uid } => next(alloc, world, *desk, uid, output),
+        Command::Malformed => refuse(alloc, output, BAD_COMMAND),
     }
+}
+
+fn delivery(alloc: Global, desk: u64, text: &[u8]) -> Result<Event, AllocError>
+    ensures { IfOk result (λ event. event ≡ Event.Deliver desk text.now) }
+{
+    Ok(Event::Deliver {
+        desk: desk as usize,
+        bytes: Bytes::new(Vec::from_slice(alloc, text)?),
+    })
 }
 
 /// Does the event that a command asks for.
@@ -166,7 +176,7 @@ fn entries(
     Ok(false)
 }
 
-fn refuse(alloc: Global, output: &mut Vec<u8>, number: u32) -> Result<bool, ScriptFault>
+pub(crate) fn refuse(alloc: Global, output: &mut Vec<u8>, number: u32) -> Result<bool, ScriptFault>
     ensures text { OnOk result (output.new.items ≡ output.old.items ++ refused_text number) }
     ensures refusal { IfOk result (λ refusal. refusal ≡ true) }
     ensures fault { IfErr result (λ fault. fault ≡ ScriptFault.Memory) }

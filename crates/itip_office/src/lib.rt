@@ -14,6 +14,9 @@ mod laws;
 mod line;
 mod output;
 mod reply;
+#[cfg(test)]
+mod report_tests;
+mod reports;
 mod run;
 #[cfg(test)]
 mod tests;

@@ -1,7 +1,12 @@
 //! The texts of replies.
-ghost use Rattle.std.specs.Prelude.{◌≡◌, ◌++◌, ◌≤◌, length, OnOk};
-ghost use Rattle.itip_office.specs.Replies.{refused_text, taken_text, posted_text, arrived_text, counted_text, listed_text, rows_in, begins_row};
+ghost use Rattle.std.specs.Prelude.{◌≡◌, ◌++◌, ◌≤◌, length, map, OnOk};
+ghost use Rattle.std.specs.List.{flat_map};
+ghost use Rattle.std.specs.Option.{option_map};
+ghost use Rattle.std.specs.String.{string_bytes};
+ghost use Rattle.itip_office.specs.Replies.{refused_text, taken_text, posted_text, arrived_text, counted_text, listed_text, rows_in, begins_row, reported_text, resent_text, next_text, ended};
+ghost use Rattle.itip_office.specs.Spelling.{name_text};
 
+use crate::command::ReportName;
 use crate::line::first_line;
 use std::alloc::{AllocError, Global};
 
@@ -119,4 +124,77 @@ fn begins_row(line: &[u8]) -> bool
     ensures { result ≡ begins_row line.now }
 {
     matches!(line, [b'T', ..])
+}
+
+/// Appends the lines of a report, behind the line that says how many they are.
+pub(crate) fn append_reported(
+    alloc: Global,
+    output: &mut Vec<u8>,
+    desk: u64,
+    name: ReportName,
+    lines: &[String],
+) -> Result<(), AllocError>
+    ensures { OnOk result (output.new.items ≡ output.old.items ++ reported_text desk name (map string_bytes lines.now)) }
+{
+    let named = name_text(name);
+    let count = lines.len();
+    let head = format!(in alloc; "report {desk} {named} {count}\n")?;
+    output.extend_from_slice(head.as_bytes())?;
+    append_lines(output, lines)
+}
+
+fn append_lines(output: &mut Vec<u8>, lines: &[String]) -> Result<(), AllocError>
+    ensures { OnOk result (output.new.items ≡ output.old.items ++ flat_map ended (map string_bytes lines.now)) }
+{
+    for line in lines {
+        output.extend_from_slice(line.as_bytes())?;
+        output.push(b'\n')?;
+    }
+    Ok(())
+}
+
+fn name_text(name: ReportName) -> &'static str
+    ensures { result.now ≡ name_text name }
+{
+    match name {
+        ReportName::Load => "load",
+        ReportName::Cancelled => "cancelled",
+        ReportName::Orphans => "orphans",
+        ReportName::Refresh => "refresh",
+    }
+}
+
+/// Appends the messages that a desk sends again, behind the line that says how many octets they have, or that there are none.
+pub(crate) fn append_resent(
+    alloc: Global,
+    output: &mut Vec<u8>,
+    desk: u64,
+    messages: Option<&[u8]>,
+) -> Result<(), AllocError>
+    ensures { OnOk result (output.new.items ≡ output.old.items ++ resent_text desk (option_map (λ bytes. bytes.now) messages.entry)) }
+{
+    let Some(bytes) = messages else {
+        let line = format!(in alloc; "resend {desk} none\n")?;
+        return output.extend_from_slice(line.as_bytes());
+    };
+    let count = bytes.len();
+    let line = format!(in alloc; "resend {desk} bytes {count}\n")?;
+    output.extend_from_slice(line.as_bytes())?;
+    output.extend_from_slice(bytes)
+}
+
+/// Appends the next sequence of a UID, or that none is left.
+pub(crate) fn append_next(
+    alloc: Global,
+    output: &mut Vec<u8>,
+    desk: u64,
+    next: Option<u32>,
+) -> Result<(), AllocError>
+    ensures { OnOk result (output.new.items ≡ output.old.items ++ next_text desk next) }
+{
+    let line = match next {
+        Some(sequence) => format!(in alloc; "next {desk} {sequence}\n")?,
+        None => format!(in alloc; "next {desk} none\n")?,
+    };
+    output.extend_from_slice(line.as_bytes())
 }

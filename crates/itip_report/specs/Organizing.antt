@@ -1,8 +1,6 @@
 -- The messages that an organizer sends again, and the next sequence to use (our own rules; SEQUENCE: RFC 5545 3.8.7.4).
-use Rattle.std.specs.Prelude.{◌≡◌, ◌↔◌, ◌≤◌, ◌<◌, ℕ, zero, suc, List, ◌∷◌, Option, Some, None, Bool, true, false}
-use Rattle.std.specs.List.{Contains, AllPairs, flat_map}
-use Rattle.std.specs.declared.cmp.Ordering.TheVariants.{Less}
-use Rattle.itip_moment.specs.Order.{moment_cmp}
+use Rattle.std.specs.Prelude.{◌≡◌, ◌<◌, ℕ, zero, suc, List, ◌∷◌, Option, Some, None}
+use Rattle.std.specs.List.{Contains, flat_map}
 use Rattle.itip_moment.specs.declared.moment.Moment.{Moment}
 use Rattle.itip_message.specs.declared.item.Item.{Item}
 use Rattle.itip_state.specs.Organizers.{IsLastUsed}

@@ -1,0 +1,9 @@
+use Rattle.itip_report.proofs.OneReport.{one_lines, one_resend, one_next}
+use Rattle.itip_report.proofs.laws.one_report.Goals as goal
+
+pub returns : goal.returns
+returns c = record {
+  lines = one_lines;
+  resend = one_resend;
+  next = one_next;
+}
