@@ -5,6 +5,7 @@ pub mod Gathering
 pub mod Choosing
 pub mod Telling
 pub mod Ascii
+pub mod Resending
 pub mod Effective
 pub mod OfKept
 pub mod OneOrder
