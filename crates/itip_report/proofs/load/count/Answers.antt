@@ -1,4 +1,4 @@
-use Rattle.std.proofs.Common.{◌≡◌, ◌∙◌, ◌++◌, ◌∷◌, [], List, ℕ, ap, sym, subst, refl}
+use Rattle.std.proofs.Common.{◌∙◌, ◌++◌, ◌∷◌, [], ap, sym, subst, refl}
 use Rattle.indexmap.specs.IndexMap.{insert_entry}
 use Rattle.itip_report.specs.Tally.{IsTally}
 use Rattle.itip_report.specs.declared.load.Seen.{Seen}

@@ -1,4 +1,4 @@
-use Rattle.std.proofs.Common.{◌≡◌, ◌∙◌, List, map, take, take_all, ap, subst}
+use Rattle.std.proofs.Common.{◌∙◌, map, take_all, subst}
 use Rattle.itip_todo.specs.Table.{attendee_key}
 use Rattle.itip_view.specs.declared.row.ShownAttendee.{ShownAttendee}
 use Rattle.itip_report.specs.Tally.{IsTally}

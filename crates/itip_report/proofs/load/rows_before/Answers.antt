@@ -1,7 +1,6 @@
-use Rattle.std.proofs.Common.{◌≡◌, ◌∙◌, List, ℕ, Bool, ap, sym}
+use Rattle.std.proofs.Common.{◌∙◌, ap, sym}
 use Rattle.std.specs.Prelude.{cond, Some, None}
 use Rattle.std.specs.Map.{lookup}
-use Rattle.itip_report.specs.Load.{same_text}
 use Rattle.itip_report.specs.Tally.{rows_before}
 use Rattle.itip_report.proofs.Tallying.{eq_is, equal_test, apart_test}
 use Rattle.itip_report.proofs.load.rows_before.Goals as goal
