@@ -1,12 +1,10 @@
 -- What desks that heard the same answer is the same.
-use Rattle.std.proofs.Common.{◌≡◌, ℕ, zero, suc, min, ◌+◌, ◌-◌, ◌^◌, ◌<◌, ◌≤◌, Bool, true, false, List, [], ◌∷◌, ◌++◌, length, get_or, refl, sym, ap, subst, ◌∙◌, arith, inl, inr, Option, Some, None, append_assoc, append-nil}
+use Rattle.std.proofs.Common.{◌≡◌, ℕ, zero, suc, min, ◌-◌, ◌^◌, ◌<◌, Bool, true, false, List, [], ◌∷◌, ◌++◌, length, refl, sym, ap, subst, ◌∙◌, arith, inl, inr, Option, Some, None, append_assoc, append-nil}
 use Rattle.std.specs.Prelude.{◌⊎◌, ◌↔◌, slice_get}
-use Rattle.std.specs.List.{AllPairs, Contains, flat_map, list_any}
+use Rattle.std.specs.List.{Contains, flat_map, list_any}
 use Rattle.std.specs.Ordering.{nat_cmp}
-use Rattle.std.specs.Cmp.{IsTotalOrder}
 use Rattle.std.specs.Cmp.Lexicographic.{slice_cmp}
-use Rattle.std.specs.declared.cmp.Ordering.{Ordering}
-use Rattle.std.specs.declared.cmp.Ordering.TheVariants.{Less, Equal, Greater}
+use Rattle.std.specs.declared.cmp.Ordering.TheVariants.{Less}
 use Rattle.std.specs.Str.{bytes_eq}
 use Rattle.std.proofs.lemmas.Cmp.{nat_list_cmp_total}
 use Rattle.std.proofs.lemmas.List.Elements.{Contains-append_left, Contains-append_right, Contains-append_cases}
@@ -16,8 +14,7 @@ use Rattle.itip_message.specs.Message.{ReadsMessage, RefusesMessage}
 use Rattle.itip_message.specs.Numbers.{number_of}
 use Rattle.itip_message.specs.KeyParts.{uid_of}
 use Rattle.itip_message.specs.declared.item.Item.{Item}
-use Rattle.itip_message.specs.declared.key.Key.{Key}
-use Rattle.itip_state.specs.Kept.{SameItems, IsKept, AreKept, KeepSame, Moves, AreMoved, IsBest, HasEachOnce}
+use Rattle.itip_state.specs.Kept.{SameItems, IsKept, AreKept, KeepSame, Moves, AreMoved}
 use Rattle.itip_state.proofs.Keeping.{kept_iff}
 use Rattle.itip_view.specs.declared.window.Window.{Window}
 use Rattle.itip_view.specs.declared.row.Row.{Row}
@@ -33,13 +30,11 @@ use Rattle.itip_report.specs.declared.report.Report.TheVariants as report
 use Rattle.itip_report.proofs.OfKept.{lines_alike, resend_alike, next_alike}
 use Rattle.itip_report.proofs.OneReport.{one_lines, one_resend, one_next}
 use Rattle.itip_desk.specs.Heard.{heard, TickStep, Ticks, MovedAfter}
-use Rattle.itip_desk.specs.Octets.{AscendOctets}
 use Rattle.itip_delta.specs.Worlds.{History, with_one_more, Histories, no_histories, with_step, Past, no_past, Takes, Hears, EventStep, IsSpent, IsPacketOf, IsBatchOf, desk_of, LacksOnlyPacket}
 use Rattle.itip_delta.specs.Worlds.Hears.{reads, refuses}
 use Rattle.itip_delta.specs.Worlds.EventStep.{delivers, posts, arrives}
 use Rattle.itip_delta.specs.Worlds.IsSpent.{spends, spends_arriving}
 use Rattle.itip_delta.specs.declared.event.Event.{Event}
-use Rattle.itip_delta.specs.declared.event.Event.TheVariants.{Deliver, Post, Arrive}
 use Rattle.itip_delta.specs.declared.event.Reply.{Reply}
 use Rattle.itip_delta.specs.declared.event.Reply.TheVariants.{Taken, Posted, Refused}
 use Rattle.itip_delta.proofs.Deltas.{one_order}
@@ -47,10 +42,9 @@ use Rattle.itip_message.specs.declared.error.Fault.{Fault}
 use Rattle.itip_message.proofs.OneMessage.{one_message, one_cause, message_apart}
 use Rattle.itip_office.specs.declared.command.ReportName.{ReportName}
 use Rattle.itip_office.specs.declared.command.ReportName.TheVariants as name
-use Rattle.itip_office.specs.Orders.{Order, takes, lists, reports, resends, asks_next, counts, malformed}
-use Rattle.itip_office.specs.Orders.Order.{posts as order_posts, arrives as order_arrives}
+use Rattle.itip_office.specs.Orders.{Order}
 use Rattle.itip_office.specs.Script.{orders_of}
-use Rattle.itip_office.specs.Running.{Answer, refused, listed, counted, reported, resent, next_is, answer_text, answer_to, event_of, is_refusal, HasTick, IsLoad, IsReportOf, Happens, Step, Runs, Writes, IsOutput}
+use Rattle.itip_office.specs.Running.{Answer, listed, counted, reported, resent, next_is, answer_text, answer_to, event_of, is_refusal, HasTick, IsLoad, IsReportOf, Happens, Step, Runs, Writes, IsOutput}
 use Rattle.itip_office.specs.Running.Happens.{is_done, at_no_desk, of_no_packet, spends_ticks}
 use Rattle.itip_office.specs.Running.Step.{happens, lists_rows, lists_too_many, lists_no_desk, counts_kept, counts_no_desk, reports_lines, reports_too_many, reports_no_desk, resends_messages, resends_no_desk, tells_next, tells_no_desk, is_refused}
 use Rattle.itip_office.proofs.Counting.{same_count}

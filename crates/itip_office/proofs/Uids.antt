@@ -1,5 +1,5 @@
 -- The UID of an item is a text, so octets that are none name no to-do.
-use Rattle.std.proofs.Common.{◌≡◌, ℕ, List, sym, ap, ◌∙◌, subst, Option, Some, None}
+use Rattle.std.proofs.Common.{◌≡◌, ℕ, List, sym, ap, subst, Some, None}
 use Rattle.std.specs.Str.{IsUtf8}
 use Rattle.itip_message.specs.KeyParts.{uid_of}
 use Rattle.itip_message.specs.declared.item.Item.{Item}

@@ -1,3 +1,13 @@
+pub mod Mapped
+pub mod Placing
+pub mod SameOf
+pub mod Gathering
+pub mod Choosing
+pub mod Telling
+pub mod Ascii
+pub mod Resending
+pub mod Firsts
+pub mod Tallying
 pub mod Effective
 pub mod OfKept
 pub mod OneOrder

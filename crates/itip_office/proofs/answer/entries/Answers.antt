@@ -1,7 +1,7 @@
-use Rattle.std.proofs.Common.{◌≡◌, ◌≤◌, ◌++◌, ◌∙◌, ◌-◌, ◌^◌, min, List, ap, length, subst, refl}
+use Rattle.std.proofs.Common.{◌≡◌, ◌≤◌, ◌∙◌, ◌-◌, ◌^◌, min, List, ap, length, subst, refl}
 use Rattle.itip_message.specs.declared.item.Item.{Item}
 use Rattle.itip_office.specs.Orders.{counts}
-use Rattle.itip_office.specs.Running.{refused, counted, answer_text}
+use Rattle.itip_office.specs.Running.{refused, counted}
 use Rattle.itip_state.specs.Kept.{HasEachOnce}
 use Rattle.itip_office.proofs.Answering.{answered_anywhere, at_index, steps_count, steps_no_count}
 use Rattle.itip_office.proofs.answer.entries.Goals as goal

@@ -1,8 +1,8 @@
-use Rattle.std.proofs.Common.{◌≤◌, ◌++◌, List, length, subst, ap, ◌∙◌, refl}
+use Rattle.std.proofs.Common.{◌≤◌, List, length, subst, refl}
 use Rattle.itip_message.specs.declared.item.Item.{Item}
 use Rattle.itip_report.specs.Organizing.{IsNext}
 use Rattle.itip_office.specs.Orders.{asks_next}
-use Rattle.itip_office.specs.Running.{refused, next_is, answer_text}
+use Rattle.itip_office.specs.Running.{refused, next_is}
 use Rattle.itip_office.proofs.Answering.{answered_anywhere, at_index, steps_next, steps_no_next}
 use Rattle.itip_office.proofs.reports.next.Goals as goal
 
