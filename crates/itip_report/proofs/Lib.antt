@@ -1,4 +1,11 @@
-pub mod Effective
+pub mod Mapped
+pub mod Placing
+pub mod SameOf
+pub mod Gathering
+pub mod Choosing
+pub mod Telling
+pub mod Sequences
+pub mod Ascii
 pub mod OfKept
 pub mod OneOrder
 pub mod OneReport

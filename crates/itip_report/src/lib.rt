@@ -2,11 +2,15 @@
 //! revision, what to send again, and the next sequence to use.
 #![tactic(auto)]
 
+mod governing;
 mod laws;
+mod line;
 mod lines;
 mod load;
 mod organizing;
+mod parts;
 mod report;
+mod reported;
 
 pub use laws::{one_report, reports_of_kept, resend_is_read};
 pub use lines::{cancelled, orphans, refresh_wanted};

@@ -1,0 +1,121 @@
+-- Which items are reported, by what is known of their UID.
+use Rattle.std.proofs.Common.{◌≡◌, ◌↔◌, ◌⊎◌, ℕ, List, refl, sym, ◌∙◌, ap, subst, inl, inr, Bool, true, false, Option, Some, None}
+use Rattle.std.specs.Prelude.{IsTrue, MatchOption, if◌then◌else◌}
+use Rattle.std.specs.List.{Contains}
+use Rattle.std.specs.Ordering.{is_lt}
+use Rattle.std.specs.declared.cmp.Ordering.{Ordering}
+use Rattle.std.specs.declared.cmp.Ordering.TheVariants.{Less, Equal, Greater}
+use Rattle.itip_moment.specs.Order.{stamp_cmp}
+use Rattle.itip_moment.specs.declared.moment.Moment.{Moment}
+use Rattle.itip_message.specs.KeyParts.{uid_of}
+use Rattle.itip_message.specs.declared.item.Item.{Item}
+use Rattle.itip_message.specs.declared.key.Key.TheVariants.{Series, Instance}
+use Rattle.itip_state.specs.Kept.{IsBest, AscendKeys}
+use Rattle.itip_state.specs.Order.{IsState}
+use Rattle.itip_state.specs.Slots.{instance_of}
+use Rattle.itip_view.specs.OfUid.{IsSeriesItem, StandsBesideOf}
+use Rattle.itip_view.specs.Standing.{is_live, IsLive, IsCancelled, Stands, NoneStands, IsLiveSeries, Governs}
+use Rattle.itip_view.proofs.Beside.{stands_from, beside_from}
+use Rattle.itip_view.proofs.OfKey.{best_in}
+use Rattle.itip_view.proofs.OneRow.{one_best}
+use Rattle.itip_report.specs.Live.{if_live}
+use Rattle.itip_report.specs.Reports.{IsCancellation, IsOfAttendee, IsRefresh, NoneAtInstance, IsOrphan, IsWanted}
+
+-- ---- cancellations
+module _ (items : List Item) (ascend : AscendKeys items) (item : Item) (there : Contains items item) where
+  pub series_cancelled : (uid : List ℕ) → item.key ≡ Series uid → IsCancelled item → IsCancellation items item
+  series_cancelled uid about is = inl (record {
+    best = best_in items ascend (Series (uid_of item.key)) item there (about ∙ ap Series (sym (ap uid_of about)));
+    cancelled = is;
+  })
+
+  pub instance_cancelled : (series : Option Item) → IsSeriesItem items (uid_of item.key) series → (uid : List ℕ) (id : Moment) → item.key ≡ Instance uid id → IsCancelled item → StandsBesideOf series item
+      → IsCancellation items item
+  instance_cancelled series of uid id about is beside = inr (record {
+    id = id;
+    stands = stands_from items (uid_of item.key) id series item of
+        (best_in items ascend (Instance (uid_of item.key) id) item there (about ∙ ap (λ (u : List ℕ). Instance u id) (sym (ap uid_of about)))) beside;
+    cancelled = is;
+  })
+
+pub cancelled_beside : (items : List Item) (item : Item) (series : Option Item) → IsSeriesItem items (uid_of item.key) series → (uid : List ℕ) (id : Moment) → item.key ≡ Instance uid id
+    → IsCancellation items item → StandsBesideOf series item
+cancelled_beside items item series of uid id about (inl s) = let x : Instance uid id ≡ Series (uid_of item.key) = sym about ∙ s.best.about in absurd (cc)
+cancelled_beside items item series of uid id about (inr s) = beside_from items (uid_of item.key) s.id series item of s.stands
+
+-- ---- what governs
+not_both : (i : Item) → IsLive i → IsCancelled i → ⊥
+not_both i live not = let x : true ≡ false = sym live ∙ not in cc
+
+module _ (items : List Item) (uid : List ℕ) where
+  pub live_series : (series : Option Item) → IsSeriesItem items uid series → MatchOption (if_live series) ((i : Item) → ¬ IsLiveSeries items uid i) (IsLiveSeries items uid)
+  live_series None none = λ i live. none i live.best
+  live_series (Some s) best =
+      elim (is_live s.kind) as (λ b. is_live s.kind ≡ b → MatchOption (if b then Some s else None) ((i : Item) → ¬ IsLiveSeries items uid i) (IsLiveSeries items uid)) [
+        | true ↦ λ e. record { best = best; live = e }
+        | false ↦ λ e. λ i live. not_both s (subst IsLive (one_best items (Series uid) i s live.best best) live.live) e
+      ] refl
+
+  -- the instance item that stands governs where it is live
+  pub governs_standing : (at : Moment) (item : Item) → Stands items uid at item
+      → MatchOption (if_live (Some item)) ((g : Item) → ¬ Governs items uid (Some at) g) (Governs items uid (Some at))
+  governs_standing at item stands =
+      elim (is_live item.kind) as (λ b. is_live item.kind ≡ b → MatchOption (if b then Some item else None) ((g : Item) → ¬ Governs items uid (Some at) g) (Governs items uid (Some at))) [
+        | true ↦ λ e. inl (record { stands = stands; live = e })
+        | false ↦ λ e. λ g governs. elim governs [
+          | inl here ↦ not_both item (subst IsLive (one_best items (Instance uid at) g item here.stands.best stands.best) here.live) e
+          | inr other ↦ other.0 item stands
+        ]
+      ] refl
+
+  pub governs_beside : (at : Moment) (series : Option Item) → IsSeriesItem items uid series → NoneStands items uid at
+      → MatchOption (if_live series) ((g : Item) → ¬ Governs items uid (Some at) g) (Governs items uid (Some at))
+  governs_beside at series of none = by (if_live series) (live_series series of)
+    where
+      by : (o : Option Item) → MatchOption o ((i : Item) → ¬ IsLiveSeries items uid i) (IsLiveSeries items uid) → MatchOption o ((g : Item) → ¬ Governs items uid (Some at) g) (Governs items uid (Some at))
+      by None not = λ g governs. elim governs [ inl here ↦ none g here.stands | inr other ↦ not g other.1 ]
+      by (Some s) live = inr (none, live)
+
+  pub one_governs : (id : Option Moment) (a b : Item) → Governs items uid id a → Governs items uid id b → a ≡ b
+  one_governs None a b p q = one_best items (Series uid) a b p.best q.best
+  one_governs (Some at) a b (inl p) (inl q) = one_best items (Instance uid at) a b p.stands.best q.stands.best
+  one_governs (Some at) a b (inl p) (inr q) = absurd (q.0 a p.stands)
+  one_governs (Some at) a b (inr p) (inl q) = absurd (p.0 b q.stands)
+  one_governs (Some at) a b (inr p) (inr q) = one_best items (Series uid) a b p.1.best q.1.best
+
+-- ---- what attendees sent
+module _ (items : List Item) (ascend : AscendKeys items) (state : IsState items) (item : Item) (there : Contains items item) (uid : List ℕ) (about : uid_of item.key ≡ uid)
+    (id : Option Moment) (names : id ≡ instance_of item.key) where
+  pub not_orphan : (s : Item) → IsBest items (Series uid) s → ¬ IsOrphan items item
+  not_orphan s best orphan = orphan.no_series s best.is_heard (best.about ∙ ap Series (sym about))
+
+  pub orphan_where : IsOfAttendee item.key → ((i : Item) → ¬ IsBest items (Series uid) i) → (r : Bool) → (IsTrue r ↔ NoneAtInstance items uid id) → IsTrue r ↔ IsOrphan items item
+  orphan_where of none r is = (
+    λ e. record {
+      kept = (state item).0 there;
+      of_attendee = of;
+      no_series = λ i h same. none i (best_in items ascend (Series uid) i h (same ∙ ap Series about));
+      no_instance = subst (λ (u : List ℕ). NoneAtInstance items u (instance_of item.key)) (sym about) (subst (NoneAtInstance items uid) names (is.0 e));
+    },
+    λ orphan. is.1 (subst (NoneAtInstance items uid) (sym names) (subst (λ (u : List ℕ). NoneAtInstance items u (instance_of item.key)) about orphan.no_instance)),
+  )
+
+  is_less : (o : Ordering) → is_lt o ≡ true → o ≡ Less
+  is_less Less e = refl
+  is_less Equal e = cc
+  is_less Greater e = cc
+
+  here : (g : Item) → Governs items uid id g → Governs items (uid_of item.key) (instance_of item.key) g
+  here g governs = subst (λ (u : List ℕ). Governs items u (instance_of item.key) g) (sym about) (subst (λ (o : Option Moment). Governs items uid o g) names governs)
+
+  back : (g : Item) → Governs items (uid_of item.key) (instance_of item.key) g → Governs items uid id g
+  back g governs = subst (λ (o : Option Moment). Governs items uid o g) (sym names) (subst (λ (u : List ℕ). Governs items u (instance_of item.key) g) about governs)
+
+  pub wanted_where : IsRefresh item.key → (g : Item) → Governs items uid id g → (r : Bool) → r ≡ is_lt (stamp_cmp g.stamp item.stamp) → IsTrue r ↔ IsWanted items item
+  wanted_where refresh g governs r is = (
+    λ e. record { kept = (state item).0 there; refresh = refresh; governing = g; governs = here g governs; older = is_less (stamp_cmp g.stamp item.stamp) (sym is ∙ e) },
+    λ wanted. is ∙ ap is_lt (ap (λ (h : Item). stamp_cmp h.stamp item.stamp) (one_governs items uid id g wanted.governing governs (back wanted.governing wanted.governs)) ∙ wanted.older),
+  )
+
+  pub not_wanted : ((g : Item) → ¬ Governs items uid id g) → ¬ IsWanted items item
+  not_wanted none wanted = none wanted.governing (back wanted.governing wanted.governs)

@@ -1,0 +1,86 @@
+//! The line of an item in a report.
+ghost use Rattle.std.specs.Prelude.{◌≡◌, ◌++◌, IfOk, OnOk};
+ghost use Rattle.std.specs.Option.{option_copied};
+ghost use Rattle.std.specs.String.{string_bytes};
+ghost use Rattle.itip_moment.specs.Written.{moment_text};
+ghost use Rattle.itip_state.specs.Slots.{attendee_of};
+ghost use Rattle.itip_view.specs.ListText.{shown, shown_moment};
+ghost use Rattle.itip_report.specs.Reports.{named, word_of, line_of};
+
+use crate::NoMemory;
+use crate::parts::{attendee, instance, uid};
+use crate::report::Report;
+use itip_message::{Item, Key};
+use itip_moment::{Moment, write_moment};
+use std::alloc::Global;
+
+/// The line of an item in a report.
+pub(crate) fn line_of(alloc: Global, report: Report, item: &Item) -> Result<String, NoMemory>
+    ensures { IfOk result (λ line. string_bytes line ≡ line_of report item.now) }
+{
+    let mut line = String::new(alloc);
+    put_name(alloc, &mut line, item)?;
+    match report {
+        Report::Cancelled => Ok(line),
+        Report::Orphans => {
+            put_attendee(&mut line, word(&item.key), &item.key)?;
+            Ok(line)
+        }
+        Report::Refresh => {
+            put_attendee(&mut line, " ", &item.key)?;
+            Ok(line)
+        }
+    }
+}
+
+/// What the item is called, and its attendee.
+fn put_attendee(line: &mut String, word: &str, key: &Key) -> Result<(), NoMemory>
+    ensures { OnOk result (string_bytes line.new ≡ string_bytes line.old ++ (word.now ++ attendee_of key.now)) }
+{
+    line.push_str(word)?;
+    line.push_str(attendee(key))
+}
+
+/// The UID, and what is named of it.
+fn put_name(alloc: Global, line: &mut String, item: &Item) -> Result<(), NoMemory>
+    ensures { OnOk result (string_bytes line.new ≡ string_bytes line.old ++ named item.now) }
+{
+    line.push_str(uid(&item.key).as_str())?;
+    line.push_str(" ")?;
+    match instance(&item.key) {
+        None => line.push_str("-"),
+        Some(id) => put_moment(alloc, line, id),
+    }
+}
+
+fn put_moment(alloc: Global, line: &mut String, moment: &Moment) -> Result<(), NoMemory>
+    ensures { OnOk result (string_bytes line.new ≡ string_bytes line.old ++ shown_moment moment.now) }
+{
+    if let Moment::Zoned(zone, _) = moment {
+        line.push_str("TZID=")?;
+        line.push_str(zone.as_str())?;
+        line.push_str(":")?;
+    }
+    let text = text_of(alloc, moment)?;
+    line.push_str(text.as_str())
+}
+
+/// The value text of a moment. It is ASCII, so that nothing is lost of it.
+fn text_of(alloc: Global, moment: &Moment) -> Result<String, NoMemory>
+    ensures { IfOk result (λ text. string_bytes text ≡ moment_text moment.now) }
+{
+    let mut octets = Vec::new(alloc);
+    write_moment(moment, &mut octets)?;
+    String::from_utf8_lossy(alloc, &octets)
+}
+
+/// What an item of an attendee is called.
+fn word(key: &Key) -> &'static str
+    ensures { result.now ≡ word_of key.now }
+{
+    match key {
+        Key::Series(_) | Key::Instance(_, _) => "",
+        Key::Answer(_, _, _) => " answer ",
+        Key::Refresh(_, _, _) => " refresh ",
+    }
+}
