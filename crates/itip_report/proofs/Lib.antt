@@ -4,8 +4,9 @@ pub mod SameOf
 pub mod Gathering
 pub mod Choosing
 pub mod Telling
-pub mod Sequences
 pub mod Ascii
+pub mod Resending
+pub mod Effective
 pub mod OfKept
 pub mod OneOrder
 pub mod OneReport

@@ -50,7 +50,7 @@ part_says uid part whole are = record {
 }
 
 module _ (uid : List ℕ) (x y : List Item) (same : SaySame uid x y) where
-  stands_there : (at : Moment) (i : Item) → Stands x uid at i → Stands y uid at i
+  pub stands_there : (at : Moment) (i : Item) → Stands x uid at i → Stands y uid at i
   stands_there at i s = record {
     best = (same.best (Instance uid at) refl i).0 s.best;
     beside = λ series best. s.beside series ((same.best (Series uid) refl series).1 best);

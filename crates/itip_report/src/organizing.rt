@@ -1,19 +1,85 @@
 //! What an organizer sends again, and the next sequence to use.
-ghost use Rattle.std.specs.Prelude.{IfOk};
-ghost use Rattle.std.specs.Option.{option_map};
-ghost use Rattle.itip_report.specs.Organizing.{IsResendOf, IsNext};
+ghost use Rattle.std.specs.Prelude.{◌≡◌, ◌↔◌, ◌++◌, ℕ, List, IfOk, OnOk, IsTrue, map};
+ghost use Rattle.std.specs.List.{flat_map};
+ghost use Rattle.std.specs.Option.{option_map, option_copied};
+ghost use Rattle.itip_message.specs.declared.item.Item.{Item};
+ghost use Rattle.itip_state.specs.Kept.{AscendKeys};
+ghost use Rattle.itip_view.specs.OfUid.{AreOf, IsSeriesItem};
+ghost use Rattle.itip_report.specs.Live.{IsInstanceBeside};
+ghost use Rattle.itip_report.specs.Organizing.{AreStanding, IsResendOf, IsNext};
 
 use crate::NoMemory;
+use crate::governing::if_live;
+use itip_message::{Item, Key};
 use itip_state::State;
 use itip_todo::Uid;
-use std::alloc::{AllocError, Global};
+use itip_view::{series_item, stands_beside};
+use std::alloc::Global;
 
 /// The messages to send again of a UID: the canonical octets of its live series item, then those of the instance items that stand, by moment; `None` where
 /// no series item of the UID is live.
 pub fn resend(alloc: Global, state: &State, uid: &Uid) -> Result<Option<Vec<u8>>, NoMemory>
     ensures { IfOk result (λ messages. IsResendOf state.now uid.now (option_map (λ bytes. bytes.items) messages)) }
 {
-    Err(AllocError)
+    let items = state.of_uid(uid)?;
+    resend_of(alloc, &items, uid)
+}
+
+/// The messages to send again, from the kept items of the UID in the order of their keys.
+fn resend_of(alloc: Global, items: &[&Item], uid: &Uid) -> Result<Option<Vec<u8>>, NoMemory>
+    requires ordered { AscendKeys (map (λ item. item.now) items.now) }
+    requires about { AreOf uid.now (map (λ item. item.now) items.now) }
+    ensures { IfOk result (λ messages. IsResendOf (map (λ item. item.now) items.now) uid.now (option_map (λ bytes. bytes.items) messages)) }
+{
+    let series = series_item(items, uid)?;
+    let Some(live) = if_live(series) else {
+        return Ok(None);
+    };
+    let instances = standing_items(alloc, items, series)?;
+    let mut messages = Vec::new(alloc);
+    messages.extend_from_slice(live.bytes.as_slice())?;
+    put_messages(&mut messages, &instances)?;
+    Ok(Some(messages))
+}
+
+/// Appends the canonical octets of items.
+fn put_messages(out: &mut Vec<u8>, items: &[&Item]) -> Result<(), NoMemory>
+    ensures { OnOk result (out.new.items ≡ out.old.items ++ flat_map (λ item. item.now.bytes) items.now) }
+{
+    for item in items {
+        out.extend_from_slice(item.bytes.as_slice())?;
+    }
+    Ok(())
+}
+
+/// The instance items that stand, by the moments of their instances.
+fn standing_items<'a>(
+    alloc: Global,
+    items: &[&'a Item],
+    series: Option<&Item>,
+) -> Result<Vec<&'a Item>, NoMemory>
+    requires { AscendKeys (map (λ item. item.now) items.now) }
+    ensures { IfOk result (λ standing. (uid : List ℕ) → AreOf uid (map (λ item. item.now) items.now)
+        → IsSeriesItem (map (λ item. item.now) items.now) uid (option_copied series.entry)
+        → AreStanding (map (λ item. item.now) items.now) uid (map (λ item. item.now) standing.items)) }
+{
+    let mut standing = Vec::new(alloc);
+    for item in items {
+        if is_standing(series, item) {
+            standing.push(*item)?;
+        }
+    }
+    Ok(standing)
+}
+
+/// Whether an item is of an instance, and stands beside the series item of its UID.
+fn is_standing(series: Option<&Item>, item: &Item) -> bool
+    ensures { IsTrue result ↔ IsInstanceBeside (option_copied series.entry) item.now }
+{
+    match &item.key {
+        Key::Instance(_, _) => stands_beside(series, item),
+        Key::Series(_) | Key::Answer(_, _, _) | Key::Refresh(_, _, _) => false,
+    }
 }
 
 /// The next SEQUENCE to use for a UID (RFC 5545 3.8.7.4): one more than the greatest effective sequence of its kept items of REQUEST, ADD and CANCEL, or 0
