@@ -1,9 +1,7 @@
 //! The answers to the commands that ask a desk for reports, for messages to send again and for sequences.
-ghost use Rattle.std.specs.Prelude.{◌≡◌, List, IfOk, IfErr, IsErrOf, map};
+ghost use Rattle.std.specs.Prelude.{◌≡◌, IfOk, IfErr, IsErrOf, map};
 ghost use Rattle.std.specs.Option.{option_map};
 ghost use Rattle.std.specs.String.{string_bytes};
-ghost use Rattle.itip_message.specs.declared.item.Item.{Item};
-ghost use Rattle.itip_state.specs.Kept.{AreKept};
 ghost use Rattle.itip_view.specs.Rows.{AreTooMany};
 ghost use Rattle.itip_view.specs.declared.window.Window.{Window};
 ghost use Rattle.itip_report.specs.Organizing.{IsResendOf, IsNext};
