@@ -139,16 +139,17 @@ one_more_step steps start old new step kept tick carry is = record {
 pub still_carry : (desk : Shown) (step : List Item) → ((uid : List ℕ) → KeepSame uid desk.kept (desk.kept ++ step)) → CarryStep desk desk step
 still_carry desk step same = record { up = λ since uid c. inl c; moved = λ since uid moves above. absurd (moves (same uid)); stays = λ since uid c above. c }
 
+-- What a step moves is what a part of it moves with which is kept what is kept with the step.
+pub moved_alike : (uids : List (List ℕ)) (before part step : List Item) → ((item : Item) → IsKept (before ++ part) item ↔ IsKept (before ++ step) item) → AreMoved uids before part → AreMoved uids before step
+moved_alike uids before part step alike moved = record {
+  ascend = moved.ascend;
+  each = λ uid h same. moved.each uid h (λ item about. (λ k. (alike item).1 ((same item about).0 k), λ k. (same item about).1 ((alike item).0 k)));
+  others = λ uid h item about. let here = moved.others uid h item about in (λ k. (alike item).0 (here.0 k), λ k. here.1 ((alike item).1 k));
+}
+
 -- what a step moves is what the kept part of it moves
 pub moved_whole : (uids : List (List ℕ)) (before part step : List Item) → AreKept part step → AreMoved uids before part → AreMoved uids before step
-moved_whole uids before part step are moved = record {
-  ascend = moved.ascend;
-  each = λ uid h same. moved.each uid h (λ item about. let two = kept_of_parts before step before part (covers_itself before) (covers_kept part step are) item in
-      (λ k. two.1 ((same item about).0 k), λ k. (same item about).1 (two.0 k)));
-  others = λ uid h item about. let two = kept_of_parts before step before part (covers_itself before) (covers_kept part step are) item in
-      let here = moved.others uid h item about in
-      (λ k. two.0 (here.0 k), λ k. here.1 (two.1 k));
-}
+moved_whole uids before part step are = moved_alike uids before part step (kept_of_parts before step before part (covers_itself before) (covers_kept part step are))
 
 -- where a step moves no UID, what was kept is what is kept with it
 pub none_moved : (before step : List Item) → AreKept before before → ((uid : List ℕ) → KeepSame uid before (before ++ step)) → AreKept before (before ++ step)

@@ -90,7 +90,7 @@ impl Desk {
         ensures spent { IsErrOf result DeskError.TicksSpent → (self.old.tick ≡ u64.MAX) × ((uid : List ℕ) × Moves self.old.kept batch.now uid) }
         ensures err { OnErr result (self.new ≡ self.old) }
     {
-        let heard = State::of_items(self.alloc, batch.as_slice())?;
+        let heard = self.state.news_of(batch.as_slice())?;
         let uids = self.state.moved_by(&heard)?;
         if uids.is_empty() {
             return Ok(Changed {

@@ -1,8 +1,8 @@
-use Rattle.std.proofs.Common.{◌≡◌, ◌+◌, [], ◌++◌, ◌∷◌, List, ℕ, inl, inr, refl, ap, subst, sym, ◌∙◌, length, arith}
+use Rattle.std.proofs.Common.{◌≡◌, ◌+◌, [], ◌++◌, ◌∷◌, ◌↔◌, List, ℕ, inl, inr, refl, ap, subst, sym, ◌∙◌, length, arith}
 use Rattle.itip_message.specs.declared.item.Item.{Item}
-use Rattle.itip_state.specs.Kept.{AreKept, AreMoved, Moves}
+use Rattle.itip_state.specs.Kept.{AreKept, IsKept, AreMoved, Moves}
 use Rattle.itip_state.specs.Order.{IsState}
-use Rattle.itip_state.proofs.Keeping.{are_kept_by, kept_of_parts, covers_itself, covers_kept}
+use Rattle.itip_state.proofs.Keeping.{are_kept_by}
 use Rattle.std.specs.Prelude.{cond, Some}
 use Rattle.std.specs.Ordering.{nat_cmp}
 use Rattle.std.specs.Cmp.Lexicographic.{slice_cmp}
@@ -11,16 +11,19 @@ use Rattle.itip_desk.proofs.Refusals.{on_err_always}
 use Rattle.itip_desk.specs.Desk.{Shown, moved_ones}
 use Rattle.itip_desk.specs.Marks.{is_listed}
 use Rattle.itip_desk.proofs.Ticking.{grown_same, carry_step}
-use Rattle.itip_desk.proofs.Steps.{moved_whole, none_moved, none_in, some_moved, still_carry, one_more_step}
+use Rattle.itip_desk.proofs.Steps.{moved_alike, none_moved, none_in, some_moved, still_carry, one_more_step}
 use Rattle.itip_desk.proofs.desk.Desk.take.Goals as goal
 use Rattle.itip_desk.proofs.desk.Desk.take.Goals.{In_ok-uids}
+
+-- with the news is kept what is kept with the batch
+alike : (c : In_ok-uids) (item : Item) → IsKept (c.self.inside.state ++ c.in_ok-heard.heard) item ↔ IsKept (c.self.inside.state ++ c.args.batch.now) item
+alike c = subst (λ (step : List Item). (item : Item) → IsKept (c.self.inside.state ++ c.in_ok-heard.heard) item ↔ IsKept (c.self.inside.state ++ step) item) c.as_slice.ensures.items c.in_ok-heard.ensures
 
 -- the UIDs are those that the batch moves
 moved : (c : In_ok-uids) → AreMoved c.in_ok-uids.uids.items c.args.self.now.kept c.args.batch.now
 moved c =
     let kept : c.self.inside.state ≡ c.args.self.now.kept = ap (λ (d : Shown). d.kept) c.self.view_is in
-    let are : AreKept c.in_ok-heard.heard c.args.batch.now = subst (λ (step : List Item). AreKept c.in_ok-heard.heard step) c.as_slice.ensures.items c.in_ok-heard.ensures in
-    subst (λ (k : List Item). AreMoved c.in_ok-uids.uids.items k c.args.batch.now) kept (moved_whole c.in_ok-uids.uids.items c.self.inside.state c.in_ok-heard.heard c.args.batch.now are c.in_ok-uids.ensures.uids)
+    subst (λ (k : List Item). AreMoved c.in_ok-uids.uids.items k c.args.batch.now) kept (moved_alike c.in_ok-uids.uids.items c.self.inside.state c.in_ok-heard.heard c.args.batch.now (alike c) c.in_ok-uids.ensures.uids)
 
 -- what the desk keeps is a state
 state : (c : In_ok-uids) → IsState c.args.self.now.kept
@@ -28,13 +31,11 @@ state c =
     let kept : c.self.inside.state ≡ c.args.self.now.kept = ap (λ (d : Shown). d.kept) c.self.view_is in
     subst IsState kept c.in_ok-uids.ensures.state
 
--- merging what is kept of the batch is hearing the batch
+-- merging the news is hearing the batch
 kept_with : (c : In_ok-uids) (new : List Item) → AreKept new (c.self.inside.state ++ c.in_ok-heard.heard) → AreKept new (c.args.self.now.kept ++ c.args.batch.now)
 kept_with c new are_new =
     let kept : c.self.inside.state ≡ c.args.self.now.kept = ap (λ (d : Shown). d.kept) c.self.view_is in
-    let are : AreKept c.in_ok-heard.heard c.args.batch.now = subst (λ (step : List Item). AreKept c.in_ok-heard.heard step) c.as_slice.ensures.items c.in_ok-heard.ensures in
-    let whole : AreKept new (c.self.inside.state ++ c.args.batch.now) = are_kept_by new (c.self.inside.state ++ c.in_ok-heard.heard) (c.self.inside.state ++ c.args.batch.now)
-    (kept_of_parts c.self.inside.state c.args.batch.now c.self.inside.state c.in_ok-heard.heard (covers_itself c.self.inside.state) (covers_kept c.in_ok-heard.heard c.args.batch.now are)) are_new in
+    let whole : AreKept new (c.self.inside.state ++ c.args.batch.now) = are_kept_by new (c.self.inside.state ++ c.in_ok-heard.heard) (c.self.inside.state ++ c.args.batch.now) (alike c) are_new in
     subst (λ (k : List Item). AreKept new (k ++ c.args.batch.now)) kept whole
 
 pub returns-then-is_empty-clause-kept : goal.returns-then-is_empty-clause-kept
