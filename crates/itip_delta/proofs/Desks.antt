@@ -1,6 +1,6 @@
 -- Desks of histories, and one more step of one of them.
-use Rattle.std.proofs.Common.{◌≡◌, ℕ, zero, suc, ◌+◌, ◌<◌, List, [], ◌∷◌, ◌++◌, length, get_or, refl, sym, ap, subst, ◌∙◌, arith, Option, Some, None}
-use Rattle.std.specs.Prelude.{slice_get, slice_set, replicate}
+use Rattle.std.proofs.Common.{◌≡◌, ℕ, zero, suc, ◌<◌, List, [], ◌∷◌, ◌++◌, length, get_or, refl, sym, ap, subst, arith, Option, Some, None}
+use Rattle.std.specs.Prelude.{slice_get, slice_set}
 use Rattle.itip_message.specs.declared.item.Item.{Item}
 use Rattle.itip_desk.specs.Desk.{Shown, IsDeskOf}
 use Rattle.itip_delta.specs.Worlds.{History, Histories, AreDesksOf, with_step, no_histories}

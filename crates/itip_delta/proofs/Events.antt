@@ -1,5 +1,5 @@
 -- One event over a world, whatever happened before it.
-use Rattle.std.proofs.Common.{◌≡◌, ℕ, zero, suc, ◌<◌, List, [], ◌∷◌, ◌++◌, length, refl, sym, ap, subst, ◌∙◌, Option, Some, None, Ok, Err}
+use Rattle.std.proofs.Common.{◌≡◌, ℕ, List, [], ◌∷◌, ◌++◌, length, refl, sym, ap, subst, ◌∙◌, Some, Ok, Err}
 use Rattle.itip_desk.specs.declared.error.DeskError.{DeskError}
 use Rattle.itip_desk.specs.declared.error.DeskError.TheVariants as desk_error
 use Rattle.itip_delta.specs.declared.stop.Cause.{Cause}
@@ -19,7 +19,7 @@ use Rattle.itip_delta.specs.declared.event.Event.TheVariants.{Post, Arrive}
 use Rattle.itip_delta.specs.declared.event.Reply.{Reply}
 use Rattle.itip_delta.specs.declared.event.Reply.TheVariants.{Taken, Posted}
 use Rattle.itip_delta.proofs.Deltas.{known_by_octets}
-use Rattle.itip_delta.proofs.Desks.{heard_more, set_itself}
+use Rattle.itip_delta.proofs.Desks.{heard_more}
 use Rattle.itip_delta.proofs.Packets.{posted, texts_more, texts_length, packet_at, PacketAt}
 use Rattle.itip_delta.proofs.Swaps.{AreAlike, kept_alike_whole, alike_back, keep_same_swap, desk_swap}
 

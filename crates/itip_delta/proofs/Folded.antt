@@ -1,10 +1,9 @@
 -- The lines of octets that were written of lines, and what they say.
-use Rattle.std.proofs.Common.{◌≡◌, ◌∙◌, sym, ap, refl, ℕ, ◌+◌, ◌<◌, Bool, true, false, cond, not, List, [], ◌∷◌, ◌++◌, length, map, arith, append_assoc}
+use Rattle.std.proofs.Common.{◌≡◌, ◌∙◌, ap, refl, ℕ, ◌+◌, Bool, true, false, cond, not, List, [], ◌∷◌, ◌++◌, map, arith, append_assoc}
 use Rattle.std.specs.Prelude.{◌&&◌, ◌||◌, ◌==◌, codes}
 use Rattle.std.specs.Char.{to_ascii_uppercase}
 use Rattle.std.specs.List.{onto_first, list_all, AllByRecursion}
 use Rattle.std.proofs.lemmas.Bool.{and_parts}
-use Rattle.itip_lines.specs.Cutting.{is_blank}
 use Rattle.itip_lines.specs.Octets.{is_value_octet}
 use Rattle.itip_lines.specs.Lawful.{line_text, params_text, IsName}
 use Rattle.itip_lines.specs.Writing.{fits, folded}
@@ -12,7 +11,7 @@ use Rattle.itip_lines.proofs.OctetLemmas.{value_no_break}
 use Rattle.itip_todo.specs.Lawful.{IsLawfulContent}
 use Rattle.itip_todo.specs.Written.{Content, content_octets, contents_octets}
 use Rattle.itip_message.specs.Frame.{same_text}
-use Rattle.itip_delta.specs.Cutting.{begins_blank, ends_line, lines_of, is_return, said_behind, said, says, ends_calendar}
+use Rattle.itip_delta.specs.Cutting.{begins_blank, lines_of, is_return, said_behind, said, ends_calendar}
 use Rattle.itip_delta.proofs.Plain.{clean_content, name_octet_no_blank, IsNotEnd, text_apart}
 
 -- ---- lines

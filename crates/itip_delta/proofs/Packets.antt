@@ -1,5 +1,5 @@
 -- What a packet tells, and that a delta of a desk is what is kept of it.
-use Rattle.std.proofs.Common.{◌≡◌, ℕ, zero, suc, ◌<◌, Bool, true, false, cond, List, [], ◌∷◌, ◌++◌, ◌↔◌, ◌⊎◌, inl, inr, refl, sym, ap, subst, ◌∙◌, length, get_or, arith, Option, Some, None, nat_lt}
+use Rattle.std.proofs.Common.{◌≡◌, ℕ, zero, suc, ◌<◌, Bool, true, false, cond, List, [], ◌∷◌, ◌++◌, ◌↔◌, inl, inr, refl, sym, ap, subst, ◌∙◌, length, get_or, arith, Option, Some, None, nat_lt}
 use Rattle.std.specs.Prelude.{slice_get}
 use Rattle.std.specs.List.{Contains, filter}
 use Rattle.std.specs.Ordering.{nat_cmp}
@@ -8,9 +8,9 @@ use Rattle.std.proofs.lemmas.Bool.Decides.{nat_tests}
 use Rattle.itip_join.specs.KeyByKey.{value_at}
 use Rattle.itip_message.specs.KeyParts.{uid_of}
 use Rattle.itip_message.specs.declared.item.Item.{Item}
-use Rattle.itip_state.specs.Kept.{AreKept, IsKept}
+use Rattle.itip_state.specs.Kept.{IsKept}
 use Rattle.itip_desk.specs.Desk.{Shown, IsDeskOf, IsDeltaOf, CarriesAfter}
-use Rattle.itip_desk.specs.Heard.{heard, MovedAfter}
+use Rattle.itip_desk.specs.Heard.{heard}
 use Rattle.itip_desk.proofs.Told.{kept_alike}
 use Rattle.itip_delta.specs.Worlds.{History, IsPacketOf, IsBatchOf, IsPacketText, ArePacketTexts}
 use Rattle.itip_delta.proofs.Ascending.{IsIn, in_contained, contained_in}

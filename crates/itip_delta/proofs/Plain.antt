@@ -1,9 +1,9 @@
 -- No octet of a lawful line stands in a break, and its name is not END.
-use Rattle.std.proofs.Common.{◌≡◌, ◌∙◌, sym, ap, refl, ℕ, ◌<◌, Bool, true, false, cond, not, List, [], ◌∷◌, ◌++◌, length, map, arith, inl, inr, append_assoc}
-use Rattle.std.specs.Prelude.{IsTrue, ◌&&◌, ◌||◌, ◌==◌, codes, nat_eq, Option, Some, None}
+use Rattle.std.proofs.Common.{◌≡◌, ◌∙◌, ap, refl, ℕ, Bool, true, false, cond, not, List, [], ◌∷◌, ◌++◌, map, arith}
+use Rattle.std.specs.Prelude.{IsTrue, ◌&&◌, ◌||◌, ◌==◌, codes, Option, Some, None}
 use Rattle.std.specs.Char.{to_ascii_uppercase}
 use Rattle.std.specs.List.{list_all, list_any, AllByRecursion}
-use Rattle.std.proofs.lemmas.Bool.{and_parts, and_from}
+use Rattle.std.proofs.lemmas.Bool.{and_parts}
 use Rattle.std.proofs.lemmas.Bool.Decides.{nat_tests}
 use Rattle.std.proofs.lemmas.List.Folds.{list_all-append}
 use Rattle.itip_lines.specs.Cutting.{is_blank}

@@ -1,5 +1,5 @@
 -- A step and what is kept of it do the same to a desk.
-use Rattle.std.proofs.Common.{◌≡◌, ℕ, List, [], ◌∷◌, ◌++◌, ◌↔◌, ◌⊎◌, inl, inr, refl, sym, subst}
+use Rattle.std.proofs.Common.{ℕ, List, [], ◌∷◌, ◌++◌, ◌↔◌, inl, inr, sym, subst}
 use Rattle.itip_message.specs.declared.item.Item.{Item}
 use Rattle.itip_state.specs.Kept.{AreKept, IsKept, KeepSame}
 use Rattle.itip_state.proofs.Keeping.{covers_itself, covers_kept, kept_of_parts}

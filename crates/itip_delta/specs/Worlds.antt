@@ -1,5 +1,5 @@
 -- What desks have heard and posted after a list of events, and the replies to these (our own rule).
-use Rattle.std.specs.Prelude.{◌≡◌, ℕ, zero, suc, ◌^◌, ◌-◌, ◌<◌, List, [], ◌∷◌, ◌++◌, ◌≤◌, ◌↔◌, length, take, replicate, Option, Some, slice_get}
+use Rattle.std.specs.Prelude.{◌≡◌, ℕ, zero, suc, ◌^◌, ◌-◌, ◌<◌, List, [], ◌∷◌, ◌++◌, ◌≤◌, ◌↔◌, length, take, replicate, Some, slice_get}
 use Rattle.std.specs.List.{Contains}
 use Rattle.itip_message.specs.KeyParts.{uid_of}
 use Rattle.itip_message.specs.Message.{ReadsMessage, RefusesMessage}
@@ -7,7 +7,7 @@ use Rattle.itip_message.specs.Numbers.{number_of}
 use Rattle.itip_message.specs.declared.error.Fault.{Fault}
 use Rattle.itip_message.specs.declared.item.Item.{Item}
 use Rattle.itip_state.specs.Kept.{AreKept, SameItems, AreMoved, Moves}
-use Rattle.itip_desk.specs.Heard.{heard, TickStep, Ticks, MovedAfter}
+use Rattle.itip_desk.specs.Heard.{heard, Ticks, MovedAfter}
 use Rattle.itip_desk.specs.Desk.{Shown, IsDeskOf}
 use Rattle.itip_desk.specs.Octets.{AscendOctets}
 use Rattle.itip_desk.specs.declared.error.DeskError.{DeskError}

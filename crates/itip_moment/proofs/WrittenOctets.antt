@@ -1,12 +1,12 @@
 -- The octets of a written stamp: digits, T and Z.
-use Rattle.std.proofs.Common.{◌≡◌, ℕ, ◌+◌, ◌/◌, ◌%◌, ◌<◌, ◌≤◌, Bool, true, false, ◌&&◌, ◌||◌, ◌==◌, List, [], ◌∷◌, ◌++◌, length, length-append, ℤ, refl, sym, ap, ◌∙◌, subst, arith, pos}
+use Rattle.std.proofs.Common.{◌≡◌, ℕ, ◌+◌, ◌/◌, ◌%◌, ◌<◌, Bool, true, false, ◌&&◌, ◌||◌, ◌==◌, List, [], ◌∷◌, ◌++◌, length, length-append, ℤ, refl, ap, ◌∙◌, arith}
 use Rattle.std.specs.Prelude.{nat_le}
 use Rattle.std.specs.List.{list_all}
 use Rattle.std.proofs.lemmas.Bool.Decides.{nat_tests}
 use Rattle.jiff_core.proofs.SignedLemmas.{signed_arith}
 use Rattle.jiff_core.proofs.CalendarLemmas.{days_in_month_bounds}
 use Rattle.itip_moment.specs.Digits.{two_digits, four_digits, date_digits, clock_digits}
-use Rattle.itip_moment.specs.Spelling.{IsDateText, IsClockText, IsLocalText, IsUtcText, IsStampText}
+use Rattle.itip_moment.specs.Spelling.{IsDateText, IsClockText, IsStampText}
 use Rattle.itip_moment.specs.Written.{stamp_text}
 use Rattle.itip_moment.specs.declared.stamp.Stamp.{Stamp}
 use Rattle.itip_moment.proofs.ValueLaws.{stamp_text-IsStampText}

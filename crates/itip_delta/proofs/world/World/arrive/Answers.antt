@@ -1,11 +1,9 @@
 use Rattle.std.proofs.Common.{◌≡◌, ◌++◌, ◌∷◌, [], ◌<◌, length, ℕ, List, sym, ap, ◌∙◌, get_or, Some, Err, arith}
 use Rattle.std.specs.Prelude.{slice_get}
 use Rattle.itip_message.specs.declared.item.Item.{Item}
-use Rattle.itip_state.specs.Kept.{AreMoved}
 use Rattle.itip_desk.specs.Desk.{Shown}
 use Rattle.itip_desk.specs.declared.error.DeskError.{DeskError}
 use Rattle.itip_desk.specs.declared.error.DeskError.TheVariants as desk
-use Rattle.itip_delta.specs.declared.event.Reply.{Reply}
 use Rattle.itip_delta.specs.declared.event.Reply.TheVariants.{Taken}
 use Rattle.itip_delta.proofs.Desks.{slice_get-get_or}
 use Rattle.itip_delta.proofs.Events.{steps_arrive, spends_arrive, spent_at_desk}

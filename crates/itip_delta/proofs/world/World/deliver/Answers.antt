@@ -1,23 +1,21 @@
-use Rattle.std.proofs.Common.{◌≡◌, ◌++◌, ◌∷◌, [], ◌<◌, length, ℕ, List, refl, sym, ap, subst, ◌∙◌, get_or, Some, Result, Ok, Err, arith}
-use Rattle.std.specs.Prelude.{slice_get, slice_set, IsErrAnd, IsErrOf}
-use Rattle.itip_message.specs.Message.{RefusesMessage, ReadsMessage, IfFault}
+use Rattle.std.proofs.Common.{◌≡◌, ◌++◌, ◌∷◌, [], ◌<◌, length, ℕ, List, refl, sym, ap, subst, ◌∙◌, get_or, Some, Err, arith}
+use Rattle.std.specs.Prelude.{slice_get}
+use Rattle.itip_message.specs.Message.{RefusesMessage}
 use Rattle.itip_message.specs.Numbers.{number_of}
 use Rattle.itip_message.specs.declared.item.Item.{Item}
 use Rattle.itip_state.specs.Kept.{AreMoved, IsItemsOf}
 use Rattle.itip_desk.specs.Desk.{Shown, IsDeskOf}
 use Rattle.itip_desk.specs.Heard.{heard, Ticks}
 use Rattle.itip_desk.proofs.Steps.{nothing_more, moved_of_all, keep_same_down}
-use Rattle.itip_delta.specs.Worlds.{Past, AreDesksOf, IsWorldOf, past_with_step, with_step, cause_of}
+use Rattle.itip_delta.specs.Worlds.{AreDesksOf, past_with_step, with_step}
 use Rattle.itip_delta.specs.Worlds.Hears.{reads, refuses}
 use Rattle.itip_delta.specs.Worlds.EventStep.{delivers}
 use Rattle.itip_delta.specs.Worlds.IsSpent.{spends}
 use Rattle.itip_desk.specs.declared.error.DeskError.{DeskError}
 use Rattle.itip_desk.specs.declared.error.DeskError.TheVariants as desk
-use Rattle.itip_delta.specs.declared.stop.Cause.{Cause}
-use Rattle.itip_delta.specs.declared.stop.Cause.TheVariants as cause
 use Rattle.itip_delta.specs.declared.event.Reply.TheVariants.{Taken, Refused}
 use Rattle.itip_delta.proofs.Events.{spent_at_desk}
-use Rattle.itip_delta.proofs.Desks.{HeardMore, heard_more, desk_there, set_itself, slice_get-get_or}
+use Rattle.itip_delta.proofs.Desks.{heard_more, desk_there, set_itself, slice_get-get_or}
 use Rattle.itip_delta.proofs.world.World.deliver.Goals as goal
 
 pub returns-in-Err-Fault-clause-step : goal.returns-in-Err-Fault-clause-step

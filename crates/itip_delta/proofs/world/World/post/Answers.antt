@@ -1,8 +1,7 @@
-use Rattle.std.proofs.Common.{◌≡◌, ◌++◌, ◌∷◌, [], ◌<◌, length, ℕ, List, sym, ap, ◌∙◌, get_or, Some, arith}
+use Rattle.std.proofs.Common.{◌≡◌, ◌++◌, ◌∷◌, [], ◌<◌, length, List, sym, ap, ◌∙◌, get_or, Some, arith}
 use Rattle.std.specs.Prelude.{slice_get}
 use Rattle.itip_message.specs.declared.item.Item.{Item}
 use Rattle.itip_desk.specs.Desk.{Shown}
-use Rattle.itip_delta.specs.declared.event.Reply.{Reply}
 use Rattle.itip_delta.specs.declared.event.Reply.TheVariants.{Posted}
 use Rattle.itip_delta.proofs.Desks.{slice_get-get_or}
 use Rattle.itip_delta.proofs.Events.{steps_post}

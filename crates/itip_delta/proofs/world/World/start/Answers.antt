@@ -1,4 +1,4 @@
-use Rattle.std.proofs.Common.{◌≡◌, ℕ, suc, ◌+◌, ◌++◌, ◌∷◌, [], List, sym, subst, add-one}
+use Rattle.std.proofs.Common.{ℕ, ◌+◌, ◌++◌, ◌∷◌, [], List, sym, subst, add-one}
 use Rattle.itip_desk.specs.Desk.{Shown}
 use Rattle.itip_delta.specs.Worlds.{no_histories, AreDesksOf}
 use Rattle.itip_delta.proofs.Desks.{one_more_desk}
