@@ -1,12 +1,10 @@
 -- The items of one UID that are reported, in the order of their keys.
-use Rattle.std.proofs.Common.{◌≡◌, ◌<◌, ℕ, List, [], ◌∷◌, ◌++◌, sym, ◌∙◌, ap, subst, inl, inr, length, get_or}
-use Rattle.std.specs.List.{Contains, AllPairs}
-use Rattle.std.specs.declared.cmp.Ordering.TheVariants.{Less}
+use Rattle.std.proofs.Common.{List, [], ◌∷◌, ◌++◌, sym, subst, inl, inr, get_or}
+use Rattle.std.specs.List.{Contains}
 use Rattle.std.proofs.lemmas.List.Elements.{Contains-get_or, Contains-append_left, Contains-push, Contains-push_cases}
 use Rattle.std.proofs.lemmas.List.Quantifiers.{all_pairs_push}
 use Rattle.itip_message.specs.declared.item.Item.{Item}
 use Rattle.itip_state.specs.Kept.{AscendKeys, SameItems}
-use Rattle.itip_state.specs.Slots.{key_cmp}
 use Rattle.itip_state.proofs.Members.{none_in, no_pairs}
 use Rattle.itip_state.proofs.Ordered.{IsBefore}
 use Rattle.itip_report.specs.Lines.{AscendPlaces, AreReported}

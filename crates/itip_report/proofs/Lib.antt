@@ -6,6 +6,8 @@ pub mod Choosing
 pub mod Telling
 pub mod Ascii
 pub mod Resending
+pub mod Firsts
+pub mod Tallying
 pub mod Effective
 pub mod OfKept
 pub mod OneOrder

@@ -1,21 +1,18 @@
 -- What is sent again of a UID.
-use Rattle.std.proofs.Common.{◌≡◌, ◌<◌, ℕ, List, [], ◌∷◌, ◌++◌, sym, ◌∙◌, ap, subst, get_or, length, arith, Option, Some, None}
-use Rattle.std.specs.Prelude.{MatchOption}
-use Rattle.std.specs.List.{Contains}
+use Rattle.std.proofs.Common.{◌≡◌, ℕ, List, sym, ◌∙◌, ap, subst, get_or, arith, Option, Some, None}
 use Rattle.std.specs.declared.cmp.Ordering.TheVariants.{Less}
 use Rattle.std.proofs.lemmas.List.Elements.{Contains-get_or}
 use Rattle.itip_moment.specs.declared.moment.Moment.{Moment}
 use Rattle.itip_message.specs.KeyParts.{uid_of}
 use Rattle.itip_message.specs.declared.item.Item.{Item}
 use Rattle.itip_message.specs.declared.key.Key.{Key}
-use Rattle.itip_message.specs.declared.key.Key.TheVariants.{Series, Instance}
+use Rattle.itip_message.specs.declared.key.Key.TheVariants.{Instance}
 use Rattle.itip_state.specs.Kept.{AscendKeys}
 use Rattle.itip_state.specs.Slots.{key_cmp}
-use Rattle.itip_view.specs.OfUid.{AreOf, IsSeriesItem, StandsBesideOf}
-use Rattle.itip_view.specs.Standing.{Stands, IsLiveSeries}
+use Rattle.itip_view.specs.OfUid.{AreOf, IsSeriesItem}
 use Rattle.itip_view.proofs.Beside.{stands_from, beside_from}
 use Rattle.itip_view.proofs.OfKey.{best_in}
-use Rattle.itip_report.specs.Lines.{place_cmp, AscendPlaces}
+use Rattle.itip_report.specs.Lines.{place_cmp}
 use Rattle.itip_report.specs.Live.{IsInstanceBeside}
 use Rattle.itip_report.specs.Organizing.{AreStanding, IsResendOf}
 use Rattle.itip_report.proofs.Choosing.{Chosen}

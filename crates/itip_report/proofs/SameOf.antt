@@ -1,5 +1,5 @@
 -- Two sets that say the same of a UID are reported alike.
-use Rattle.std.proofs.Common.{◌≡◌, ◌↔◌, ℕ, List, refl, sym, ◌∙◌, ap, subst, inl, inr, Option, Some, None}
+use Rattle.std.proofs.Common.{◌≡◌, ◌↔◌, ℕ, List, refl, ◌∙◌, ap, inl, inr, Option, Some, None}
 use Rattle.std.specs.List.{Contains}
 use Rattle.itip_moment.specs.declared.moment.Moment.{Moment}
 use Rattle.itip_message.specs.KeyParts.{uid_of}

@@ -3,3 +3,4 @@ pub mod Reports
 pub mod Load
 pub mod Organizing
 pub mod Live
+pub mod Tally

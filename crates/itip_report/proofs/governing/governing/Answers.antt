@@ -1,10 +1,9 @@
-use Rattle.std.proofs.Common.{◌≡◌, ◌∙◌, sym, ap, subst, List, map, Option, Some, None}
+use Rattle.std.proofs.Common.{sym, subst, List, map, Option, Some, None}
 use Rattle.std.specs.Prelude.{MatchOption}
 use Rattle.std.specs.Option.{option_copied}
 use Rattle.itip_moment.specs.declared.moment.Moment.{Moment}
 use Rattle.itip_message.specs.declared.item.Item.{Item}
 use Rattle.itip_view.specs.Standing.{Governs}
-use Rattle.itip_report.specs.Live.{if_live}
 use Rattle.itip_report.proofs.Telling.{live_series, governs_standing, governs_beside}
 use Rattle.itip_report.proofs.governing.governing.Goals as goal
 

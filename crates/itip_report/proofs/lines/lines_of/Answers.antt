@@ -1,5 +1,4 @@
-use Rattle.std.proofs.Common.{◌≡◌, ◌∙◌, List, ℕ, map, take, take_all, ap}
-use Rattle.itip_message.specs.declared.item.Item.{Item}
+use Rattle.std.proofs.Common.{◌∙◌, map, take_all, ap}
 use Rattle.itip_report.specs.Reports.{line_of}
 use Rattle.itip_report.proofs.Mapped.{map_twice}
 use Rattle.itip_report.proofs.lines.lines_of.Goals as goal

@@ -1,4 +1,4 @@
-use Rattle.std.proofs.Common.{◌≡◌, List, ℕ, map, sym, subst}
+use Rattle.std.proofs.Common.{List, ℕ, map, sym, subst}
 use Rattle.std.specs.Option.{option_map}
 use Rattle.itip_message.specs.declared.item.Item.{Item}
 use Rattle.itip_state.specs.Kept.{ArePart}

@@ -1,8 +1,7 @@
-use Rattle.std.proofs.Common.{◌≡◌, List, map, rules}
+use Rattle.std.proofs.Common.{◌≡◌, rules}
 use Rattle.std.specs.Ordering.{is_lt}
 use Rattle.std.proofs.lemmas.Fn.{always_returns_same}
 use Rattle.std.proofs.lemmas.List.Sorted.{ranks_by, IsPermutation-map, IsPermutation-sym, Contains-permutation}
-use Rattle.itip_message.specs.declared.item.Item.{Item}
 use Rattle.itip_report.specs.Lines.{place_cmp}
 use Rattle.itip_report.proofs.Placing.{place_total, places_ascend}
 use Rattle.itip_report.proofs.parts.by_place.Goals as goal

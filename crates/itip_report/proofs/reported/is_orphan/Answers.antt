@@ -1,6 +1,5 @@
-use Rattle.std.proofs.Common.{◌≡◌, ◌↔◌, List, Bool, Result, Ok, Err, map, subst}
-use Rattle.std.specs.Prelude.{IfOk, IsTrue, MatchOption}
-use Rattle.std.specs.Option.{option_copied}
+use Rattle.std.proofs.Common.{◌↔◌, List, map}
+use Rattle.std.specs.Prelude.{IsTrue}
 use Rattle.itip_message.specs.declared.item.Item.{Item}
 use Rattle.itip_state.proofs.Members.{if_ok_then}
 use Rattle.itip_report.specs.Reports.{NoneAtInstance, IsOrphan}

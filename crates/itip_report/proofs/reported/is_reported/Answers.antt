@@ -1,4 +1,4 @@
-use Rattle.std.proofs.Common.{◌≡◌, ◌↔◌, List, ℕ, Bool, map, sym, subst}
+use Rattle.std.proofs.Common.{◌↔◌, List, ℕ, map, sym, subst}
 use Rattle.std.specs.Prelude.{IfOk, IsTrue}
 use Rattle.std.specs.Option.{option_copied}
 use Rattle.itip_message.specs.declared.item.Item.{Item}

@@ -7,10 +7,7 @@ use Rattle.std.proofs.lemmas.List.{length-map, take_more}
 use Rattle.std.proofs.Math.ListN.{get_or-map}
 use Rattle.itip_message.specs.declared.item.Item.{Item}
 use Rattle.itip_state.specs.Kept.{ArePart, AreUidsOf}
-use Rattle.itip_state.specs.Order.{IsState}
 use Rattle.itip_view.proofs.Collecting.{earlier_before}
-use Rattle.itip_report.specs.Lines.{AreReported}
-use Rattle.itip_report.specs.Reports.{IsReported}
 use Rattle.itip_report.proofs.Gathering.{ReportedOf, gather_more, all_gathered}
 use Rattle.itip_report.proofs.Mapped.{map_both}
 use Rattle.itip_report.proofs.SameOf.{part_state}

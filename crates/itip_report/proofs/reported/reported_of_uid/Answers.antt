@@ -1,5 +1,4 @@
 use Rattle.std.proofs.Common.{◌≡◌, ◌+◌, ◌<◌, ◌∙◌, ◌∷◌, [], ◌++◌, ℕ, List, take_all, map, take, length, get_or, sym, ap, subst, true, false}
-use Rattle.std.specs.List.{Contains}
 use Rattle.std.proofs.lemmas.List.{length-map, take_more}
 use Rattle.std.proofs.Math.ListN.{get_or-map}
 use Rattle.itip_message.specs.declared.item.Item.{Item}
