@@ -16,7 +16,8 @@ use std::alloc::{AllocError, Global};
 const MAX_DESKS: u64 = 8;
 
 /// What a script is, and what is written.
-const RUN_HELP: &str = "A script is read from standard input. Its commands are the lines that begin with `!`:
+const RUN_HELP: &str =
+    "A script is read from standard input. Its commands are the lines that begin with `!`:
 
   !take D         desk D takes the message on the lines behind the command
   !list D         the task list of desk D in the window

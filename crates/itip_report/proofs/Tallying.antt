@@ -160,11 +160,11 @@ module _ (done : List Row) (before : List (List ℕ)) where
     replaced v s c [] d h e = let x : None ≡ Some s = e in absurd (cc)
     replaced v s c (f ∷ fs) d h e = elim (same_text k f.0) as (λ b. same_text k f.0 ≡ b → cond b (Some f.1) (lookup (same_text k) fs) ≡ Some s
         → AllByRecursion (λ e. IsCounted done (before ++ k ∷ []) e.0 e.1) (cond b ((f.0, v) ∷ fs) (f ∷ insert_entry same_text fs k v))) [
-      | true ↦ λ same g.
-          let is : k ≡ f.0 = same_is k f.0 same in
-          (subst (λ (q : List ℕ). IsCounted done (before ++ k ∷ []) q v) is c, others fs (ap (λ q. list_any (same_text q) (keys_of fs)) is ∙ none_any f.0 (keys_of fs) d.0) h.1)
-      | false ↦ λ apart g. (other f.0 f.1 apart h.0, replaced v s c fs d.1 h.1 g)
-    ] refl e
+          | true ↦ λ same g.
+              let is : k ≡ f.0 = same_is k f.0 same in
+              (subst (λ (q : List ℕ). IsCounted done (before ++ k ∷ []) q v) is c, others fs (ap (λ q. list_any (same_text q) (keys_of fs)) is ∙ none_any f.0 (keys_of fs) d.0) h.1)
+          | false ↦ λ apart g. (other f.0 f.1 apart h.0, replaced v s c fs d.1 h.1 g)
+        ] refl e
 
   module _ (es : List Entry) (tally : IsTally done before es) (k : List ℕ) where
     all_any : list_any (same_text k) (keys_of es) ≡ list_any (same_text k) (flat_map keys_in done ++ before)

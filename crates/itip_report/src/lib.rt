@@ -11,6 +11,8 @@ mod organizing;
 mod parts;
 mod report;
 mod reported;
+#[cfg(test)]
+mod tests;
 
 pub use laws::{one_report, reports_of_kept, resend_is_read};
 pub use lines::{cancelled, orphans, refresh_wanted};

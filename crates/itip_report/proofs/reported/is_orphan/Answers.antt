@@ -8,9 +8,11 @@ use Rattle.itip_report.proofs.reported.is_orphan.Goals as goal
 
 pub returns-in-Some-series : goal.returns-in-Some-series
 returns-in-Some-series c =
-    let items : List Item = map (λ item. item.now) c.args.items.now in
-    (λ e. cc, λ orphan. absurd (not_orphan items c.requires.ordered c.requires.state c.args.item.now c.requires.there c.args.uid.now c.requires.about c.in-Some.id.now c.in-Some.ensures.1
-    c.in-Some-series.field-0.now (rw c.in-Some-series.is at c.requires.series) orphan))
+    let items : List Item = map (λ item. item.now) c.args.items.now in (
+      λ e. cc,
+      λ orphan. absurd (not_orphan items c.requires.ordered c.requires.state c.args.item.now c.requires.there c.args.uid.now c.requires.about c.in-Some.id.now c.in-Some.ensures.1
+          c.in-Some-series.field-0.now (rw c.in-Some-series.is at c.requires.series) orphan),
+    )
 
 pub returns-in-None : goal.returns-in-None
 returns-in-None c =

@@ -12,6 +12,8 @@ returns-in-Some-2 c =
 
 pub returns-in-None : goal.returns-in-None
 returns-in-None c =
-    let items : List Item = map (λ item. item.now) c.args.items.now in
-    (λ e. cc, λ wanted. absurd (not_wanted items c.requires.ordered c.requires.state c.args.item.now c.requires.there c.args.uid.now c.requires.about c.in-Some.id.now c.in-Some.ensures.1
-    (rw c.in-None.is at c.in_ok-governing.ensures) wanted))
+    let items : List Item = map (λ item. item.now) c.args.items.now in (
+      λ e. cc,
+      λ wanted. absurd (not_wanted items c.requires.ordered c.requires.state c.args.item.now c.requires.there c.args.uid.now c.requires.about c.in-Some.id.now c.in-Some.ensures.1
+          (rw c.in-None.is at c.in_ok-governing.ensures) wanted),
+    )

@@ -1,0 +1,242 @@
+use crate::{cancelled, load_by_attendee, next_seq, orphans, refresh_wanted, resend};
+use itip_message::{Item, read_message};
+use itip_state::State;
+use itip_todo::Uid;
+use itip_view::{BadWindow, Window, rows};
+use std::alloc::{AllocError, Global};
+use std::test::Fail;
+
+/// A method, and the lines of the to-do that its message has.
+type Heard = (&'static str, &'static str);
+
+const SERIES: Heard = (
+    "REQUEST",
+    "SEQUENCE:2\nDTSTAMP:20260101T090000Z\nSUMMARY:B\n",
+);
+
+const OLDER: Heard = (
+    "REQUEST",
+    "SEQUENCE:1\nDTSTAMP:20260101T100000Z\nSUMMARY:A\n",
+);
+
+const CANCEL: Heard = ("CANCEL", "SEQUENCE:3\nDTSTAMP:20260101T110000Z\n");
+
+const INSTANCE: Heard = (
+    "REQUEST",
+    "SEQUENCE:3\nDTSTAMP:20260101T110000Z\nRECURRENCE-ID;VALUE=DATE:20260106\n",
+);
+
+const INSTANCE_CANCEL: Heard = (
+    "CANCEL",
+    "SEQUENCE:3\nDTSTAMP:20260101T120000Z\nRECURRENCE-ID;VALUE=DATE:20260106\n",
+);
+
+const ANSWER: Heard = (
+    "REPLY",
+    "SEQUENCE:0\nDTSTAMP:20260101T090000Z\nATTENDEE:mailto:A@x\n",
+);
+
+const INSTANCE_ANSWER: Heard = (
+    "REPLY",
+    "SEQUENCE:0\nDTSTAMP:20260101T090000Z\nRECURRENCE-ID;TZID=Z:20260106T090000\nATTENDEE:mailto:b@x\n",
+);
+
+const REFRESH: Heard = (
+    "REFRESH",
+    "SEQUENCE:0\nDTSTAMP:20260101T100000Z\nATTENDEE:mailto:a@x\n",
+);
+
+const INSTANCE_REFRESH: Heard = (
+    "REFRESH",
+    "SEQUENCE:0\nDTSTAMP:20260101T100000Z\nRECURRENCE-ID;VALUE=DATE:20260106\nATTENDEE:mailto:a@x\n",
+);
+
+const REMOVAL: Heard = (
+    "CANCEL",
+    "SEQUENCE:3\nDTSTAMP:20260101T100000Z\nATTENDEE:mailto:a@x\n",
+);
+
+const LAST: Heard = ("REQUEST", "SEQUENCE:2147483647\nDTSTAMP:20260101T090000Z\n");
+
+/// A series of two days, and below it an instance that was moved.
+const OVERRIDDEN: &str = "BEGIN:VCALENDAR\nVERSION:2.0\nMETHOD:REQUEST\n\
+BEGIN:VTODO\nUID:u1\nSEQUENCE:5\nDTSTAMP:20260101T090000Z\nDTSTART;VALUE=DATE:20260105\n\
+RRULE:FREQ=DAILY;COUNT=2\nATTENDEE:mailto:a@x\nEND:VTODO\n\
+BEGIN:VTODO\nUID:u1\nSEQUENCE:2\nDTSTAMP:20260101T090000Z\nRECURRENCE-ID;VALUE=DATE:20260106\n\
+DTSTART;VALUE=DATE:20260107\nSUMMARY:moved\nATTENDEE:mailto:a@x\nEND:VTODO\nEND:VCALENDAR\n";
+
+const SENT: &str = "BEGIN:VCALENDAR\r\n\
+PRODID:-//itipdesk//1//EN\r\n\
+VERSION:2.0\r\n\
+METHOD:REQUEST\r\n\
+BEGIN:VTODO\r\n\
+UID:u1\r\n\
+DTSTAMP:20260101T090000Z\r\n\
+SEQUENCE:2\r\n\
+SUMMARY:B\r\n\
+END:VTODO\r\n\
+END:VCALENDAR\r\n";
+
+const OVERRIDDEN_SENT: &str = "BEGIN:VCALENDAR\r\n\
+PRODID:-//itipdesk//1//EN\r\n\
+VERSION:2.0\r\n\
+METHOD:REQUEST\r\n\
+BEGIN:VTODO\r\n\
+UID:u1\r\n\
+DTSTAMP:20260101T090000Z\r\n\
+SEQUENCE:5\r\n\
+DTSTART;VALUE=DATE:20260105\r\n\
+ATTENDEE:mailto:a@x\r\n\
+RRULE:FREQ=DAILY;COUNT=2\r\n\
+END:VTODO\r\n\
+END:VCALENDAR\r\n\
+BEGIN:VCALENDAR\r\n\
+PRODID:-//itipdesk//1//EN\r\n\
+VERSION:2.0\r\n\
+METHOD:REQUEST\r\n\
+BEGIN:VTODO\r\n\
+UID:u1\r\n\
+DTSTAMP:20260101T090000Z\r\n\
+SEQUENCE:2\r\n\
+X-DESK-BASE:5\r\n\
+RECURRENCE-ID;VALUE=DATE:20260106\r\n\
+DTSTART;VALUE=DATE:20260107\r\n\
+SUMMARY:moved\r\n\
+ATTENDEE:mailto:a@x\r\n\
+END:VTODO\r\n\
+END:VCALENDAR\r\n";
+
+fn hear(items: &mut Vec<Item>, text: &str) -> Result<(), AllocError> {
+    if let Ok(more) = read_message(*items.allocator(), text.as_bytes()) {
+        for item in more {
+            items.push(item)?;
+        }
+    }
+    Ok(())
+}
+
+/// The state of these messages of u1.
+fn state_of(alloc: Global, heard: &[Heard]) -> Result<State, AllocError> {
+    let mut items = Vec::new(alloc);
+    for (method, lines) in heard {
+        let text = format!(in alloc;
+            "BEGIN:VCALENDAR\nVERSION:2.0\nMETHOD:{method}\nBEGIN:VTODO\nUID:u1\n{lines}END:VTODO\nEND:VCALENDAR\n"
+        )?;
+        hear(&mut items, text.as_str())?;
+    }
+    State::of_items(alloc, &items)
+}
+
+/// Lines, each with the line feed that ends it.
+fn joined(alloc: Global, lines: &[String]) -> Result<String, AllocError> {
+    let mut text = String::new(alloc);
+    for line in lines {
+        text.push_str(line.as_str())?;
+        text.push_str("\n")?;
+    }
+    Ok(text)
+}
+
+#[test]
+fn reports_name_what_they_are_about(rt: HostRuntime) -> Result<(), Fail> {
+    let alloc = rt.alloc();
+    let answers =
+        "u1 - answer mailto:a@x\nu1 - refresh mailto:a@x\nu1 20260106 refresh mailto:a@x\nu1 TZID=Z:20260106T090000 answer mailto:b@x\n";
+    let table: [(&[Heard], &str, &str, &str); 9] = [
+        (&[], "", "", ""),
+        (&[SERIES, OLDER, CANCEL], "u1 -\n", "", ""),
+        (&[SERIES, INSTANCE_CANCEL], "u1 20260106\n", "", ""),
+        (&[CANCEL, INSTANCE_CANCEL], "u1 -\n", "", ""),
+        (
+            &[ANSWER, REFRESH, INSTANCE_ANSWER, INSTANCE_REFRESH],
+            "",
+            answers,
+            "",
+        ),
+        (
+            &[INSTANCE, INSTANCE_ANSWER, INSTANCE_REFRESH],
+            "",
+            "u1 TZID=Z:20260106T090000 answer mailto:b@x\n",
+            "",
+        ),
+        (&[SERIES, ANSWER, REFRESH], "", "", "u1 - mailto:a@x\n"),
+        (
+            &[SERIES, INSTANCE_REFRESH],
+            "",
+            "",
+            "u1 20260106 mailto:a@x\n",
+        ),
+        (
+            &[SERIES, INSTANCE, INSTANCE_REFRESH, REFRESH],
+            "",
+            "",
+            "u1 - mailto:a@x\n",
+        ),
+    ];
+    for (heard, first, second, third) in table {
+        let state = state_of(alloc, heard)?;
+        assert!(rt; joined(alloc, &cancelled(alloc, &state)?)?.as_str() == first);
+        assert!(rt; joined(alloc, &orphans(alloc, &state)?)?.as_str() == second);
+        assert!(rt; joined(alloc, &refresh_wanted(alloc, &state)?)?.as_str() == third);
+    }
+    Ok(())
+}
+
+#[test]
+fn each_row_counts_once(rt: HostRuntime) -> Result<(), Fail> {
+    let alloc = rt.alloc();
+    let mut items = Vec::new(alloc);
+    hear(&mut items, OVERRIDDEN)?;
+    let state = State::of_items(alloc, &items)?;
+    let window = match Window::new(20454, 20819) {
+        Ok(window) => window,
+        Err(BadWindow) => panic!(rt; "a year is a window"),
+    };
+    let rows = rows(alloc, &state, window)?;
+    assert_eq!(rt; rows.len(), 2);
+    let load = load_by_attendee(alloc, &rows)?;
+    assert!(rt; joined(alloc, &load)?.as_str() == "mailto:a@x 2\n");
+    Ok(())
+}
+
+#[test]
+fn a_live_series_is_sent_again(rt: HostRuntime) -> Result<(), Fail> {
+    let alloc = rt.alloc();
+    let uid = Uid::copy(alloc, "u1")?;
+    let unknown = Uid::copy(alloc, "u9")?;
+    let state = state_of(alloc, &[SERIES, OLDER])?;
+    match resend(alloc, &state, &uid)? {
+        Some(sent) => assert!(rt; sent.as_slice() == SENT.as_bytes()),
+        None => panic!(rt; "the series is live"),
+    }
+    assert!(rt; resend(alloc, &state, &unknown)?.is_none());
+    let state = state_of(alloc, &[SERIES, OLDER, CANCEL])?;
+    assert!(rt; resend(alloc, &state, &uid)?.is_none());
+    let mut items = Vec::new(alloc);
+    hear(&mut items, OVERRIDDEN)?;
+    match resend(alloc, &State::of_items(alloc, &items)?, &uid)? {
+        Some(sent) => assert!(rt; sent.as_slice() == OVERRIDDEN_SENT.as_bytes()),
+        None => panic!(rt; "the series is live"),
+    }
+    Ok(())
+}
+
+#[test]
+fn the_next_sequence_is_one_more(rt: HostRuntime) -> Result<(), Fail> {
+    let alloc = rt.alloc();
+    let uid = Uid::copy(alloc, "u1")?;
+    let unknown = Uid::copy(alloc, "u9")?;
+    let table: [(&[Heard], Option<u32>); 5] = [
+        (&[SERIES, OLDER], Some(3)),
+        (&[SERIES, REMOVAL], Some(4)),
+        (&[SERIES, INSTANCE], Some(4)),
+        (&[ANSWER], Some(0)),
+        (&[LAST], None),
+    ];
+    for (heard, next) in table {
+        let state = state_of(alloc, heard)?;
+        assert_eq!(rt; next_seq(&state, &uid), next);
+        assert_eq!(rt; next_seq(&state, &unknown), Some(0));
+    }
+    Ok(())
+}
