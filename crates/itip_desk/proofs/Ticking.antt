@@ -1,5 +1,5 @@
 -- The ticks of UIDs, as they are seen: a place with tick 0 counts as none.
-use Rattle.std.proofs.Common.{◌≡◌, ℕ, ◌<◌, ◌≤◌, List, [], ◌∷◌, ◌++◌, ◌↔◌, ◌⊎◌, ◌||◌, not, inl, inr, refl, sym, ap, subst, ◌∙◌, Bool, true, false, Option, Some, None, arith, nat_eq}
+use Rattle.std.proofs.Common.{◌≡◌, ℕ, ◌<◌, List, [], ◌∷◌, ◌++◌, ◌↔◌, ◌⊎◌, ◌||◌, not, inl, inr, refl, sym, ap, subst, ◌∙◌, Bool, true, false, Option, Some, None, arith, nat_eq}
 use Rattle.std.specs.Prelude.{cond, is_some}
 use Rattle.std.specs.List.{Contains}
 use Rattle.std.specs.List.Sorted.{IsStrictlySortedBy}

@@ -1,5 +1,4 @@
-use Rattle.std.proofs.Common.{◌≡◌, ℕ, List, ◌∷◌, [], ◌++◌, ◌<◌, sym, ◌∙◌, ap, arith}
-use Rattle.std.specs.List.{Contains}
+use Rattle.std.proofs.Common.{◌∷◌, [], ◌++◌, ◌<◌, ◌∙◌, ap, arith}
 use Rattle.itip_state.proofs.Selecting.{choose, chosen}
 use Rattle.itip_desk.proofs.Ticking.{chosen_carry}
 use Rattle.itip_desk.proofs.ticks.carried_after.Goals as goal

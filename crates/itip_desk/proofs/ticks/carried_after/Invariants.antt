@@ -1,4 +1,4 @@
-use Rattle.std.proofs.Common.{ℕ, List, ◌<◌}
+use Rattle.std.proofs.Common.{◌<◌}
 use Rattle.itip_state.proofs.Selecting.{GoesOn}
 use Rattle.itip_desk.proofs.ticks.carried_after.Given as goal
 

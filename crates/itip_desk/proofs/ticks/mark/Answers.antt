@@ -1,4 +1,4 @@
-use Rattle.std.proofs.Common.{◌≡◌, ◌∙◌, sym, ap, ◌||◌, true, false}
+use Rattle.std.proofs.Common.{◌≡◌, ◌∙◌, sym, ap, true, false}
 use Rattle.std.specs.Prelude.{is_some}
 use Rattle.std.specs.Vec.Iter.{into_iter_items}
 use Rattle.itip_desk.specs.Marks.{is_listed}

@@ -1,5 +1,4 @@
 use Rattle.std.proofs.Common.{ℕ, List, ap, subst}
-use Rattle.itip_message.specs.declared.item.Item.{Item}
 use Rattle.itip_state.specs.Kept.{ArePartOf, IsItemsOf}
 use Rattle.itip_state.proofs.Members.{if_ok_then}
 use Rattle.itip_desk.specs.Desk.{Shown, IsDeltaOf}

@@ -1,6 +1,6 @@
-use Rattle.std.proofs.Common.{◌≡◌, ◌+◌, [], ◌++◌, ◌∷◌, ◌↔◌, List, ℕ, inl, inr, refl, ap, subst, sym, ◌∙◌, length, arith}
+use Rattle.std.proofs.Common.{◌≡◌, ◌+◌, ◌++◌, ◌↔◌, List, inl, inr, refl, ap, subst, sym, ◌∙◌, length, arith}
 use Rattle.itip_message.specs.declared.item.Item.{Item}
-use Rattle.itip_state.specs.Kept.{AreKept, IsKept, AreMoved, Moves}
+use Rattle.itip_state.specs.Kept.{AreKept, IsKept, AreMoved}
 use Rattle.itip_state.specs.Order.{IsState}
 use Rattle.itip_state.proofs.Keeping.{are_kept_by}
 use Rattle.std.specs.Prelude.{cond, Some}
