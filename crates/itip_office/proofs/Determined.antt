@@ -307,8 +307,10 @@ itself x item = (λ h. h, λ h. h)
 packet_there : (h h' : History) (since : ℕ) (p p' : List Item) → SameHistory h h' → IsPacketOf h since p → IsPacketOf h' since p' → (item : Item) → Contains p item → Contains p' item
 packet_there h h' since p p' same is is' item here =
     let tells = (is item).0 here in
-    (is' item).1 ((same_heard h.steps h'.steps same.steps item).0 tells.0,
-    subst (λ (t : ℕ). MovedAfter [] t h'.steps since (uid_of item.key)) same.start (moved_same [] [] h.start h.steps h'.steps since (uid_of item.key) (itself []) same.steps tells.1))
+    (is' item).1 (
+      (same_heard h.steps h'.steps same.steps item).0 tells.0,
+      subst (λ (t : ℕ). MovedAfter [] t h'.steps since (uid_of item.key)) same.start (moved_same [] [] h.start h.steps h'.steps since (uid_of item.key) (itself []) same.steps tells.1),
+    )
 
 packet_one : (h h' : History) (since : ℕ) (p p' : List Item) → SameHistory h h' → IsPacketOf h since p → IsPacketOf h' since p' → SameItems p p'
 packet_one h h' since p p' same is is' item = (packet_there h h' since p p' same is is' item, packet_there h' h since p' p (history_back h h' same) is' is item)
