@@ -39,7 +39,7 @@ impl Model for Desk {
 }
 
 impl Desk {
-    ghost use Rattle.itip_state.specs.Kept.{AreKept, AreMoved, Moves};
+    ghost use Rattle.itip_state.specs.Kept.{AreKept, AreMoved, Moves, HasEachOnce};
     ghost use Rattle.itip_desk.specs.Desk.{IsDeskOf, IsDeltaOf};
     ghost use Rattle.itip_desk.specs.Heard.{TickStep};
     ghost use Rattle.itip_view.specs.Rows.{AreTooMany};
@@ -71,9 +71,10 @@ impl Desk {
         &self.state
     }
 
-    /// The number of kept items; `usize::MAX` where there are more.
+    /// The number of kept items, of which each stands once in what the desk shows; `usize::MAX` where there are more. It takes no memory.
     pub fn entries(&self) -> usize
-        ensures { result ≡ min (length self.now.kept) usize.MAX }
+        ensures number { result ≡ min (length self.now.kept) usize.MAX }
+        ensures once { HasEachOnce self.now.kept }
     {
         self.state.entries()
     }
