@@ -60,9 +60,9 @@ fn hear_four(desk: &mut Desk, alloc: Global, number: u64) -> Result<(), BenchErr
         later.as_str(),
         "ATTENDEE:mailto:a@example.com\r\n",
     )?;
-    let uid = about(alloc, number + 1)?;
+    let uid = about(alloc, number.wrapping_add(1))?;
     hear(desk, alloc, "CANCEL", uid.as_str(), "")?;
-    let uid = about(alloc, number + 2)?;
+    let uid = about(alloc, number.wrapping_add(2))?;
     hear(
         desk,
         alloc,
@@ -77,7 +77,7 @@ fn hear_four(desk: &mut Desk, alloc: Global, number: u64) -> Result<(), BenchErr
         uid.as_str(),
         "ATTENDEE:mailto:a@example.com\r\n",
     )?;
-    let uid = about(alloc, number + 3)?;
+    let uid = about(alloc, number.wrapping_add(3))?;
     hear(
         desk,
         alloc,
