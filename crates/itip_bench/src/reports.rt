@@ -24,6 +24,7 @@ pub(crate) fn measure_reports<R: AllocGlobal + Clock + Print>(
     }
     let state = desk.state();
     println!(rt; "reports over {} entries", state.entries())?;
+    measure_one(rt, state)?;
     let start = Instant::now(rt)?;
     let lines = cancelled(alloc, state)?.len();
     let time = start.elapsed(rt)?.as_micros();
@@ -36,8 +37,7 @@ pub(crate) fn measure_reports<R: AllocGlobal + Clock + Print>(
     let lines = refresh_wanted(alloc, state)?.len();
     let time = start.elapsed(rt)?.as_micros();
     println!(rt; "refresh {lines} lines {time} us")?;
-    measure_load(rt, state)?;
-    measure_one(rt, state)
+    measure_load(rt, state)
 }
 
 /// Hears of four to-dos: one with a newer refresh request, one cancelled, one that is not known, and one with a cancelled instance.
