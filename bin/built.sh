@@ -10,7 +10,7 @@ sources() {
         cd "$top" || exit
         rt version </dev/null
         cat crates.txt HANDLES
-        find crates -type f \( -path '*/src/*' -o -path '*/specs/*' -o -path '*/proofs/*' \) -print0 |
+        find crates -type f ! -path '*/out/*' \( -path '*/src/*' -o -path '*/specs/*' -o -path '*/proofs/*' \) -print0 |
             LC_ALL=C sort -z | xargs -0 sha256sum
     ) | sha256sum
 }

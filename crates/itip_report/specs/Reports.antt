@@ -39,7 +39,7 @@ abbrev pub NoneAtInstance : List Item → List ℕ → Option Moment → Type 0
 NoneAtInstance heard uid None = Unit {0}
 NoneAtInstance heard uid (Some id) = NoneAt heard (Instance uid id)
 
--- what attendees send: answers and refresh requests
+-- what is about one attendee: answers, an organizer's removals among them, and refresh requests
 abbrev pub IsOfAttendee : Key → Type 0
 IsOfAttendee (Series uid) = ⊥
 IsOfAttendee (Instance uid id) = ⊥
