@@ -1,173 +1,342 @@
--- The ticks of UIDs, as they are seen: a place with tick 0 counts as none.
-use Rattle.std.proofs.Common.{◌≡◌, ℕ, ◌<◌, List, [], ◌∷◌, ◌++◌, ◌↔◌, ◌⊎◌, ◌||◌, not, inl, inr, refl, sym, ap, subst, ◌∙◌, Bool, true, false, Option, Some, None, arith, nat_eq}
-use Rattle.std.specs.Prelude.{cond, is_some}
-use Rattle.std.specs.List.{Contains}
-use Rattle.std.specs.List.Sorted.{IsStrictlySortedBy}
-use Rattle.std.specs.Map.{keys_of}
+-- The UIDs that moved, the last moved first, and the ticks that they carry.
+use Rattle.std.proofs.Common.{◌≡◌, ℕ, ◌<◌, ◌≤◌, ◌-◌, List, [], ◌∷◌, ◌++◌, ◌↔◌, ◌⊎◌, ◌||◌, inl, inr, refl, sym, ap, subst, ◌∙◌, Bool, true, false, Option, Some, None, arith, length, take}
+use Rattle.std.specs.Prelude.{cond, is_some, nat_eq}
+use Rattle.std.specs.Option.{option_map_or}
+use Rattle.std.specs.List.{Contains, AllByRecursion}
+use Rattle.std.specs.Map.{keys_of, lookup, lookup_entry, remove_entry, set_value}
 use Rattle.std.specs.Ordering.{nat_cmp, is_eq}
-use Rattle.std.specs.Cmp.Lexicographic.{slice_cmp}
+use Rattle.std.specs.Cmp.Lexicographic.{slice_cmp, pointwise, texts_ties}
 use Rattle.std.specs.declared.cmp.Ordering.{Ordering}
-use Rattle.std.proofs.lemmas.Bool.Decides.{nat_tests}
 use Rattle.std.proofs.lemmas.Cmp.{nat_list_cmp_total}
+use Rattle.std.proofs.lemmas.List.{take_all}
+use Rattle.std.proofs.lemmas.List.Folds.{list_any-append}
 use Rattle.std.proofs.lemmas.Map.Lookups.{exact_bytes}
-use Rattle.itip_join.specs.KeyByKey.{value_at, entries_from_values}
-use Rattle.itip_join.specs.Optional.{alive_part}
-use Rattle.itip_join.proofs.Under.{value_at-kept}
+use Rattle.lru.specs.LruCache.{LruCache, lru_cache, promoted, demoted, put_entries}
+use Rattle.itip_join.specs.KeyByKey.{value_at}
 use Rattle.itip_message.specs.declared.item.Item.{Item}
 use Rattle.itip_message.specs.KeyParts.{uid_of}
 use Rattle.itip_state.specs.Kept.{AreMoved, Moves, ArePartOf, SameItems, IsItemsOf}
-use Rattle.itip_state.specs.Below.{Selects}
-use Rattle.itip_state.proofs.Members.{by_bool}
+use Rattle.itip_state.proofs.Members.{by_bool, none_in, cons_cases, cons_first, cons_later}
 use Rattle.itip_state.proofs.Lookups.{one_key, itself}
-use Rattle.std.proofs.lemmas.List.Folds.{list_any-append}
-use Rattle.itip_state.proofs.Selecting.{chosen_each, chosen_others}
-use Rattle.itip_state.proofs.Joining.{kept_sorted}
 use Rattle.itip_state.proofs.Parting.{listed_in, in_listed}
-use Rattle.itip_desk.specs.Desk.{Shown, moved_ones, CarriesAfter, IsDeltaOf}
-use Rattle.itip_desk.specs.Marks.{is_listed, IsGrown}
+use Rattle.itip_desk.specs.Desk.{Shown, CarriesAfter, IsDeltaOf}
+use Rattle.itip_desk.specs.Moves.{is_listed, FallFrom, ArePlaces}
 use Rattle.itip_desk.proofs.Steps.{CarryStep}
 
 abbrev pub uid_cmp : List ℕ → List ℕ → Ordering
 uid_cmp = slice_cmp nat_cmp
 
-abbrev pub AreInOrder : List (List ℕ × ℕ) → Type 0
-AreInOrder es = IsStrictlySortedBy uid_cmp (keys_of es)
-
-seen_at : (es : List (List ℕ × ℕ)) → AreInOrder es → (uid : List ℕ) → value_at uid_cmp (moved_ones es) uid ≡ alive_part (λ t. nat_eq t 0) (value_at uid_cmp es uid)
-seen_at es s uid = value_at-kept (λ u t. nat_eq t 0) nat_list_cmp_total exact_bytes es s uid
-
-not_zero : (t : ℕ) → 0 < t → nat_eq t 0 ≡ false
-not_zero t h = grind (arith, nat_tests)
+-- the tick at a UID
+abbrev pub at_uid : List (List ℕ × ℕ) → List ℕ → Option ℕ
+at_uid = value_at uid_cmp
 
 some_same : (t u : ℕ) → Some t ≡ Some u → t ≡ u
 some_same t u e = cc
 
--- a UID carries a tick where its place has one
-pub carries_up : (es : List (List ℕ × ℕ)) → AreInOrder es → (since : ℕ) (uid : List ℕ) → CarriesAfter es since uid → CarriesAfter (moved_ones es) since uid
-carries_up es s since uid (t, there, above) =
-    let low : since < t = above in
-    (t, seen_at es s uid ∙ ap (alive_part (λ t. nat_eq t 0)) there ∙ ap (λ b. cond b None (Some t)) (not_zero t (omega (arith, low))), above)
+one_uid : (q u : List ℕ) → is_eq (uid_cmp q u) ≡ true → q ≡ u
+one_uid q u = one_key nat_list_cmp_total exact_bytes q u
 
-pub carries_down : (es : List (List ℕ × ℕ)) → AreInOrder es → (since : ℕ) (uid : List ℕ) → CarriesAfter (moved_ones es) since uid → CarriesAfter es since uid
-carries_down es s since uid (t, there, above) = (t, at (value_at uid_cmp es uid) (sym (seen_at es s uid) ∙ there), above)
+own_uid : (u : List ℕ) → is_eq (uid_cmp u u) ≡ true
+own_uid u = itself nat_list_cmp_total exact_bytes u
+
+at_first : (e : List ℕ × ℕ) (es : List (List ℕ × ℕ)) (q : List ℕ) → is_eq (uid_cmp q e.0) ≡ true → at_uid (e ∷ es) q ≡ Some e.1
+at_first e es q k = ap (λ b. cond b (Some e.1) (at_uid es q)) k
+
+at_later : (e : List ℕ × ℕ) (es : List (List ℕ × ℕ)) (q : List ℕ) → is_eq (uid_cmp q e.0) ≡ false → at_uid (e ∷ es) q ≡ at_uid es q
+at_later e es q k = ap (λ b. cond b (Some e.1) (at_uid es q)) k
+
+-- ---- falling ticks
+pub fall_more : (top higher : ℕ) (es : List (List ℕ × ℕ)) → top ≤ higher → FallFrom top es → FallFrom higher es
+fall_more top higher [] h f = tt
+fall_more top higher (e ∷ es) h (low, rest) = (let under : e.1 ≤ top = low in omega (arith, h, under), rest)
+
+fall_without : (test : List ℕ → Bool) (top : ℕ) (es : List (List ℕ × ℕ)) → FallFrom top es → FallFrom top (remove_entry test es)
+fall_without test top [] f = tt
+fall_without test top (e ∷ es) (low, rest) = by_bool (test e.0) (FallFrom top (remove_entry test (e ∷ es)))
+    (λ k. subst (FallFrom top) (sym (ap (λ b. cond b es (e ∷ remove_entry test es)) k)) (fall_more e.1 top es low rest))
+    (λ k. subst (FallFrom top) (sym (ap (λ b. cond b es (e ∷ remove_entry test es)) k)) (low, fall_without test e.1 es rest))
+
+fall_rest : (top : ℕ) (done rest : List (List ℕ × ℕ)) → FallFrom top (done ++ rest) → (t : ℕ) × FallFrom t rest
+fall_rest top [] rest f = (top, f)
+fall_rest top (e ∷ done) rest (low, f) = fall_rest e.1 done rest f
+
+at_most : (top : ℕ) (es : List (List ℕ × ℕ)) → FallFrom top es → (uid : List ℕ) (t : ℕ) → at_uid es uid ≡ Some t → t ≤ top
+at_most top [] f uid t h = let x : None ≡ Some t = h in absurd (cc)
+at_most top (e ∷ es) (low, rest) uid t h = by_bool (is_eq (uid_cmp uid e.0)) (t ≤ top)
+    (λ k. let same : e.1 ≡ t = some_same e.1 t (sym (at_first e es uid k) ∙ h) in let under : e.1 ≤ top = low in omega (arith, same, under))
+    (λ k. let after : t ≤ e.1 = at_most e.1 es rest uid t (sym (at_later e es uid k) ∙ h) in let under : e.1 ≤ top = low in omega (arith, after, under))
+
+-- ---- the UIDs in front, with ticks above another
+abbrev pub EndsAt : ℕ → List (List ℕ × ℕ) → Type 0
+EndsAt since [] = Unit {0}
+EndsAt since (e ∷ es) = e.1 ≤ since
+
+-- of a list of UIDs with falling ticks, those gone over so far, each with a tick above another
+pub record AreInFront (since : ℕ) (all : List (List ℕ × ℕ)) (uids : List (List ℕ)) (rest : List (List ℕ × ℕ)) : Type 0 where
+  pub done : List (List ℕ × ℕ)
+  pub whole : all ≡ done ++ rest
+  pub uids_are : uids ≡ keys_of done
+  pub above : AllByRecursion (λ e. since < e.1) done
+
+rest_low : (since top : ℕ) (rest : List (List ℕ × ℕ)) → FallFrom top rest → EndsAt since rest → FallFrom since rest
+rest_low since top [] f e = tt
+rest_low since top (e ∷ es) (low, f) h = (h, f)
+
+in_front : (since : ℕ) (done rest : List (List ℕ × ℕ)) → AllByRecursion (λ e. since < e.1) done → (uid : List ℕ) → Contains (keys_of done) uid → CarriesAfter (done ++ rest) since uid
+in_front since [] rest a uid h = absurd (none_in uid h)
+in_front since (e ∷ done) rest a uid h = by_bool (is_eq (uid_cmp uid e.0)) (CarriesAfter (e ∷ (done ++ rest)) since uid)
+    (λ k. (e.1, at_first e (done ++ rest) uid k, a.0))
+    (λ k. let c = in_front since done rest a.1 uid (later k (cons_cases e.0 (keys_of done) uid h)) in (c.0, at_later e (done ++ rest) uid k ∙ c.1, c.2))
   where
-    at : (o : Option ℕ) → alive_part (λ t. nat_eq t 0) o ≡ Some t → o ≡ Some t
-    at None e = let x : None ≡ Some t = e in absurd (cc)
-    at (Some u) e = elim (nat_eq u 0) as (λ b. cond b None (Some u) ≡ Some t → Some u ≡ Some t) [ true ↦ λ f. let x : None ≡ Some t = f in absurd (cc) | false ↦ λ f. f ] e
+    later : is_eq (uid_cmp uid e.0) ≡ false → (e.0 ≡ uid) ⊎ Contains (keys_of done) uid → Contains (keys_of done) uid
+    later k (inl same) = let x : true ≡ false = sym (own_uid uid) ∙ ap (λ u. is_eq (uid_cmp uid u)) (sym same) ∙ k in absurd (cc)
+    later k (inr there) = there
 
--- places that were made are not seen
-pub grown_same : (es fs : List (List ℕ × ℕ)) → AreInOrder es → AreInOrder fs → ((uid : List ℕ) → IsGrown (value_at uid_cmp es uid) (value_at uid_cmp fs uid)) → moved_ones fs ≡ moved_ones es
-grown_same es fs s t grown = entries_from_values nat_list_cmp_total exact_bytes (moved_ones fs) (moved_ones es)
-    (kept_sorted uid_cmp (λ u t. nat_eq t 0) fs t) (kept_sorted uid_cmp (λ u t. nat_eq t 0) es s)
-    (λ uid. seen_at fs t uid ∙ same (value_at uid_cmp es uid) (value_at uid_cmp fs uid) (grown uid) ∙ sym (seen_at es s uid))
-  where
-    same : (o p : Option ℕ) → IsGrown o p → alive_part (λ t. nat_eq t 0) p ≡ alive_part (λ t. nat_eq t 0) o
-    same o p (inl e) = ap (alive_part (λ t. nat_eq t 0)) e
-    same o p (inr (none, zero)) = ap (alive_part (λ t. nat_eq t 0)) zero ∙ sym (ap (alive_part (λ t. nat_eq t 0)) none)
+of_front : (since : ℕ) (done rest : List (List ℕ × ℕ)) → FallFrom since rest → (uid : List ℕ) → CarriesAfter (done ++ rest) since uid → Contains (keys_of done) uid
+of_front since [] rest low uid c =
+    let under : c.0 ≤ since = at_most since rest low uid c.0 c.1 in
+    let over : since < c.0 = c.2 in absurd (omega (arith, under, over))
+of_front since (e ∷ done) rest low uid c = by_bool (is_eq (uid_cmp uid e.0)) (Contains (e.0 ∷ keys_of done) uid)
+    (λ k. subst (Contains (e.0 ∷ keys_of done)) (sym (one_uid uid e.0 k)) (cons_first e.0 (keys_of done)))
+    (λ k. cons_later e.0 (keys_of done) uid (of_front since done rest low uid (c.0, sym (at_later e (done ++ rest) uid k) ∙ c.1, c.2)))
 
--- the UIDs that moved carry the new tick
-module _ (es fs gs : List (List ℕ × ℕ)) (s : AreInOrder es) (t : AreInOrder fs) (o : AreInOrder gs) (uids : List (List ℕ)) (next : ℕ)
-    (grown : (uid : List ℕ) → IsGrown (value_at uid_cmp es uid) (value_at uid_cmp fs uid))
-    (marked : (uid : List ℕ) → value_at uid_cmp gs uid ≡ cond (is_listed uids uid) (Some next) (value_at uid_cmp fs uid)) where
-  old_up : (since : ℕ) (uid : List ℕ) → CarriesAfter es since uid → CarriesAfter fs since uid
-  old_up since uid (tick, there, above) = elim (grown uid) [
-    | inl same ↦ (tick, same ∙ there, above)
-    | inr new ↦ let x : None ≡ Some tick = sym new.0 ∙ there in absurd (cc)
-  ]
+pub front_carries : (since : ℕ) (all : List (List ℕ × ℕ)) (uids : List (List ℕ)) (rest : List (List ℕ × ℕ)) → AreInFront since all uids rest → EndsAt since rest
+    → (top : ℕ) → FallFrom top all → (uid : List ℕ) → Contains uids uid ↔ CarriesAfter all since uid
+front_carries since all uids rest front ends top f uid =
+    let r = fall_rest top front.done rest (subst (FallFrom top) front.whole f) in
+    (λ h. subst (λ (es : List (List ℕ × ℕ)). CarriesAfter es since uid) (sym front.whole) (in_front since front.done rest front.above uid (subst (λ (us : List (List ℕ)). Contains us uid) front.uids_are h)),
+    λ c. subst (λ (us : List (List ℕ)). Contains us uid) (sym front.uids_are)
+    (of_front since front.done rest (rest_low since r.0 rest r.1 ends) uid (subst (λ (es : List (List ℕ × ℕ)). CarriesAfter es since uid) front.whole c)))
 
-  old_down : (since : ℕ) (uid : List ℕ) → CarriesAfter fs since uid → CarriesAfter es since uid
-  old_down since uid (tick, there, above) = elim (grown uid) [
-    | inl same ↦ (tick, sym same ∙ there, above)
-    | inr new ↦ let zero : 0 ≡ tick = some_same 0 tick (sym new.1 ∙ there) in let low : since < tick = above in absurd (omega (arith, zero, low))
-  ]
+keys_more : (done : List (List ℕ × ℕ)) (e : List ℕ × ℕ) → keys_of (done ++ e ∷ []) ≡ keys_of done ++ e.0 ∷ []
+keys_more [] e = refl
+keys_more (f ∷ done) e = ap (λ ks. f.0 ∷ ks) (keys_more done e)
 
-  pub carry_step : (old new : Shown) (step : List Item) → old.changed ≡ moved_ones es → new.changed ≡ moved_ones gs → new.tick ≡ next → AreMoved uids old.kept step → CarryStep old new step
-  carry_step old new step is_old is_new is_next moved = record {
-    up = λ since uid c. by_bool (is_listed uids uid) (CarriesAfter old.changed since uid ⊎ (Moves old.kept step uid × (since < new.tick)))
-        (λ k. let d = carries_down gs o since uid (subst (λ (ch : List (List ℕ × ℕ)). CarriesAfter ch since uid) is_new c) in
-        let at : d.0 ≡ next = some_same d.0 next (sym d.1 ∙ marked uid ∙ ap (λ b. cond b (Some next) (value_at uid_cmp fs uid)) k) in
-        inr (moved.each uid (listed_in uids uid k), subst (λ (n : ℕ). since < n) (at ∙ sym is_next) d.2))
-        (λ k. let d = carries_down gs o since uid (subst (λ (ch : List (List ℕ × ℕ)). CarriesAfter ch since uid) is_new c) in
-        inl (subst (λ (ch : List (List ℕ × ℕ)). CarriesAfter ch since uid) (sym is_old)
-        (carries_up es s since uid (old_down since uid (d.0, sym (ap (λ b. cond b (Some next) (value_at uid_cmp fs uid)) k) ∙ sym (marked uid) ∙ d.1, d.2)))));
-    moved = λ since uid moves above. listed_carries since uid above (by_bool (is_listed uids uid) (is_listed uids uid ≡ true)
-        (λ k. k)
-        (λ k. absurd (moves (moved.others uid (λ h. let x : true ≡ false = sym (in_listed uids uid h) ∙ k in cc)))));
-    stays = λ since uid c above. by_bool (is_listed uids uid) (CarriesAfter new.changed since uid)
-        (λ k. listed_carries since uid above k)
-        (λ k. let d = old_up since uid (carries_down es s since uid (subst (λ (ch : List (List ℕ × ℕ)). CarriesAfter ch since uid) is_old c)) in
-        subst (λ (ch : List (List ℕ × ℕ)). CarriesAfter ch since uid) (sym is_new)
-        (carries_up gs o since uid (d.0, marked uid ∙ ap (λ b. cond b (Some next) (value_at uid_cmp fs uid)) k ∙ d.1, d.2)));
-  }
-    where
-      listed_carries : (since : ℕ) (uid : List ℕ) → since < new.tick → is_listed uids uid ≡ true → CarriesAfter new.changed since uid
-      listed_carries since uid above k = subst (λ (ch : List (List ℕ × ℕ)). CarriesAfter ch since uid) (sym is_new)
-          (carries_up gs o since uid (next, marked uid ∙ ap (λ b. cond b (Some next) (value_at uid_cmp fs uid)) k, subst (λ (n : ℕ). since < n) is_next above))
+above_more : (since : ℕ) (done : List (List ℕ × ℕ)) (e : List ℕ × ℕ) → AllByRecursion (λ e. since < e.1) done → since < e.1 → AllByRecursion (λ e. since < e.1) (done ++ e ∷ [])
+above_more since [] e a h = (h, tt)
+above_more since (f ∷ done) e a h = (a.0, above_more since done e a.1 h)
 
--- the UIDs that are chosen by their ticks are those that carry one
-pub chosen_carry : (es : List (List ℕ × ℕ)) → AreInOrder es → (since : ℕ) (all : List (List ℕ × ℕ)) (uids : List (List ℕ)) → Selects (λ (e : List ℕ × ℕ). since < e.1) (λ (e : List ℕ × ℕ). ¬ (since < e.1)) es all
-    → keys_of all ≡ uids → (uid : List ℕ) → Contains uids uid ↔ CarriesAfter es since uid
-chosen_carry es s since all uids selected same uid = (
-  λ h. let r = chosen_each nat_list_cmp_total exact_bytes (λ (e : List ℕ × ℕ). since < e.1) (λ (e : List ℕ × ℕ). ¬ (since < e.1)) es all selected s uid (subst (λ (us : List (List ℕ)). Contains us uid) (sym same) h) in
-      (r.0, r.1, r.2),
-  λ c. elim (chosen_others nat_list_cmp_total exact_bytes (λ (e : List ℕ × ℕ). since < e.1) (λ (e : List ℕ × ℕ). ¬ (since < e.1)) es all selected uid c.0 c.1) [
-    | inl there ↦ subst (λ (us : List (List ℕ)). Contains us uid) same there
-    | inr not ↦ absurd (not c.2)
-  ],
-)
+one_further : (done : List (List ℕ × ℕ)) (e : List ℕ × ℕ) (rest : List (List ℕ × ℕ)) → done ++ e ∷ rest ≡ (done ++ e ∷ []) ++ rest
+one_further [] e rest = refl
+one_further (f ∷ done) e rest = ap (λ es. f ∷ es) (one_further done e rest)
+
+pub one_in_front : (since : ℕ) (all : List (List ℕ × ℕ)) (uids : List (List ℕ)) (e : List ℕ × ℕ) (rest before : List (List ℕ × ℕ)) → before ≡ e ∷ rest → AreInFront since all uids before → since < e.1
+    → (more : List (List ℕ)) → more ≡ uids ++ e.0 ∷ [] → AreInFront since all more rest
+one_in_front since all uids e rest before cut front h more are = record {
+  done = front.done ++ e ∷ [];
+  whole = front.whole ∙ ap (λ es. front.done ++ es) cut ∙ one_further front.done e rest;
+  uids_are = are ∙ ap (λ us. us ++ e.0 ∷ []) front.uids_are ∙ sym (keys_more front.done e);
+  above = above_more since front.done e front.above h;
+}
 
 -- ---- places
-pub first_listed : (u : List ℕ) (us : List (List ℕ)) → is_listed (u ∷ us) u ≡ true
-first_listed u us = ap (λ b. b || is_listed us u) (itself nat_list_cmp_total exact_bytes u)
+pub fall_places : (top : ℕ) (es places : List (List ℕ × ℕ)) → ArePlaces places → FallFrom top es → FallFrom top (es ++ places)
+fall_places top [] [] p f = tt
+fall_places top [] (e ∷ places) (zero, rest) f = (let nought : e.1 ≡ 0 = zero in omega (arith, nought), fall_places e.1 [] places rest tt)
+fall_places top (e ∷ es) places p (low, f) = (low, fall_places e.1 es places p f)
+
+carries_before : (es places : List (List ℕ × ℕ)) → ArePlaces places → (since : ℕ) (uid : List ℕ) → CarriesAfter (es ++ places) since uid → CarriesAfter es since uid
+carries_before [] places p since uid c =
+    let under : c.0 ≤ 0 = at_most 0 places (fall_places 0 [] places p tt) uid c.0 c.1 in
+    let over : since < c.0 = c.2 in absurd (omega (arith, under, over))
+carries_before (e ∷ es) places p since uid c = by_bool (is_eq (uid_cmp uid e.0)) (CarriesAfter (e ∷ es) since uid)
+    (λ k. (c.0, at_first e es uid k ∙ sym (at_first e (es ++ places) uid k) ∙ c.1, c.2))
+    (λ k. let d = carries_before es places p since uid (c.0, sym (at_later e (es ++ places) uid k) ∙ c.1, c.2) in (d.0, at_later e es uid k ∙ d.1, d.2))
+
+carries_still : (es places : List (List ℕ × ℕ)) (since : ℕ) (uid : List ℕ) → CarriesAfter es since uid → CarriesAfter (es ++ places) since uid
+carries_still [] places since uid c = let x : None ≡ Some c.0 = c.1 in absurd (cc)
+carries_still (e ∷ es) places since uid c = by_bool (is_eq (uid_cmp uid e.0)) (CarriesAfter (e ∷ (es ++ places)) since uid)
+    (λ k. (c.0, at_first e (es ++ places) uid k ∙ sym (at_first e es uid k) ∙ c.1, c.2))
+    (λ k. let d = carries_still es places since uid (c.0, sym (at_later e es uid k) ∙ c.1, c.2) in (d.0, at_later e (es ++ places) uid k ∙ d.1, d.2))
+
+there_still : (es more : List (List ℕ × ℕ)) (q : List ℕ) → is_some (at_uid es q) ≡ true → is_some (at_uid (es ++ more) q) ≡ true
+there_still [] more q h = let x : false ≡ true = h in absurd (cc)
+there_still (e ∷ es) more q h = by_bool (is_eq (uid_cmp q e.0)) (is_some (at_uid (e ∷ (es ++ more)) q) ≡ true)
+    (λ k. ap is_some (at_first e (es ++ more) q k))
+    (λ k. ap is_some (at_later e (es ++ more) q k) ∙ there_still es more q (sym (ap is_some (at_later e es q k)) ∙ h))
+
+there_last : (es : List (List ℕ × ℕ)) (u : List ℕ) → is_some (at_uid (es ++ (u, 0) ∷ []) u) ≡ true
+there_last [] u = ap is_some (at_first (u, 0) [] u (own_uid u))
+there_last (e ∷ es) u = by_bool (is_eq (uid_cmp u e.0)) (is_some (at_uid (e ∷ (es ++ (u, 0) ∷ [])) u) ≡ true)
+    (λ k. ap is_some (at_first e (es ++ (u, 0) ∷ []) u k))
+    (λ k. ap is_some (at_later e (es ++ (u, 0) ∷ []) u k) ∙ there_last es u)
 
 or_false : (b : Bool) → (b || (false || false)) ≡ b
 or_false true = refl
 or_false false = refl
 
-pub all_more : (us now : List (List ℕ)) (u : List ℕ) → now ≡ us ++ u ∷ [] → (f g : List ℕ → Option ℕ) → ((q : List ℕ) → is_listed us q ≡ true → is_some (f q) ≡ true)
-    → ((q : List ℕ) → is_some (f q) ≡ true → is_some (g q) ≡ true) → is_some (g u) ≡ true → (q : List ℕ) → is_listed now q ≡ true → is_some (g q) ≡ true
-all_more us now u more f g all stays here q h = by_bool (is_eq (uid_cmp u q)) (is_some (g q) ≡ true)
-    (λ k. subst (λ (x : List ℕ). is_some (g x) ≡ true) (one_key nat_list_cmp_total exact_bytes u q k) here)
-    (λ k. stays q (all q (sym (ap (λ xs. is_listed xs q) more ∙ list_any-append (λ x. is_eq (uid_cmp x q)) us (u ∷ []) ∙ ap (λ b. is_listed us q || (b || false)) k ∙ or_false (is_listed us q)) ∙ h)))
+-- the UIDs gone over so far have places
+pub record HavePlaces (uids : List (List ℕ)) (old new : List (List ℕ × ℕ)) : Type 0 where
+  pub places : List (List ℕ × ℕ)
+  pub behind : new ≡ old ++ places
+  pub are : ArePlaces places
+  pub all : (q : List ℕ) → is_listed uids q ≡ true → is_some (at_uid new q) ≡ true
 
-module _ (f g : List ℕ → Option ℕ) (u : List ℕ) (put : (q : List ℕ) → g q ≡ cond (is_eq (uid_cmp u q)) (Some 0) (f q)) where
-  pub put_none : is_some (g u) ≡ true
-  put_none = ap is_some (put u ∙ ap (λ b. cond b (Some 0) (f u)) (itself nat_list_cmp_total exact_bytes u))
+pub no_places : (old : List (List ℕ × ℕ)) → old ≡ old ++ [] → HavePlaces [] old old
+no_places old same = record { places = []; behind = same; are = tt; all = λ q h. let x : false ≡ true = h in absurd (cc) }
 
-  pub put_there : (q : List ℕ) → is_some (f q) ≡ true → is_some (g q) ≡ true
-  put_there q h = by_bool (is_eq (uid_cmp u q)) (is_some (g q) ≡ true)
-      (λ k. ap is_some (put q ∙ ap (λ b. cond b (Some 0) (f q)) k))
-      (λ k. ap is_some (put q ∙ ap (λ b. cond b (Some 0) (f q)) k) ∙ h)
+listed_more : (us : List (List ℕ)) (u q : List ℕ) → is_eq (uid_cmp u q) ≡ false → is_listed (us ++ u ∷ []) q ≡ true → is_listed us q ≡ true
+listed_more us u q k h = sym (list_any-append (λ x. is_eq (uid_cmp x q)) us (u ∷ []) ∙ ap (λ b. is_listed us q || (b || false)) k ∙ or_false (is_listed us q)) ∙ h
 
-none_of : (o : Option ℕ) → not (is_some o) ≡ true → o ≡ None
-none_of None h = refl
-none_of (Some t) h = let x : false ≡ true = h in absurd (cc)
+pub place_there : (us now : List (List ℕ)) (u : List ℕ) (old new : List (List ℕ × ℕ)) → now ≡ us ++ u ∷ [] → HavePlaces us old new → is_some (at_uid new u) ≡ true → HavePlaces now old new
+place_there us now u old new more have there = record {
+  places = have.places;
+  behind = have.behind;
+  are = have.are;
+  all = λ q h. by_bool (is_eq (uid_cmp u q)) (is_some (at_uid new q) ≡ true)
+      (λ k. subst (λ (x : List ℕ). is_some (at_uid new x) ≡ true) (one_uid u q k) there)
+      (λ k. have.all q (listed_more us u q k (sym (ap (λ xs. is_listed xs q) more) ∙ h)));
+}
 
-pub put_grows : (start f g : List ℕ → Option ℕ) (u : List ℕ) → ((q : List ℕ) → g q ≡ cond (is_eq (uid_cmp u q)) (Some 0) (f q)) → is_some (f u) ≡ false → ((q : List ℕ) → IsGrown (start q) (f q)) → (q : List ℕ) → IsGrown (start q) (g q)
-put_grows start f g u put none grown q = by_bool (is_eq (uid_cmp u q)) (IsGrown (start q) (g q)) here apart
+places_more : (places : List (List ℕ × ℕ)) (u : List ℕ) → ArePlaces places → ArePlaces (places ++ (u, 0) ∷ [])
+places_more [] u p = (refl, tt)
+places_more (e ∷ places) u p = (p.0, places_more places u p.1)
+
+append_thrice : (xs ys zs : List (List ℕ × ℕ)) → (xs ++ ys) ++ zs ≡ xs ++ (ys ++ zs)
+append_thrice [] ys zs = refl
+append_thrice (x ∷ xs) ys zs = ap (λ es. x ∷ es) (append_thrice xs ys zs)
+
+pub place_made : (us now : List (List ℕ)) (u : List ℕ) (old new newer : List (List ℕ × ℕ)) → now ≡ us ++ u ∷ [] → HavePlaces us old new → newer ≡ new ++ (u, 0) ∷ [] → HavePlaces now old newer
+place_made us now u old new newer more have put = record {
+  places = have.places ++ (u, 0) ∷ [];
+  behind = put ∙ ap (λ es. es ++ (u, 0) ∷ []) have.behind ∙ append_thrice old have.places ((u, 0) ∷ []);
+  are = places_more have.places u have.are;
+  all = λ q h. subst (λ (es : List (List ℕ × ℕ)). is_some (at_uid es q) ≡ true) (sym put) (by_bool (is_eq (uid_cmp u q)) (is_some (at_uid (new ++ (u, 0) ∷ []) q) ≡ true)
+      (λ k. subst (λ (x : List ℕ). is_some (at_uid (new ++ (u, 0) ∷ []) x) ≡ true) (one_uid u q k) (there_last new u))
+      (λ k. there_still new ((u, 0) ∷ []) q (have.all q (listed_more us u q k (sym (ap (λ xs. is_listed xs q) more) ∙ h)))));
+}
+
+-- ---- a cache finds UIDs by their octets
+pub same_test : (u : List ℕ) → pointwise nat_eq u ≡ (λ k. is_eq (uid_cmp u k))
+same_test u = λ i k. texts_ties u k i
+
+pub found_at : (es : List (List ℕ × ℕ)) (u : List ℕ) → lookup (pointwise nat_eq u) es ≡ at_uid es u
+found_at es u = ap (λ test. lookup test es) (same_test u)
+
+none_entry : (test : List ℕ → Bool) (es : List (List ℕ × ℕ)) → lookup test es ≡ None → lookup_entry test es ≡ None
+none_entry test [] h = refl
+none_entry test (e ∷ es) h = by_bool (test e.0) (lookup_entry test (e ∷ es) ≡ None)
+    (λ k. let x : Some e.1 ≡ None = sym (ap (λ b. cond b (Some e.1) (lookup test es)) k) ∙ h in absurd (cc))
+    (λ k. ap (λ b. cond b (Some e) (lookup_entry test es)) k ∙ none_entry test es (sym (ap (λ b. cond b (Some e.1) (lookup test es)) k) ∙ h))
+
+some_entry : (test : List ℕ → Bool) (es : List (List ℕ × ℕ)) → is_some (lookup test es) ≡ true → (e : List ℕ × ℕ) × (lookup_entry test es ≡ Some e) × (test e.0 ≡ true)
+some_entry test [] h = let x : false ≡ true = h in absurd (cc)
+some_entry test (e ∷ es) h = by_bool (test e.0) ((f : List ℕ × ℕ) × (lookup_entry test (e ∷ es) ≡ Some f) × (test f.0 ≡ true))
+    (λ k. (e, ap (λ b. cond b (Some e) (lookup_entry test es)) k, k))
+    (λ k. let r = some_entry test es (sym (ap (λ b. is_some (cond b (Some e.1) (lookup test es))) k) ∙ h) in (r.0, ap (λ b. cond b (Some e) (lookup_entry test es)) k ∙ r.1, r.2))
+
+-- a place that is put and then demoted stands last
+pub put_last : (cache : LruCache (List ℕ) ℕ) (u : List ℕ) (new : List (List ℕ × ℕ)) → at_uid cache.entries u ≡ None → length cache.entries ≤ cache.cap - 1
+    → new ≡ demoted (pointwise nat_eq u) (put_entries (pointwise nat_eq) cache u 0) → new ≡ cache.entries ++ (u, 0) ∷ []
+put_last cache u new none room are =
+    let put : put_entries (pointwise nat_eq) cache u 0 ≡ (u, 0) ∷ cache.entries =
+    ap (λ o. option_map_or (λ (e : List ℕ × ℕ). (e.0, 0) ∷ remove_entry (pointwise nat_eq u) cache.entries) o ((u, 0) ∷ take (cache.cap - 1) cache.entries))
+    (none_entry (pointwise nat_eq u) cache.entries (found_at cache.entries u ∙ none))
+    ∙ ap (λ es. (u, 0) ∷ es) (take_all (cache.cap - 1) cache.entries room) in
+    let own : pointwise nat_eq u u ≡ true = ap (λ test. test u) (same_test u) ∙ own_uid u in
+    are ∙ ap (demoted (pointwise nat_eq u)) put
+    ∙ ap (λ o. option_map_or (λ e. remove_entry (pointwise nat_eq u) ((u, 0) ∷ cache.entries) ++ e ∷ []) o ((u, 0) ∷ cache.entries)) (ap (λ b. cond b (Some (u, 0)) (lookup_entry (pointwise nat_eq u) cache.entries)) own)
+    ∙ ap (λ es. es ++ (u, 0) ∷ []) (ap (λ b. cond b cache.entries ((u, 0) ∷ remove_entry (pointwise nat_eq u) cache.entries)) own)
+
+-- ---- marks
+apart_flips : (a b : List ℕ) → is_eq (uid_cmp a b) ≡ false → is_eq (uid_cmp b a) ≡ false
+apart_flips a b n = by_bool (is_eq (uid_cmp b a)) (is_eq (uid_cmp b a) ≡ false)
+    (λ k. let x : true ≡ false = sym (own_uid a) ∙ ap (λ q. is_eq (uid_cmp a q)) (sym (one_uid b a k)) ∙ n in absurd (cc))
+    (λ k. k)
+
+without_other : (u q : List ℕ) → is_eq (uid_cmp u q) ≡ false → (es : List (List ℕ × ℕ)) → at_uid (remove_entry (λ k. is_eq (uid_cmp u k)) es) q ≡ at_uid es q
+without_other u q n [] = refl
+without_other u q n (e ∷ es) = by_bool (is_eq (uid_cmp u e.0)) (at_uid (remove_entry (λ k. is_eq (uid_cmp u k)) (e ∷ es)) q ≡ at_uid (e ∷ es) q)
+    (λ k. ap (λ b. at_uid (cond b es (e ∷ remove_entry (λ k. is_eq (uid_cmp u k)) es)) q) k
+    ∙ sym (at_later e es q (apart_flips e.0 q (ap (λ x. is_eq (uid_cmp x q)) (sym (one_uid u e.0 k)) ∙ n))))
+    (λ k. ap (λ b. at_uid (cond b es (e ∷ remove_entry (λ k. is_eq (uid_cmp u k)) es)) q) k
+    ∙ ap (λ o. cond (is_eq (uid_cmp q e.0)) (Some e.1) o) (without_other u q n es))
+
+-- the entries after the value at a UID that is there was read, which puts it first, and written
+module _ (es new : List (List ℕ × ℕ)) (u : List ℕ) (w : ℕ) (there : is_some (at_uid es u) ≡ true) (is_new : new ≡ set_value (pointwise nat_eq u) (promoted (pointwise nat_eq u) es) w) where
+  put_first : (e : List ℕ × ℕ) × (new ≡ (e.0, w) ∷ remove_entry (λ k. is_eq (uid_cmp u k)) es) × (u ≡ e.0)
+  put_first =
+      let test : List ℕ → Bool = λ k. is_eq (uid_cmp u k) in
+      let r = some_entry test es there in
+      let front : promoted test es ≡ r.0 ∷ remove_entry test es = ap (λ o. option_map_or (λ e. e ∷ remove_entry test es) o es) r.1 in
+      (r.0,
+      is_new ∙ ap (λ t. set_value t (promoted t es) w) (same_test u) ∙ ap (λ xs. set_value test xs w) front
+      ∙ ap (λ b. cond b ((r.0.0, w) ∷ remove_entry test es) (r.0 ∷ set_value test (remove_entry test es) w)) r.2,
+      one_uid u r.0.0 r.2)
+
+  pub marked_at : (q : List ℕ) → at_uid new q ≡ cond (is_eq (uid_cmp u q)) (Some w) (at_uid es q)
+  marked_at q =
+      let p = put_first in
+      ap (λ xs. at_uid xs q) p.1 ∙ by_bool (is_eq (uid_cmp u q)) (at_uid ((p.0.0, w) ∷ remove_entry (λ k. is_eq (uid_cmp u k)) es) q ≡ cond (is_eq (uid_cmp u q)) (Some w) (at_uid es q))
+      (λ k. at_first (p.0.0, w) (remove_entry (λ k. is_eq (uid_cmp u k)) es) q (ap (λ x. is_eq (uid_cmp q x)) (sym p.2 ∙ one_uid u q k) ∙ own_uid q) ∙ sym (ap (λ b. cond b (Some w) (at_uid es q)) k))
+      (λ k. at_later (p.0.0, w) (remove_entry (λ k. is_eq (uid_cmp u k)) es) q (apart_flips p.0.0 q (ap (λ x. is_eq (uid_cmp x q)) (sym p.2) ∙ k))
+      ∙ without_other u q k es ∙ sym (ap (λ b. cond b (Some w) (at_uid es q)) k))
+
+  pub marked_falls : FallFrom w es → FallFrom w new
+  marked_falls f = let p = put_first in subst (FallFrom w) (sym p.1) (omega arith, fall_without (λ k. is_eq (uid_cmp u k)) w es f)
+
+-- the UIDs gone over so far carry the tick
+pub record AreMarked (tick : ℕ) (uids : List (List ℕ)) (old new : List (List ℕ × ℕ)) : Type 0 where
+  pub at : (q : List ℕ) → at_uid new q ≡ cond (is_listed uids q) (Some tick) (at_uid old q)
+  pub falls : FallFrom tick old → FallFrom tick new
+
+pub none_marked : (tick : ℕ) (es : List (List ℕ × ℕ)) → AreMarked tick [] es es
+none_marked tick es = record { at = λ q. refl; falls = λ f. f }
+
+pub there_marked : (tick : ℕ) (us : List (List ℕ)) (old new : List (List ℕ × ℕ)) → AreMarked tick us old new → (q : List ℕ) → is_some (at_uid old q) ≡ true → is_some (at_uid new q) ≡ true
+there_marked tick us old new marked q h = by_bool (is_listed us q) (is_some (at_uid new q) ≡ true)
+    (λ k. ap is_some (marked.at q ∙ ap (λ b. cond b (Some tick) (at_uid old q)) k))
+    (λ k. ap is_some (marked.at q ∙ ap (λ b. cond b (Some tick) (at_uid old q)) k) ∙ h)
+
+pub one_marked : (tick : ℕ) (us now : List (List ℕ)) (u : List ℕ) (old new newer : List (List ℕ × ℕ)) → now ≡ us ++ u ∷ [] → AreMarked tick us old new
+    → ((q : List ℕ) → at_uid newer q ≡ cond (is_eq (uid_cmp u q)) (Some tick) (at_uid new q)) → (FallFrom tick new → FallFrom tick newer) → AreMarked tick now old newer
+one_marked tick us now u old new newer more marked put falls = record {
+  at = λ q. put q ∙ by_bool (is_eq (uid_cmp u q)) (cond (is_eq (uid_cmp u q)) (Some tick) (at_uid new q) ≡ cond (is_listed now q) (Some tick) (at_uid old q))
+      (λ k. ap (λ b. cond b (Some tick) (at_uid new q)) k ∙ sym (ap (λ b. cond b (Some tick) (at_uid old q)) (listed_is q ∙ ap (λ b. is_listed us q || (b || false)) k ∙ or_true (is_listed us q))))
+      (λ k. ap (λ b. cond b (Some tick) (at_uid new q)) k ∙ marked.at q ∙ sym (ap (λ b. cond b (Some tick) (at_uid old q)) (listed_is q ∙ ap (λ b. is_listed us q || (b || false)) k ∙ or_false (is_listed us q))));
+  falls = λ f. falls (marked.falls f);
+}
   where
-    here : is_eq (uid_cmp u q) ≡ true → IsGrown (start q) (g q)
-    here k =
-        let nothing : f q ≡ None = none_of (f q) (ap not (ap (λ x. is_some (f x)) (sym (one_key nat_list_cmp_total exact_bytes u q k)) ∙ none)) in
-        let new : g q ≡ Some 0 = put q ∙ ap (λ b. cond b (Some 0) (f q)) k in
-        elim (grown q) [ inl same ↦ inr (sym same ∙ nothing, new) | inr made ↦ inr (made.0, new) ]
+    listed_is : (q : List ℕ) → is_listed now q ≡ (is_listed us q || (is_eq (uid_cmp u q) || false))
+    listed_is q = ap (λ xs. is_listed xs q) more ∙ list_any-append (λ x. is_eq (uid_cmp x q)) us (u ∷ [])
 
-    apart : is_eq (uid_cmp u q) ≡ false → IsGrown (start q) (g q)
-    apart k =
-        let same : g q ≡ f q = put q ∙ ap (λ b. cond b (Some 0) (f q)) k in
-        elim (grown q) [ inl old ↦ inl (same ∙ old) | inr made ↦ inr (made.0, same ∙ made.1) ]
+    or_true : (b : Bool) → (b || (true || false)) ≡ true
+    or_true true = refl
+    or_true false = refl
+
+-- the UIDs that moved carry the new tick
+module _ (es places gs : List (List ℕ × ℕ)) (are : ArePlaces places) (uids : List (List ℕ)) (next : ℕ) (marked : (uid : List ℕ) → at_uid gs uid ≡ cond (is_listed uids uid) (Some next) (at_uid (es ++ places) uid)) where
+  pub carry_step : (old new : Shown) (step : List Item) → old.changed ≡ es → new.changed ≡ gs → new.tick ≡ next → AreMoved uids old.kept step → CarryStep old new step
+  carry_step old new step is_old is_new is_next moved = record {
+    up = λ since uid c. by_bool (is_listed uids uid) (CarriesAfter old.changed since uid ⊎ (Moves old.kept step uid × (since < new.tick)))
+        (λ k. let d = subst (λ (ch : List (List ℕ × ℕ)). CarriesAfter ch since uid) is_new c in
+        let at : d.0 ≡ next = some_same d.0 next (sym d.1 ∙ marked uid ∙ ap (λ b. cond b (Some next) (at_uid (es ++ places) uid)) k) in
+        inr (moved.each uid (listed_in uids uid k), subst (λ (n : ℕ). since < n) (at ∙ sym is_next) d.2))
+        (λ k. let d = subst (λ (ch : List (List ℕ × ℕ)). CarriesAfter ch since uid) is_new c in
+        inl (subst (λ (ch : List (List ℕ × ℕ)). CarriesAfter ch since uid) (sym is_old)
+        (carries_before es places are since uid (d.0, sym (ap (λ b. cond b (Some next) (at_uid (es ++ places) uid)) k) ∙ sym (marked uid) ∙ d.1, d.2))));
+    moved = λ since uid moves above. listed_carries since uid above (by_bool (is_listed uids uid) (is_listed uids uid ≡ true)
+        (λ k. k)
+        (λ k. absurd (moves (moved.others uid (λ h. let x : true ≡ false = sym (in_listed uids uid h) ∙ k in cc)))));
+    stays = λ since uid c above. by_bool (is_listed uids uid) (CarriesAfter new.changed since uid)
+        (λ k. listed_carries since uid above k)
+        (λ k. let d = carries_still es places since uid (subst (λ (ch : List (List ℕ × ℕ)). CarriesAfter ch since uid) is_old c) in
+        subst (λ (ch : List (List ℕ × ℕ)). CarriesAfter ch since uid) (sym is_new)
+        (d.0, marked uid ∙ ap (λ b. cond b (Some next) (at_uid (es ++ places) uid)) k ∙ d.1, d.2));
+  }
+    where
+      listed_carries : (since : ℕ) (uid : List ℕ) → since < new.tick → is_listed uids uid ≡ true → CarriesAfter new.changed since uid
+      listed_carries since uid above k = subst (λ (ch : List (List ℕ × ℕ)). CarriesAfter ch since uid) (sym is_new)
+          (next, marked uid ∙ ap (λ b. cond b (Some next) (at_uid (es ++ places) uid)) k, subst (λ (n : ℕ). since < n) is_next above)
 
 -- ---- deltas
-pub delta_is : (desk : Shown) (since : ℕ) (state part items batch : List Item) (ticks : List (List ℕ × ℕ)) (uids : List (List ℕ)) → AreInOrder ticks → state ≡ desk.kept → moved_ones ticks ≡ desk.changed
-    → ((uid : List ℕ) → Contains uids uid ↔ CarriesAfter ticks since uid) → ArePartOf part state uids → SameItems items part → IsItemsOf batch items → IsDeltaOf desk since batch
-delta_is desk since state part items batch ticks uids s kept changed carried part_is items_are is = record {
+pub delta_is : (desk : Shown) (since : ℕ) (state part items batch : List Item) (uids : List (List ℕ)) → state ≡ desk.kept → ((uid : List ℕ) → Contains uids uid ↔ CarriesAfter desk.changed since uid)
+    → ArePartOf part state uids → SameItems items part → IsItemsOf batch items → IsDeltaOf desk since batch
+delta_is desk since state part items batch uids kept carried part_is items_are is = record {
   ascend = is.ascend;
   same = λ i. (
     λ h. let p = (part_is i).0 ((items_are i).0 ((is.same i).0 h)) in
-        (subst (λ (xs : List Item). Contains xs i) kept p.0, subst (λ (ch : List (List ℕ × ℕ)). CarriesAfter ch since (uid_of i.key)) changed (carries_up ticks s since (uid_of i.key) ((carried (uid_of i.key)).0 p.1))),
-    λ h. (is.same i).1 ((items_are i).1 ((part_is i).1 (
-      subst (λ (xs : List Item). Contains xs i) (sym kept) h.0,
-      (carried (uid_of i.key)).1 (carries_down ticks s since (uid_of i.key) (subst (λ (ch : List (List ℕ × ℕ)). CarriesAfter ch since (uid_of i.key)) (sym changed) h.1)),
-    ))),
+        (subst (λ (xs : List Item). Contains xs i) kept p.0, (carried (uid_of i.key)).0 p.1),
+    λ h. (is.same i).1 ((items_are i).1 ((part_is i).1 (subst (λ (xs : List Item). Contains xs i) (sym kept) h.0, (carried (uid_of i.key)).1 h.1))),
   );
 }

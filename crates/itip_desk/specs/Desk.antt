@@ -1,5 +1,5 @@
 -- A desk as it is seen: what it keeps, its tick, and the UIDs that moved (our own rule).
-use Rattle.std.specs.Prelude.{◌≡◌, ◌↔◌, ℕ, ◌<◌, List, [], Some, nat_eq, refl}
+use Rattle.std.specs.Prelude.{◌≡◌, ◌↔◌, ℕ, ◌<◌, List, [], Some, refl}
 use Rattle.std.specs.List.{Contains}
 use Rattle.std.specs.Ordering.{nat_cmp}
 use Rattle.std.specs.Cmp.Lexicographic.{slice_cmp}
@@ -7,7 +7,7 @@ use Rattle.std.specs.Coded.{Coded, code_by, coded×, coded_ℕ, coded_list}
 use Rattle.itip_message.specs.KeyParts.{uid_of}
 use Rattle.itip_message.specs.contracts.item.Item as item
 use Rattle.itip_message.specs.declared.item.Item.{Item}
-use Rattle.itip_join.specs.KeyByKey.{value_at, kept}
+use Rattle.itip_join.specs.KeyByKey.{value_at}
 use Rattle.itip_state.specs.Kept.{AreKept}
 use Rattle.itip_desk.specs.Heard.{heard, Ticks, MovedAfter}
 use Rattle.itip_desk.specs.Octets.{AscendOctets}
@@ -16,16 +16,12 @@ pub record Shown : Type 0 where
   -- the kept items, each once
   pub kept : List Item
   pub tick : ℕ
-  -- the UIDs that moved, by octets, each with the tick that it carries
+  -- the UIDs that moved, the last moved first, each with the tick that it carries
   pub changed : List (List ℕ × ℕ)
 
 abbrev pub shown_code : Coded Shown
 shown_code = code_by (List Item × (ℕ × List (List ℕ × ℕ))) (coded× (coded_list item.the_row.coded) (coded× coded_ℕ (coded_list (coded× (coded_list coded_ℕ) coded_ℕ)))) (λ d. (d.kept, (d.tick, d.changed)))
     (λ p. record { kept = p.0; tick = p.1.0; changed = p.1.1 }) (λ _. refl)
-
--- of the UIDs with ticks, those that moved: a place that was made for a UID has tick 0
-abbrev pub moved_ones : List (List ℕ × ℕ) → List (List ℕ × ℕ)
-moved_ones ticks = kept (λ uid tick. nat_eq tick 0) ticks
 
 -- a UID carries a tick above `since`
 abbrev pub CarriesAfter : List (List ℕ × ℕ) → ℕ → List ℕ → Type 0

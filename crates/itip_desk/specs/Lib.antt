@@ -3,4 +3,4 @@ pub use Rattle.itip_state.specs.Order
 pub mod Octets
 pub mod Heard
 pub mod Desk
-pub mod Marks
+pub mod Moves

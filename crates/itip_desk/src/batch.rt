@@ -2,14 +2,14 @@
 ghost use Rattle.std.specs.Prelude.{◌≡◌, IfOk};
 
 use itip_message::Item;
-use itip_state::by_octets;
+use itip_state::{SharedItem, by_octets};
 use std::alloc::{AllocError, Global};
 use std::marker::Model;
 
 /// A finite set of items: by canonical octets, each once.
 #[derive(Debug, Drop)]
 pub struct Batch {
-    items: Vec<Item>,
+    items: Vec<SharedItem>,
 }
 
 impl Model for Batch {
@@ -38,13 +38,25 @@ impl Batch {
     pub fn of_items(items: Vec<Item>) -> Result<Batch, AllocError>
         ensures { IfOk result (λ batch. IsItemsOf batch items.items) }
     {
+        let alloc = *items.allocator();
+        let mut shared = Vec::with_capacity(alloc, items.len())?;
+        for item in items {
+            shared.push(SharedItem::new(alloc, item)?)?;
+        }
+        Batch::of_shared(shared)
+    }
+
+    /// The same of items that are shared already.
+    pub(crate) fn of_shared(items: Vec<SharedItem>) -> Result<Batch, AllocError>
+        ensures { IfOk result (λ batch. IsItemsOf batch items.items) }
+    {
         Ok(Batch {
             items: by_octets(items)?,
         })
     }
 
     /// The items.
-    pub fn as_slice(&self) -> &[Item]
+    pub fn as_slice(&self) -> &[SharedItem]
         ensures items { result.now ≡ self.now }
         ensures ascend { AscendOctets self.now }
     {

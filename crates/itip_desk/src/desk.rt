@@ -4,8 +4,7 @@ ghost use Rattle.itip_message.specs.declared.item.Item.{Item};
 
 use crate::batch::Batch;
 use crate::error::DeskError;
-use crate::ticks::{carried_after, copies, grow, mark};
-use itip_join::Keyed;
+use crate::moves::Moves;
 use itip_state::State;
 use itip_todo::Uid;
 use itip_view::{ViewError, Window, rows, write_list};
@@ -19,23 +18,26 @@ pub struct Changed {
     pub uids: Vec<Uid>,
 }
 
-/// A replica: what it keeps of all that it has heard, its tick, and the tick of the last move of each UID.
+/// A replica: what it keeps of all that it has heard, its tick, and the UIDs that moved, each with the tick of its last move.
 #[derive(Debug, Drop)]
 pub struct Desk {
     state: State,
     tick: u64,
-    ticks: Keyed<Uid, u64>,
+    moves: Moves,
     alloc: Global,
 }
 
 impl Model for Desk {
-    ghost use Rattle.itip_desk.specs.Desk.{Shown, shown_code, moved_ones};
+    ghost use Rattle.itip_desk.specs.Desk.{Shown, shown_code};
+    ghost use Rattle.itip_desk.specs.Moves.{FallFrom};
 
     ghost Value = { Shown };
 
     ghost coded = { shown_code };
 
-    ghost view = { λ d. record { kept = d.state; tick = d.tick; changed = moved_ones d.ticks.map } };
+    ghost view = { λ d. record { kept = d.state; tick = d.tick; changed = d.moves } };
+
+    ghost invariant = { λ d. FallFrom d.tick d.moves };
 }
 
 impl Desk {
@@ -52,7 +54,7 @@ impl Desk {
         Desk {
             state: State::empty(alloc),
             tick,
-            ticks: Keyed::empty(alloc),
+            moves: Moves::new(alloc),
             alloc,
         }
     }
@@ -102,24 +104,27 @@ impl Desk {
         if self.tick == u64::MAX {
             return Err(DeskError::TicksSpent);
         }
-        let moved = copies(self.alloc, &uids)?;
-        grow(&mut self.ticks, &uids)?;
-        self.state.merge(&heard)?;
+        let places = self.moves.len();
+        self.moves.add_places(&uids)?;
+        if let Err(refused) = self.state.merge(&heard) {
+            self.moves.truncate(places);
+            return Err(refused.into());
+        }
         self.tick += 1;
-        mark(&mut self.ticks, moved, self.tick);
+        self.moves.mark(&uids, self.tick);
         Ok(Changed {
             tick: self.tick,
             uids,
         })
     }
 
-    /// The kept items of the UIDs that carry a tick above this one: what a desk that was at this tick lacks.
+    /// The kept items of the UIDs that carry a tick above this one: what a desk that was at this tick lacks. No other UID is looked at.
     pub fn delta_since(&self, tick: u64) -> Result<Batch, AllocError>
         ensures { IfOk result (IsDeltaOf self.now tick) }
     {
-        let uids = carried_after(self.alloc, &self.ticks, tick)?;
+        let uids = self.moves.after(tick)?;
         let part = self.state.part(&uids)?;
-        Batch::of_items(part.items()?)
+        Batch::of_shared(part.items()?)
     }
 
     /// The text of the task list in a window.

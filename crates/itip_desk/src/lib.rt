@@ -5,11 +5,11 @@ mod batch;
 mod desk;
 mod error;
 mod laws;
+mod moves;
 #[cfg(test)]
 mod rows;
 #[cfg(test)]
 mod tests;
-mod ticks;
 
 pub use batch::Batch;
 pub use desk::{Changed, Desk};

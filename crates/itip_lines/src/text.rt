@@ -74,7 +74,7 @@ impl PartialEq for Text {
     ghost laws = { partial_equiv_from_equiv nat_list_eq_equiv };
 
     fn eq(&self, other: &Self) -> bool {
-        self.as_str().as_bytes() == other.as_str().as_bytes()
+        self.as_str() == other.as_str()
     }
 }
 
@@ -102,17 +102,17 @@ impl Ord for Text {
     ghost matches_eq = { texts_ties };
 
     fn cmp(&self, other: &Self) -> Ordering {
-        self.as_str().as_bytes().cmp(other.as_str().as_bytes())
+        self.as_str().cmp(other.as_str())
     }
 }
 
 impl Hash for Text {
-    ghost hash_input = { fed.slice fed.u8 };
+    ghost hash_input = { fed.str };
 
     ghost respects_eq = { Prim.search (hashing, rules) };
 
     fn hash<H: Hasher>(&self, state: &mut H) {
-        self.as_str().as_bytes().hash(state);
+        self.as_str().hash(state);
     }
 }
 

@@ -3,7 +3,7 @@
 use crate::error::RowsError;
 use itip_desk::{Batch, Desk};
 use itip_message::Item;
-use itip_state::{State, by_octets, kept};
+use itip_state::{State, kept};
 use std::alloc::Global;
 
 /// Orders in which three batches are heard, with repeats.
@@ -19,14 +19,15 @@ const ORDERS: [&[usize]; 6] = [
 /// Whether states and desks keep, in each order, what the definition says of all items.
 pub(crate) fn agree(alloc: Global, batches: &[Vec<Item>; 3]) -> Result<bool, RowsError> {
     let all = all_items(alloc, batches)?;
-    let told = by_octets(kept(alloc, &all)?)?;
-    if State::of_items(alloc, &all)?.items()? != told {
+    let told = Batch::of_items(kept(alloc, &all)?)?;
+    let told = told.as_slice();
+    if State::of_items(alloc, &all)?.items()?.as_slice() != told {
         return Ok(false);
     }
     for order in ORDERS {
         let state = merged(alloc, batches, order)?;
         let desk = taken(alloc, batches, order)?;
-        if state.items()? != told || state.entries() != told.len() || !desk.state().equal(&state) {
+        if state.items()?.as_slice() != told || state.entries() != told.len() || !desk.state().equal(&state) {
             return Ok(false);
         }
     }

@@ -15,7 +15,7 @@ pub record IsTold (set : List Item) (item : Item) : Type 0 where
   pub same : teller.key ≡ item.key
   pub not_later : ¬ IsLater item teller
 
--- what is held of the item's UID at its key is no earlier than it
+-- what is held of a UID is no earlier, at the key of the item, than the item
 pub record HoldsNoEarlier (shape : Shape) (item : Item) : Type 0 where
   pub held : Best
   pub place : ((is_series item.key ≡ true) × (shape.series ≡ Known held)) ⊎ (value_at key_cmp shape.entries item.key ≡ Some held)

@@ -9,12 +9,14 @@ mod laws;
 mod plain;
 mod revision;
 mod series;
+mod shared;
 mod slot;
 mod sorted;
 mod state;
 
 pub use laws::{kept_of_kept, least_upper_bound, order_of_states, uid_by_uid};
 pub use plain::kept;
+pub use shared::SharedItem;
 pub use slot::find;
 pub use sorted::by_octets;
 pub use state::State;

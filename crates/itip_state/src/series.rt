@@ -6,10 +6,11 @@ ghost use Rattle.itip_state.specs.Dying.{kills_below, kills_more};
 
 use crate::NoMemory;
 use crate::dead::can_die;
-use crate::revision::{Best, Revision};
+use crate::revision::Best;
+use crate::shared::SharedItem;
 use crate::slot::Slot;
-use itip_join::{Greatest, Guard, Guarded, Keyed, Lift};
-use itip_message::{Item, Key};
+use itip_join::{Exact, Greatest, Guard, Guarded, Keyed, Lift};
+use itip_message::Key;
 use std::alloc::Global;
 
 /// The kept items of one UID: the best series item, or none, and under it the best items of the other keys. It makes those dead that are below it.
@@ -45,22 +46,21 @@ pub(crate) fn of_nothing(alloc: Global) -> SeriesState
 }
 
 /// The kept items of one item.
-pub(crate) fn of_item(alloc: Global, item: &Item) -> Result<SeriesState, NoMemory>
+pub(crate) fn of_item(alloc: Global, item: &SharedItem) -> Result<SeriesState, NoMemory>
     ensures series { IfOk result (λ one. one.guard ≡ (alone item.now).series) }
     ensures entries { IfOk result (λ one. one.entries.map ≡ (alone item.now).entries) }
 {
     let best = Greatest {
-        value: Revision::new(alloc, item.clone()?)?,
+        value: item.revision().copy()?,
     };
-    if let Key::Series(_) = &item.key {
+    if let Key::Series(_) = &item.item().key {
         return Ok(Guarded {
             guard: Lift::Known(best),
             entries: Keyed::empty(alloc),
         });
     }
-    let slot = Slot::new(alloc, item.key.clone()?)?;
     Ok(Guarded {
         guard: Lift::Nothing,
-        entries: Keyed::of_one(alloc, slot, best)?,
+        entries: Keyed::of_one(alloc, item.slot().copy()?, best)?,
     })
 }

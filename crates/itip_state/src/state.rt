@@ -17,6 +17,7 @@ ghost use Rattle.itip_state.specs.Told.{IsTold, HoldsNoEarlier};
 use crate::NoMemory;
 use crate::revision::Best;
 use crate::series::{SeriesState, of_item, of_nothing};
+use crate::shared::SharedItem;
 use crate::slot::{Slot, compare, uid};
 use crate::sorted::by_octets;
 use itip_join::{Join, Keyed, Lift};
@@ -26,11 +27,15 @@ use std::alloc::Global;
 use std::marker::Model;
 
 /// Joins in what is kept of one item. What is held of its UID is taken out for this, so that no copy of it is made; a refusal may leave it out.
-fn hear(held: &mut Keyed<Uid, SeriesState>, alloc: Global, item: &Item) -> Result<(), NoMemory>
+fn hear(
+    held: &mut Keyed<Uid, SeriesState>,
+    alloc: Global,
+    item: &SharedItem,
+) -> Result<(), NoMemory>
     ensures { OnOk result ((heard : List Item) → HoldKept heard (shapes held.old.map (λ v. v.guard) (λ v. v.entries.map))
         → HoldKept (heard ++ item.now ∷ []) (shapes held.new.map (λ v. v.guard) (λ v. v.entries.map))) }
 {
-    let uid = uid(&item.key);
+    let uid = uid(&item.item().key);
     let one = of_item(alloc, item)?;
     if has(held, uid) {
         let before = held.insert(uid.clone()?, of_nothing(alloc))?;
@@ -58,33 +63,32 @@ fn is_no_later(item: &Item, best: &Best) -> bool
 }
 
 /// Whether what is held of the UID of `item` at its key is no earlier than it.
-fn holds_no_earlier(alloc: Global, series: &SeriesState, item: &Item) -> Result<bool, NoMemory>
-    ensures { IfOk result (λ holds. IsTrue holds → HoldsNoEarlier (record { series = series.now.guard; entries = series.now.entries.map }) item.now) }
+fn holds_no_earlier(series: &SeriesState, item: &SharedItem) -> bool
+    ensures { IsTrue result → HoldsNoEarlier (record { series = series.now.guard; entries = series.now.entries.map }) item.now }
 {
-    match &item.key {
+    match &item.item().key {
         Key::Series(_) => match &series.guard {
-            Lift::Nothing => Ok(false),
-            Lift::Known(best) => Ok(is_no_later(item, best)),
+            Lift::Nothing => false,
+            Lift::Known(best) => is_no_later(item.item(), best),
         },
         _ => {
-            let slot = Slot::new(alloc, item.key.clone()?)?;
-            match series.entries.get(&slot) {
-                None => Ok(false),
-                Some(best) => Ok(is_no_later(item, best)),
-            }
+            let Some(best) = series.entries.get(item.slot()) else {
+                return false;
+            };
+            is_no_later(item.item(), best)
         }
     }
 }
 
 /// Whether an item of the same key is held that is no earlier. What is dead is not looked for.
-fn tells(alloc: Global, held: &Keyed<Uid, SeriesState>, item: &Item) -> Result<bool, NoMemory>
-    ensures { IfOk result (λ tells. IsTrue tells → ArePlaced (shapes held.now.map (λ v. v.guard) (λ v. v.entries.map))
-        → IsTold (items_of (shapes held.now.map (λ v. v.guard) (λ v. v.entries.map))) item.now) }
+fn tells(held: &Keyed<Uid, SeriesState>, item: &SharedItem) -> bool
+    ensures { IsTrue result → ArePlaced (shapes held.now.map (λ v. v.guard) (λ v. v.entries.map))
+        → IsTold (items_of (shapes held.now.map (λ v. v.guard) (λ v. v.entries.map))) item.now }
 {
-    match held.get(uid(&item.key)) {
-        None => Ok(false),
-        Some(series) => holds_no_earlier(alloc, series, item),
-    }
+    let Some(series) = held.get(uid(&item.item().key)) else {
+        return false;
+    };
+    holds_no_earlier(series, item)
 }
 
 /// Whether what is held of a UID tells all that `theirs` tells of it.
@@ -147,6 +151,23 @@ fn show<'a>(series: &'a SeriesState, items: &mut Vec<&'a Item>) -> Result<(), No
     }
     for (_, best) in series.entries.map.iter() {
         items.push(best.value.item())?;
+    }
+    Ok(())
+}
+
+/// Adds the items of one UID, the series item first.
+fn share(
+    alloc: Global,
+    series: &SeriesState,
+    items: &mut Vec<SharedItem>,
+) -> Result<(), NoMemory>
+    ensures { OnOk result (items.new.items ≡ items.old.items ++ shape_items (record { series = series.now.guard; entries = series.now.entries.map })) }
+{
+    if let Lift::Known(best) = &series.guard {
+        items.push(SharedItem::of(alloc, &best.value)?)?;
+    }
+    for (_, best) in series.entries.map.iter() {
+        items.push(SharedItem::of(alloc, &best.value)?)?;
     }
     Ok(())
 }
@@ -246,18 +267,19 @@ impl State {
     {
         let mut held = Keyed::empty(alloc);
         for item in items {
-            hear(&mut held, alloc, item)?;
+            let item = SharedItem::new(alloc, item.clone()?)?;
+            hear(&mut held, alloc, &item)?;
         }
         Ok(State { alloc, held })
     }
 
     /// What is kept of these items but for those that this state tells already. Beside this state it counts as much as all of them.
-    pub fn news_of(&self, items: &[Item]) -> Result<State, NoMemory>
+    pub fn news_of(&self, items: &[SharedItem]) -> Result<State, NoMemory>
         ensures { IfOk result (λ news. (item : Item) → IsKept (self.now ++ news) item ↔ IsKept (self.now ++ items.now) item) }
     {
         let mut held = Keyed::empty(self.alloc);
         for item in items {
-            if tells(self.alloc, &self.held, item)? {
+            if tells(&self.held, item) {
                 continue;
             }
             hear(&mut held, self.alloc, item)?;
@@ -305,27 +327,14 @@ impl State {
     }
 
     /// The kept items by canonical octets, each once.
-    pub fn items(&self) -> Result<Vec<Item>, NoMemory>
+    pub fn items(&self) -> Result<Vec<SharedItem>, NoMemory>
         ensures { IfOk result (λ items. IsItemsOf items.items self.now) }
-    {
-        let shown = self.shown()?;
-        let mut items = Vec::new(self.alloc);
-        for item in &shown {
-            let item: &Item = item;
-            items.push(item.clone()?)?;
-        }
-        by_octets(items)
-    }
-
-    /// The kept items by UID, those of a UID by key.
-    fn shown(&self) -> Result<Vec<&Item>, NoMemory>
-        ensures { IfOk result (λ items. map (λ item. item.now) items.items ≡ self.now) }
     {
         let mut items = Vec::new(self.alloc);
         for (_, series) in self.held.map.iter() {
-            show(series, &mut items)?;
+            share(self.alloc, series, &mut items)?;
         }
-        Ok(items)
+        by_octets(items)
     }
 
     /// The kept series items, by UID.

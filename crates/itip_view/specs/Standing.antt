@@ -19,6 +19,7 @@ is_live kind.Refresh = false
 abbrev pub IsLive : Item → Type 0
 IsLive item = is_live item.kind ≡ true
 
+-- said of series and instance items alone
 abbrev pub IsCancelled : Item → Type 0
 IsCancelled item = is_live item.kind ≡ false
 

@@ -13,7 +13,7 @@ use itip_moment::Moment;
 use itip_state::find;
 use itip_todo::Uid;
 
-/// Whether an item of this kind asks for something, and cancels nothing.
+/// Whether an item of this kind is a request or an addition: of the kinds of series and instance items, those that are not cancelled.
 pub fn is_live(kind: Kind) -> bool
     ensures { result ≡ is_live kind }
 {

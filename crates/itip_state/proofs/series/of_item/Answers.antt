@@ -1,0 +1,27 @@
+use Rattle.std.proofs.Common.{◌≡◌, [], ◌∷◌, List, ℕ, sym, ap, ◌∙◌, refl, false}
+use Rattle.std.specs.Prelude.{cond}
+use Rattle.itip_join.specs.declared.lift.Lift.TheVariants.{Nothing, Known}
+use Rattle.itip_message.specs.declared.item.Item.{Item}
+use Rattle.itip_message.specs.declared.key.Key.{Key}
+use Rattle.itip_message.specs.declared.key.Key.TheVariants.{Series, Instance, Answer, Refresh}
+use Rattle.itip_state.specs.Held.{Shape, alone, best, is_series}
+use Rattle.itip_state.proofs.series.of_item.Goals as goal
+
+not_series : (key : Key) → ((uid : List ℕ) → key ≡ Series uid → ⊥) → is_series key ≡ false
+not_series (Series uid) h = absurd (h uid refl)
+not_series (Instance uid id) h = refl
+not_series (Answer uid id attendee) h = refl
+not_series (Refresh uid id attendee) h = refl
+
+pub returns : goal.returns
+returns c =
+    let item : Item = c.args.item.now in
+    let other : is_series item.key ≡ false = not_series item.key (λ uid e. c.in_default.not-Series uid (ap (λ (i : Item). i.key) c.item.ensures ∙ e)) in
+    let one : alone item ≡ record { series = Nothing; entries = (item.key, best item) ∷ [] } =
+    ap (λ b. cond b (record { series = Known (best item); entries = [] }) (record { series = Nothing; entries = (item.key, best item) ∷ [] })) other in
+    let key : c.in_ok-copy-2.field-0 ≡ item.key = c.in_ok-copy-2.ensures ∙ c.slot.ensures in
+    let value : c.in_ok-copy.field-0 ≡ item = c.in_ok-copy.ensures ∙ c.revision.ensures in
+    record {
+      series = sym (ap (λ (sh : Shape). sh.series) one);
+      entries = c.in_ok-of_one.ensures ∙ (λ i. (key i, best (value i)) ∷ []) ∙ sym (ap (λ (sh : Shape). sh.entries) one);
+    }

@@ -1,0 +1,142 @@
+//! Items that many can hold.
+ghost use Rattle.std.specs.Prelude.{◌≡◌, IfOk, refl};
+ghost use Rattle.std.specs.Cmp.{partial_order_from_total, partial_equiv_from_equiv, eq_by_cmp_equiv};
+ghost use Rattle.std.specs.Ordering.{as_partial_cmp, eq_by_cmp};
+ghost use Rattle.itip_message.specs.OctetOrder.{octets_cmp, octets_total};
+
+use crate::NoMemory;
+use crate::revision::Revision;
+use crate::slot::Slot;
+use itip_join::Exact;
+use itip_message::Item;
+use std::alloc::Global;
+use std::cmp::Ordering;
+use std::marker::Model;
+use std::ops::Deref;
+
+/// An item that many can hold: a second one is a count more, and takes no memory. Contracts see it as the item.
+#[derive(Debug, Drop)]
+pub struct SharedItem {
+    revision: Revision,
+    /// Where a state holds it.
+    slot: Slot,
+}
+
+impl Model for SharedItem {
+    ghost use Rattle.std.specs.Prelude.{◌≡◌};
+    ghost use Rattle.itip_message.specs.declared.item.Item.{Item};
+
+    ghost Value = { Item };
+
+    ghost use Rattle.itip_message.specs.contracts.item.Item as item;
+
+    ghost coded = { item.the_row.coded };
+
+    ghost view = { λ s. s.revision };
+
+    ghost invariant = { λ s. s.slot ≡ s.revision.key };
+}
+
+impl SharedItem {
+    /// This item, to be shared.
+    pub fn new(alloc: Global, item: Item) -> Result<SharedItem, NoMemory>
+        ensures { IfOk result (λ shared. shared ≡ item) }
+    {
+        let slot = Slot::new(alloc, item.key.clone()?)?;
+        Ok(SharedItem {
+            revision: Revision::new(alloc, item)?,
+            slot,
+        })
+    }
+
+    /// The item of a revision.
+    pub(crate) fn of(alloc: Global, revision: &Revision) -> Result<SharedItem, NoMemory>
+        ensures { IfOk result (λ shared. shared ≡ revision.now) }
+    {
+        Ok(SharedItem {
+            revision: revision.copy()?,
+            slot: Slot::new(alloc, revision.item().key.clone()?)?,
+        })
+    }
+
+    /// The item.
+    pub fn item(&self) -> &Item
+        ensures { result.now ≡ self.now }
+    {
+        self.revision.item()
+    }
+
+    /// The item in the order of revisions.
+    pub(crate) fn revision(&self) -> &Revision
+        ensures { result.now ≡ self.now }
+    {
+        &self.revision
+    }
+
+    /// Where a state holds it.
+    pub(crate) fn slot(&self) -> &Slot
+        ensures { result.now ≡ self.now.key }
+    {
+        &self.slot
+    }
+}
+
+impl Deref for SharedItem {
+    type Target = Item;
+
+    ghost deref_gives = { λ shared item. item ≡ shared };
+
+    fn deref(&self) -> &Item {
+        self.item()
+    }
+}
+
+impl Clone for SharedItem {
+    ghost is_clone = { λ item copy. copy ≡ item };
+
+    fn clone(&self) -> Result<SharedItem, NoMemory> {
+        Ok(SharedItem {
+            revision: self.revision.copy()?,
+            slot: self.slot.copy()?,
+        })
+    }
+}
+
+impl PartialEq for SharedItem {
+    ghost eq = { eq_by_cmp octets_cmp };
+
+    ghost laws = { partial_equiv_from_equiv (eq_by_cmp_equiv octets_total) };
+
+    fn eq(&self, other: &SharedItem) -> bool {
+        self.cmp(other) == Ordering::Equal
+    }
+}
+
+impl Eq for SharedItem {
+    ghost laws = { eq_by_cmp_equiv octets_total };
+}
+
+impl PartialOrd for SharedItem {
+    ghost partial_cmp = { as_partial_cmp octets_cmp };
+
+    ghost laws = { partial_order_from_total octets_total };
+
+    fn partial_cmp(&self, other: &SharedItem) -> Option<Ordering> {
+        Some(self.cmp(other))
+    }
+}
+
+/// By canonical octets.
+impl Ord for SharedItem {
+    ghost cmp = { octets_cmp };
+
+    ghost total = { octets_total };
+
+    ghost matches_partial_cmp = { λ x y. refl };
+
+    ghost matches_eq = { λ x y. refl };
+
+    fn cmp(&self, other: &SharedItem) -> Ordering {
+        self.item().cmp(other.item())
+    }
+}
