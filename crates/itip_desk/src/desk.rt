@@ -4,7 +4,7 @@ ghost use Rattle.itip_message.specs.declared.item.Item.{Item};
 
 use crate::batch::Batch;
 use crate::error::DeskError;
-use crate::moves::Moves;
+use crate::moves::MovedUids;
 use itip_state::State;
 use itip_todo::Uid;
 use itip_view::{ViewError, Window, rows, write_list};
@@ -23,7 +23,7 @@ pub struct Changed {
 pub struct Desk {
     state: State,
     tick: u64,
-    moves: Moves,
+    moves: MovedUids,
     alloc: Global,
 }
 
@@ -54,7 +54,7 @@ impl Desk {
         Desk {
             state: State::empty(alloc),
             tick,
-            moves: Moves::new(alloc),
+            moves: MovedUids::new(alloc),
             alloc,
         }
     }

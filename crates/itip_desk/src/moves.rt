@@ -4,7 +4,7 @@ ghost use Rattle.std.specs.List.{Contains};
 ghost use Rattle.std.specs.Ordering.{nat_cmp, is_eq};
 ghost use Rattle.std.specs.Cmp.Lexicographic.{slice_cmp};
 ghost use Rattle.itip_join.specs.KeyByKey.{value_at};
-ghost use Rattle.itip_desk.specs.Moves.{is_listed, FallFrom, ArePlaces};
+ghost use Rattle.itip_desk.specs.Moves.{entries_of, is_listed, FallFrom, ArePlaces};
 ghost use Rattle.itip_desk.specs.Desk.{CarriesAfter};
 
 use itip_todo::Uid;
@@ -14,12 +14,12 @@ use std::marker::Model;
 
 /// The UIDs that moved, each with the tick of its last move, the last moved first. Contracts see it as this list.
 #[derive(Debug, Drop)]
-pub(crate) struct Moves {
+pub(crate) struct MovedUids {
     alloc: Global,
     cache: Option<LruCache<Uid, u64>>,
 }
 
-impl Model for Moves {
+impl Model for MovedUids {
     ghost use Rattle.std.specs.Prelude.{List, ℕ};
     ghost use Rattle.itip_desk.specs.Moves.{entries_of};
 
@@ -28,12 +28,12 @@ impl Model for Moves {
     ghost view = { λ m. entries_of m.cache };
 }
 
-impl Moves {
+impl MovedUids {
     /// No UID. It takes no memory.
-    pub(crate) fn new(alloc: Global) -> Moves
+    pub(crate) fn new(alloc: Global) -> MovedUids
         ensures { result ≡ [] }
     {
-        Moves { alloc, cache: None }
+        MovedUids { alloc, cache: None }
     }
 
     /// How many there are.
@@ -52,10 +52,7 @@ impl Moves {
         ensures all { OnOk result ((uid : List ℕ) → is_listed uids.now uid ≡ true → is_some (value_at (slice_cmp nat_cmp) self.new uid) ≡ true) }
         ensures err { OnErr result (self.new ≡ self.old) }
     {
-        let mut cache = match self.cache.take() {
-            Some(cache) => cache,
-            None => LruCache::unbounded(self.alloc)?,
-        };
+        let mut cache = opened(self.alloc, self.cache.take())?;
         let added = add_all(&mut cache, uids);
         self.cache = Some(cache);
         added
@@ -98,6 +95,20 @@ impl Moves {
             uids.push(uid.clone()?)?;
         }
         Ok(uids)
+    }
+}
+
+/// The cache that there is, or a new one.
+fn opened(
+    alloc: Global,
+    cache: Option<LruCache<Uid, u64>>,
+) -> Result<LruCache<Uid, u64>, AllocError>
+    ensures ok { IfOk result (λ opened. opened.entries ≡ entries_of cache) }
+    ensures err { OnErr result (entries_of cache ≡ []) }
+{
+    match cache {
+        Some(cache) => Ok(cache),
+        None => LruCache::unbounded(alloc),
     }
 }
 

@@ -4,13 +4,10 @@ use Rattle.itip_state.specs.Kept.{AreKept, IsKept, AreMoved}
 use Rattle.itip_state.specs.Order.{IsState}
 use Rattle.itip_state.proofs.Keeping.{are_kept_by}
 use Rattle.std.specs.Prelude.{cond, Some}
-use Rattle.std.specs.Ordering.{nat_cmp}
-use Rattle.std.specs.Cmp.Lexicographic.{slice_cmp}
-use Rattle.itip_join.specs.KeyByKey.{value_at}
 use Rattle.itip_desk.proofs.Refusals.{on_err_always}
-use Rattle.itip_desk.specs.Desk.{Shown, moved_ones}
-use Rattle.itip_desk.specs.Marks.{is_listed}
-use Rattle.itip_desk.proofs.Ticking.{grown_same, carry_step}
+use Rattle.itip_desk.specs.Desk.{Shown}
+use Rattle.itip_desk.specs.Moves.{is_listed, FallFrom}
+use Rattle.itip_desk.proofs.Ticking.{at_uid, fall_more, fall_places, carry_step}
 use Rattle.itip_desk.proofs.Steps.{moved_alike, none_moved, none_in, some_moved, still_carry, one_more_step}
 use Rattle.itip_desk.proofs.desk.Desk.take.Goals as goal
 use Rattle.itip_desk.proofs.desk.Desk.take.Goals.{In_ok-uids}
@@ -68,7 +65,7 @@ returns-then-self-clause-spent c = λ _.
     (sym at ∙ c.if-self.true, some_moved c.in_ok-uids.uids.items c.args.self.now.kept c.args.batch.now (moved before) some)
 
 pub returns-clause-kept : goal.returns-clause-kept
-returns-clause-kept c = kept_with (goal.at.returns-clause-kept c).In_ok-uids c.merge.new.self (c.in_ok-merge.ensures.ok)
+returns-clause-kept c = kept_with (goal.at.returns-clause-kept c).In_ok-uids c.merge.new.self (c.in_default.ensures.ok)
 
 pub returns-clause-uids : goal.returns-clause-uids
 returns-clause-uids c = moved (goal.at.returns-clause-uids c).In_ok-uids
@@ -85,29 +82,20 @@ returns-clause-step c = λ steps start.
     let before = (goal.at.returns-clause-step c).In_ok-uids in
     let some : ¬ (length c.in_ok-uids.uids.items ≡ 0) = grind arith in
     let at : c.self.inside.tick ≡ c.args.self.now.tick = ap (λ (d : Shown). d.tick) c.self.view_is in
-    let new : Shown = record { kept = c.merge.new.self; tick = c.self.inside.tick + 1; changed = moved_ones c.mark.new.ticks.map } in
-    one_more_step steps start c.args.self.now new c.args.batch.now (kept_with before c.merge.new.self (c.in_ok-merge.ensures.ok))
+    let new : Shown = record { kept = c.merge.new.self; tick = c.self.inside.tick + 1; changed = c.mark.new.self } in
+    let made = c.in_ok-add_places.ensures.places in
+    one_more_step steps start c.args.self.now new c.args.batch.now (kept_with before c.merge.new.self (c.in_default.ensures.ok))
     (inl (some_moved c.in_ok-uids.uids.items c.args.self.now.kept c.args.batch.now (moved before) some, ap (λ t. t + 1) at))
-    (carry_step c.self.inside.ticks.map c.grow.new.ticks.map c.mark.new.ticks.map c.self.inside.ticks.ordered c.grow.new.ticks.ordered c.mark.new.ticks.ordered
-    c.in_ok-uids.uids.items (c.self.inside.tick + 1) c.grow.ensures.grown
-    (λ uid. c.mark.ensures uid ∙ ap (λ us. cond (is_listed us uid) (Some (c.self.inside.tick + 1)) (value_at (slice_cmp nat_cmp) c.grow.new.ticks.map uid)) (c.in_ok-moved.ensures ∙ c.deref.ensures.value))
+    (carry_step c.self.inside.moves made.0 c.mark.new.self made.2 c.in_ok-uids.uids.items (c.self.inside.tick + 1)
+    (λ uid. c.mark.ensures.marked uid ∙ ap (λ us. cond (is_listed us uid) (Some (c.self.inside.tick + 1)) (at_uid c.add_places.new.self uid)) c.deref-2.ensures.value
+    ∙ ap (λ es. cond (is_listed c.in_ok-uids.uids.items uid) (Some (c.self.inside.tick + 1)) (at_uid es uid)) made.1)
     c.args.self.now new c.args.batch.now (sym (ap (λ (d : Shown). d.changed) c.self.view_is)) refl refl (moved before))
 
 pub mark-requires : goal.mark-requires
-mark-requires c = λ uid listed. c.in_ok-grow.ensures.all uid (ap (λ us. is_listed us uid) (sym (c.in_ok-moved.ensures ∙ c.deref.ensures.value ∙ sym c.deref-2.ensures.value)) ∙ listed)
+mark-requires c = λ uid listed. c.in_ok-add_places.ensures.all uid (ap (λ us. is_listed us uid) (c.deref.ensures.value ∙ sym c.deref-2.ensures.value) ∙ listed)
 
-pub returns-in_err-grow-clause-err : goal.returns-in_err-grow-clause-err
-returns-in_err-grow-clause-err c = on_err_always c.from_residual-in_err-grow.result
-    ((λ i. record {
-      kept = c.self.inside.state;
-      tick = c.self.inside.tick;
-      changed = grown_same c.self.inside.ticks.map c.grow.new.ticks.map c.self.inside.ticks.ordered c.grow.new.ticks.ordered c.grow.ensures.grown i;
-    }) ∙ c.self.view_is)
-
-pub returns-in_err-merge-clause-err : goal.returns-in_err-merge-clause-err
-returns-in_err-merge-clause-err c = on_err_always c.from_residual-in_err-merge.result
-    ((λ i. record {
-      kept = c.in_err-merge.ensures.err i;
-      tick = c.self.inside.tick;
-      changed = grown_same c.self.inside.ticks.map c.grow.new.ticks.map c.self.inside.ticks.ordered c.grow.new.ticks.ordered c.grow.ensures.grown i;
-    }) ∙ c.self.view_is)
+pub invariant_of-self-2 : goal.invariant_of-self-2
+invariant_of-self-2 c =
+    let made = c.in_ok-add_places.ensures.places in
+    c.mark.ensures.falls (subst (FallFrom (c.self.inside.tick + 1)) (sym made.1)
+    (fall_places (c.self.inside.tick + 1) c.self.inside.moves made.0 made.2 (fall_more c.self.inside.tick (c.self.inside.tick + 1) c.self.inside.moves (omega arith) c.self.invariant)))

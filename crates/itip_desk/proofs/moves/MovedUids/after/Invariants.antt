@@ -1,0 +1,5 @@
+use Rattle.itip_desk.proofs.Ticking.{AreInFront}
+use Rattle.itip_desk.proofs.moves.MovedUids.after.Given as goal
+
+abbrev pub invariant-loop-uid : goal.invariant-loop-uid
+invariant-loop-uid l = AreInFront l.since l.self l.uids.items l.uid-iterator
