@@ -204,6 +204,62 @@ fn a_refused_message_is_a_reply(rt: HostRuntime) -> Result<(), Fail> {
     Ok(())
 }
 
+/// A world of one desk that has heard nothing, at this tick.
+fn world_at(alloc: Global, tick: u64) -> Result<World, NoMemory> {
+    let mut world = World::start(alloc, 0)?;
+    world.desks.push(Desk::empty_at(alloc, tick))?;
+    Ok(world)
+}
+
+#[test]
+fn at_the_last_tick_no_uid_moves(rt: HostRuntime) -> Result<(), Fail> {
+    let alloc = rt.alloc();
+    let mut world = world_at(alloc, u64::MAX - 1)?;
+    assert!(rt; world.step(&deliver(alloc, 0, TIE)?) == Ok(()));
+    assert!(rt; world.step(&deliver(alloc, 0, OTHER_TIE)?) == Err(Cause::TicksSpent));
+    assert!(rt; world.step(&deliver(alloc, 0, TIE)?) == Ok(()));
+    assert!(rt; world.step(&deliver(alloc, 0, b"A:b\n")?) == Ok(()));
+    let replies = [
+        Reply::Taken {
+            tick: u64::MAX,
+            changed: 1,
+        },
+        Reply::Taken {
+            tick: u64::MAX,
+            changed: 0,
+        },
+        Reply::Refused(5),
+    ];
+    assert!(rt; world.replies.as_slice() == replies.as_slice());
+    assert_eq!(rt; desk(&rt, &world, 0).tick(), u64::MAX);
+    Ok(())
+}
+
+#[test]
+fn a_desk_posts_what_moved_since(rt: HostRuntime) -> Result<(), Fail> {
+    let alloc = rt.alloc();
+    let mut world = world_at(alloc, 5)?;
+    assert!(rt; world.step(&deliver(alloc, 0, TIE)?) == Ok(()));
+    assert!(rt; world.step(&Event::Post { desk: 0, since: 5 }) == Ok(()));
+    assert!(rt; world.step(&Event::Post { desk: 0, since: 6 }) == Ok(()));
+    let replies = [
+        Reply::Taken {
+            tick: 6,
+            changed: 1,
+        },
+        Reply::Posted {
+            packet: 0,
+            items: 1,
+        },
+        Reply::Posted {
+            packet: 1,
+            items: 0,
+        },
+    ];
+    assert!(rt; world.replies.as_slice() == replies.as_slice());
+    Ok(())
+}
+
 /// How many items a delta has, or why it is refused.
 fn read(rt: &impl Abort, alloc: Global, parts: &[&[u8]]) -> Result<Result<usize, Fault>, NoMemory> {
     let mut octets = Vec::new(alloc);

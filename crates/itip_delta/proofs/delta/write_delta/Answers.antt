@@ -2,12 +2,13 @@ use Rattle.std.proofs.Common.{◌≤◌, length, ◌∙◌, arith}
 use Rattle.itip_delta.proofs.Deltas.{write_more, write_done}
 use Rattle.itip_delta.specs.Delta.{delta_octets}
 use Rattle.std.proofs.Common.{ap}
+use Rattle.itip_message.specs.declared.item.Item.{Item}
 use Rattle.itip_delta.proofs.delta.write_delta.Goals as goal
 
 pub loop-item-preserved : goal.loop-item-preserved
 loop-item-preserved c =
     write_more c.as_slice-item-items.result.now c.loop-item.item-index c.item-item.result c.loop-item.octets.items c.extend_from_slice.new.self.items c.as_slice.result.now
-    (omega arith) c.item-item.is c.as_slice.ensures c.in_ok-extend_from_slice.ensures.items c.loop-item.invariant
+    (omega arith) c.item-item.is (c.as_slice.ensures ∙ ap (λ (i : Item). i.bytes) c.deref.ensures) c.in_ok-extend_from_slice.ensures.items c.loop-item.invariant
 
 pub returns : goal.returns
 returns c =
