@@ -23,10 +23,10 @@ use Rattle.itip_message.proofs.OneMessage.{one_message, one_cause, message_apart
 use Rattle.itip_message.proofs.ReadAgain.{reads_again}
 use Rattle.itip_message.proofs.SameItem.{Is, contents, bytes_are}
 use Rattle.itip_state.specs.Kept.{SameItems, IsItemsOf}
+use Rattle.itip_state.proofs.OneOrder.{less_one_way, same_ascending}
 use Rattle.itip_desk.specs.Octets.{AscendOctets}
 use Rattle.itip_delta.specs.Cutting.{begins_blank, lines_of, ends_calendar, groups_of, texts_of, messages_of, CutsMessage}
 use Rattle.itip_delta.specs.Delta.{delta_octets, AreMessages, FirstRefused, all_of, ReadsDelta, RefusesDelta, IsDelta, Continues}
-use Rattle.itip_delta.proofs.Ascending.{ascending_same_pairs}
 use Rattle.itip_delta.proofs.Folded.{contents_lines, contents_end_none}
 use Rattle.itip_delta.proofs.Messages.{texts_end}
 use Rattle.itip_delta.proofs.Plain.{IsNotEnd, none_ends_both, parts_not_end}
@@ -135,15 +135,12 @@ written_read batch ascend = record {
 
 -- ---- one reading
 
-texts_apart : (x y : List ℕ) → slice_cmp nat_cmp x y ≡ Less → slice_cmp nat_cmp y x ≡ Less → ⊥
-texts_apart x y less more = let e = nat_list_cmp_total.antisymm x y in cc
-
 octets_apart : (a b : Item) → slice_cmp nat_cmp a.bytes b.bytes ≡ Less → slice_cmp nat_cmp b.bytes a.bytes ≡ Less → ⊥
-octets_apart a b less more = texts_apart a.bytes b.bytes less more
+octets_apart a b = less_one_way nat_list_cmp_total a.bytes b.bytes
 
 -- items by octets, each once, are known by what they are
 pub one_order : (a b : List Item) → AscendOctets a → AscendOctets b → SameItems a b → a ≡ b
-one_order a b up_a up_b same = ascending_same_pairs (λ (x y : Item). slice_cmp nat_cmp x.bytes y.bytes ≡ Less) octets_apart a b up_a up_b (λ item. (same item).0) (λ item. (same item).1)
+one_order a b up_a up_b same = same_ascending (λ (x y : Item). slice_cmp nat_cmp x.bytes y.bytes ≡ Less) octets_apart a b up_a up_b (λ item. ((same item).0, (same item).1))
 
 one_given : (texts : List (List ℕ)) (a b : List (List Item)) → AreMessages texts a → AreMessages texts b → a ≡ b
 one_given [] [] [] h k = refl

@@ -1,5 +1,5 @@
 -- Whether two keys are one can be told.
-use Rattle.std.proofs.Common.{◌≡◌, ℕ, List, [], arith, refl, sym, ◌∙◌, ap, ◌⊎◌, inl, inr}
+use Rattle.std.proofs.Common.{◌≡◌, ℕ, List, arith, refl, sym, ◌∙◌, ap, ◌⊎◌, inl, inr}
 use Rattle.std.specs.Prelude.{Option, Some, None, unwrap_or}
 use Rattle.std.specs.Cmp.{IsTotalOrder}
 use Rattle.std.specs.declared.cmp.Ordering.{Ordering}
@@ -8,7 +8,7 @@ use Rattle.std.proofs.lemmas.Cmp.{nat_cmp_total, nat_list_cmp_total, tied_itself
 use Rattle.std.proofs.lemmas.Map.Lookups.{CmpEqualImpliesEq, exact_unsigned, exact_bytes}
 use Rattle.itip_message.specs.declared.key.Key.{Key}
 use Rattle.itip_message.specs.declared.key.Key.TheVariants.{Series, Instance, Answer, Refresh}
-use Rattle.itip_message.specs.KeyParts.{uid_of}
+use Rattle.itip_message.specs.KeyParts.{uid_of, rank_of, instance_of, attendee_of}
 use Rattle.itip_moment.specs.declared.moment.Moment.{Moment}
 use Rattle.itip_moment.specs.OrderLaws.{moment_total}
 use Rattle.itip_moment.proofs.Same.{moment_equal}
@@ -41,64 +41,36 @@ told_options told (Some a) (Some b) =
       | inr other ↦ inr (λ same. other (ap (λ o. unwrap_or o a) same))
     ]
 
--- the parts of a key: its kind as a number, its UID, its instance, its attendee
-abbrev kind_of : Key → ℕ
-kind_of (Series uid) = 0
-kind_of (Instance uid id) = 1
-kind_of (Answer uid id attendee) = 2
-kind_of (Refresh uid id attendee) = 3
-
-abbrev moment_of : Key → Option Moment
-moment_of (Series uid) = None
-moment_of (Instance uid id) = Some id
-moment_of (Answer uid id attendee) = id
-moment_of (Refresh uid id attendee) = id
-
-abbrev attendee_of : Key → List ℕ
-attendee_of (Series uid) = []
-attendee_of (Instance uid id) = []
-attendee_of (Answer uid id attendee) = attendee
-attendee_of (Refresh uid id attendee) = attendee
-
--- a key is one with another where its parts are
-record Parts (a b : Key) : Type 0 where
-  kind : kind_of a ≡ kind_of b
-  uid : uid_of a ≡ uid_of b
-  moment : moment_of a ≡ moment_of b
-  attendee : attendee_of a ≡ attendee_of b
-
-parts : (a b : Key) → a ≡ b → Parts a b
-parts a b same = record { kind = ap kind_of same; uid = ap uid_of same; moment = ap moment_of same; attendee = ap attendee_of same }
-
-from_parts : (a b : Key) → Parts a b → a ≡ b
-from_parts (Series u) (Series v) p = ap Series p.uid
-from_parts (Instance u i) (Instance v j) p = λ x. Instance (p.uid x) (unwrap_or (p.moment x) i)
-from_parts (Answer u i a) (Answer v j b) p = λ x. Answer (p.uid x) (p.moment x) (p.attendee x)
-from_parts (Refresh u i a) (Refresh v j b) p = λ x. Refresh (p.uid x) (p.moment x) (p.attendee x)
-from_parts (Series u) (Instance v j) p = absurd (omega (arith, p.kind))
-from_parts (Series u) (Answer v j b) p = absurd (omega (arith, p.kind))
-from_parts (Series u) (Refresh v j b) p = absurd (omega (arith, p.kind))
-from_parts (Instance u i) (Series v) p = absurd (omega (arith, p.kind))
-from_parts (Instance u i) (Answer v j b) p = absurd (omega (arith, p.kind))
-from_parts (Instance u i) (Refresh v j b) p = absurd (omega (arith, p.kind))
-from_parts (Answer u i a) (Series v) p = absurd (omega (arith, p.kind))
-from_parts (Answer u i a) (Instance v j) p = absurd (omega (arith, p.kind))
-from_parts (Answer u i a) (Refresh v j b) p = absurd (omega (arith, p.kind))
-from_parts (Refresh u i a) (Series v) p = absurd (omega (arith, p.kind))
-from_parts (Refresh u i a) (Instance v j) p = absurd (omega (arith, p.kind))
-from_parts (Refresh u i a) (Answer v j b) p = absurd (omega (arith, p.kind))
+-- keys whose parts are equal are one key
+pub from_parts : (a b : Key) → uid_of a ≡ uid_of b → rank_of a ≡ rank_of b → instance_of a ≡ instance_of b → attendee_of a ≡ attendee_of b → a ≡ b
+from_parts (Series u) (Series v) p r m t = ap Series p
+from_parts (Instance u i) (Instance v j) p r m t = λ x. Instance (p x) (unwrap_or (m x) i)
+from_parts (Answer u i a) (Answer v j b) p r m t = λ x. Answer (p x) (m x) (t x)
+from_parts (Refresh u i a) (Refresh v j b) p r m t = λ x. Refresh (p x) (m x) (t x)
+from_parts (Series u) (Instance v j) p r m t = absurd (omega (arith, r))
+from_parts (Series u) (Answer v j b) p r m t = absurd (omega (arith, r))
+from_parts (Series u) (Refresh v j b) p r m t = absurd (omega (arith, r))
+from_parts (Instance u i) (Series v) p r m t = absurd (omega (arith, r))
+from_parts (Instance u i) (Answer v j b) p r m t = absurd (omega (arith, r))
+from_parts (Instance u i) (Refresh v j b) p r m t = absurd (omega (arith, r))
+from_parts (Answer u i a) (Series v) p r m t = absurd (omega (arith, r))
+from_parts (Answer u i a) (Instance v j) p r m t = absurd (omega (arith, r))
+from_parts (Answer u i a) (Refresh v j b) p r m t = absurd (omega (arith, r))
+from_parts (Refresh u i a) (Series v) p r m t = absurd (omega (arith, r))
+from_parts (Refresh u i a) (Instance v j) p r m t = absurd (omega (arith, r))
+from_parts (Refresh u i a) (Answer v j b) p r m t = absurd (omega (arith, r))
 
 pub told_keys : (a b : Key) → Told a b
 told_keys a b =
-    elim (told_by_cmp nat_cmp_total exact_unsigned (kind_of a) (kind_of b)) [
-      | inr other ↦ inr (λ same. other (ap kind_of same))
+    elim (told_by_cmp nat_cmp_total exact_unsigned (rank_of a) (rank_of b)) [
+      | inr other ↦ inr (λ same. other (ap rank_of same))
       | inl kind ↦ elim (told_bytes (uid_of a) (uid_of b)) [
         | inr other ↦ inr (λ same. other (ap uid_of same))
-        | inl uid ↦ elim (told_options told_moments (moment_of a) (moment_of b)) [
-          | inr other ↦ inr (λ same. other (ap moment_of same))
+        | inl uid ↦ elim (told_options told_moments (instance_of a) (instance_of b)) [
+          | inr other ↦ inr (λ same. other (ap instance_of same))
           | inl moment ↦ elim (told_bytes (attendee_of a) (attendee_of b)) [
             | inr other ↦ inr (λ same. other (ap attendee_of same))
-            | inl attendee ↦ inl (from_parts a b (record { kind = kind; uid = uid; moment = moment; attendee = attendee }))
+            | inl attendee ↦ inl (from_parts a b uid kind moment attendee)
           ]
         ]
       ]

@@ -1,6 +1,7 @@
 use itip_lines::{NoMemory, Text};
 use itip_moment::Moment;
 use itip_todo::Uid;
+use std::cmp::Ordering;
 
 /// What an item speaks of. Of the items of one key the latest revision counts.
 ///
@@ -15,6 +16,70 @@ pub enum Key {
     Answer(Uid, Option<Moment>, Text),
     /// That an attendee of a UID, or of its instance at a recurrence id, wants the newest revision.
     Refresh(Uid, Option<Moment>, Text),
+}
+
+impl Key {
+    ghost use Rattle.std.specs.Prelude.{◌≡◌, option_copied};
+    ghost use Rattle.std.specs.Option.{option_cmp};
+    ghost use Rattle.itip_moment.specs.Order.{moment_cmp};
+    ghost use Rattle.itip_message.specs.KeyParts.{uid_of, rank_of, instance_of, attendee_of};
+
+    /// The UID that the key is about.
+    pub fn uid(&self) -> &Uid
+        ensures { result.now ≡ uid_of self.now }
+    {
+        match self {
+            Key::Series(uid)
+            | Key::Instance(uid, _)
+            | Key::Answer(uid, _, _)
+            | Key::Refresh(uid, _, _) => uid,
+        }
+    }
+
+    /// The place of the kind of the key: 0 for a to-do, 1 for an instance, 2 for an answer, 3 for a refresh request.
+    pub fn rank(&self) -> u8
+        ensures { result ≡ rank_of self.now }
+    {
+        match self {
+            Key::Series(_) => 0,
+            Key::Instance(_, _) => 1,
+            Key::Answer(_, _, _) => 2,
+            Key::Refresh(_, _, _) => 3,
+        }
+    }
+
+    /// The recurrence id of the instance that the key is about, or `None` where it is about the to-do as a whole.
+    pub fn instance(&self) -> Option<&Moment>
+        ensures { option_copied result ≡ instance_of self.now }
+    {
+        match self {
+            Key::Series(_) => None,
+            Key::Instance(_, id) => Some(id),
+            Key::Answer(_, id, _) | Key::Refresh(_, id, _) => id.as_ref(),
+        }
+    }
+
+    /// The order of what two keys are about: the to-do as a whole, then its instances by recurrence id.
+    pub fn cmp_instances(&self, other: &Key) -> Ordering
+        ensures { result ≡ option_cmp moment_cmp (instance_of self.now) (instance_of other.now) }
+    {
+        match (self.instance(), other.instance()) {
+            (None, None) => Ordering::Equal,
+            (None, Some(_)) => Ordering::Less,
+            (Some(_), None) => Ordering::Greater,
+            (Some(id), Some(other_id)) => id.cmp(other_id),
+        }
+    }
+
+    /// The attendee that the key is about; the empty text where it is about none.
+    pub fn attendee(&self) -> &str
+        ensures { result.now ≡ attendee_of self.now }
+    {
+        match self {
+            Key::Series(_) | Key::Instance(_, _) => "",
+            Key::Answer(_, _, attendee) | Key::Refresh(_, _, attendee) => attendee.as_str(),
+        }
+    }
 }
 
 impl Clone for Key {

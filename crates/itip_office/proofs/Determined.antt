@@ -16,6 +16,7 @@ use Rattle.itip_message.specs.KeyParts.{uid_of}
 use Rattle.itip_message.specs.declared.item.Item.{Item}
 use Rattle.itip_state.specs.Kept.{SameItems, IsKept, AreKept, KeepSame, Moves, AreMoved}
 use Rattle.itip_state.proofs.Keeping.{kept_iff}
+use Rattle.itip_state.proofs.OneOrder.{less_one_way, same_ascending}
 use Rattle.itip_view.specs.declared.window.Window.{Window}
 use Rattle.itip_view.specs.declared.row.Row.{Row}
 use Rattle.itip_view.specs.Rows.{AreRows, AreTooMany}
@@ -48,7 +49,7 @@ use Rattle.itip_office.specs.Running.{Answer, listed, counted, reported, resent,
 use Rattle.itip_office.specs.Running.Happens.{is_done, at_no_desk, of_no_packet, spends_ticks}
 use Rattle.itip_office.specs.Running.Step.{happens, lists_rows, lists_too_many, lists_no_desk, counts_kept, counts_no_desk, reports_lines, reports_too_many, reports_no_desk, resends_messages, resends_no_desk, tells_next, tells_no_desk, is_refused}
 use Rattle.itip_office.proofs.Counting.{same_count}
-use Rattle.itip_delta.proofs.Ascending.{IsIn, in_contained, contained_in, ascending_same_pairs}
+use Rattle.itip_delta.proofs.Ascending.{IsIn, in_contained, contained_in}
 
 -- A text is a message of some items or is refused for some cause, and of no others.
 pub record IsReadOnce (bytes : List ℕ) : Type 0 where
@@ -198,9 +199,6 @@ ticks_split before tick (a ∷ as') step last at =
 
 -- ---- the UIDs that move
 
-texts_apart : (x y : List ℕ) → slice_cmp nat_cmp x y ≡ Less → slice_cmp nat_cmp y x ≡ Less → ⊥
-texts_apart x y less more = let e = nat_list_cmp_total.antisymm x y in cc
-
 is_in_or_not : (xs : List (List ℕ)) (y : List ℕ) → IsIn xs y ⊎ (IsIn xs y → ⊥)
 is_in_or_not [] y = inr (λ h. h)
 is_in_or_not (x ∷ xs) y =
@@ -224,9 +222,10 @@ moved_there uids uids' before before' step step' same one moved moved' uid h =
 
 moved_one : (uids uids' : List (List ℕ)) (before before' step step' : List Item) → SameItems before before' → SameItems step step' → AreMoved uids before step → AreMoved uids' before' step' → uids ≡ uids'
 moved_one uids uids' before before' step step' same one moved moved' =
-    ascending_same_pairs (λ a b. slice_cmp nat_cmp a b ≡ Less) texts_apart uids uids' moved.ascend moved'.ascend
-    (moved_there uids uids' before before' step step' same one moved moved')
-    (moved_there uids' uids before' before step' step (same_back before before' same) (same_back step step' one) moved' moved)
+    same_ascending (λ (a b : List ℕ). slice_cmp nat_cmp a b ≡ Less) (less_one_way nat_list_cmp_total) uids uids' moved.ascend moved'.ascend (λ uid. (
+      moved_there uids uids' before before' step step' same one moved moved' uid,
+      moved_there uids' uids before' before step' step (same_back before before' same) (same_back step step' one) moved' moved uid,
+    ))
 
 -- ---- lists
 

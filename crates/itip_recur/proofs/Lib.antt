@@ -16,3 +16,4 @@ pub mod RuleEnds
 pub mod Zips
 pub mod Rests
 pub mod RuleTexts
+pub mod OneSeries

@@ -10,6 +10,5 @@ pub mod Firsts
 pub mod Tallying
 pub mod Effective
 pub mod OfKept
-pub mod OneOrder
 pub mod OneReport
 pub mod SentAgain

@@ -1,13 +1,12 @@
 -- The reports need only what is kept.
 use Rattle.std.proofs.Common.{ℕ, zero, suc, List, subst, sym, inl, inr, Option, Some, None}
 use Rattle.itip_moment.specs.declared.moment.Moment.{Moment}
-use Rattle.itip_message.specs.KeyParts.{uid_of}
+use Rattle.itip_message.specs.KeyParts.{uid_of, instance_of}
 use Rattle.itip_message.specs.declared.item.Item.{Item}
 use Rattle.itip_message.specs.declared.key.Key.{Key}
 use Rattle.itip_message.specs.declared.key.Key.TheVariants.{Series, Instance}
 use Rattle.itip_state.specs.Kept.{IsBest, IsDead, IsKept, AreKept}
 use Rattle.itip_state.specs.Organizers.{IsOrganizers, IsLastUsed}
-use Rattle.itip_state.specs.Slots.{instance_of}
 use Rattle.itip_state.proofs.Best.{best_above}
 use Rattle.itip_state.proofs.Keeping.{kept_again, series_kept}
 use Rattle.itip_view.specs.Standing.{Stands}

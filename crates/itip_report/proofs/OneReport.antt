@@ -2,35 +2,20 @@
 use Rattle.std.proofs.Common.{◌≡◌, ℕ, zero, suc, ◌≤◌, List, ◌∷◌, refl, sym, ◌∙◌, ap, arith, Option, Some, None}
 use Rattle.std.specs.Prelude.{map}
 use Rattle.std.specs.List.{Contains, flat_map}
-use Rattle.std.specs.Cmp.{IsTotalOrder, tied_itself}
-use Rattle.std.specs.Cmp.Lexicographic.{options_total}
-use Rattle.std.specs.declared.cmp.Ordering.{Ordering}
-use Rattle.std.specs.declared.cmp.Ordering.TheVariants.{Less, Equal}
-use Rattle.std.proofs.lemmas.Cmp.{on_total, then_total, nat_cmp_total, nat_list_cmp_total}
-use Rattle.itip_moment.specs.OrderLaws.{moment_total}
-use Rattle.itip_message.specs.KeyParts.{uid_of}
+use Rattle.std.specs.declared.cmp.Ordering.TheVariants.{Less}
 use Rattle.itip_message.specs.declared.item.Item.{Item}
 use Rattle.itip_message.specs.declared.key.Key.TheVariants.{Series}
 use Rattle.itip_state.specs.Organizers.{IsLastUsed}
-use Rattle.itip_state.specs.Slots.{rank_of, instance_of, attendee_of}
+use Rattle.itip_state.proofs.OneOrder.{less_one_way, same_ascending}
 use Rattle.itip_view.proofs.OneRow.{one_best}
 use Rattle.itip_report.specs.Lines.{place_cmp, AscendPlaces}
 use Rattle.itip_report.specs.Organizing.{IsResend, IsResendOf, IsNext, last_sequence}
 use Rattle.itip_report.specs.Reports.{AreReportLines, line_of}
 use Rattle.itip_report.specs.declared.report.Report.{Report}
-use Rattle.itip_report.proofs.OneOrder.{same_ascending}
-
-pub place_total : IsTotalOrder place_cmp
-place_total =
-    then_total (on_total uid_of nat_list_cmp_total)
-    (then_total (on_total instance_of (options_total moment_total))
-    (then_total (on_total attendee_of nat_list_cmp_total) (on_total rank_of nat_cmp_total)))
-
-apart : {X : Type 0} {c : X → X → Ordering} → IsTotalOrder c → (x y : X) → c x y ≡ Less → c y x ≡ Less → ⊥
-apart total x y less more = let e : Less ≡ Equal = sym (total.trans x y x less more) ∙ tied_itself total x in cc
+use Rattle.itip_report.proofs.Placing.{place_total}
 
 places_apart : (a b : Item) → place_cmp a.key b.key ≡ Less → place_cmp b.key a.key ≡ Less → ⊥
-places_apart a b less more = apart place_total a.key b.key less more
+places_apart a b = less_one_way place_total a.key b.key
 
 same_places : (xs ys : List Item) → AscendPlaces xs → AscendPlaces ys → ((item : Item) → Contains xs item → Contains ys item) → ((item : Item) → Contains ys item → Contains xs item) → xs ≡ ys
 same_places xs ys up over there back =

@@ -2,13 +2,12 @@
 use Rattle.std.proofs.Common.{◌≡◌, ◌↔◌, ℕ, List, refl, ◌∙◌, ap, inl, inr, Option, Some, None}
 use Rattle.std.specs.List.{Contains}
 use Rattle.itip_moment.specs.declared.moment.Moment.{Moment}
-use Rattle.itip_message.specs.KeyParts.{uid_of}
+use Rattle.itip_message.specs.KeyParts.{uid_of, instance_of}
 use Rattle.itip_message.specs.declared.item.Item.{Item}
 use Rattle.itip_message.specs.declared.key.Key.{Key}
 use Rattle.itip_message.specs.declared.key.Key.TheVariants.{Series, Instance}
 use Rattle.itip_state.specs.Kept.{IsBest, IsKept, ArePart}
 use Rattle.itip_state.specs.Order.{IsState}
-use Rattle.itip_state.specs.Slots.{instance_of}
 use Rattle.itip_state.proofs.Keeping.{kept_in_part}
 use Rattle.itip_view.specs.Standing.{Stands, IsLiveSeries, Governs}
 use Rattle.itip_report.specs.Reports.{IsReported, NoneAt, NoneAtInstance}

@@ -7,12 +7,11 @@ use Rattle.std.specs.declared.cmp.Ordering.{Ordering}
 use Rattle.std.specs.declared.cmp.Ordering.TheVariants.{Less, Equal, Greater}
 use Rattle.itip_moment.specs.Order.{stamp_cmp}
 use Rattle.itip_moment.specs.declared.moment.Moment.{Moment}
-use Rattle.itip_message.specs.KeyParts.{uid_of}
+use Rattle.itip_message.specs.KeyParts.{uid_of, instance_of}
 use Rattle.itip_message.specs.declared.item.Item.{Item}
 use Rattle.itip_message.specs.declared.key.Key.TheVariants.{Series, Instance}
 use Rattle.itip_state.specs.Kept.{IsBest, AscendKeys}
 use Rattle.itip_state.specs.Order.{IsState}
-use Rattle.itip_state.specs.Slots.{instance_of}
 use Rattle.itip_view.specs.OfUid.{IsSeriesItem, StandsBesideOf}
 use Rattle.itip_view.specs.Standing.{is_live, IsLive, IsCancelled, Stands, NoneStands, IsLiveSeries, Governs}
 use Rattle.itip_view.proofs.Beside.{stands_from, beside_from}

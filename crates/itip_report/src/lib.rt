@@ -8,7 +8,7 @@ mod line;
 mod lines;
 mod load;
 mod organizing;
-mod parts;
+mod places;
 mod report;
 mod reported;
 #[cfg(test)]

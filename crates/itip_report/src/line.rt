@@ -3,12 +3,11 @@ ghost use Rattle.std.specs.Prelude.{◌≡◌, ◌++◌, IfOk, OnOk};
 ghost use Rattle.std.specs.Option.{option_copied};
 ghost use Rattle.std.specs.String.{string_bytes};
 ghost use Rattle.itip_moment.specs.Written.{moment_text};
-ghost use Rattle.itip_state.specs.Slots.{attendee_of};
+ghost use Rattle.itip_message.specs.KeyParts.{attendee_of};
 ghost use Rattle.itip_view.specs.ListText.{shown, shown_moment};
 ghost use Rattle.itip_report.specs.Reports.{named, word_of, line_of};
 
 use crate::NoMemory;
-use crate::parts::{attendee, instance, uid};
 use crate::report::Report;
 use itip_message::{Item, Key};
 use itip_moment::{Moment, write_moment};
@@ -38,16 +37,16 @@ fn put_attendee(line: &mut String, word: &str, key: &Key) -> Result<(), NoMemory
     ensures { OnOk result (string_bytes line.new ≡ string_bytes line.old ++ (word.now ++ attendee_of key.now)) }
 {
     line.push_str(word)?;
-    line.push_str(attendee(key))
+    line.push_str(key.attendee())
 }
 
 /// The UID, and what is named of it.
 fn put_name(alloc: Global, line: &mut String, item: &Item) -> Result<(), NoMemory>
     ensures { OnOk result (string_bytes line.new ≡ string_bytes line.old ++ named item.now) }
 {
-    line.push_str(uid(&item.key).as_str())?;
+    line.push_str(item.key.uid().as_str())?;
     line.push_str(" ")?;
-    match instance(&item.key) {
+    match item.key.instance() {
         None => line.push_str("-"),
         Some(id) => put_moment(alloc, line, id),
     }

@@ -2,19 +2,18 @@
 ghost use Rattle.std.specs.Prelude.{◌≡◌, ◌↔◌, IfOk, IsTrue, MatchOption, List, Option, ℕ, map};
 ghost use Rattle.std.specs.List.{Contains};
 ghost use Rattle.std.specs.Option.{option_copied};
-ghost use Rattle.itip_message.specs.KeyParts.{uid_of};
+ghost use Rattle.itip_message.specs.KeyParts.{uid_of, instance_of};
 ghost use Rattle.itip_message.specs.declared.item.Item.{Item};
 ghost use Rattle.itip_moment.specs.declared.moment.Moment.{Moment};
 ghost use Rattle.itip_state.specs.Kept.{AscendKeys};
 ghost use Rattle.itip_state.specs.Order.{IsState};
-ghost use Rattle.itip_state.specs.Slots.{instance_of};
 ghost use Rattle.itip_view.specs.OfUid.{AreOf, IsSeriesItem};
 ghost use Rattle.itip_report.specs.Lines.{AreReported};
 ghost use Rattle.itip_report.specs.Reports.{IsReported, IsCancellation, IsOrphan, IsWanted, IsOfAttendee, IsRefresh};
 
 use crate::NoMemory;
 use crate::governing::{governing, none_at_instance};
-use crate::parts::by_place;
+use crate::places::by_place;
 use crate::report::Report;
 use itip_message::{Item, Key};
 use itip_moment::Moment;

@@ -16,12 +16,12 @@ use Rattle.std.proofs.lemmas.Map.Keys.{sorted_head, sorted_tail}
 use Rattle.itip_join.specs.declared.lift.Lift.{Lift}
 use Rattle.itip_join.specs.declared.lift.Lift.TheVariants.{Nothing, Known}
 use Rattle.itip_moment.specs.Order.{moment_cmp}
-use Rattle.itip_message.specs.KeyParts.{uid_of}
+use Rattle.itip_message.specs.KeyParts.{uid_of, rank_of, instance_of, attendee_of}
 use Rattle.itip_message.specs.declared.item.Item.{Item}
 use Rattle.itip_message.specs.declared.key.Key.{Key}
 use Rattle.itip_message.specs.declared.key.Key.TheVariants.{Series, Instance, Answer, Refresh}
 use Rattle.itip_state.specs.Kept.{AreSeriesOf, AreUidsOf, IsSeries, HasEachOnce, AscendKeys}
-use Rattle.itip_state.specs.Slots.{key_cmp, key_total, rank_of, instance_of, attendee_of}
+use Rattle.itip_state.specs.Slots.{key_cmp, key_total}
 use Rattle.itip_state.specs.Held.{Best, Shape, is_series, series_items, entry_items, shape_items, items_of, IsEntryAt, ArePlaced}
 use Rattle.itip_state.proofs.Ascending.{pairs_ascend}
 use Rattle.itip_state.proofs.Members.{none_in, cons_cases, cons_first, cons_later, all_each, no_pairs, pairs_append}

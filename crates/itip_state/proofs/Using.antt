@@ -1,8 +1,7 @@
 -- The greatest sequence that organizers have used.
-use Rattle.std.proofs.Common.{◌≡◌, ℕ, ◌≤◌, List, [], ◌∷◌, refl, sym, ◌∙◌, ap, subst, ◌⊎◌, inl, inr, Bool, true, false, Option, Some, None, max, arith}
+use Rattle.std.proofs.Common.{◌≡◌, ℕ, ◌≤◌, List, [], ◌∷◌, refl, sym, ◌∙◌, ap, subst, ◌⊎◌, inl, inr, true, false, Option, Some, None, max, arith}
 use Rattle.std.specs.Prelude.{if◌then◌else◌}
 use Rattle.std.specs.List.{Contains}
-use Rattle.itip_message.specs.KeyParts.{uid_of}
 use Rattle.itip_message.specs.declared.item.Item.{Item}
 use Rattle.itip_state.specs.Kept.{ArePart}
 use Rattle.itip_state.specs.Order.{IsState}

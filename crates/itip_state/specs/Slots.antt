@@ -1,6 +1,6 @@
 -- The order in which a state holds its items: by UID, then by the rest of the key, the series item first (our own rule).
-use Rattle.std.specs.Prelude.{◌≡◌, ℕ, List, [], Option, Some, None, unwrap_or}
-use Rattle.std.proofs.Common.{refl, ap, arith}
+use Rattle.std.specs.Prelude.{◌≡◌}
+use Rattle.std.proofs.Common.{refl}
 use Rattle.std.specs.declared.cmp.Ordering.{Ordering}
 use Rattle.std.specs.declared.cmp.Ordering.TheVariants.{Less, Equal, Greater}
 use Rattle.std.specs.Ordering.{nat_cmp, ordering_then}
@@ -11,33 +11,11 @@ use Rattle.std.proofs.lemmas.Cmp.{then_total, on_total, nat_cmp_total, nat_list_
 use Rattle.std.proofs.lemmas.Map.Lookups.{CmpEqualImpliesEq, exact_unsigned, exact_bytes}
 use Rattle.itip_moment.specs.Order.{moment_cmp}
 use Rattle.itip_moment.specs.OrderLaws.{moment_total}
-use Rattle.itip_moment.specs.declared.moment.Moment.{Moment}
 use Rattle.itip_moment.proofs.Same.{moment_equal}
-use Rattle.itip_message.specs.KeyParts.{uid_of}
+use Rattle.itip_message.specs.KeyParts.{uid_of, rank_of, instance_of, attendee_of}
 use Rattle.itip_message.specs.declared.key.Key.{Key}
-use Rattle.itip_message.specs.declared.key.Key.TheVariants.{Series, Instance, Answer, Refresh}
+use Rattle.itip_message.proofs.Keys.{from_parts}
 use Rattle.itip_join.specs.Ranked.{exact_option}
-
--- the place of the kinds of key
-abbrev pub rank_of : Key → ℕ
-rank_of (Series uid) = 0
-rank_of (Instance uid id) = 1
-rank_of (Answer uid id attendee) = 2
-rank_of (Refresh uid id attendee) = 3
-
--- the instance that a key is about
-abbrev pub instance_of : Key → Option Moment
-instance_of (Series uid) = None
-instance_of (Instance uid id) = Some id
-instance_of (Answer uid id attendee) = id
-instance_of (Refresh uid id attendee) = id
-
--- the attendee that a key is about
-abbrev pub attendee_of : Key → List ℕ
-attendee_of (Series uid) = []
-attendee_of (Instance uid id) = []
-attendee_of (Answer uid id attendee) = attendee
-attendee_of (Refresh uid id attendee) = attendee
 
 -- by UID, then by kind, instance and attendee
 abbrev pub key_cmp : Key → Key → Ordering
@@ -57,24 +35,6 @@ pub then_equal : (r s : Ordering) → ordering_then r s ≡ Equal → (r ≡ Equ
 then_equal Less s e = cc
 then_equal Equal s e = (refl, e)
 then_equal Greater s e = cc
-
-from_parts : (a b : Key) → uid_of a ≡ uid_of b → rank_of a ≡ rank_of b → instance_of a ≡ instance_of b → attendee_of a ≡ attendee_of b → a ≡ b
-from_parts (Series u) (Series v) p r m t = ap Series p
-from_parts (Instance u i) (Instance v j) p r m t = λ x. Instance (p x) (unwrap_or (m x) i)
-from_parts (Answer u i a) (Answer v j b) p r m t = λ x. Answer (p x) (m x) (t x)
-from_parts (Refresh u i a) (Refresh v j b) p r m t = λ x. Refresh (p x) (m x) (t x)
-from_parts (Series u) (Instance v j) p r m t = absurd (omega (arith, r))
-from_parts (Series u) (Answer v j b) p r m t = absurd (omega (arith, r))
-from_parts (Series u) (Refresh v j b) p r m t = absurd (omega (arith, r))
-from_parts (Instance u i) (Series v) p r m t = absurd (omega (arith, r))
-from_parts (Instance u i) (Answer v j b) p r m t = absurd (omega (arith, r))
-from_parts (Instance u i) (Refresh v j b) p r m t = absurd (omega (arith, r))
-from_parts (Answer u i a) (Series v) p r m t = absurd (omega (arith, r))
-from_parts (Answer u i a) (Instance v j) p r m t = absurd (omega (arith, r))
-from_parts (Answer u i a) (Refresh v j b) p r m t = absurd (omega (arith, r))
-from_parts (Refresh u i a) (Series v) p r m t = absurd (omega (arith, r))
-from_parts (Refresh u i a) (Instance v j) p r m t = absurd (omega (arith, r))
-from_parts (Refresh u i a) (Answer v j b) p r m t = absurd (omega (arith, r))
 
 pub key_exact : CmpEqualImpliesEq key_cmp
 key_exact a b e =

@@ -2,7 +2,6 @@
 ghost use Rattle.std.specs.Prelude.{◌≡◌};
 ghost use Rattle.itip_state.specs.Held.{can_die as key_can_die, is_below as item_is_below};
 
-use crate::slot::uid;
 use itip_message::{Item, Key};
 
 /// Whether items of this key can die.
@@ -19,5 +18,5 @@ pub(crate) fn can_die(key: &Key) -> bool
 pub(crate) fn is_below(series: &Item, item: &Item) -> bool
     ensures { result ≡ item_is_below series.now item.now }
 {
-    can_die(&item.key) && uid(&series.key).cmp(uid(&item.key)).is_eq() && item.eff < series.eff
+    can_die(&item.key) && series.key.uid().cmp(item.key.uid()).is_eq() && item.eff < series.eff
 }

@@ -3,16 +3,14 @@ ghost use Rattle.std.specs.Prelude.{◌≡◌, IfOk, MatchOption, map, refl};
 ghost use Rattle.std.specs.List.{Contains};
 ghost use Rattle.std.specs.Cmp.{partial_order_from_total, partial_equiv_from_equiv, eq_by_cmp_equiv};
 ghost use Rattle.std.specs.Ordering.{as_partial_cmp, eq_by_cmp};
-ghost use Rattle.std.specs.Option.{option_copied, option_cmp};
-ghost use Rattle.itip_moment.specs.Order.{moment_cmp};
+ghost use Rattle.std.specs.Option.{option_copied};
 ghost use Rattle.itip_message.specs.KeyParts.{uid_of};
 ghost use Rattle.itip_message.specs.declared.item.Item.{Item};
 ghost use Rattle.itip_state.specs.Kept.{AscendKeys};
-ghost use Rattle.itip_state.specs.Slots.{rank_of, instance_of, attendee_of, key_cmp, key_total};
+ghost use Rattle.itip_state.specs.Slots.{key_cmp, key_total};
 
 use itip_join::{Exact, NoMemory};
 use itip_message::{Item, Key};
-use itip_moment::Moment;
 use itip_todo::Uid;
 use std::alloc::Global;
 use std::cmp::Ordering;
@@ -61,64 +59,18 @@ impl Slot {
 pub(crate) fn uid(key: &Key) -> &Uid
     ensures { result.now ≡ uid_of key.now }
 {
-    match key {
-        Key::Series(uid)
-        | Key::Instance(uid, _)
-        | Key::Answer(uid, _, _)
-        | Key::Refresh(uid, _, _) => uid,
-    }
-}
-
-fn rank(key: &Key) -> u8
-    ensures { result ≡ rank_of key.now }
-{
-    match key {
-        Key::Series(_) => 0,
-        Key::Instance(_, _) => 1,
-        Key::Answer(_, _, _) => 2,
-        Key::Refresh(_, _, _) => 3,
-    }
-}
-
-fn instance(key: &Key) -> Option<&Moment>
-    ensures { option_copied result ≡ instance_of key.now }
-{
-    match key {
-        Key::Series(_) => None,
-        Key::Instance(_, id) => Some(id),
-        Key::Answer(_, id, _) | Key::Refresh(_, id, _) => id.as_ref(),
-    }
-}
-
-fn compare_instances(key: &Key, other: &Key) -> Ordering
-    ensures { result ≡ option_cmp moment_cmp (instance_of key.now) (instance_of other.now) }
-{
-    match (instance(key), instance(other)) {
-        (None, None) => Ordering::Equal,
-        (None, Some(_)) => Ordering::Less,
-        (Some(_), None) => Ordering::Greater,
-        (Some(id), Some(other_id)) => id.cmp(other_id),
-    }
-}
-
-fn attendee(key: &Key) -> &[u8]
-    ensures { result.now ≡ attendee_of key.now }
-{
-    match key {
-        Key::Series(_) | Key::Instance(_, _) => &[],
-        Key::Answer(_, _, attendee) | Key::Refresh(_, _, attendee) => attendee.as_str().as_bytes(),
-    }
+    key.uid()
 }
 
 /// By UID, then by kind, instance and attendee.
 pub(crate) fn compare(key: &Key, other: &Key) -> Ordering
     ensures { result ≡ key_cmp key.now other.now }
 {
-    uid(key)
-        .cmp(uid(other))
-        .then(rank(key).cmp(&rank(other)))
-        .then(compare_instances(key, other))
-        .then_with(|| attendee(key).cmp(attendee(other)))
+    key.uid()
+        .cmp(other.uid())
+        .then(key.rank().cmp(&other.rank()))
+        .then(key.cmp_instances(other))
+        .then_with(|| key.attendee().cmp(other.attendee()))
 }
 
 /// The item of a key among items in the order of their keys, or `None` where there is none. It takes no memory.

@@ -6,6 +6,7 @@ use Rattle.itip_recur.specs.Occurrences.{OccursIn, AreOccurrences}
 use Rattle.itip_recur.specs.ToDoShape.{IsShape, IsSeriesOf}
 use Rattle.itip_recur.specs.declared.series.Series.{Series}
 use Rattle.itip_recur.specs.declared.series.Shape.TheVariants as shape
+use Rattle.itip_recur.proofs.OneSeries.{series_one}
 use Rattle.itip_message.specs.declared.item.Item.{Item}
 use Rattle.itip_message.specs.declared.key.Key.TheVariants as key
 use Rattle.itip_state.proofs.Members.{none_in}
@@ -13,7 +14,6 @@ use Rattle.itip_view.specs.OfUid.{IsWhole, IsOccurrence, AreOccurrencesOf}
 use Rattle.itip_view.specs.declared.whole.Whole.{Whole}
 use Rattle.itip_view.specs.declared.window.Window.{Window}
 use Rattle.itip_view.proofs.OneRow.{one_best}
-use Rattle.itip_view.proofs.OneSeries.{series_one}
 use Rattle.itip_view.proofs.PlaceRows.{single_has_none, opaque_has_none}
 
 module _ (heard : List Item) (window : Window) (uid : List ℕ) where

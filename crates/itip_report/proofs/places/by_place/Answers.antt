@@ -4,7 +4,7 @@ use Rattle.std.proofs.lemmas.Fn.{always_returns_same}
 use Rattle.std.proofs.lemmas.List.Sorted.{ranks_by, IsPermutation-map, IsPermutation-sym, Contains-permutation}
 use Rattle.itip_report.specs.Lines.{place_cmp}
 use Rattle.itip_report.proofs.Placing.{place_total, places_ascend}
-use Rattle.itip_report.proofs.parts.by_place.Goals as goal
+use Rattle.itip_report.proofs.places.by_place.Goals as goal
 
 pub returns-clause-ascend : goal.returns-clause-ascend
 returns-clause-ascend c = places_ascend (λ item. item.now) c.args.items.items c.sort_by.new.self.items c.requires c.in_ok-sort_by.ensures.permutation
