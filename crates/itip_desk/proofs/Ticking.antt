@@ -103,10 +103,11 @@ of_front since (e ∷ done) rest low uid c = by_bool (is_eq (uid_cmp uid e.0)) (
 pub front_carries : (since : ℕ) (all : List (List ℕ × ℕ)) (uids : List (List ℕ)) (rest : List (List ℕ × ℕ)) → AreInFront since all uids rest → EndsAt since rest
     → (top : ℕ) → FallFrom top all → (uid : List ℕ) → Contains uids uid ↔ CarriesAfter all since uid
 front_carries since all uids rest front ends top f uid =
-    let r = fall_rest top front.done rest (subst (FallFrom top) front.whole f) in
-    (λ h. subst (λ (es : List (List ℕ × ℕ)). CarriesAfter es since uid) (sym front.whole) (in_front since front.done rest front.above uid (subst (λ (us : List (List ℕ)). Contains us uid) front.uids_are h)),
-    λ c. subst (λ (us : List (List ℕ)). Contains us uid) (sym front.uids_are)
-    (of_front since front.done rest (rest_low since r.0 rest r.1 ends) uid (subst (λ (es : List (List ℕ × ℕ)). CarriesAfter es since uid) front.whole c)))
+    let r = fall_rest top front.done rest (subst (FallFrom top) front.whole f) in (
+      λ h. subst (λ (es : List (List ℕ × ℕ)). CarriesAfter es since uid) (sym front.whole) (in_front since front.done rest front.above uid (subst (λ (us : List (List ℕ)). Contains us uid) front.uids_are h)),
+      λ c. subst (λ (us : List (List ℕ)). Contains us uid) (sym front.uids_are)
+          (of_front since front.done rest (rest_low since r.0 rest r.1 ends) uid (subst (λ (es : List (List ℕ × ℕ)). CarriesAfter es since uid) front.whole c)),
+    )
 
 keys_more : (done : List (List ℕ × ℕ)) (e : List ℕ × ℕ) → keys_of (done ++ e ∷ []) ≡ keys_of done ++ e.0 ∷ []
 keys_more [] e = refl
@@ -258,11 +259,12 @@ module _ (es new : List (List ℕ × ℕ)) (u : List ℕ) (w : ℕ) (there : is_
   put_first =
       let test : List ℕ → Bool = λ k. is_eq (uid_cmp u k) in
       let r = some_entry test es there in
-      let front : promoted test es ≡ r.0 ∷ remove_entry test es = ap (λ o. option_map_or (λ e. e ∷ remove_entry test es) o es) r.1 in
-      (r.0,
-      is_new ∙ ap (λ t. set_value t (promoted t es) w) (same_test u) ∙ ap (λ xs. set_value test xs w) front
-      ∙ ap (λ b. cond b ((r.0.0, w) ∷ remove_entry test es) (r.0 ∷ set_value test (remove_entry test es) w)) r.2,
-      one_uid u r.0.0 r.2)
+      let front : promoted test es ≡ r.0 ∷ remove_entry test es = ap (λ o. option_map_or (λ e. e ∷ remove_entry test es) o es) r.1 in (
+        r.0,
+        is_new ∙ ap (λ t. set_value t (promoted t es) w) (same_test u) ∙ ap (λ xs. set_value test xs w) front
+            ∙ ap (λ b. cond b ((r.0.0, w) ∷ remove_entry test es) (r.0 ∷ set_value test (remove_entry test es) w)) r.2,
+        one_uid u r.0.0 r.2,
+      )
 
   pub marked_at : (q : List ℕ) → at_uid new q ≡ cond (is_eq (uid_cmp u q)) (Some w) (at_uid es q)
   marked_at q =

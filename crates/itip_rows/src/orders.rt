@@ -27,7 +27,10 @@ pub(crate) fn agree(alloc: Global, batches: &[Vec<Item>; 3]) -> Result<bool, Row
     for order in ORDERS {
         let state = merged(alloc, batches, order)?;
         let desk = taken(alloc, batches, order)?;
-        if state.items()?.as_slice() != told || state.entries() != told.len() || !desk.state().equal(&state) {
+        if state.items()?.as_slice() != told
+            || state.entries() != told.len()
+            || !desk.state().equal(&state)
+        {
             return Ok(false);
         }
     }

@@ -156,11 +156,7 @@ fn show<'a>(series: &'a SeriesState, items: &mut Vec<&'a Item>) -> Result<(), No
 }
 
 /// Adds the items of one UID, the series item first.
-fn share(
-    alloc: Global,
-    series: &SeriesState,
-    items: &mut Vec<SharedItem>,
-) -> Result<(), NoMemory>
+fn share(alloc: Global, series: &SeriesState, items: &mut Vec<SharedItem>) -> Result<(), NoMemory>
     ensures { OnOk result (items.new.items ≡ items.old.items ++ shape_items (record { series = series.now.guard; entries = series.now.entries.map })) }
 {
     if let Lift::Known(best) = &series.guard {
