@@ -16,7 +16,7 @@ pub record Shown : Type 0 where
   -- the kept items, each once
   pub kept : List Item
   pub tick : ℕ
-  -- the UIDs that moved, the last moved first, each with the tick that it carries
+  -- the UIDs that moved, each with the tick that it carries
   pub changed : List (List ℕ × ℕ)
 
 abbrev pub shown_code : Coded Shown

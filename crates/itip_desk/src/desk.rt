@@ -118,13 +118,13 @@ impl Desk {
         })
     }
 
-    /// The kept items of the UIDs that carry a tick above this one: what a desk that was at this tick lacks. No other UID is looked at.
+    /// The kept items of the UIDs that carry a tick above this one: what a desk that was at this tick lacks. At most one other UID is looked at.
     pub fn delta_since(&self, tick: u64) -> Result<Batch, AllocError>
         ensures { IfOk result (IsDeltaOf self.now tick) }
     {
         let uids = self.moves.after(tick)?;
         let part = self.state.part(&uids)?;
-        Batch::of_shared(part.items()?)
+        Batch::of_shared(part.shared_items()?)
     }
 
     /// The text of the task list in a window.

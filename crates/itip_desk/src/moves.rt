@@ -67,7 +67,7 @@ impl MovedUids {
         }
     }
 
-    /// Has these UIDs, which have places, carry the tick.
+    /// Has these UIDs, which have places, carry the tick. They then stand first.
     pub(crate) fn mark(&mut self, uids: &[Uid], tick: u64)
         requires { (uid : List ℕ) → is_listed uids.now uid ≡ true → is_some (value_at (slice_cmp nat_cmp) self.old uid) ≡ true }
         ensures marked { (uid : List ℕ) → value_at (slice_cmp nat_cmp) self.new uid ≡ cond (is_listed uids.now uid) (Some tick) (value_at (slice_cmp nat_cmp) self.old uid) }

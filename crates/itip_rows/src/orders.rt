@@ -21,13 +21,13 @@ pub(crate) fn agree(alloc: Global, batches: &[Vec<Item>; 3]) -> Result<bool, Row
     let all = all_items(alloc, batches)?;
     let told = Batch::of_items(kept(alloc, &all)?)?;
     let told = told.as_slice();
-    if State::of_items(alloc, &all)?.items()?.as_slice() != told {
+    if State::of_items(alloc, &all)?.shared_items()?.as_slice() != told {
         return Ok(false);
     }
     for order in ORDERS {
         let state = merged(alloc, batches, order)?;
         let desk = taken(alloc, batches, order)?;
-        if state.items()?.as_slice() != told
+        if state.shared_items()?.as_slice() != told
             || state.entries() != told.len()
             || !desk.state().equal(&state)
         {

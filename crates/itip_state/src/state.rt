@@ -322,8 +322,20 @@ impl State {
         news(self.alloc, &self.held, &other.held)
     }
 
-    /// The kept items by canonical octets, each once.
-    pub fn items(&self) -> Result<Vec<SharedItem>, NoMemory>
+    /// Copies of the kept items, by canonical octets, each once.
+    pub fn items(&self) -> Result<Vec<Item>, NoMemory>
+        ensures { IfOk result (λ items. IsItemsOf items.items self.now) }
+    {
+        let shared = self.shared_items()?;
+        let mut items = Vec::new(self.alloc);
+        for item in &shared {
+            items.push(item.item().clone()?)?;
+        }
+        Ok(items)
+    }
+
+    /// The kept items, shared with this state, by canonical octets, each once.
+    pub fn shared_items(&self) -> Result<Vec<SharedItem>, NoMemory>
         ensures { IfOk result (λ items. IsItemsOf items.items self.now) }
     {
         let mut items = Vec::new(self.alloc);

@@ -1,6 +1,5 @@
-use Rattle.std.proofs.Common.{◌≡◌, ◌++◌}
-use Rattle.itip_state.specs.Held.{items_of, shapes}
+use Rattle.std.proofs.Common.{◌≡◌, take}
 use Rattle.itip_state.proofs.state.State.items.Given as goal
 
-abbrev pub invariant-loop-series : goal.invariant-loop-series
-invariant-loop-series l = l.items.items ++ items_of (shapes l.series-iterator (λ v. v.guard) (λ v. v.entries.map)) ≡ l.self
+abbrev pub invariant-loop-item : goal.invariant-loop-item
+invariant-loop-item l = l.items.items ≡ take l.item-index l.item-items
