@@ -1,5 +1,5 @@
 -- From the draft of all lines to the to-do.
-use Rattle.std.proofs.Common.{◌≡◌, true, ◌&&◌, ℕ, ◌+◌, ◌<◌, ◌≤◌, List, [], ◌∷◌, length, map, refl, sym, ap, subst, ◌∙◌, inl, inr, arith, length-append, Option, Some, None}
+use Rattle.std.proofs.Common.{◌≡◌, ◌≢◌, true, ◌&&◌, ℕ, ◌+◌, ◌<◌, ◌≤◌, List, [], ◌∷◌, length, map, refl, sym, ap, subst, ◌∙◌, inl, inr, arith, length-append, Option, Some, None}
 use Rattle.std.specs.BTreeSet.{BTreeSet, IsOrdered}
 use Rattle.std.specs.Fmt.{decimal}
 use Rattle.std.specs.List.{AllByRecursion, Contains, IsDistinct, list_all}
@@ -16,12 +16,15 @@ use Rattle.itip_moment.specs.declared.stamp.Stamp.{Stamp}
 use Rattle.itip_todo.specs.Drafts.{IsDraftOf, IsLawfulDraft, IsSetOf, draft_parts}
 use Rattle.itip_todo.specs.Lawful.{IsLawfulContent, HasValue, keys_of}
 use Rattle.itip_todo.specs.Participation.{same_text}
-use Rattle.itip_todo.specs.Reading.{IsOptional, IsOrNought, IsUidOf, IsSequenceOf, IsPercentOf, IsPriorityOf, IsMomentOf, IsPropertyOf, IsOrganizerOf, AreMomentsOf, ListMoments, lines_of, first_of, whole_property, value_of, key_of}
+use Rattle.itip_todo.specs.Reading.{IsOptional, IsOrNought, IfFault, AreGood, RefusesTodo, IsUidOf, IsStampOf, IsSequenceOf, IsPercentOf, IsPriorityOf, IsMomentOf, IsPropertyOf, IsOrganizerOf, AreMomentsOf, ListMoments, lines_of, first_of, first_named, whole_property, value_of, key_of}
 use Rattle.itip_todo.specs.StatusText.{status_text}
 use Rattle.itip_todo.specs.Table.{name_text, place_of, is_same, property_of, is_other, sequence_limit, percent_limit, priority_limit, attendee_limit}
 use Rattle.itip_todo.specs.Values.{IsNumberUpTo, AreMoments}
 use Rattle.itip_todo.specs.Written.{Content, content_of, plain, moment_line, property_line, parts_contents}
 use Rattle.itip_todo.specs.declared.draft.Draft.{Draft}
+use Rattle.itip_todo.specs.declared.error.Fault.TheVariants as fault
+use Rattle.itip_todo.specs.declared.error.TodoError.{TodoError}
+use Rattle.itip_todo.specs.declared.error.TodoError.TheVariants as error
 use Rattle.itip_todo.specs.declared.property.Property.{Property}
 use Rattle.itip_todo.specs.declared.property_name.PropertyName.{PropertyName}
 use Rattle.itip_todo.specs.declared.property_name.PropertyName.TheVariants as name
@@ -171,3 +174,22 @@ moments_of lines set moments is same ordered = record {
   ascending = subst (λ (ms : List Moment). IsStrictlySortedBy moment_cmp ms) (sym same) ordered;
   each = λ m. subst (λ (ms : List Moment). Contains ms m ↔ Contains is.listed m) (sym same) (same_members set is.listed is.each m);
 }
+
+-- a line is there where a value is read, and none where none is
+is_there : {A : Type 0} (P : Line → A → Type 0) (line : Option Line) (value : A) → IsOptional P line (Some value) → line ≢ None
+is_there P None value read = λ e. read
+is_there P (Some line) value read = λ e. absurd (cc)
+
+is_absent : {A : Type 0} (P : Line → A → Type 0) (line : Option Line) → IsOptional P line None → line ≡ None
+is_absent P None read = refl
+is_absent P (Some line) read = absurd read
+
+-- a draft with a UID and no DTSTAMP is refused for want of DTSTAMP
+pub stampless : (e : TodoError) (draft : Draft) (uid : List ℕ) → draft.uid ≡ Some uid → IfFault e (λ f. (f ≡ fault.Missing name.DtStamp) × (draft.stamp ≡ None))
+    → IfFault e (λ f. (lines : List Line) → AreGood [] lines → IsDraftOf (lines_of lines) draft → RefusesTodo lines f)
+stampless error.NoMemory draft uid there missing = tt
+stampless (error.Fault f) draft uid there (same, none) = λ lines good is. inr (inr (
+    good,
+    is_there IsUidOf (first_named name.Uid lines) uid (subst (λ (v : Option (List ℕ)). IsOptional IsUidOf (first_named name.Uid lines) v) there (is name.Uid)),
+    is_absent IsStampOf (first_named name.DtStamp lines) (subst (λ (v : Option Stamp). IsOptional IsStampOf (first_named name.DtStamp lines) v) none (is name.DtStamp)),
+    same))

@@ -16,3 +16,4 @@ pub mod WritingLaws
 pub mod ByProperty
 pub mod GoodAgain
 pub mod WrittenValues
+pub mod HeadOrder

@@ -8,3 +8,4 @@ pub mod Values
 pub mod Reading
 pub mod Drafts
 pub mod Participation
+pub mod Heads

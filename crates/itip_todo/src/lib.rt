@@ -11,6 +11,7 @@ mod draft;
 mod error;
 mod exact;
 mod finish;
+mod head;
 mod laws;
 mod list;
 mod number;

@@ -7,6 +7,7 @@ ghost use Rattle.std.specs.Cmp.Rules.{hashing};
 ghost use Rattle.std.specs.Hash as fed;
 ghost use Rattle.std.proofs.Common.{rules};
 
+use crate::head::head;
 use itip_lines::{NoMemory, Text};
 use std::alloc::Global;
 use std::cmp::Ordering;
@@ -15,17 +16,24 @@ use std::hash::{Hash, Hasher};
 use std::marker::Model;
 
 /// The UID of a to-do (RFC 5545 3.8.4.7), compared by its octets.
+///
+/// Its first octets stand in it as a number too, so that few comparisons have to look at the text, which lies elsewhere in memory.
 #[derive(Debug, Drop)]
 pub struct Uid {
+    head: u128,
     text: Text,
 }
 
 impl Model for Uid {
     ghost use Rattle.std.specs.Prelude.{List, ℕ};
 
+    ghost use Rattle.itip_todo.specs.Heads.{IsHead};
+
     ghost Value = { List ℕ };
 
     ghost view = { λ uid. uid.text };
+
+    ghost invariant = { λ uid. IsHead uid.head uid.text };
 }
 
 impl Uid {
@@ -33,7 +41,10 @@ impl Uid {
     pub fn new(text: Text) -> Uid
         ensures { result ≡ text }
     {
-        Uid { text }
+        Uid {
+            head: head(text.as_str().as_bytes()),
+            text,
+        }
     }
 
     /// A UID with a copy of a text.
@@ -55,7 +66,10 @@ impl Clone for Uid {
     ghost is_clone = { λ uid copy. copy ≡ uid };
 
     fn clone(&self) -> Result<Uid, NoMemory> {
-        Ok(Uid::new(self.text.clone()?))
+        Ok(Uid {
+            head: self.head,
+            text: self.text.clone()?,
+        })
     }
 }
 
@@ -93,7 +107,9 @@ impl Ord for Uid {
     ghost matches_eq = { texts_ties };
 
     fn cmp(&self, other: &Self) -> Ordering {
-        self.text.cmp(&other.text)
+        self.head
+            .cmp(&other.head)
+            .then_with(|| self.text.cmp(&other.text))
     }
 }
 

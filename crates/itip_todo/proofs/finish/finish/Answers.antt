@@ -1,11 +1,12 @@
 use Rattle.std.proofs.Common.{◌≡◌, ℕ, List, sym, subst, ◌∙◌, Option}
+use Rattle.std.proofs.lemmas.Result.{err_from_is_err_and}
 use Rattle.itip_moment.specs.declared.stamp.Stamp.{Stamp}
 use Rattle.itip_todo.specs.Drafts.{draft_parts}
 use Rattle.itip_todo.specs.Lawful.{IsLawful}
 use Rattle.itip_todo.specs.Parts.{Parts}
 use Rattle.itip_todo.specs.Reading.{IsOptional, IsOrNought, IsUidOf, IsStampOf, IsSequenceOf, first_named, lines_of}
 use Rattle.itip_todo.specs.declared.property_name.PropertyName.TheVariants as name
-use Rattle.itip_todo.proofs.Finishing.{or_nought, moments_of}
+use Rattle.itip_todo.proofs.Finishing.{or_nought, moments_of, stampless}
 use Rattle.itip_todo.proofs.finish.finish.Goals as goal
 
 pub invariant_of-result : goal.invariant_of-result
@@ -71,3 +72,8 @@ returns-clause-found c = λ lines good is. record {
   exdates = moments_of (lines_of lines name.ExDate) c.args.draft.exdates c.in_ok-exdates.exdates (is name.ExDate) c.in_ok-exdates.ensures.list c.in_ok-exdates.ensures.ordered;
   others = c.from_vec-3.ensures ∙ is name.Others;
 }
+
+pub returns-in_err-stamp-clause-fault : goal.returns-in_err-stamp-clause-fault
+returns-in_err-stamp-clause-fault c =
+    let p = err_from_is_err_and c.from_residual-in_err-stamp.result c.from_residual-in_err-stamp.ensures.1 in
+    rw (p.1, p.2) (stampless c.in_err-stamp.field-0.0 c.args.draft c.in_ok-uid.uid c.in_ok-uid.ensures.some c.in_err-stamp.ensures.fault)
