@@ -15,7 +15,7 @@ use Rattle.itip_message.specs.declared.item.Item.{Item}
 use Rattle.itip_message.specs.declared.key.Key.{Key}
 use Rattle.itip_message.specs.declared.key.Key.TheVariants.{Series}
 use Rattle.itip_state.specs.Kept.{IsBest, IsDead, IsKept, AreKept}
-use Rattle.itip_state.specs.Slots.{key_cmp}
+use Rattle.itip_state.specs.Slots.{slot_cmp}
 use Rattle.itip_state.specs.Held.{Best, Shape, best, is_series, can_die, kills, shape_items}
 use Rattle.itip_state.specs.Dying.{IsNoLater, eff_up_to, less_from}
 use Rattle.itip_state.specs.Below.{IsShapeBelow}
@@ -47,7 +47,7 @@ module _ (uid : List ℕ) (a b : Shape) (sound_a : IsSound uid a) (sound_b : IsS
   by_series j key Nothing e l = absurd l
   by_series j key (Known w) e l = inl (w.value, series_held uid b sound_b w.value e, known_key uid b sound_b w.value e ∙ sym key, l)
 
-  by_entry : (j : Item) (o : Option Best) → value_at key_cmp b.entries j.key ≡ o → IsBelowUnder (is_killed b.series j.key) IsNoLater (Some (best j)) o → IsToldBy b j
+  by_entry : (j : Item) (o : Option Best) → value_at slot_cmp b.entries j.key ≡ o → IsBelowUnder (is_killed b.series j.key) IsNoLater (Some (best j)) o → IsToldBy b j
   by_entry j None e d = inr d
   by_entry j (Some w) e (inl d) = inr d
   by_entry j (Some w) e (inr l) = inl (w.value, entry_held uid b sound_b j.key w e, (entry_key uid b sound_b j.key w e).in_place, l)
@@ -56,8 +56,8 @@ module _ (uid : List ℕ) (a b : Shape) (sound_a : IsSound uid a) (sound_b : IsS
   pub told : IsShapeBelow a b → (j : Item) → Contains x j → IsToldBy b j
   told le j h = elim (held_as uid a sound_a j h) [
     | inl first ↦ by_series j (known_key uid a sound_a j first.0) b.series refl (subst (λ (s : Lift Best). IsLiftedBelow IsNoLater s b.series) first.0 le.0)
-    | inr other ↦ by_entry j (value_at key_cmp b.entries j.key) refl
-        (subst (λ (o : Option Best). IsBelowUnder (is_killed b.series j.key) IsNoLater o (value_at key_cmp b.entries j.key)) other.0 (le.1 j.key))
+    | inr other ↦ by_entry j (value_at slot_cmp b.entries j.key) refl
+        (subst (λ (o : Option Best). IsBelowUnder (is_killed b.series j.key) IsNoLater o (value_at slot_cmp b.entries j.key)) other.0 (le.1 j.key))
   ]
 
   -- nothing that is told is later than what the other holds of its key
@@ -139,7 +139,7 @@ module _ (uid : List ℕ) (a b : Shape) (sound_a : IsSound uid a) (sound_b : IsS
   series_in kept t is = series_is uid b sound_b t ((kept t).1 (series_kept (x ++ z) uid t is)) (ap is_series is.about)
 
   pub kept_below : AreKept z (x ++ z) → IsShapeBelow a b
-  kept_below kept = (series_below a.series refl, λ k. entry_below k (value_at key_cmp a.entries k) refl)
+  kept_below kept = (series_below a.series refl, λ k. entry_below k (value_at slot_cmp a.entries k) refl)
     where
       series_below : (s : Lift Best) → a.series ≡ s → IsLiftedBelow IsNoLater s b.series
       series_below Nothing e = tt
@@ -151,10 +151,10 @@ module _ (uid : List ℕ) (a b : Shape) (sound_a : IsSound uid a) (sound_b : IsS
           subst (λ (t : Lift Best). IsLiftedBelow IsNoLater (Known s) t) (sym (series_in kept found.0 is))
           (not_later_up_to s.value found.0 (is.none_later s.value (Contains-append_left x z s.value here) key))
 
-      entry_below : (k : Key) (o : Option Best) → value_at key_cmp a.entries k ≡ o → IsBelowUnder (is_killed b.series k) IsNoLater o (value_at key_cmp b.entries k)
+      entry_below : (k : Key) (o : Option Best) → value_at slot_cmp a.entries k ≡ o → IsBelowUnder (is_killed b.series k) IsNoLater o (value_at slot_cmp b.entries k)
       entry_below k None e = tt
-      entry_below k (Some v) e = by_bool (kills b.series k i) (IsBelowUnder (is_killed b.series k) IsNoLater (Some v) (value_at key_cmp b.entries k))
-          (λ d. dead d (value_at key_cmp b.entries k))
+      entry_below k (Some v) e = by_bool (kills b.series k i) (IsBelowUnder (is_killed b.series k) IsNoLater (Some v) (value_at slot_cmp b.entries k))
+          (λ d. dead d (value_at slot_cmp b.entries k))
           (λ n. subst (IsBelowUnder (is_killed b.series k) IsNoLater (Some v)) (sym (there n)) (inr (not_later_up_to i found.0 no_later)))
         where
           i : Item
@@ -188,8 +188,8 @@ module _ (uid : List ℕ) (a b : Shape) (sound_a : IsSound uid a) (sound_b : IsS
               let c : can_die k ≡ true = ap can_die (sym key ∙ sym (found.1).about) ∙ can (found.0).key gone.can_die in
               let y : true ≡ false = sym (kill gone.series k i c (omega arith)) ∙ sym (ap (λ (s : Lift Best). kills s k i) known) ∙ n in cc
 
-          there : kills b.series k i ≡ false → value_at key_cmp b.entries k ≡ Some (best found.0)
+          there : kills b.series k i ≡ false → value_at slot_cmp b.entries k ≡ Some (best found.0)
           there n =
               let is : IsKept (x ++ z) found.0 = record { best = subst (λ (q : Key). IsBest (x ++ z) q found.0) (sym (found.1).about) found.1; alive = alive n } in
               let other : is_series (found.0).key ≡ false = ap is_series ((found.1).about ∙ key) ∙ (entry_key uid a sound_a k v e).other in
-              subst (λ (q : Key). value_at key_cmp b.entries q ≡ Some (best found.0)) ((found.1).about ∙ key) (entry_is uid b sound_b found.0 ((kept found.0).1 is) other)
+              subst (λ (q : Key). value_at slot_cmp b.entries q ≡ Some (best found.0)) ((found.1).about ∙ key) (entry_is uid b sound_b found.0 ((kept found.0).1 is) other)

@@ -15,7 +15,7 @@ use Rattle.itip_join.specs.Ranked.{IsUpTo-refl, IsUpTo-trans, IsUpTo-tie, IsUpTo
 use Rattle.itip_join.proofs.Under.{all_alive-kept, value_at-kept}
 use Rattle.itip_message.specs.declared.item.Item.{Item}
 use Rattle.itip_message.specs.declared.key.Key.{Key}
-use Rattle.itip_state.specs.Slots.{key_cmp, key_total, key_exact}
+use Rattle.itip_state.specs.Slots.{slot_cmp, slot_total, slot_exact}
 use Rattle.itip_message.proofs.Revisions.{revisions_total}
 use Rattle.itip_state.specs.Revisions.{revision_exact}
 use Rattle.itip_state.specs.Held.{Best, Shape, best, shape_items, IsSeriesAt, IsEntryAt, IsPlaced}
@@ -38,7 +38,7 @@ no_later_same : (a b : Best) → IsNoLater a b → IsNoLater b a → a ≡ b
 no_later_same a b p q = λ i. record { value = revision_exact a.value b.value (IsUpTo-tie revisions_total a.value b.value p q) i }
 
 abbrev both_entries : List (Key × Best) → List (Key × Best) → List (Key × Best)
-both_entries = combined key_total key_exact IsNoLater no_later_itself no_later_through no_later_one
+both_entries = combined slot_total slot_exact IsNoLater no_later_itself no_later_through no_later_one
 
 -- ---- what is kept of a map
 module _ {K V : Type 0} (cmp : K → K → Ordering) (dead : K → V → Bool) where
@@ -61,7 +61,7 @@ alive_some dead (Some c) b e = elim (dead c) as (λ t. cond t None (Some c) ≡ 
 -- what one or the other holds
 pub record HoldsOfTwo (a b c : Shape) : Type 0 where
   pub series : (c.series ≡ a.series) ⊎ (c.series ≡ b.series)
-  pub entries : (q : Key) (v : Best) → value_at key_cmp c.entries q ≡ Some v → (value_at key_cmp a.entries q ≡ Some v) ⊎ (value_at key_cmp b.entries q ≡ Some v)
+  pub entries : (q : Key) (v : Best) → value_at slot_cmp c.entries q ≡ Some v → (value_at slot_cmp a.entries q ≡ Some v) ⊎ (value_at slot_cmp b.entries q ≡ Some v)
 
 -- ---- a bound that holds nothing but what is told again
 module _ (a b c bound : Shape) (whole_c : IsWhole c) (above_a : IsShapeBelow a c) (above_b : IsShapeBelow b c) (le : IsShapeBelow c bound) (of_two : HoldsOfTwo a b bound) where
@@ -74,27 +74,27 @@ module _ (a b c bound : Shape) (whole_c : IsWhole c) (above_a : IsShapeBelow a c
   series_same : c.series ≡ bound.series
   series_same = IsLiftedBelow-antisym IsNoLater no_later_same c.series bound.series le.0 up
 
-  module _ (q : Key) (v : Best) (here : value_at key_cmp c.entries q ≡ Some v) where
+  module _ (q : Key) (v : Best) (here : value_at slot_cmp c.entries q ≡ Some v) where
     lives : is_killed c.series q v ≡ true → ⊥
-    lives d = let x : true ≡ false = sym d ∙ found_alive key_exact (is_killed c.series) c.entries whole_c.alive q v here in cc
+    lives d = let x : true ≡ false = sym d ∙ found_alive slot_exact (is_killed c.series) c.entries whole_c.alive q v here in cc
 
     dead_there : is_killed bound.series q v ≡ true → ⊥
     dead_there d = lives (kills_more bound.series c.series q v.value up d)
 
     -- a value that tells no less is the value
-    same : (d : Shape) (w : Best) → IsShapeBelow d c → value_at key_cmp d.entries q ≡ Some w → IsNoLater v w → value_at key_cmp d.entries q ≡ Some v
+    same : (d : Shape) (w : Best) → IsShapeBelow d c → value_at slot_cmp d.entries q ≡ Some w → IsNoLater v w → value_at slot_cmp d.entries q ≡ Some v
     same d w above there l = there ∙ ap Some (back (subst (λ (o : Option Best). IsBelowUnder (is_killed c.series q) IsNoLater (Some w) o) here
-        (subst (λ (o : Option Best). IsBelowUnder (is_killed c.series q) IsNoLater o (value_at key_cmp c.entries q)) there (above.1 q))))
+        (subst (λ (o : Option Best). IsBelowUnder (is_killed c.series q) IsNoLater o (value_at slot_cmp c.entries q)) there (above.1 q))))
       where
         back : (is_killed c.series q w ≡ true) ⊎ IsNoLater w v → w ≡ v
         back (inl d) = absurd (lives (kills_below c.series q v.value w.value d l))
         back (inr r) = no_later_same w v r l
 
-    entry_one : (value_at key_cmp a.entries q ≡ Some v) ⊎ (value_at key_cmp b.entries q ≡ Some v)
-    entry_one = by (value_at key_cmp bound.entries q) refl (subst (λ (o : Option Best). IsBelowUnder (is_killed bound.series q) IsNoLater o (value_at key_cmp bound.entries q)) here (le.1 q))
+    entry_one : (value_at slot_cmp a.entries q ≡ Some v) ⊎ (value_at slot_cmp b.entries q ≡ Some v)
+    entry_one = by (value_at slot_cmp bound.entries q) refl (subst (λ (o : Option Best). IsBelowUnder (is_killed bound.series q) IsNoLater o (value_at slot_cmp bound.entries q)) here (le.1 q))
       where
-        by : (o : Option Best) → value_at key_cmp bound.entries q ≡ o → IsBelowUnder (is_killed bound.series q) IsNoLater (Some v) o
-            → (value_at key_cmp a.entries q ≡ Some v) ⊎ (value_at key_cmp b.entries q ≡ Some v)
+        by : (o : Option Best) → value_at slot_cmp bound.entries q ≡ o → IsBelowUnder (is_killed bound.series q) IsNoLater (Some v) o
+            → (value_at slot_cmp a.entries q ≡ Some v) ⊎ (value_at slot_cmp b.entries q ≡ Some v)
         by None e d = absurd (dead_there d)
         by (Some w) e (inl d) = absurd (dead_there d)
         by (Some w) e (inr l) = elim (of_two.entries q w e) [ inl f ↦ inl (same a w above_a f l) | inr f ↦ inr (same b w above_b f l) ]
@@ -115,20 +115,20 @@ module _ (a b : Shape) (whole_a : IsWhole a) (whole_b : IsWhole b) (g : Lift Bes
   bound = record { series = g; entries = kept (is_killed g) all }
 
   all_sorted : AreSorted all
-  all_sorted = combined_sorted key_total key_exact IsNoLater no_later_itself no_later_through no_later_one a.entries b.entries whole_a.sorted
+  all_sorted = combined_sorted slot_total slot_exact IsNoLater no_later_itself no_later_through no_later_one a.entries b.entries whole_a.sorted
 
   bound_whole : IsWhole bound
-  bound_whole = record { sorted = kept_sorted key_cmp (is_killed g) all all_sorted; alive = all_alive-kept (is_killed g) all }
+  bound_whole = record { sorted = kept_sorted slot_cmp (is_killed g) all all_sorted; alive = all_alive-kept (is_killed g) all }
 
-  found : (q : Key) → value_at key_cmp bound.entries q ≡ alive_part (is_killed g q) (value_at key_cmp all q)
-  found q = value_at-kept (is_killed g) key_total key_exact all all_sorted q
+  found : (q : Key) → value_at slot_cmp bound.entries q ≡ alive_part (is_killed g q) (value_at slot_cmp all q)
+  found q = value_at-kept (is_killed g) slot_total slot_exact all all_sorted q
 
   bound_of_two : HoldsOfTwo a b bound
   bound_of_two = record {
     series = one;
     entries = λ q v e.
-        let there : value_at key_cmp all q ≡ Some v = alive_some (is_killed g q) (value_at key_cmp all q) v (sym (found q) ∙ e) in
-        elim (combined_one key_total key_exact IsNoLater no_later_itself no_later_through no_later_one a.entries b.entries whole_b.sorted q) [ inl f ↦ inl (sym f ∙ there) | inr f ↦ inr (sym f ∙ there) ];
+        let there : value_at slot_cmp all q ≡ Some v = alive_some (is_killed g q) (value_at slot_cmp all q) v (sym (found q) ∙ e) in
+        elim (combined_one slot_total slot_exact IsNoLater no_later_itself no_later_through no_later_one a.entries b.entries whole_b.sorted q) [ inl f ↦ inl (sym f ∙ there) | inr f ↦ inr (sym f ∙ there) ];
   }
 
   under : (q : Key) (o p : Option Best) → IsBelowAt IsNoLater o p → IsBelowUnder (is_killed g q) IsNoLater o (alive_part (is_killed g q) p)
@@ -142,15 +142,15 @@ module _ (a b : Shape) (whole_a : IsWhole a) (whole_b : IsWhole b) (g : Lift Bes
   bound_first : IsShapeBelow a bound
   bound_first = (
     up_a,
-    λ q. subst (IsBelowUnder (is_killed g q) IsNoLater (value_at key_cmp a.entries q)) (sym (found q))
-        (under q (value_at key_cmp a.entries q) (value_at key_cmp all q) (combined_first key_total key_exact IsNoLater no_later_itself no_later_through no_later_one a.entries b.entries whole_b.sorted q)),
+    λ q. subst (IsBelowUnder (is_killed g q) IsNoLater (value_at slot_cmp a.entries q)) (sym (found q))
+        (under q (value_at slot_cmp a.entries q) (value_at slot_cmp all q) (combined_first slot_total slot_exact IsNoLater no_later_itself no_later_through no_later_one a.entries b.entries whole_b.sorted q)),
   )
 
   bound_second : IsShapeBelow b bound
   bound_second = (
     up_b,
-    λ q. subst (IsBelowUnder (is_killed g q) IsNoLater (value_at key_cmp b.entries q)) (sym (found q))
-        (under q (value_at key_cmp b.entries q) (value_at key_cmp all q) (combined_second key_total key_exact IsNoLater no_later_itself no_later_through no_later_one a.entries b.entries whole_b.sorted q)),
+    λ q. subst (IsBelowUnder (is_killed g q) IsNoLater (value_at slot_cmp b.entries q)) (sym (found q))
+        (under q (value_at slot_cmp b.entries q) (value_at slot_cmp all q) (combined_second slot_total slot_exact IsNoLater no_later_itself no_later_through no_later_one a.entries b.entries whole_b.sorted q)),
   )
 
   pub of_two : (c : Shape) → IsWhole c → IsShapeBelow a c → IsShapeBelow b c → ((d : Shape) → IsWhole d → IsShapeBelow a d → IsShapeBelow b d → IsShapeBelow c d) → HoldsOfTwo a b c
@@ -161,12 +161,12 @@ module _ (uid : List ℕ) (a b c : Shape) (is : HoldsOfTwo a b c) (whole_c : IsW
   pub placed_of_two : IsPlaced uid a → IsPlaced uid b → IsPlaced uid c
   placed_of_two p q = record {
     series = elim is.series [ inl e ↦ subst (IsSeriesAt uid) (sym e) p.series | inr e ↦ subst (IsSeriesAt uid) (sym e) q.series ];
-    entries = all_from_values key_total key_exact (λ e. IsEntryAt uid e.0 e.1) c.entries whole_c.sorted
+    entries = all_from_values slot_total slot_exact (λ e. IsEntryAt uid e.0 e.1) c.entries whole_c.sorted
         (λ k v e. elim (is.entries k v e) [ inl f ↦ at a p k v f | inr f ↦ at b q k v f ]);
   }
     where
-      at : (d : Shape) → IsPlaced uid d → (k : Key) (v : Best) → value_at key_cmp d.entries k ≡ Some v → IsEntryAt uid k v
-      at d r k v f = value_from_all key_total key_exact (λ e. IsEntryAt uid e.0 e.1) d.entries r.entries k v f
+      at : (d : Shape) → IsPlaced uid d → (k : Key) (v : Best) → value_at slot_cmp d.entries k ≡ Some v → IsEntryAt uid k v
+      at d r k v f = value_from_all slot_total slot_exact (λ e. IsEntryAt uid e.0 e.1) d.entries r.entries k v f
 
   pub items_of_two : IsSound uid a → IsSound uid b → IsSound uid c → (i : Item) → Contains (shape_items c) i → Contains (shape_items a) i ⊎ Contains (shape_items b) i
   items_of_two p q r i h = elim (held_as uid c r i h) [
@@ -175,7 +175,7 @@ module _ (uid : List ℕ) (a b c : Shape) (is : HoldsOfTwo a b c) (whole_c : IsW
   ]
 
 pub shape_below_itself : (sh : Shape) → IsShapeBelow sh sh
-shape_below_itself sh = (IsLiftedBelow-refl IsNoLater no_later_itself sh.series, λ q. at q (value_at key_cmp sh.entries q))
+shape_below_itself sh = (IsLiftedBelow-refl IsNoLater no_later_itself sh.series, λ q. at q (value_at slot_cmp sh.entries q))
   where
     at : (q : Key) (o : Option Best) → IsBelowUnder (is_killed sh.series q) IsNoLater o o
     at q None = tt

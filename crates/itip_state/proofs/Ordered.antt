@@ -1,27 +1,25 @@
 -- What is held stands in the order of keys, each item once.
-use Rattle.std.proofs.Common.{◌≡◌, ℕ, ◌<◌, List, [], ◌∷◌, ◌++◌, sym, ◌∙◌, ap, subst, inl, inr, true, false, get_or, length, arith}
+use Rattle.std.proofs.Common.{◌≡◌, ℕ, ◌<◌, List, [], ◌∷◌, ◌++◌, refl, sym, ◌∙◌, ap, subst, inl, inr, true, false, get_or, length, arith}
 use Rattle.std.specs.List.{Contains, AllByRecursion, AllPairs}
 use Rattle.std.specs.List.Sorted.{IsStrictlySortedBy}
 use Rattle.std.specs.Map.{keys_of}
 use Rattle.std.specs.Ordering.{nat_cmp, ordering_then}
-use Rattle.std.specs.Option.{option_cmp}
 use Rattle.std.specs.Cmp.{tied_itself}
 use Rattle.std.specs.Cmp.Lexicographic.{slice_cmp}
 use Rattle.std.specs.declared.cmp.Ordering.{Ordering}
-use Rattle.std.specs.declared.cmp.Ordering.TheVariants.{Less, Equal}
+use Rattle.std.specs.declared.cmp.Ordering.TheVariants.{Less, Equal, Greater}
 use Rattle.std.proofs.lemmas.Cmp.{nat_list_cmp_total}
 use Rattle.std.proofs.lemmas.List.Elements.{Contains-append_cases, Contains-append_left, Contains-append_right}
 use Rattle.std.proofs.lemmas.List.Kept.{AllPairs-cons}
 use Rattle.std.proofs.lemmas.Map.Keys.{sorted_head, sorted_tail}
 use Rattle.itip_join.specs.declared.lift.Lift.{Lift}
 use Rattle.itip_join.specs.declared.lift.Lift.TheVariants.{Nothing, Known}
-use Rattle.itip_moment.specs.Order.{moment_cmp}
-use Rattle.itip_message.specs.KeyParts.{uid_of, rank_of, instance_of, attendee_of}
+use Rattle.itip_message.specs.KeyParts.{uid_of}
 use Rattle.itip_message.specs.declared.item.Item.{Item}
 use Rattle.itip_message.specs.declared.key.Key.{Key}
 use Rattle.itip_message.specs.declared.key.Key.TheVariants.{Series, Instance, Answer, Refresh}
 use Rattle.itip_state.specs.Kept.{AreSeriesOf, AreUidsOf, IsSeries, HasEachOnce, AscendKeys}
-use Rattle.itip_state.specs.Slots.{key_cmp, key_total}
+use Rattle.itip_state.specs.Slots.{rest_cmp, key_cmp, slot_cmp, key_total}
 use Rattle.itip_state.specs.Held.{Best, Shape, is_series, series_items, entry_items, shape_items, items_of, IsEntryAt, ArePlaced}
 use Rattle.itip_state.proofs.Ascending.{pairs_ascend}
 use Rattle.itip_state.proofs.Members.{none_in, cons_cases, cons_first, cons_later, all_each, no_pairs, pairs_append}
@@ -30,11 +28,19 @@ use Rattle.itip_state.proofs.Shapes.{AreSorted, IsSound, known_items, known_key,
 abbrev pub IsBefore : Item → Item → Type 0
 IsBefore a b = key_cmp a.key b.key ≡ Less
 
-abbrev rest_cmp : Key → Key → Ordering
-rest_cmp a b = ordering_then (nat_cmp (rank_of a) (rank_of b)) (ordering_then (option_cmp moment_cmp (instance_of a) (instance_of b)) (slice_cmp nat_cmp (attendee_of a) (attendee_of b)))
-
 tie_uid : (a b : Key) → uid_of a ≡ uid_of b → key_cmp a b ≡ rest_cmp a b
 tie_uid a b e = ap (λ o. ordering_then o (rest_cmp a b)) (ap (λ u. slice_cmp nat_cmp u (uid_of b)) e ∙ tied_itself nat_list_cmp_total (uid_of b))
+
+then_tied : (o p : Ordering) → p ≡ Equal → ordering_then o p ≡ o
+then_tied Less p e = refl
+then_tied Equal p e = e
+then_tied Greater p e = refl
+
+-- keys of one UID are in the same order either way
+slot_less : (a b : Key) → uid_of a ≡ uid_of b → slot_cmp a b ≡ Less → key_cmp a b ≡ Less
+slot_less a b e less =
+    let tied : slice_cmp nat_cmp (uid_of a) (uid_of b) ≡ Equal = ap (λ u. slice_cmp nat_cmp u (uid_of b)) e ∙ tied_itself nat_list_cmp_total (uid_of b) in
+    tie_uid a b e ∙ sym (then_tied (rest_cmp a b) (slice_cmp nat_cmp (uid_of a) (uid_of b)) tied) ∙ less
 
 -- a series item stands before the other items of its UID
 series_before : (k : Key) (uid : List ℕ) → uid_of k ≡ uid → is_series k ≡ false → key_cmp (Series uid) k ≡ Less
@@ -44,19 +50,19 @@ series_before (Answer u i a) uid e s = tie_uid (Series uid) (Answer u i a) (sym 
 series_before (Refresh u i a) uid e s = tie_uid (Series uid) (Refresh u i a) (sym e)
 
 -- ---- one UID
-all_after : (uid : List ℕ) (k : Key) (es : List (Key × Best)) → AllByRecursion (λ (y : Key). key_cmp k y ≡ Less) (keys_of es) → AllByRecursion (λ e. IsEntryAt uid e.0 e.1) es
+all_after : (uid : List ℕ) (k : Key) (es : List (Key × Best)) → uid_of k ≡ uid → AllByRecursion (λ (y : Key). slot_cmp k y ≡ Less) (keys_of es) → AllByRecursion (λ e. IsEntryAt uid e.0 e.1) es
     → (i : Item) → Contains (entry_items es) i → key_cmp k i.key ≡ Less
-all_after uid k [] a p i h = absurd (none_in i h)
-all_after uid k (e ∷ es) a p i h = elim (cons_cases e.1.value (entry_items es) i h) [
-  | inl same ↦ subst (λ (q : Key). key_cmp k q ≡ Less) (sym p.0.in_place ∙ ap (λ (j : Item). j.key) same) a.0
-  | inr rest ↦ all_after uid k es a.1 p.1 i rest
+all_after uid k [] of_uid a p i h = absurd (none_in i h)
+all_after uid k (e ∷ es) of_uid a p i h = elim (cons_cases e.1.value (entry_items es) i h) [
+  | inl same ↦ subst (λ (q : Key). key_cmp k q ≡ Less) (sym p.0.in_place ∙ ap (λ (j : Item). j.key) same) (slot_less k e.0 (of_uid ∙ sym p.0.about) a.0)
+  | inr rest ↦ all_after uid k es of_uid a.1 p.1 i rest
 ]
 
 entries_ascend : (uid : List ℕ) (es : List (Key × Best)) → AreSorted es → AllByRecursion (λ e. IsEntryAt uid e.0 e.1) es → AllPairs IsBefore (entry_items es)
 entries_ascend uid [] s p = no_pairs IsBefore
 entries_ascend uid (e ∷ es) s p = AllPairs-cons IsBefore e.1.value (entry_items es)
-    (all_each (IsBefore e.1.value) (entry_items es) (λ i h. subst (λ (q : Key). key_cmp q i.key ≡ Less) (sym p.0.in_place) (all_after uid e.0 es (sorted_head key_cmp e.0 (keys_of es) s) p.1 i h)))
-    (entries_ascend uid es (sorted_tail key_cmp e.0 (keys_of es) s) p.1)
+    (all_each (IsBefore e.1.value) (entry_items es) (λ i h. subst (λ (q : Key). key_cmp q i.key ≡ Less) (sym p.0.in_place) (all_after uid e.0 es p.0.about (sorted_head slot_cmp e.0 (keys_of es) s) p.1 i h)))
+    (entries_ascend uid es (sorted_tail slot_cmp e.0 (keys_of es) s) p.1)
 
 one_pair : (s : Lift Best) → AllPairs IsBefore (series_items s)
 one_pair Nothing = no_pairs IsBefore

@@ -18,7 +18,7 @@ use Rattle.itip_message.specs.declared.key.Key.{Key}
 use Rattle.itip_message.specs.declared.key.Key.TheVariants.{Series}
 use Rattle.itip_state.specs.Kept.{IsDead, CanDie}
 use Rattle.itip_state.specs.Order.{IsState}
-use Rattle.itip_state.specs.Slots.{key_cmp, key_total, key_exact}
+use Rattle.itip_state.specs.Slots.{slot_cmp, slot_total, slot_exact}
 use Rattle.itip_state.specs.Held.{Best, Shape, best, is_series, kills, series_items, entry_items, shape_items, IsSeriesAt, IsEntryAt, IsPlaced}
 use Rattle.itip_state.proofs.Members.{by_bool, none_in, cons_cases, cons_first, cons_later}
 use Rattle.itip_state.proofs.Lookups.{at_head, from_tail, value_from_all}
@@ -26,7 +26,7 @@ use Rattle.itip_state.proofs.Best.{not_later_itself}
 use Rattle.itip_state.proofs.Tests.{series_key, can, dead_under, killed, kill}
 
 abbrev pub AreSorted : List (Key × Best) → Type 0
-AreSorted es = IsStrictlySortedBy key_cmp (keys_of es)
+AreSorted es = IsStrictlySortedBy slot_cmp (keys_of es)
 
 -- what a series item kills of the entries
 abbrev pub is_killed : Lift Best → Key → Best → Bool
@@ -42,10 +42,10 @@ pub record IsSound (uid : List ℕ) (shape : Shape) : Type 0 where
   pub whole : IsWhole shape
 
 -- ---- entries
-pub entry_in : (es : List (Key × Best)) (q : Key) (b : Best) → value_at key_cmp es q ≡ Some b → Contains (entry_items es) b.value
+pub entry_in : (es : List (Key × Best)) (q : Key) (b : Best) → value_at slot_cmp es q ≡ Some b → Contains (entry_items es) b.value
 entry_in [] q b e = let x : None ≡ Some b = e in absurd (cc)
 entry_in (f ∷ fs) q b e =
-    elim (is_eq (key_cmp q f.0)) as (λ t. cond t (Some f.1) (value_at key_cmp fs q) ≡ Some b → Contains (entry_items (f ∷ fs)) b.value) [
+    elim (is_eq (slot_cmp q f.0)) as (λ t. cond t (Some f.1) (value_at slot_cmp fs q) ≡ Some b → Contains (entry_items (f ∷ fs)) b.value) [
       | true ↦ λ s. let one : f.1 ≡ b = some_one f.1 b s in
           subst (λ (x : Best). Contains (f.1.value ∷ entry_items fs) x.value) one (cons_first f.1.value (entry_items fs))
       | false ↦ λ s. cons_later f.1.value (entry_items fs) b.value (entry_in fs q b s)
@@ -55,17 +55,17 @@ entry_in (f ∷ fs) q b e =
     some_one x y s = cc
 
 pub entry_there : (uid : List ℕ) (es : List (Key × Best)) → AreSorted es → AllByRecursion (λ e. IsEntryAt uid e.0 e.1) es → (i : Item) → Contains (entry_items es) i
-    → value_at key_cmp es i.key ≡ Some (best i) × IsEntryAt uid i.key (best i)
+    → value_at slot_cmp es i.key ≡ Some (best i) × IsEntryAt uid i.key (best i)
 entry_there uid [] s p i h = absurd (none_in i h)
 entry_there uid (f ∷ fs) s p i h =
     elim (cons_cases f.1.value (entry_items fs) i h) [
       | inl same ↦
           let here : f.0 ≡ i.key = sym p.0.in_place ∙ ap (λ (j : Item). j.key) same in
           let what : f.1 ≡ best i = λ x. record { value = same x } in (
-            subst (λ (q : Key). value_at key_cmp (f ∷ fs) q ≡ Some (best i)) here (at_head key_total key_exact f fs ∙ ap Some what),
+            subst (λ (q : Key). value_at slot_cmp (f ∷ fs) q ≡ Some (best i)) here (at_head slot_total slot_exact f fs ∙ ap Some what),
             subst (λ (q : Key). IsEntryAt uid q (best i)) here (subst (λ (b : Best). IsEntryAt uid f.0 b) what p.0),
           )
-      | inr rest ↦ let r = entry_there uid fs (sorted_tail key_cmp f.0 (keys_of fs) s) p.1 i rest in (from_tail key_total key_exact f fs i.key (best i) s r.0, r.1)
+      | inr rest ↦ let r = entry_there uid fs (sorted_tail slot_cmp f.0 (keys_of fs) s) p.1 i rest in (from_tail slot_total slot_exact f fs i.key (best i) s r.0, r.1)
     ]
 
 -- ---- one UID
@@ -75,7 +75,7 @@ known_items (Known s) i h = elim (cons_cases s.value [] i h) [ inl same ↦ λ x
 
 -- how an item is held
 abbrev pub IsHeldAs : Shape → Item → Type 0
-IsHeldAs sh i = ((sh.series ≡ Known (best i)) × (is_series i.key ≡ true)) ⊎ ((value_at key_cmp sh.entries i.key ≡ Some (best i)) × (is_series i.key ≡ false))
+IsHeldAs sh i = ((sh.series ≡ Known (best i)) × (is_series i.key ≡ true)) ⊎ ((value_at slot_cmp sh.entries i.key ≡ Some (best i)) × (is_series i.key ≡ false))
 
 module _ (uid : List ℕ) (sh : Shape) (sound : IsSound uid sh) where
   pub known_key : (i : Item) → sh.series ≡ Known (best i) → i.key ≡ Series uid
@@ -90,11 +90,11 @@ module _ (uid : List ℕ) (sh : Shape) (sound : IsSound uid sh) where
   pub series_held : (i : Item) → sh.series ≡ Known (best i) → Contains (shape_items sh) i
   series_held i e = Contains-append_left (series_items sh.series) (entry_items sh.entries) i (subst (λ (s : Lift Best). Contains (series_items s) i) (sym e) (cons_first i []))
 
-  pub entry_held : (q : Key) (b : Best) → value_at key_cmp sh.entries q ≡ Some b → Contains (shape_items sh) b.value
+  pub entry_held : (q : Key) (b : Best) → value_at slot_cmp sh.entries q ≡ Some b → Contains (shape_items sh) b.value
   entry_held q b e = Contains-append_right (series_items sh.series) (entry_items sh.entries) b.value (entry_in sh.entries q b e)
 
-  pub entry_key : (q : Key) (b : Best) → value_at key_cmp sh.entries q ≡ Some b → IsEntryAt uid q b
-  entry_key q b e = value_from_all key_total key_exact (λ f. IsEntryAt uid f.0 f.1) sh.entries sound.placed.entries q b e
+  pub entry_key : (q : Key) (b : Best) → value_at slot_cmp sh.entries q ≡ Some b → IsEntryAt uid q b
+  entry_key q b e = value_from_all slot_total slot_exact (λ f. IsEntryAt uid f.0 f.1) sh.entries sound.placed.entries q b e
 
   pub about : (i : Item) → Contains (shape_items sh) i → uid_of i.key ≡ uid
   about i h = elim (Contains-append_cases (series_items sh.series) (entry_items sh.entries) i h) [
@@ -105,13 +105,13 @@ module _ (uid : List ℕ) (sh : Shape) (sound : IsSound uid sh) where
   pub series_is : (i : Item) → Contains (shape_items sh) i → is_series i.key ≡ true → sh.series ≡ Known (best i)
   series_is i h e = elim (held_as i h) [ inl here ↦ here.0 | inr other ↦ let x : true ≡ false = sym e ∙ other.1 in absurd (cc) ]
 
-  pub entry_is : (i : Item) → Contains (shape_items sh) i → is_series i.key ≡ false → value_at key_cmp sh.entries i.key ≡ Some (best i)
+  pub entry_is : (i : Item) → Contains (shape_items sh) i → is_series i.key ≡ false → value_at slot_cmp sh.entries i.key ≡ Some (best i)
   entry_is i h e = elim (held_as i h) [ inl here ↦ let x : true ≡ false = sym here.1 ∙ e in absurd (cc) | inr other ↦ other.0 ]
 
   pub one_of_key : (i j : Item) → Contains (shape_items sh) i → Contains (shape_items sh) j → i.key ≡ j.key → i ≡ j
   one_of_key i j h g same = by_bool (is_series i.key) (i ≡ j)
       (λ e. one_known i j (sym (series_is i h e) ∙ series_is j g (ap is_series (sym same) ∙ e)))
-      (λ e. one_entry i j (sym (entry_is i h e) ∙ ap (λ k. value_at key_cmp sh.entries k) same ∙ entry_is j g (ap is_series (sym same) ∙ e)))
+      (λ e. one_entry i j (sym (entry_is i h e) ∙ ap (λ k. value_at slot_cmp sh.entries k) same ∙ entry_is j g (ap is_series (sym same) ∙ e)))
     where
       item_of : Lift Best → Item
       item_of Nothing = i
@@ -128,7 +128,7 @@ module _ (uid : List ℕ) (sh : Shape) (sound : IsSound uid sh) where
       one_entry x y e = ap item_at e
 
   pub not_killed : (i : Item) → Contains (shape_items sh) i → is_series i.key ≡ false → kills sh.series i.key i ≡ false
-  not_killed i h e = found_alive key_exact (is_killed sh.series) sh.entries sound.whole.alive i.key (best i) (entry_is i h e)
+  not_killed i h e = found_alive slot_exact (is_killed sh.series) sh.entries sound.whole.alive i.key (best i) (entry_is i h e)
 
   pub is_state : IsState (shape_items sh)
   is_state i = (

@@ -6,13 +6,13 @@ use Rattle.std.specs.Cmp.Lexicographic.{slice_cmp}
 use Rattle.itip_join.specs.Lifted.{IsLiftedBelow}
 use Rattle.itip_join.specs.Optional.{IsBelowAt}
 use Rattle.itip_join.specs.KeyByKey.{value_at, IsMapBelowUnder}
-use Rattle.itip_state.specs.Slots.{key_cmp}
+use Rattle.itip_state.specs.Slots.{slot_cmp}
 use Rattle.itip_state.specs.Held.{Shape, kills}
 use Rattle.itip_state.specs.Dying.{IsNoLater}
 
 -- the series item is no later, and each other item is no later than the one at its key, or dead below the other series item
 abbrev pub IsShapeBelow : Shape → Shape → Type 0
-IsShapeBelow a b = IsLiftedBelow IsNoLater a.series b.series × IsMapBelowUnder (λ k v. kills b.series k v.value) key_cmp IsNoLater a.entries b.entries
+IsShapeBelow a b = IsLiftedBelow IsNoLater a.series b.series × IsMapBelowUnder (λ k v. kills b.series k v.value) slot_cmp IsNoLater a.entries b.entries
 
 -- what is held at a UID tells all that an entry of another map tells
 abbrev pub IsKnown : List (List ℕ × Shape) → List ℕ × Shape → Type 0

@@ -7,7 +7,7 @@ ghost use Rattle.std.specs.Option.{option_copied};
 ghost use Rattle.itip_message.specs.KeyParts.{uid_of};
 ghost use Rattle.itip_message.specs.declared.item.Item.{Item};
 ghost use Rattle.itip_state.specs.Kept.{AscendKeys};
-ghost use Rattle.itip_state.specs.Slots.{key_cmp, key_total};
+ghost use Rattle.itip_state.specs.Slots.{rest_cmp, key_cmp, slot_cmp, slot_total};
 
 use itip_join::{Exact, NoMemory};
 use itip_message::{Item, Key};
@@ -17,7 +17,7 @@ use std::cmp::Ordering;
 use std::marker::Model;
 use std::sync::Arc;
 
-/// The key of an item, in the order in which a state holds its items: those of a UID are neighbours, and its series item is the first of them. It is shared, as a revision is.
+/// The key of an item among those of its UID: by kind, instance and attendee, and only then by UID, which is the same. It is shared, as a revision is.
 #[derive(Debug, Drop)]
 pub(crate) struct Slot {
     shared: Arc<Key>,
@@ -68,8 +68,16 @@ pub(crate) fn compare(key: &Key, other: &Key) -> Ordering
 {
     key.uid()
         .cmp(other.uid())
-        .then(key.rank().cmp(&other.rank()))
-        .then(key.cmp_instances(other))
+        .then_with(|| compare_rest(key, other))
+}
+
+/// By kind, instance and attendee.
+fn compare_rest(key: &Key, other: &Key) -> Ordering
+    ensures { result ≡ rest_cmp key.now other.now }
+{
+    key.rank()
+        .cmp(&other.rank())
+        .then_with(|| key.cmp_instances(other))
         .then_with(|| key.attendee().cmp(other.attendee()))
 }
 
@@ -87,9 +95,9 @@ pub fn find<'a>(items: &[&'a Item], key: &Key) -> Option<&'a Item>
 }
 
 impl PartialEq for Slot {
-    ghost eq = { eq_by_cmp key_cmp };
+    ghost eq = { eq_by_cmp slot_cmp };
 
-    ghost laws = { partial_equiv_from_equiv (eq_by_cmp_equiv key_total) };
+    ghost laws = { partial_equiv_from_equiv (eq_by_cmp_equiv slot_total) };
 
     fn eq(&self, other: &Slot) -> bool {
         self.cmp(other) == Ordering::Equal
@@ -97,13 +105,13 @@ impl PartialEq for Slot {
 }
 
 impl Eq for Slot {
-    ghost laws = { eq_by_cmp_equiv key_total };
+    ghost laws = { eq_by_cmp_equiv slot_total };
 }
 
 impl PartialOrd for Slot {
-    ghost partial_cmp = { as_partial_cmp key_cmp };
+    ghost partial_cmp = { as_partial_cmp slot_cmp };
 
-    ghost laws = { partial_order_from_total key_total };
+    ghost laws = { partial_order_from_total slot_total };
 
     fn partial_cmp(&self, other: &Slot) -> Option<Ordering> {
         Some(self.cmp(other))
@@ -111,23 +119,24 @@ impl PartialOrd for Slot {
 }
 
 impl Ord for Slot {
-    ghost cmp = { key_cmp };
+    ghost cmp = { slot_cmp };
 
-    ghost total = { key_total };
+    ghost total = { slot_total };
 
     ghost matches_partial_cmp = { λ x y. refl };
 
     ghost matches_eq = { λ x y. refl };
 
     fn cmp(&self, other: &Slot) -> Ordering {
-        compare(self.key(), other.key())
+        let (key, other) = (self.key(), other.key());
+        compare_rest(key, other).then_with(|| key.uid().cmp(other.uid()))
     }
 }
 
 impl Exact for Slot {
-    ghost use Rattle.itip_state.specs.Slots.{key_exact};
+    ghost use Rattle.itip_state.specs.Slots.{slot_exact};
 
-    ghost exact = { key_exact };
+    ghost exact = { slot_exact };
 
     fn copy(&self) -> Result<Slot, NoMemory> {
         Ok(Slot {
