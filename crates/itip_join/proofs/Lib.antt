@@ -2,6 +2,6 @@ pub mod Equal
 pub mod Walk
 pub mod Puts
 pub mod Steps
-pub mod Adds
+pub mod TakingBack
 pub mod Under
 pub mod Folds

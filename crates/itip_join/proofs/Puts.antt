@@ -1,4 +1,4 @@
--- What a plan puts in, key by key.
+-- What is put into a map, key by key.
 use Rattle.std.proofs.Common.{◌≡◌, sym, ◌∙◌, ap, subst, refl, Bool, true, false, ◌||◌, List, [], ◌∷◌, ◌++◌, Some, None, inl, inr}
 use Rattle.std.specs.Prelude.{cond, Option, is_some, ◌⊎◌}
 use Rattle.std.specs.Ordering.{is_eq}
@@ -6,7 +6,7 @@ use Rattle.std.specs.Cmp.{IsTotalOrder, eq_by_cmp_equiv, tied_itself}
 use Rattle.std.specs.declared.cmp.Ordering.{Ordering}
 use Rattle.itip_join.specs.Bounds.{IsJoinOf}
 use Rattle.itip_join.specs.Optional.{IsBelowAt, IsBelowAt-refl, IsBelowUnder, alive_part}
-use Rattle.itip_join.specs.Changes.{after, has_key, is_listed}
+use Rattle.itip_join.specs.Changes.{before, has_key, is_listed}
 
 -- ---- two values at one key
 module _ {V : Type 0} (le : V → V → Type 0) where
@@ -48,9 +48,9 @@ module _ {K : Type 0} {cmp : K → K → Ordering} (total : IsTotalOrder cmp) wh
 
 -- ---- pairs that are put in
 module _ {K V : Type 0} (cmp : K → K → Ordering) where
-  pub after_push : (q : K) (o : Option V) (ps : List (K × V)) (p : K × V) → after cmp q o (ps ++ p ∷ []) ≡ cond (is_eq (cmp p.0 q)) (Some p.1) (after cmp q o ps)
-  after_push q o [] p = refl
-  after_push q o (r ∷ ps) p = after_push q (cond (is_eq (cmp r.0 q)) (Some r.1) o) ps p
+  pub before_push : (q : K) (o : Option V) (ps : List (K × V)) (p : K × V) → before cmp q o (ps ++ p ∷ []) ≡ before cmp q (cond (is_eq (cmp p.0 q)) (Some p.1) o) ps
+  before_push q o [] p = refl
+  before_push q o (r ∷ ps) p = ap (λ (x : Option V). cond (is_eq (cmp r.0 q)) (Some r.1) x) (before_push q o ps p)
 
   pub has_key_push : (q : K) (ps : List (K × V)) (p : K × V) → has_key cmp q (ps ++ p ∷ []) ≡ (has_key cmp q ps || is_eq (cmp p.0 q))
   has_key_push q [] p = or_false (is_eq (cmp p.0 q))
@@ -58,19 +58,6 @@ module _ {K V : Type 0} (cmp : K → K → Ordering) where
     | true ↦ refl
     | false ↦ has_key_push q ps p
   ]
-
-  pub after_absent : (q : K) (o : Option V) (ps : List (K × V)) → has_key cmp q ps ≡ false → after cmp q o ps ≡ o
-  after_absent q o [] h = refl
-  after_absent q o (r ∷ ps) h =
-      elim (is_eq (cmp r.0 q)) as (λ b. (b || has_key cmp q ps) ≡ false → after cmp q (cond b (Some r.1) o) ps ≡ o) [
-        | true ↦ λ e. absurd (cc)
-        | false ↦ λ e. after_absent q o ps e
-      ] h
-
-  pub is_some-after : (q : K) (o : Option V) (ps : List (K × V)) → is_some o ≡ true → is_some (after cmp q o ps) ≡ true
-  is_some-after q o [] h = h
-  is_some-after q o (r ∷ ps) h = is_some-after q (cond (is_eq (cmp r.0 q)) (Some r.1) o) ps
-      (elim (is_eq (cmp r.0 q)) as (λ b. is_some (cond b (Some r.1) o) ≡ true) [ true ↦ refl | false ↦ h ])
 
 -- a map with the pair (k', v') put in, where k' is k and v' is v
 module _ {K V : Type 0} {cmp : K → K → Ordering} (total : IsTotalOrder cmp) (o o' : K → Option V) {k k' : K} (v' : V)

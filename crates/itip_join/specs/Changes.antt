@@ -1,55 +1,58 @@
--- What is to be put into a map so that it tells what another map tells too (our own form).
-use Rattle.std.specs.Prelude.{◌≡◌, Bool, true, false, cond, ◌||◌, List, [], ◌∷◌, ◌++◌, map, Option, Some, None, is_some}
+-- How a map is changed entry by entry, and how the changes are taken back (our own form).
+use Rattle.std.specs.Prelude.{◌≡◌, ◌⊎◌, Bool, true, false, cond, ◌||◌, List, [], ◌∷◌, ◌++◌, map, Option, Some, None, is_some}
 use Rattle.std.specs.Ordering.{is_eq}
 use Rattle.std.specs.declared.cmp.Ordering.{Ordering}
-use Rattle.itip_join.specs.declared.merge.Changes.{Changes}
-use Rattle.itip_join.specs.Bounds.{IsJoinOf}
-use Rattle.itip_join.specs.Optional.{IsBelowAt, alive_part}
+use Rattle.itip_join.specs.declared.merge.Undo.{Undo}
 
-module _ {K V : Type 0} (cmp : K → K → Ordering) (q : K) where
-  -- what is at the key q where o was, once the pairs are put in, in turn
-  abbrev pub after : Option V → List (K × V) → Option V
-  after o [] = o
-  after o (p ∷ ps) = after (cond (is_eq (cmp p.0 q)) (Some p.1) o) ps
+module _ {K : Type 0} (cmp : K → K → Ordering) (q : K) where
+  -- what is at the key q where o is, once the pairs are put back, the last first
+  abbrev pub before : {V : Type 0} → Option V → List (K × V) → Option V
+  before o [] = o
+  before o (p ∷ ps) = cond (is_eq (cmp p.0 q)) (Some p.1) (before o ps)
 
   -- whether a pair has the key q
-  abbrev pub has_key : List (K × V) → Bool
+  abbrev pub has_key : {V : Type 0} → List (K × V) → Bool
   has_key [] = false
   has_key (p ∷ ps) = is_eq (cmp p.0 q) || has_key ps
 
--- whether q is among the keys
-abbrev pub is_listed : {K : Type 0} → (K → K → Ordering) → K → List K → Bool
-is_listed cmp q [] = false
-is_listed cmp q (k ∷ ks) = is_eq (cmp k q) || is_listed cmp q ks
+  -- whether q is among the keys
+  abbrev pub is_listed : List K → Bool
+  is_listed [] = false
+  is_listed (k ∷ ks) = is_eq (cmp k q) || is_listed ks
 
--- Pairs that are put into a map, `fresh` at new keys, of which the list `twins` has copies, and `present` in the place of others.
-pub record FitsMap {K V : Type 0} (cmp : K → K → Ordering) (mine : K → Option V) (fresh present : List (K × V)) (twins : List K) : Type 0 where
-  pub fresh_are_new : (q : K) → has_key cmp q fresh ≡ true → mine q ≡ None
-  pub present_are_there : (q : K) → has_key cmp q present ≡ true → is_some (mine q) ≡ true
-  pub fresh_have_twins : (q : K) → has_key cmp q fresh ≡ true → is_listed cmp q twins ≡ true
-  pub twins_are_new : (q : K) → is_listed cmp q twins ≡ true → mine q ≡ None
+  -- what is at the key q where o is, once the keys that were added are out and the pairs are back
+  abbrev pub restored : {V : Type 0} → Option V → List K → List (K × V) → Option V
+  restored o added raised = before (cond (is_listed added) None o) raised
 
--- They fit, and once they are put in, the map tells what the other one tells too, but for what is dead.
-pub record IsPlan {K V : Type 0} (cmp : K → K → Ordering) (le : V → V → Type 0) (dead : K → V → Bool) (mine theirs : K → Option V)
-    (fresh present : List (K × V)) (twins : List K) : Type 0 where
-  pub joined : (q : K) → IsJoinOf (IsBelowAt le) (mine q) (alive_part (dead q) (theirs q)) (after cmp q (after cmp q (mine q) fresh) present)
-  pub fits : FitsMap cmp mine fresh present twins
+-- A map that had `mine` has `now`. The keys that were added are new, and the pairs stood where others stand; with the changes taken back the map is as it was.
+pub record TakesBack {K V : Type 0} (cmp : K → K → Ordering) (mine now : K → Option V) (added : List K) (raised : List (K × V)) : Type 0 where
+  pub added_are_new : (q : K) → is_listed cmp q added ≡ true → mine q ≡ None
+  pub raised_were_there : (q : K) → has_key cmp q raised ≡ true → is_some (mine q) ≡ true
+  pub raised_are_there : (q : K) → has_key cmp q raised ≡ true → is_some (now q) ≡ true
+  pub as_it_was : (q : K) → restored cmp q (now q) added raised ≡ mine q
 
--- One entry (k, w) of the other map was looked at, where this one has o: nothing is to be put in, or a new pair, or one in the place of another.
-pub data IsStep {K V : Type 0} (le : V → V → Type 0) (dead : V → Bool) (o : Option V) (k : K) (w : V)
-    (fresh present : List (K × V)) (twins : List K) (fresh' present' : List (K × V)) (twins' : List K) : Type 0 where
-  skipped : IsJoinOf (IsBelowAt le) o (alive_part dead (Some w)) o → fresh' ≡ fresh → present' ≡ present → twins' ≡ twins
-      → IsStep le dead o k w fresh present twins fresh' present' twins'
-  added : (v : V) → o ≡ None → IsJoinOf (IsBelowAt le) o (alive_part dead (Some w)) (Some v)
-      → fresh' ≡ fresh ++ (k, v) ∷ [] → present' ≡ present → twins' ≡ twins ++ k ∷ []
-      → IsStep le dead o k w fresh present twins fresh' present' twins'
-  raised : (v : V) → is_some o ≡ true → IsJoinOf (IsBelowAt le) o (alive_part dead (Some w)) (Some v)
-      → fresh' ≡ fresh → present' ≡ present ++ (k, v) ∷ [] → twins' ≡ twins
-      → IsStep le dead o k w fresh present twins fresh' present' twins'
+-- One key k was looked at: nothing changed, or a value may have been added, or one may have grown; and this was noted.
+pub data IsNoted {K V : Type 0} (cmp : K → K → Ordering) (k : K) (now now' : K → Option V) (added : List K) (raised : List (K × V)) (added' : List K) (raised' : List (K × V)) : Type 0 where
+  is_same : ((q : K) → now' q ≡ now q) → added' ≡ added → raised' ≡ raised → IsNoted cmp k now now' added raised added' raised'
+  is_new : now k ≡ None → ((q : K) → is_eq (cmp k q) ≡ false → now' q ≡ now q) → added' ≡ added ++ k ∷ [] → raised' ≡ raised
+      → IsNoted cmp k now now' added raised added' raised'
+  is_raised : (v : V) → now k ≡ Some v → is_some (now' k) ≡ true → ((q : K) → is_eq (cmp k q) ≡ false → now' q ≡ now q) → added' ≡ added → raised' ≡ raised ++ (k, v) ∷ []
+      → IsNoted cmp k now now' added raised added' raised'
 
--- the same of `Changes`, which hold such lists
-abbrev pub ArePlanned : {K V : Type 0} → (K → K → Ordering) → (V → V → Type 0) → (K → V → Bool) → (K → Option V) → (K → Option V) → Changes K V → Type 0
-ArePlanned cmp le dead mine theirs c = IsPlan cmp le dead mine theirs c.fresh.items c.present.items (map (λ t. t.now) c.twins.items)
+-- the keys and the pairs that an `Undo` holds
+abbrev pub keys_in : {K V : Type 0} → Undo K V → List K
+keys_in u = map (λ t. t.now) u.added.items
 
-abbrev pub StepTo : {K V : Type 0} → (V → V → Type 0) → (V → Bool) → Option V → K → V → Changes K V → Changes K V → Type 0
-StepTo le dead o k w c d = IsStep le dead o k w c.fresh.items c.present.items (map (λ t. t.now) c.twins.items) d.fresh.items d.present.items (map (λ t. t.now) d.twins.items)
+abbrev pub pairs_in : {K V : Type 0} → Undo K V → List (K × V)
+pairs_in u = map (λ p. (p.0.now, p.1)) u.raised.items
+
+abbrev pub IsNotedIn : {K V : Type 0} → (K → K → Ordering) → K → (K → Option V) → (K → Option V) → Undo K V → Undo K V → Type 0
+IsNotedIn cmp k now now' u u' = IsNoted cmp k now now' (keys_in u) (pairs_in u) (keys_in u') (pairs_in u')
+
+-- a value may have grown, and if so it was noted
+abbrev pub IsRaisedIn : {K V : Type 0} → K → V → V → Undo K V → Undo K V → Type 0
+IsRaisedIn k v v' u u' = (keys_in u' ≡ keys_in u) × (((v' ≡ v) × (pairs_in u' ≡ pairs_in u)) ⊎ (pairs_in u' ≡ pairs_in u ++ (k, v) ∷ []))
+
+-- what is noted can be taken back from a map that has `now`
+abbrev pub CanTakeBack : {K V : Type 0} → (K → K → Ordering) → (K → Option V) → Undo K V → Type 0
+CanTakeBack {K} cmp now u = (q : K) → has_key cmp q (pairs_in u) ≡ true → (is_listed cmp q (keys_in u) ≡ false) × (is_some (now q) ≡ true)

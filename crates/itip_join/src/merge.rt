@@ -1,22 +1,23 @@
-//! How a map takes in what another map tells: all that can be refused comes before the first change.
-ghost use Rattle.std.specs.Prelude.{◌≡◌, ◌↔◌, true, not, cond, None, map as each, is_some, IsTrue, IfOk, OnOk, OnErr};
+//! How a map takes in what another map tells: in place, with what takes it back where memory is refused on the way.
+ghost use Rattle.std.specs.Prelude.{◌≡◌, ◌↔◌, true, false, not, cond, Some, None, map as each, is_some, IsTrue, IfOk, OnOk, OnErr};
+ghost use Rattle.std.specs.Ordering.{is_eq};
 ghost use Rattle.std.specs.BTreeMap.{get, IsOrdered};
+ghost use Rattle.itip_join.specs.Bounds.{IsJoinOf};
+ghost use Rattle.itip_join.specs.Optional.{IsBelowAt, alive_part};
 ghost use Rattle.itip_join.specs.KeyByKey.{IsMapBelowUnder, IsMergeOf, kept};
-ghost use Rattle.itip_join.specs.Changes.{after, has_key, is_listed, ArePlanned, StepTo};
+ghost use Rattle.itip_join.specs.Changes.{is_listed, restored, keys_in, pairs_in, IsNotedIn, IsRaisedIn, CanTakeBack};
 
 use crate::{Exact, Guard, Join, NoMemory};
 use std::alloc::Global;
 use std::collections::BTreeMap;
 
-/// What is to be put into a map.
+/// What takes changes of a map back.
 #[derive(Drop)]
-struct Changes<'a, K, V> {
-    /// The keys of `fresh`, by which they are found again.
-    twins: Vec<&'a K>,
-    /// Entries at keys that the map does not have.
-    fresh: Vec<(K, V)>,
-    /// Entries at keys that it has.
-    present: Vec<(K, V)>,
+struct Undo<'a, K, V> {
+    /// The keys that are new.
+    added: Vec<&'a K>,
+    /// What stood at keys before their values grew, in the order of the changes.
+    raised: Vec<(&'a K, V)>,
 }
 
 /// Whether each entry of `map` that `guard` does not kill is at most the entry of its key in `other`.
@@ -68,7 +69,7 @@ pub(crate) fn drop_dead<K: Exact, V: Join, S: Guard<K, V>>(map: &mut BTreeMap<K,
     );
 }
 
-/// Joins into `map`, key by key, the entries of `other` that `guard` does not kill.
+/// Joins into `map`, key by key, the entries of `other` that `guard` does not kill. Where memory is refused, what was changed is changed back.
 pub(crate) fn merge<K: Exact, V: Join, S: Guard<K, V>>(
     alloc: Global,
     map: &mut BTreeMap<K, V>,
@@ -80,93 +81,90 @@ pub(crate) fn merge<K: Exact, V: Join, S: Guard<K, V>>(
     ensures ok { OnOk result (IsMergeOf K.cmp V.le (S.is_dead guard.now) map.old.entries other.now.entries map.new.entries) }
     ensures err { OnErr result (map.new.entries ≡ map.old.entries) }
 {
-    let Changes {
-        twins,
-        fresh,
-        present,
-    } = plan(alloc, map, other, guard)?;
-    add_all(map, fresh, &twins)?;
-    replace_all(map, present);
+    let mut undo = Undo {
+        added: Vec::new(alloc),
+        raised: Vec::new(alloc),
+    };
+    for (key, theirs) in other {
+        if let Err(refused) = join_entry(map, key, theirs, guard, &mut undo) {
+            take_back(map, undo);
+            return Err(refused);
+        }
+    }
     Ok(())
 }
 
-/// Works out what `merge` has to put into `map`.
-fn plan<'a, K: Exact, V: Join, S: Guard<K, V>>(
-    alloc: Global,
-    map: &BTreeMap<K, V>,
-    other: &'a BTreeMap<K, V>,
-    guard: &S,
-) -> Result<Changes<'a, K, V>, NoMemory>
-    ensures { IfOk result (ArePlanned K.cmp V.le (S.is_dead guard.now) (get K.cmp map.now) (get K.cmp other.now)) }
-{
-    let mut changes = Changes {
-        twins: Vec::new(alloc),
-        fresh: Vec::new(alloc),
-        present: Vec::new(alloc),
-    };
-    for (key, theirs) in other {
-        consider(&mut changes, map, key, theirs, guard)?;
-    }
-    Ok(changes)
-}
-
-/// Works out what the entry `theirs` at `key` changes in `map`.
-fn consider<'a, K: Exact, V: Join, S: Guard<K, V>>(
-    changes: &mut Changes<'a, K, V>,
-    map: &BTreeMap<K, V>,
+/// Joins in the entry `theirs` at `key`, unless `guard` kills it.
+fn join_entry<'a, K: Exact, V: Join, S: Guard<K, V>>(
+    map: &mut BTreeMap<K, V>,
     key: &'a K,
     theirs: &V,
     guard: &S,
+    undo: &mut Undo<'a, K, V>,
 ) -> Result<(), NoMemory>
-    ensures { OnOk result (StepTo V.le (S.is_dead guard.now key.now) (get K.cmp map.now key.now) key.now theirs.now changes.old changes.new) }
+    requires { IsOrdered K.cmp map.old }
+    ensures ordered { IsOrdered K.cmp map.new }
+    ensures joined { OnOk result (IsJoinOf (IsBelowAt V.le) (get K.cmp map.old key.now) (alive_part (S.is_dead guard.now key.now) (Some theirs.now)) (get K.cmp map.new key.now)) }
+    ensures noted { IsNotedIn K.cmp key.now (get K.cmp map.old) (get K.cmp map.new) undo.old undo.new }
 {
     if guard.kills(key, theirs) {
         return Ok(());
     }
-    match map.get(key) {
-        None => {
-            let value = theirs.copy()?;
-            let twin = key.copy()?;
-            changes.twins.push(key)?;
-            changes.fresh.push((twin, value))?;
-        }
-        Some(mine) => {
-            if theirs.below(mine) {
-                return Ok(());
-            }
-            let mut value = mine.copy()?;
-            value.join(theirs)?;
-            let twin = key.copy()?;
-            changes.present.push((twin, value))?;
-        }
+    match map.get_mut(key) {
+        Some(mine) => raise(mine, key, theirs, undo),
+        None => add(map, key, theirs, undo),
     }
+}
+
+/// Joins `theirs` into what stands at `key`.
+fn raise<'a, K: Exact, V: Join>(
+    mine: &mut V,
+    key: &'a K,
+    theirs: &V,
+    undo: &mut Undo<'a, K, V>,
+) -> Result<(), NoMemory>
+    ensures joined { OnOk result (IsJoinOf V.le mine.old theirs.now mine.new) }
+    ensures noted { IsRaisedIn key.now mine.old mine.new undo.old undo.new }
+{
+    if theirs.below(mine) {
+        return Ok(());
+    }
+    undo.raised.push((key, mine.copy()?))?;
+    mine.join(theirs)
+}
+
+/// Puts in a copy of `theirs` at a new key.
+fn add<'a, K: Exact, V: Join>(
+    map: &mut BTreeMap<K, V>,
+    key: &'a K,
+    theirs: &V,
+    undo: &mut Undo<'a, K, V>,
+) -> Result<(), NoMemory>
+    requires ordered { IsOrdered K.cmp map.old }
+    requires is_new { get K.cmp map.old key.now ≡ None }
+    ensures ordered { IsOrdered K.cmp map.new }
+    ensures put { OnOk result (get K.cmp map.new key.now ≡ Some theirs.now) }
+    ensures noted { IsNotedIn K.cmp key.now (get K.cmp map.old) (get K.cmp map.new) undo.old undo.new }
+{
+    let value = theirs.copy()?;
+    let twin = key.copy()?;
+    undo.added.push(key)?;
+    map.insert(twin, value)?;
     Ok(())
 }
 
-/// Puts in entries at new keys, or where memory is refused none of them.
-fn add_all<K: Exact, V: Join>(
-    map: &mut BTreeMap<K, V>,
-    fresh: Vec<(K, V)>,
-    twins: &[&K],
-) -> Result<(), NoMemory>
+/// Takes changes back, which takes no memory.
+fn take_back<K: Exact, V: Join>(map: &mut BTreeMap<K, V>, undo: Undo<'_, K, V>)
     requires ordered { IsOrdered K.cmp map.old }
-    requires fresh_are_new { (q : K) → has_key K.cmp q fresh.items ≡ true → get K.cmp map.old q ≡ None }
-    requires fresh_have_twins { (q : K) → has_key K.cmp q fresh.items ≡ true → is_listed K.cmp q (each (λ t. t.now) twins.now) ≡ true }
-    requires twins_are_new { (q : K) → is_listed K.cmp q (each (λ t. t.now) twins.now) ≡ true → get K.cmp map.old q ≡ None }
+    requires there { CanTakeBack K.cmp (get K.cmp map.old) undo }
     ensures ordered { IsOrdered K.cmp map.new }
-    ensures ok { OnOk result ((q : K) → get K.cmp map.new q ≡ after K.cmp q (get K.cmp map.old q) fresh.items) }
-    ensures err { OnErr result (map.new.entries ≡ map.old.entries) }
+    ensures restored { (q : K) → get K.cmp map.new q ≡ restored K.cmp q (get K.cmp map.old q) (keys_in undo.entry) (pairs_in undo.entry) }
 {
-    for (key, value) in fresh {
-        match map.insert(key, value) {
-            Ok(_) => {}
-            Err(_) => {
-                take_out(map, twins);
-                return Err(NoMemory);
-            }
-        }
+    let Undo { added, mut raised } = undo;
+    take_out(map, &added);
+    while let Some((key, value)) = raised.pop() {
+        put(map, key, value);
     }
-    Ok(())
 }
 
 /// Takes out the entries of the keys.
@@ -180,17 +178,14 @@ fn take_out<K: Exact, V: Join>(map: &mut BTreeMap<K, V>, keys: &[&K])
     }
 }
 
-/// Puts in entries in the place of others, which takes no memory.
-fn replace_all<K: Exact, V: Join>(map: &mut BTreeMap<K, V>, present: Vec<(K, V)>)
+/// Puts a value in the place of another.
+fn put<K: Exact, V: Join>(map: &mut BTreeMap<K, V>, key: &K, value: V)
     requires ordered { IsOrdered K.cmp map.old }
-    requires are_there { (q : K) → has_key K.cmp q present.items ≡ true → is_some (get K.cmp map.old q) ≡ true }
+    requires there { is_some (get K.cmp map.old key.now) ≡ true }
     ensures ordered { IsOrdered K.cmp map.new }
-    ensures with { (q : K) → get K.cmp map.new q ≡ after K.cmp q (get K.cmp map.old q) present.items }
+    ensures with { (q : K) → get K.cmp map.new q ≡ cond (is_eq (K.cmp key.now q)) (Some value) (get K.cmp map.old q) }
 {
-    for (key, value) in present {
-        match map.insert(key, value) {
-            Ok(_) => {}
-            Err(_) => unreachable!(),
-        }
+    if let Some(place) = map.get_mut(key) {
+        *place = value;
     }
 }
