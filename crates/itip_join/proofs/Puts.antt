@@ -1,6 +1,6 @@
 -- What is put into a map, key by key.
 use Rattle.std.proofs.Common.{◌≡◌, sym, ◌∙◌, ap, subst, refl, Bool, true, false, ◌||◌, List, [], ◌∷◌, ◌++◌, Some, None, inl, inr}
-use Rattle.std.specs.Prelude.{cond, Option, is_some, ◌⊎◌}
+use Rattle.std.specs.Prelude.{cond, Option, ◌⊎◌}
 use Rattle.std.specs.Ordering.{is_eq}
 use Rattle.std.specs.Cmp.{IsTotalOrder, eq_by_cmp_equiv, tied_itself}
 use Rattle.std.specs.declared.cmp.Ordering.{Ordering}

@@ -1,6 +1,7 @@
 -- Changes of a map are noted one by one, and can be taken back.
-use Rattle.std.proofs.Common.{◌≡◌, sym, ◌∙◌, ap, subst, refl, Bool, true, false, ◌||◌, List, [], ◌∷◌, ◌++◌, Some, None, inl, inr}
-use Rattle.std.specs.Prelude.{cond, Option, is_some, ◌⊎◌}
+use Rattle.std.proofs.Common.{◌≡◌, sym, ◌∙◌, ap, subst, refl, Bool, true, false, ◌||◌, List, [], ◌∷◌, ◌++◌, Some, None, inl, inr, arith, Result, Ok, Err}
+use Rattle.std.specs.Prelude.{cond, Option, is_some, ◌⊎◌, length, slice_get, IfSome, OnErr}
+use Rattle.std.proofs.lemmas.Option.{same_Some}
 use Rattle.std.specs.Map.{keys_of}
 use Rattle.std.specs.List.Sorted.{IsStrictlySortedBy}
 use Rattle.std.specs.Ordering.{is_eq}
@@ -186,3 +187,17 @@ module _ {K V : Type 0} {cmp : K → K → Ordering} (total : IsTotalOrder cmp) 
         (subst (λ (x : Option V). IsJoinOf (IsBelowAt le) (now k) (alive_part (dead k) x) (now' k)) (sym (walk_found total exact here)) joined))
         (λ q e p. subst (λ (x : Option V). IsJoinOf (IsBelowAt le) (mine q) (alive_part (dead q) (theirs q)) x) (sym (others q (flipped total q k e))) p)
         (λ q e r. others q (flipped total q k e) ∙ r)
+
+-- ---- a map of one entry
+one_of_one : {X : Type 0} (es : List X) (x : X) → length es ≡ 1 → slice_get es 0 ≡ Some x → es ≡ x ∷ []
+one_of_one [] x len first = absurd (omega arith)
+one_of_one (e ∷ []) x len first = ap (λ y. y ∷ []) (same_Some e x first)
+one_of_one (e ∷ f ∷ es) x len first = absurd (omega arith)
+
+pub single_is : {P X : Type 0} (r : Option P) (f : P → X) (es : List X) → length es ≡ 1 → IfSome r (λ p. slice_get es 0 ≡ Some (f p)) → IfSome r (λ p. es ≡ f p ∷ [])
+single_is None f es len first = tt
+single_is (Some p) f es len first = one_of_one es (f p) len first
+
+pub err_then : {T E : Type 0} (r : Result T E) {P Q : Type 0} → (P → Q) → OnErr r P → OnErr r Q
+err_then (Ok value) f p = tt
+err_then (Err error) f p = f p

@@ -1,5 +1,5 @@
 //! How a map takes in what another map tells: in place, with what takes it back where memory is refused on the way.
-ghost use Rattle.std.specs.Prelude.{◌≡◌, ◌↔◌, true, false, not, cond, Some, None, map as each, is_some, IsTrue, IfOk, OnOk, OnErr};
+ghost use Rattle.std.specs.Prelude.{◌≡◌, ◌↔◌, ◌∷◌, [], true, false, not, cond, Some, None, map as each, is_some, IfSome, IsTrue, IfOk, OnOk, OnErr};
 ghost use Rattle.std.specs.Ordering.{is_eq};
 ghost use Rattle.std.specs.BTreeMap.{get, IsOrdered};
 ghost use Rattle.itip_join.specs.Bounds.{IsJoinOf};
@@ -69,8 +69,61 @@ pub(crate) fn drop_dead<K: Exact, V: Join, S: Guard<K, V>>(map: &mut BTreeMap<K,
     );
 }
 
-/// Joins into `map`, key by key, the entries of `other` that `guard` does not kill. Where memory is refused, what was changed is changed back.
+/// Joins into `map`, key by key, the entries of `other` that `guard` does not kill.
 pub(crate) fn merge<K: Exact, V: Join, S: Guard<K, V>>(
+    alloc: Global,
+    map: &mut BTreeMap<K, V>,
+    other: &BTreeMap<K, V>,
+    guard: &S,
+) -> Result<(), NoMemory>
+    requires { IsOrdered K.cmp map.old }
+    ensures ordered { IsOrdered K.cmp map.new }
+    ensures ok { OnOk result (IsMergeOf K.cmp V.le (S.is_dead guard.now) map.old.entries other.now.entries map.new.entries) }
+    ensures err { OnErr result (map.new.entries ≡ map.old.entries) }
+{
+    match single(other) {
+        Some((key, theirs)) => join_one(map, key, theirs, guard),
+        None => join_all(alloc, map, other, guard),
+    }
+}
+
+/// The entry of a map that has no other.
+fn single<K: Exact, V>(map: &BTreeMap<K, V>) -> Option<(&K, &V)>
+    ensures { IfSome result (λ entry. map.now.entries ≡ (entry.0.now, entry.1.now) ∷ []) }
+{
+    if map.len() == 1 {
+        map.first_key_value()
+    } else {
+        None
+    }
+}
+
+/// Joins in the entry `theirs` at `key`, unless `guard` kills it. There is nothing to take back, so that a value at the key is not copied.
+fn join_one<K: Exact, V: Join, S: Guard<K, V>>(
+    map: &mut BTreeMap<K, V>,
+    key: &K,
+    theirs: &V,
+    guard: &S,
+) -> Result<(), NoMemory>
+    requires { IsOrdered K.cmp map.old }
+    ensures ordered { IsOrdered K.cmp map.new }
+    ensures joined { OnOk result (IsJoinOf (IsBelowAt V.le) (get K.cmp map.old key.now) (alive_part (S.is_dead guard.now key.now) (Some theirs.now)) (get K.cmp map.new key.now)) }
+    ensures others { (q : K) → is_eq (K.cmp key.now q) ≡ false → get K.cmp map.new q ≡ get K.cmp map.old q }
+    ensures err { OnErr result ((q : K) → get K.cmp map.new q ≡ get K.cmp map.old q) }
+{
+    if guard.kills(key, theirs) {
+        return Ok(());
+    }
+    if let Some(mine) = map.get_mut(key) {
+        return mine.join(theirs);
+    }
+    let value = theirs.copy()?;
+    map.insert(key.copy()?, value)?;
+    Ok(())
+}
+
+/// Joins in the entries of `other` that `guard` does not kill. Where memory is refused, what was changed is changed back.
+fn join_all<K: Exact, V: Join, S: Guard<K, V>>(
     alloc: Global,
     map: &mut BTreeMap<K, V>,
     other: &BTreeMap<K, V>,

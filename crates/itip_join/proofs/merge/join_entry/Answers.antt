@@ -1,4 +1,4 @@
-use Rattle.std.proofs.Common.{rules, ◌≡◌, cond, Some, sym}
+use Rattle.std.proofs.Common.{rules, ◌≡◌, cond, Some}
 use Rattle.std.specs.Ordering.{is_eq}
 use Rattle.std.specs.BTreeMap.{get}
 use Rattle.itip_join.specs.Changes.{keys_in, pairs_in}

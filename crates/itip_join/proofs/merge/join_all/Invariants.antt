@@ -1,8 +1,7 @@
-use Rattle.std.proofs.Common.{◌≡◌}
 use Rattle.std.specs.BTreeMap.{get, IsOrdered}
 use Rattle.itip_join.specs.Changes.{TakesBack, keys_in, pairs_in}
 use Rattle.itip_join.proofs.TakingBack.{IsMergeWalk}
-use Rattle.itip_join.proofs.merge.merge.Given as goal
+use Rattle.itip_join.proofs.merge.join_all.Given as goal
 
 abbrev pub invariant-loop-key : goal.invariant-loop-key
 invariant-loop-key g l = record {
