@@ -88,10 +88,11 @@
 //!
 //! # What a join costs
 //!
-//! `join` is all or nothing. `Keyed` first works out what changes: copies of the entries that it lacks, and for each entry that grows, its value joined
-//! beside it. Then it puts the new keys in, and takes them out again if memory is refused; then it replaces the present values, which takes no memory. So it
-//! costs in proportion to the map that is joined in, but for the walk down the tree. `Guarded` does the same, and where its guard grows it
-//! also goes once over its own entries, to drop the dead. `Both` copies its first part where that part grows.
+//! `join` is all or nothing. `Keyed` grows its values in place, puts in copies of the entries that it lacks, and notes both, so that it can take them back
+//! where memory is refused on the way: for this it copies each value that is to grow. Where the map that is joined in has a single entry there is nothing to
+//! take back, and nothing is copied. So a join costs in proportion to the map that is joined in and to the values that grow, but for the walk down the tree.
+//! `Guarded` does the same, and where its guard grows it also goes once over its own entries, to drop the dead. `Both` copies its first part where that
+//! part grows.
 #![tactic(auto)]
 
 pub mod both;
