@@ -1,9 +1,11 @@
 -- What one more step adds to what was heard.
 use Rattle.std.proofs.Common.{◌≡◌, ℕ, ◌<◌, ◌≤◌, List, [], ◌∷◌, ◌++◌, ◌↔◌, ◌⊎◌, inl, inr, refl, sym, ap, subst, ◌∙◌, append_assoc, append-nil, length, arith}
+use Rattle.std.specs.List.{Contains}
 use Rattle.std.proofs.lemmas.List.Elements.{Contains-append_left, Contains-push}
 use Rattle.itip_message.specs.KeyParts.{uid_of}
 use Rattle.itip_message.specs.declared.item.Item.{Item}
-use Rattle.itip_state.specs.Kept.{AreKept, IsKept, KeepSame, Moves, AreMoved, SameItems}
+use Rattle.itip_state.specs.Kept.{AreKept, IsKept, KeepSame, Moves, AreMoved, AreUidsOf, SameItems}
+use Rattle.itip_state.specs.Told.{MovesWhatItHas}
 use Rattle.itip_state.proofs.Keeping.{kept_again, kept_iff, kept_beside, kept_of_parts, covers_itself, covers_kept, are_kept_by}
 use Rattle.itip_desk.specs.Desk.{Shown, CarriesAfter, IsDeskOf}
 use Rattle.itip_desk.specs.Heard.{heard, TickStep, Ticks, MovedAfter}
@@ -144,6 +146,14 @@ moved_alike uids before part step alike moved = record {
   ascend = moved.ascend;
   each = λ uid h same. moved.each uid h (λ item about. (λ k. (alike item).1 ((same item about).0 k), λ k. (same item about).1 ((alike item).0 k)));
   others = λ uid h item about. let here = moved.others uid h item about in (λ k. (alike item).0 (here.0 k), λ k. here.1 ((alike item).1 k));
+}
+
+-- a step moves the UIDs of its news
+pub moved_by_news : (uids : List (List ℕ)) (before step news : List Item) → AreUidsOf uids news → MovesWhatItHas before step news → AreMoved uids before step
+moved_by_news uids before step news are moves = record {
+  ascend = are.ascend;
+  each = λ uid h. let at = are.each uid h in subst (Moves before step) at.2 (moves.each at.0 at.1);
+  others = λ uid none. moves.others uid (λ i h same. none (subst (Contains uids) same (are.all i h)));
 }
 
 -- what a step moves is what the kept part of it moves

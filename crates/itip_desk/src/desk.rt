@@ -94,7 +94,7 @@ impl Desk {
         ensures err { OnErr result (self.new ≡ self.old) }
     {
         let heard = self.state.news_of(batch.as_slice())?;
-        let uids = self.state.moved_by(&heard)?;
+        let uids = heard.copied_uids()?;
         if uids.is_empty() {
             return Ok(Changed {
                 tick: self.tick,

@@ -1,49 +1,60 @@
--- What is kept where items that were told before are left out.
-use Rattle.std.proofs.Common.{◌≡◌, List, ℕ, [], ◌∷◌, ◌++◌, ◌↔◌, ◌⊎◌, inl, inr, sym, ◌∙◌, subst, append-nil, Some}
+-- What is kept, and what moves, where items that were told before, or are dead, are left out.
+use Rattle.std.proofs.Common.{◌≡◌, ◌≢◌, List, ℕ, [], ◌∷◌, ◌++◌, ◌↔◌, ◌⊎◌, inl, inr, refl, sym, ◌∙◌, ap, subst, append-nil, Some, None, true, false}
 use Rattle.std.specs.List.{Contains}
 use Rattle.std.proofs.lemmas.List.Elements.{Contains-append_cases, Contains-append_left, Contains-append_right}
 use Rattle.itip_join.specs.declared.lift.Lift.{Lift}
+use Rattle.itip_join.specs.declared.lift.Lift.TheVariants.{Known}
 use Rattle.itip_join.specs.KeyByKey.{value_at}
 use Rattle.itip_message.specs.KeyParts.{uid_of}
+use Rattle.itip_message.specs.Later.{IsLater}
 use Rattle.itip_message.specs.declared.item.Item.{Item}
 use Rattle.itip_message.specs.declared.key.Key.{Key}
-use Rattle.itip_state.specs.Kept.{AreKept, IsKept}
-use Rattle.itip_state.specs.Held.{Best, Shape, shapes, items_of, shape_items, ArePlaced}
-use Rattle.itip_state.specs.Told.{IsTold, HoldsNoEarlier}
-use Rattle.itip_state.proofs.Members.{none_in, cons_cases}
+use Rattle.itip_message.specs.declared.key.Key.TheVariants.{Series}
+use Rattle.itip_state.specs.Kept.{AreKept, IsKept, IsDead, KeepSame}
+use Rattle.itip_state.specs.Slots.{slot_cmp}
+use Rattle.itip_state.specs.Held.{Best, Shape, best, is_series, kills, shapes, items_of, shape_items, ArePlaced}
+use Rattle.itip_state.specs.Told.{IsTold, IsOutdone, MovesWhatItHas, HoldsNoEarlier}
+use Rattle.itip_state.proofs.Members.{by_bool, none_in, cons_cases}
 use Rattle.itip_state.proofs.Later.{neither_later}
-use Rattle.itip_state.proofs.Keeping.{Covers, covers_itself, covers_kept, kept_of_parts}
-use Rattle.itip_state.proofs.Tests.{series_key}
-use Rattle.itip_state.proofs.Shapes.{IsWhole, IsSound, known_key, series_held, entry_held, entry_key}
+use Rattle.itip_state.proofs.Best.{not_later_itself, later_transitive}
+use Rattle.itip_state.proofs.Keeping.{Covers, covers_itself, covers_kept, kept_of_parts, kept_part, best_part}
+use Rattle.itip_state.proofs.Tests.{series_key, dead_under, can, kill}
+use Rattle.itip_state.proofs.Shapes.{IsWhole, IsSound, IsHeldAs, known_key, series_held, entry_held, entry_key, held_as, series_is, killed_is_dead}
 use Rattle.itip_state.proofs.Maps.{uid_cmp, AreInOrder}
-use Rattle.itip_state.proofs.Reading.{held_part, held_sound}
+use Rattle.itip_state.proofs.Reading.{held_part, held_no_part, held_sound}
 
--- some of the items are chosen, and each of the others was told
+-- those of the items are chosen that the set does not outdo
 pub record AreChosen (set items chosen : List Item) : Type 0 where
   pub among : (i : Item) → Contains chosen i → Contains items i
-  pub rest : (i : Item) → Contains items i → Contains chosen i ⊎ IsTold set i
+  pub new : (i : Item) → Contains chosen i → ¬ IsOutdone set i
+  pub rest : (i : Item) → Contains items i → Contains chosen i ⊎ IsOutdone set i
 
 pub choose_none : (set : List Item) → AreChosen set [] []
-choose_none set = record { among = λ i h. h; rest = λ i h. inl h }
+choose_none set = record { among = λ i h. h; new = λ i h. absurd (none_in i h); rest = λ i h. inl h }
 
-pub choose_one : (set items chosen : List Item) (j : Item) → AreChosen set items chosen → AreChosen set (items ++ j ∷ []) (chosen ++ j ∷ [])
-choose_one set items chosen j are = record {
+pub choose_one : (set items chosen : List Item) (j : Item) → (¬ IsOutdone set j) → AreChosen set items chosen → AreChosen set (items ++ j ∷ []) (chosen ++ j ∷ [])
+choose_one set items chosen j new are = record {
+  new = λ i h. elim (Contains-append_cases chosen (j ∷ []) i h) [
+    | inl before ↦ are.new i before
+    | inr now ↦ elim (cons_cases j [] i now) [ inl same ↦ subst (λ (k : Item). ¬ IsOutdone set k) same new | inr none ↦ absurd (none_in i none) ]
+  ];
   among = λ i h. elim (Contains-append_cases chosen (j ∷ []) i h) [
     | inl before ↦ Contains-append_left items (j ∷ []) i (are.among i before)
     | inr now ↦ Contains-append_right items (j ∷ []) i now
   ];
   rest = λ i h. elim (Contains-append_cases items (j ∷ []) i h) [
-    | inl before ↦ elim (are.rest i before) [ inl one ↦ inl (Contains-append_left chosen (j ∷ []) i one) | inr told ↦ inr told ]
+    | inl before ↦ elim (are.rest i before) [ inl one ↦ inl (Contains-append_left chosen (j ∷ []) i one) | inr old ↦ inr old ]
     | inr now ↦ inl (Contains-append_right chosen (j ∷ []) i now)
   ];
 }
 
-pub choose_other : (set items chosen : List Item) (j : Item) → IsTold set j → AreChosen set items chosen → AreChosen set (items ++ j ∷ []) chosen
-choose_other set items chosen j told are = record {
+pub choose_other : (set items chosen : List Item) (j : Item) → IsOutdone set j → AreChosen set items chosen → AreChosen set (items ++ j ∷ []) chosen
+choose_other set items chosen j old are = record {
+  new = are.new;
   among = λ i h. Contains-append_left items (j ∷ []) i (are.among i h);
   rest = λ i h. elim (Contains-append_cases items (j ∷ []) i h) [
     | inl before ↦ are.rest i before
-    | inr now ↦ elim (cons_cases j [] i now) [ inl same ↦ inr (subst (IsTold set) same told) | inr none ↦ absurd (none_in i none) ]
+    | inr now ↦ elim (cons_cases j [] i now) [ inl same ↦ inr (subst (IsOutdone set) same old) | inr none ↦ absurd (none_in i none) ]
   ];
 }
 
@@ -51,6 +62,15 @@ choose_other set items chosen j told are = record {
 told_kept : (set items : List Item) (i : Item) → IsKept (set ++ items) i → IsTold set i → Contains set i
 told_kept set items i kept told = subst (Contains set)
     (neither_later told.teller i (kept.best.none_later told.teller (Contains-append_left set items told.teller told.there) told.same) told.not_later) told.there
+
+-- what is dead beside a part is dead beside the whole
+dead_more : (set items : List Item) (i : Item) → IsDead set i → IsDead (set ++ items) i
+dead_more set items i dead =
+    dead_under (set ++ items) dead.series i (Contains-append_left set items dead.series dead.best.is_heard) dead.best.about (can i.key dead.can_die) dead.below
+
+outdone_kept : (set items : List Item) (i : Item) → IsKept (set ++ items) i → IsOutdone set i → Contains set i
+outdone_kept set items i kept (inl told) = told_kept set items i kept told
+outdone_kept set items i kept (inr dead) = absurd (kept.alive (dead_more set items i dead))
 
 chosen_covers : (set items chosen : List Item) → AreChosen set items chosen → Covers (set ++ chosen) (set ++ items)
 chosen_covers set items chosen are i = (
@@ -62,7 +82,7 @@ chosen_covers set items chosen are i = (
     | inl old ↦ Contains-append_left set chosen i old
     | inr new ↦ elim (are.rest i new) [
       | inl one ↦ Contains-append_right set chosen i one
-      | inr told ↦ Contains-append_left set chosen i (told_kept set items i kept told)
+      | inr old ↦ Contains-append_left set chosen i (outdone_kept set items i kept old)
     ]
   ],
 )
@@ -79,26 +99,134 @@ chosen_kept set items chosen news are kept i =
     let all = covered_kept (set ++ chosen) (set ++ items) (chosen_covers set items chosen are) i in
     (λ k. all.0 (some.0 k), λ k. some.1 (all.1 k))
 
--- what is held of a UID tells
+-- what is kept of the chosen items is kept beside the set, which outdoes none of them
+new_kept : (set items chosen : List Item) (i : Item) → AreChosen set items chosen → IsKept chosen i → IsKept (set ++ chosen) i
+new_kept set items chosen i are kept = record {
+  best = record {
+    is_heard = Contains-append_right set chosen i kept.best.is_heard;
+    about = refl;
+    none_later = λ j h same. elim (Contains-append_cases set chosen j h) [
+      | inl old ↦ λ later. new (inl (record { teller = j; there = old; same = same; not_later = λ over. not_later_itself i (later_transitive i j i over later) }))
+      | inr now ↦ kept.best.none_later j now same
+    ];
+  };
+  alive = λ dead. elim (Contains-append_cases set chosen dead.series dead.best.is_heard) [
+    | inl old ↦ new (inr (record { can_die = dead.can_die; series = dead.series; best = best_part (set ++ chosen) set _ dead.series (Contains-append_left set chosen) dead.best old; below = dead.below }))
+    | inr now ↦ kept.alive (record { can_die = dead.can_die; series = dead.series; best = best_part (set ++ chosen) chosen _ dead.series (Contains-append_right set chosen) dead.best now; below = dead.below })
+  ];
+}
+  where
+    new : ¬ IsOutdone set i
+    new = are.new i kept.best.is_heard
+
+-- beside items of other UIDs is kept of a UID what was kept
+kept_apart : (set news : List Item) (uid : List ℕ) → ((i : Item) → Contains news i → uid_of i.key ≢ uid) → KeepSame uid set (set ++ news)
+kept_apart set news uid none i of_uid = (up, λ kept. kept_part (set ++ news) set i (Contains-append_left set news) kept (old i kept.best.is_heard of_uid))
+  where
+    old : (j : Item) → Contains (set ++ news) j → uid_of j.key ≡ uid → Contains set j
+    old j h same = elim (Contains-append_cases set news j h) [ inl left ↦ left | inr right ↦ absurd (none j right same) ]
+
+    up : IsKept set i → IsKept (set ++ news) i
+    up kept = record {
+      best = record {
+        is_heard = Contains-append_left set news i kept.best.is_heard;
+        about = refl;
+        none_later = λ j h same. kept.best.none_later j (old j h (ap uid_of same ∙ of_uid)) same;
+      };
+      alive = λ dead. kept.alive (record {
+        can_die = dead.can_die;
+        series = dead.series;
+        best = best_part (set ++ news) set _ dead.series (Contains-append_left set news) dead.best (old dead.series dead.best.is_heard (ap uid_of dead.best.about ∙ of_uid));
+        below = dead.below;
+      });
+    }
+
+-- the UIDs of the news are those that move
+pub chosen_moves : (set items chosen news : List Item) → AreChosen set items chosen → AreKept news chosen → MovesWhatItHas set items news
+chosen_moves set items chosen news are kept = record {
+  each = λ i h same.
+      let is : IsKept chosen i = (kept i).0 h in
+      let whole : IsKept (set ++ items) i = (covered_kept (set ++ chosen) (set ++ items) (chosen_covers set items chosen are) i).0 (new_kept set items chosen i are is) in
+      let old : Contains set i = ((same i refl).1 whole).best.is_heard in
+      are.new i is.best.is_heard (inl (record { teller = i; there = old; same = refl; not_later = not_later_itself i }));
+  others = λ uid none i of_uid.
+      let apart = kept_apart set news uid none i of_uid in
+      let all = chosen_kept set items chosen news are kept i in
+      (λ k. all.0 (apart.0 k), λ k. apart.1 (all.1 k));
+}
+
+-- ---- at the key of an item
+pub not_series : (key : Key) → ((uid : List ℕ) → key ≡ Series uid → ⊥) → is_series key ≡ false
+not_series key not = by_bool (is_series key) (is_series key ≡ false) (λ e. absurd (not (uid_of key) (series_key key e))) (λ e. e)
+
+module _ (sh : Shape) (item : Item) (b : Best) where
+  pub known_holds : is_series item.key ≡ true → sh.series ≡ Known b → HoldsNoEarlier sh item ↔ (¬ IsLater item b.value)
+  known_holds e known = (λ h. by h.held h.not_later h.place, λ n. record { held = b; place = inl (e, known); not_later = n })
+    where
+      one : (x y : Best) → Known x ≡ Known y → x ≡ y
+      one x y same = cc
+
+      by : (held : Best) → (¬ IsLater item held.value) → ((is_series item.key ≡ true) × (sh.series ≡ Known held)) ⊎ ((is_series item.key ≡ false) × (value_at slot_cmp sh.entries item.key ≡ Some held))
+          → ¬ IsLater item b.value
+      by held not (inl first) = subst (λ (x : Best). ¬ IsLater item x.value) (one held b (sym first.1 ∙ known)) not
+      by held not (inr other) = let x : true ≡ false = sym e ∙ other.0 in absurd (cc)
+
+  pub entry_holds : is_series item.key ≡ false → value_at slot_cmp sh.entries item.key ≡ Some b → HoldsNoEarlier sh item ↔ (¬ IsLater item b.value)
+  entry_holds e there = (λ h. by h.held h.not_later h.place, λ n. record { held = b; place = inr (e, there); not_later = n })
+    where
+      one : (x y : Best) → Some x ≡ Some y → x ≡ y
+      one x y same = cc
+
+      by : (held : Best) → (¬ IsLater item held.value) → ((is_series item.key ≡ true) × (sh.series ≡ Known held)) ⊎ ((is_series item.key ≡ false) × (value_at slot_cmp sh.entries item.key ≡ Some held))
+          → ¬ IsLater item b.value
+      by held not (inl first) = let x : true ≡ false = sym first.0 ∙ e in absurd (cc)
+      by held not (inr other) = subst (λ (x : Best). ¬ IsLater item x.value) (one held b (sym other.1 ∙ there)) not
+
+-- ---- where nothing, or this, is held of a UID
 module _ {V : Type 0} (series : V → Lift Best) (entries : V → List (Key × Best)) (whole : (v : V) → IsWhole (record { series = series v; entries = entries v }))
-    (es : List (List ℕ × V)) (s : AreInOrder series entries whole es) (p : ArePlaced (shapes es series entries)) (item : Item) (v : V) (e : value_at uid_cmp es (uid_of item.key) ≡ Some v)
-    (holds : HoldsNoEarlier (record { series = series v; entries = entries v }) item) where
-  abbrev sh : Shape
-  sh = record { series = series v; entries = entries v }
+    (es : List (List ℕ × V)) (s : AreInOrder series entries whole es) (p : ArePlaced (shapes es series entries)) (item : Item) where
+  abbrev all : List Item
+  all = items_of (shapes es series entries)
 
-  sound : IsSound (uid_of item.key) sh
-  sound = held_sound series entries whole es p (uid_of item.key) v e
+  pub not_outdone : value_at uid_cmp es (uid_of item.key) ≡ None → ¬ IsOutdone all item
+  not_outdone e (inl told) = none_in told.teller ((held_no_part series entries whole es s p (uid_of item.key) e told.teller).1 (told.there, ap uid_of told.same))
+  not_outdone e (inr dead) = none_in dead.series ((held_no_part series entries whole es s p (uid_of item.key) e dead.series).1 (dead.best.is_heard, ap uid_of dead.best.about))
 
-  in_place : Contains (shape_items sh) holds.held.value × (holds.held.value.key ≡ item.key)
-  in_place = elim holds.place [
-    | inl first ↦ (series_held (uid_of item.key) sh sound holds.held.value first.1, known_key (uid_of item.key) sh sound holds.held.value first.1 ∙ sym (series_key item.key first.0))
-    | inr other ↦ (entry_held (uid_of item.key) sh sound item.key holds.held other, (entry_key (uid_of item.key) sh sound item.key holds.held other).in_place)
-  ]
+  module _ (v : V) (e : value_at uid_cmp es (uid_of item.key) ≡ Some v) where
+    abbrev sh : Shape
+    sh = record { series = series v; entries = entries v }
 
-  pub told_here : IsTold (items_of (shapes es series entries)) item
-  told_here = record {
-    teller = holds.held.value;
-    there = ((held_part series entries whole es s p (uid_of item.key) v e holds.held.value).0 in_place.0).0;
-    same = in_place.1;
-    not_later = holds.not_later;
-  }
+    sound : IsSound (uid_of item.key) sh
+    sound = held_sound series entries whole es p (uid_of item.key) v e
+
+    in_place : (held : Best) → ((is_series item.key ≡ true) × (series v ≡ Known held)) ⊎ ((is_series item.key ≡ false) × (value_at slot_cmp (entries v) item.key ≡ Some held))
+        → Contains (shape_items sh) held.value × (held.value.key ≡ item.key)
+    in_place held (inl first) = (series_held (uid_of item.key) sh sound held.value first.1, known_key (uid_of item.key) sh sound held.value first.1 ∙ sym (series_key item.key first.0))
+    in_place held (inr other) = (entry_held (uid_of item.key) sh sound item.key held other.1, (entry_key (uid_of item.key) sh sound item.key held other.1).in_place)
+
+    from_shape : (i : Item) → Contains (shape_items sh) i → Contains all i
+    from_shape i h = ((held_part series entries whole es s p (uid_of item.key) v e i).0 h).0
+
+    in_shape : (i : Item) → Contains all i → uid_of i.key ≡ uid_of item.key → Contains (shape_items sh) i
+    in_shape i h same = (held_part series entries whole es s p (uid_of item.key) v e i).1 (h, same)
+
+    pub told_here : HoldsNoEarlier sh item → IsOutdone all item
+    told_here holds =
+        let at = in_place holds.held holds.place in
+        inl (record { teller = holds.held.value; there = from_shape holds.held.value at.0; same = at.1; not_later = holds.not_later })
+
+    pub dead_here : kills (series v) item.key item ≡ true → IsOutdone all item
+    dead_here k = inr (killed_is_dead (uid_of item.key) sh sound all from_shape item refl k)
+
+    holds_as : (w : Item) → w.key ≡ item.key → (¬ IsLater item w) → IsHeldAs sh w → HoldsNoEarlier sh item
+    holds_as w same not (inl first) = record { held = best w; place = inl (ap is_series (sym same) ∙ first.1, first.0); not_later = not }
+    holds_as w same not (inr other) = record { held = best w; place = inr (ap is_series (sym same) ∙ other.1, ap (value_at slot_cmp (entries v)) (sym same) ∙ other.0); not_later = not }
+
+    -- where an item is outdone, one of the two is seen here
+    pub outdone_here : IsOutdone all item → (kills (series v) item.key item ≡ true) ⊎ HoldsNoEarlier sh item
+    outdone_here (inl told) =
+        inr (holds_as told.teller told.same told.not_later (held_as (uid_of item.key) sh sound told.teller (in_shape told.teller told.there (ap uid_of told.same))))
+    outdone_here (inr dead) =
+        let there : Contains (shape_items sh) dead.series = in_shape dead.series dead.best.is_heard (ap uid_of dead.best.about) in
+        let known = series_is (uid_of item.key) sh sound dead.series there (ap is_series dead.best.about) in
+        inl (ap (λ (t : Lift Best). kills t item.key item) known ∙ kill dead.series item.key item (can item.key dead.can_die) dead.below)

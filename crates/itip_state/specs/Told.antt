@@ -1,11 +1,13 @@
--- What was told before (our own form): an item of whose key one is kept that it is not later than.
-use Rattle.std.specs.Prelude.{◌≡◌, List, Some, ◌⊎◌, true}
+-- What adds nothing (our own form): what was told before, an item of whose key one is kept that it is not later than, and what is dead. And the UIDs that move by what is left.
+use Rattle.std.specs.Prelude.{◌≡◌, ◌≢◌, ℕ, List, ◌++◌, Some, ◌⊎◌, true, false}
 use Rattle.std.specs.List.{Contains}
 use Rattle.itip_message.specs.Later.{IsLater}
+use Rattle.itip_message.specs.KeyParts.{uid_of}
 use Rattle.itip_message.specs.declared.item.Item.{Item}
 use Rattle.itip_join.specs.declared.lift.Lift.TheVariants.{Known}
 use Rattle.itip_join.specs.KeyByKey.{value_at}
 use Rattle.itip_state.specs.Slots.{slot_cmp}
+use Rattle.itip_state.specs.Kept.{IsDead, Moves, KeepSame}
 use Rattle.itip_state.specs.Held.{Best, Shape, is_series}
 
 -- an item of the set has the key of this item, which is not later
@@ -15,8 +17,17 @@ pub record IsTold (set : List Item) (item : Item) : Type 0 where
   pub same : teller.key ≡ item.key
   pub not_later : ¬ IsLater item teller
 
+-- it was told before, or is dead beside the set
+abbrev pub IsOutdone : List Item → Item → Type 0
+IsOutdone set item = IsTold set item ⊎ IsDead set item
+
+-- hearing a step moves each UID of an item of the news, and no other
+pub record MovesWhatItHas (before step news : List Item) : Type 0 where
+  pub each : (item : Item) → Contains news item → Moves before step (uid_of item.key)
+  pub others : (uid : List ℕ) → ((item : Item) → Contains news item → uid_of item.key ≢ uid) → KeepSame uid before (before ++ step)
+
 -- what is held of a UID is no earlier, at the key of the item, than the item
 pub record HoldsNoEarlier (shape : Shape) (item : Item) : Type 0 where
   pub held : Best
-  pub place : ((is_series item.key ≡ true) × (shape.series ≡ Known held)) ⊎ (value_at slot_cmp shape.entries item.key ≡ Some held)
+  pub place : ((is_series item.key ≡ true) × (shape.series ≡ Known held)) ⊎ ((is_series item.key ≡ false) × (value_at slot_cmp shape.entries item.key ≡ Some held))
   pub not_later : ¬ IsLater item held.value

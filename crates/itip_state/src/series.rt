@@ -10,7 +10,7 @@ use crate::revision::Best;
 use crate::shared::SharedItem;
 use crate::slot::Slot;
 use itip_join::{Exact, Greatest, Guard, Guarded, Keyed, Lift};
-use itip_message::Key;
+use itip_message::{Item, Key};
 use std::alloc::Global;
 
 /// The kept items of one UID: the best series item, or none, and under it the best items of the other keys. It makes those dead that are below it.
@@ -25,12 +25,17 @@ impl Guard<Slot, Best> for Lift<Best> {
     ghost dead_stays_dead = { λ s t k v. kills_more s t k v.value };
 
     fn kills(&self, key: &Slot, value: &Best) -> bool {
-        match self {
-            Lift::Nothing => false,
-            Lift::Known(series) => {
-                can_die(key.key()) && value.value.item().eff < series.value.item().eff
-            }
-        }
+        is_dead_below(self, key.key(), value.value.item())
+    }
+}
+
+/// Whether a series item, where there is one, makes an item of this key dead.
+pub(crate) fn is_dead_below(series: &Lift<Best>, key: &Key, item: &Item) -> bool
+    ensures { result ≡ series_kills series.now key.now item.now }
+{
+    match series {
+        Lift::Nothing => false,
+        Lift::Known(series) => can_die(key) && item.eff < series.value.item().eff,
     }
 }
 

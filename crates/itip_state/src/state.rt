@@ -12,11 +12,11 @@ ghost use Rattle.itip_join.specs.Optional.{IsBelowAt};
 ghost use Rattle.itip_state.specs.Held.{shapes, items_of, shape_items, entry_items, HoldKept, ArePlaced, Shape};
 ghost use Rattle.itip_state.specs.Below.{IsShapeBelow, AreNews};
 ghost use Rattle.itip_state.specs.Organizers.{used_by, greater, greatest};
-ghost use Rattle.itip_state.specs.Told.{IsTold, HoldsNoEarlier};
+ghost use Rattle.itip_state.specs.Told.{IsOutdone, HoldsNoEarlier};
 
 use crate::NoMemory;
 use crate::revision::Best;
-use crate::series::{SeriesState, of_item, of_nothing};
+use crate::series::{SeriesState, is_dead_below, of_item, of_nothing};
 use crate::shared::SharedItem;
 use crate::slot::{Slot, compare, uid};
 use crate::sorted::by_octets;
@@ -57,14 +57,14 @@ fn has(held: &Keyed<Uid, SeriesState>, uid: &Uid) -> bool
 
 /// Whether `item` is not later than what is held at its key.
 fn is_no_later(item: &Item, best: &Best) -> bool
-    ensures { IsTrue result → ¬ IsLater item.now best.now.value }
+    ensures { IsTrue result ↔ (¬ IsLater item.now best.now.value) }
 {
     item.cmp_rev(best.value.item()).is_le()
 }
 
 /// Whether what is held of the UID of `item` at its key is no earlier than it.
 fn holds_no_earlier(series: &SeriesState, item: &SharedItem) -> bool
-    ensures { IsTrue result → HoldsNoEarlier (record { series = series.now.guard; entries = series.now.entries.map }) item.now }
+    ensures { IsTrue result ↔ HoldsNoEarlier (record { series = series.now.guard; entries = series.now.entries.map }) item.now }
 {
     match &item.item().key {
         Key::Series(_) => match &series.guard {
@@ -80,15 +80,15 @@ fn holds_no_earlier(series: &SeriesState, item: &SharedItem) -> bool
     }
 }
 
-/// Whether an item of the same key is held that is no earlier. What is dead is not looked for.
-fn tells(held: &Keyed<Uid, SeriesState>, item: &SharedItem) -> bool
-    ensures { IsTrue result → ArePlaced (shapes held.now.map (λ v. v.guard) (λ v. v.entries.map))
-        → IsTold (items_of (shapes held.now.map (λ v. v.guard) (λ v. v.entries.map))) item.now }
+/// Whether hearing an item changes nothing: an item of its key is held that is no earlier, or it is dead below the series item held.
+fn outdoes(held: &Keyed<Uid, SeriesState>, item: &SharedItem) -> bool
+    ensures { ArePlaced (shapes held.now.map (λ v. v.guard) (λ v. v.entries.map))
+        → IsTrue result ↔ IsOutdone (items_of (shapes held.now.map (λ v. v.guard) (λ v. v.entries.map))) item.now }
 {
     let Some(series) = held.get(uid(&item.item().key)) else {
         return false;
     };
-    holds_no_earlier(series, item)
+    is_dead_below(&series.guard, &item.item().key, item.item()) || holds_no_earlier(series, item)
 }
 
 /// Whether what is held of a UID tells all that `theirs` tells of it.
@@ -115,6 +115,17 @@ fn news(
         if knows(held, uid, series) {
             continue;
         }
+        uids.push(uid.clone()?)?;
+    }
+    Ok(uids)
+}
+
+/// Copies of the UIDs of a map, in order.
+fn copied_uids(alloc: Global, held: &Keyed<Uid, SeriesState>) -> Result<Vec<Uid>, NoMemory>
+    ensures { IfOk result (λ uids. uids.items ≡ keys_of held.now.map) }
+{
+    let mut uids = Vec::new(alloc);
+    for (uid, _) in held.map.iter() {
         uids.push(uid.clone()?)?;
     }
     Ok(uids)
@@ -246,6 +257,7 @@ impl State {
     ghost use Rattle.itip_state.specs.Kept.{AreKept, IsKept, ArePart, ArePartOf, AreMoved, IsItemsOf, AreSeriesOf, AreUidsOf, SameItems, HasEachOnce, AscendKeys};
     ghost use Rattle.itip_state.specs.Order.{IsState, IsBelow};
     ghost use Rattle.itip_state.specs.Organizers.{IsLastUsed};
+    ghost use Rattle.itip_state.specs.Told.{MovesWhatItHas};
 
     /// The state of nothing heard. It takes no memory.
     pub fn empty(alloc: Global) -> State
@@ -269,13 +281,17 @@ impl State {
         Ok(State { alloc, held })
     }
 
-    /// What is kept of these items but for those that this state tells already. Beside this state it counts as much as all of them.
+    /// What is kept of these items but for those that this state tells already, and those that are dead beside it.
+    ///
+    /// Beside this state it counts as much as all of them, and these move each UID of which it has an item, and no other.
     pub fn news_of(&self, items: &[SharedItem]) -> Result<State, NoMemory>
-        ensures { IfOk result (λ news. (item : Item) → IsKept (self.now ++ news) item ↔ IsKept (self.now ++ items.now) item) }
+        ensures kept { IfOk result (λ news. (item : Item) → IsKept (self.now ++ news) item ↔ IsKept (self.now ++ items.now) item) }
+        ensures moves { IfOk result (MovesWhatItHas self.now items.now) }
+        ensures state { OnOk result (IsState self.now) }
     {
         let mut held = Keyed::empty(self.alloc);
         for item in items {
-            if tells(&self.held, item) {
+            if outdoes(&self.held, item) {
                 continue;
             }
             hear(&mut held, self.alloc, item)?;
@@ -365,6 +381,13 @@ impl State {
         ensures state { OnOk result (IsState self.now) }
     {
         uids_of(self.alloc, &self.held)
+    }
+
+    /// Copies of the UIDs of which something is kept, by octets, each once.
+    pub fn copied_uids(&self) -> Result<Vec<Uid>, NoMemory>
+        ensures { IfOk result (λ uids. AreUidsOf uids.items self.now) }
+    {
+        copied_uids(self.alloc, &self.held)
     }
 
     /// The kept item of a key, or `None` where none is kept. It takes no memory.

@@ -2,31 +2,34 @@ use Rattle.std.proofs.Common.{◌≡◌, ◌+◌, ◌++◌, ◌↔◌, List, inl
 use Rattle.itip_message.specs.declared.item.Item.{Item}
 use Rattle.itip_state.specs.Kept.{AreKept, IsKept, AreMoved}
 use Rattle.itip_state.specs.Order.{IsState}
+use Rattle.itip_state.specs.Told.{MovesWhatItHas}
 use Rattle.itip_state.proofs.Keeping.{are_kept_by}
 use Rattle.std.specs.Prelude.{cond, Some}
 use Rattle.itip_desk.proofs.Refusals.{on_err_always}
 use Rattle.itip_desk.specs.Desk.{Shown}
 use Rattle.itip_desk.specs.Moves.{is_listed, FallFrom}
 use Rattle.itip_desk.proofs.Ticking.{at_uid, fall_more, fall_places, carry_step}
-use Rattle.itip_desk.proofs.Steps.{moved_alike, none_moved, none_in, some_moved, still_carry, one_more_step}
+use Rattle.itip_desk.proofs.Steps.{moved_by_news, none_moved, none_in, some_moved, still_carry, one_more_step}
 use Rattle.itip_desk.proofs.desk.Desk.take.Goals as goal
 use Rattle.itip_desk.proofs.desk.Desk.take.Goals.{In_ok-uids}
 
 -- with the news is kept what is kept with the batch
 alike : (c : In_ok-uids) (item : Item) → IsKept (c.self.inside.state ++ c.in_ok-heard.heard) item ↔ IsKept (c.self.inside.state ++ c.args.batch.now) item
-alike c = subst (λ (step : List Item). (item : Item) → IsKept (c.self.inside.state ++ c.in_ok-heard.heard) item ↔ IsKept (c.self.inside.state ++ step) item) c.as_slice.ensures.items c.in_ok-heard.ensures
+alike c = subst (λ (step : List Item). (item : Item) → IsKept (c.self.inside.state ++ c.in_ok-heard.heard) item ↔ IsKept (c.self.inside.state ++ step) item) c.as_slice.ensures.items c.in_ok-heard.ensures.kept
 
 -- the UIDs are those that the batch moves
 moved : (c : In_ok-uids) → AreMoved c.in_ok-uids.uids.items c.args.self.now.kept c.args.batch.now
 moved c =
     let kept : c.self.inside.state ≡ c.args.self.now.kept = ap (λ (d : Shown). d.kept) c.self.view_is in
-    subst (λ (k : List Item). AreMoved c.in_ok-uids.uids.items k c.args.batch.now) kept (moved_alike c.in_ok-uids.uids.items c.self.inside.state c.in_ok-heard.heard c.args.batch.now (alike c) c.in_ok-uids.ensures.uids)
+    let moves : MovesWhatItHas c.self.inside.state c.args.batch.now c.in_ok-heard.heard =
+    subst (λ (step : List Item). MovesWhatItHas c.self.inside.state step c.in_ok-heard.heard) c.as_slice.ensures.items c.in_ok-heard.ensures.moves in
+    subst (λ (k : List Item). AreMoved c.in_ok-uids.uids.items k c.args.batch.now) kept (moved_by_news c.in_ok-uids.uids.items c.self.inside.state c.args.batch.now c.in_ok-heard.heard c.in_ok-uids.ensures moves)
 
 -- what the desk keeps is a state
 state : (c : In_ok-uids) → IsState c.args.self.now.kept
 state c =
     let kept : c.self.inside.state ≡ c.args.self.now.kept = ap (λ (d : Shown). d.kept) c.self.view_is in
-    subst IsState kept c.in_ok-uids.ensures.state
+    subst IsState kept c.in_ok-heard.ensures.state
 
 -- merging the news is hearing the batch
 kept_with : (c : In_ok-uids) (new : List Item) → AreKept new (c.self.inside.state ++ c.in_ok-heard.heard) → AreKept new (c.args.self.now.kept ++ c.args.batch.now)
