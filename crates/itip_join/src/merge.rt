@@ -69,7 +69,8 @@ pub(crate) fn drop_dead<K: Exact, V: Join, S: Guard<K, V>>(map: &mut BTreeMap<K,
     );
 }
 
-/// Joins into `map`, key by key, the entries of `other` that `guard` does not kill.
+/// Joins into `map`, key by key, the entries of `other` that `guard` does not kill. That it needs no memory where these are at most those of `map` is for its
+/// callers to say, which ask first.
 pub(crate) fn merge<K: Exact, V: Join, S: Guard<K, V>>(
     alloc: Global,
     map: &mut BTreeMap<K, V>,

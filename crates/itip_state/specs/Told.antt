@@ -1,4 +1,4 @@
--- What adds nothing (our own form): what was told before, an item of whose key one is kept that it is not later than, and what is dead. And the UIDs that move by what is left.
+-- What adds nothing (our own form): an item no later than one of its key in the set, and an item that is dead beside the set. And the UIDs that move by what is left.
 use Rattle.std.specs.Prelude.{◌≡◌, ◌≢◌, ℕ, List, ◌++◌, Some, ◌⊎◌, true, false}
 use Rattle.std.specs.List.{Contains}
 use Rattle.itip_message.specs.Later.{IsLater}
@@ -10,7 +10,7 @@ use Rattle.itip_state.specs.Slots.{slot_cmp}
 use Rattle.itip_state.specs.Kept.{IsDead, Moves, KeepSame}
 use Rattle.itip_state.specs.Held.{Best, Shape, is_series}
 
--- an item of the set has the key of this item, which is not later
+-- an item of the set has the key of this item, and this item is not later than it
 pub record IsTold (set : List Item) (item : Item) : Type 0 where
   pub teller : Item
   pub there : Contains set teller

@@ -17,7 +17,7 @@ use std::cmp::Ordering;
 use std::marker::Model;
 use std::sync::Arc;
 
-/// The key of an item among those of its UID: by kind, instance and attendee, and only then by UID, which is the same. It is shared, as a revision is.
+/// The key of an item among those of its UID: by kind of key, instance and attendee, and only then by UID, which is the same. It is shared, as a revision is.
 #[derive(Debug, Drop)]
 pub(crate) struct Slot {
     shared: Arc<Key>,
@@ -62,7 +62,7 @@ pub(crate) fn uid(key: &Key) -> &Uid
     key.uid()
 }
 
-/// By UID, then by kind, instance and attendee.
+/// By UID, then by kind of key, instance and attendee.
 pub(crate) fn compare(key: &Key, other: &Key) -> Ordering
     ensures { result ≡ key_cmp key.now other.now }
 {
@@ -71,7 +71,7 @@ pub(crate) fn compare(key: &Key, other: &Key) -> Ordering
         .then_with(|| compare_rest(key, other))
 }
 
-/// By kind, instance and attendee.
+/// By kind of key, instance and attendee.
 fn compare_rest(key: &Key, other: &Key) -> Ordering
     ensures { result ≡ rest_cmp key.now other.now }
 {

@@ -286,6 +286,7 @@ impl State {
     /// Beside this state it counts as much as all of them, and these move each UID of which it has an item, and no other.
     pub fn news_of(&self, items: &[SharedItem]) -> Result<State, NoMemory>
         ensures kept { IfOk result (λ news. (item : Item) → IsKept (self.now ++ news) item ↔ IsKept (self.now ++ items.now) item) }
+        ensures only { IfOk result (λ news. (item : Item) → Contains news item → Contains items.now item × (¬ IsOutdone self.now item)) }
         ensures moves { IfOk result (MovesWhatItHas self.now items.now) }
         ensures state { OnOk result (IsState self.now) }
     {
@@ -407,7 +408,7 @@ impl State {
         }
     }
 
-    /// The kept items of a UID: the series item, then instances by recurrence id, answers and refreshes by instance and attendee.
+    /// The kept items of a UID: the series item, then instances by recurrence id, then answers, then refreshes, each by instance and attendee.
     pub fn of_uid(&self, uid: &Uid) -> Result<Vec<&Item>, NoMemory>
         ensures items { IfOk result (λ items. ArePart uid.now (map (λ item. item.now) items.items) self.now) }
         ensures ordered { IfOk result (λ items. AscendKeys (map (λ item. item.now) items.items)) }

@@ -50,6 +50,12 @@ returns-clause-kept c = chosen_kept c.args.self.now c.args.items.now c.loop-item
     (subst (λ (xs : List Item). AreChosen c.args.self.now xs c.loop-item.invariant.chosen) (take_all c.loop-item.item-index c.args.items.now c.loop-item-test.false) c.loop-item.invariant.are)
     c.loop-item.invariant.hold.kept
 
+pub returns-clause-only : goal.returns-clause-only
+returns-clause-only c = λ item there.
+    let are = subst (λ (xs : List Item). AreChosen c.args.self.now xs c.loop-item.invariant.chosen) (take_all c.loop-item.item-index c.args.items.now c.loop-item-test.false) c.loop-item.invariant.are in
+    let heard = ((c.loop-item.invariant.hold.kept item).0 there).best.is_heard in
+    (are.among item heard, are.new item heard)
+
 pub returns-clause-moves : goal.returns-clause-moves
 returns-clause-moves c = chosen_moves c.args.self.now c.args.items.now c.loop-item.invariant.chosen (items_of (shapes c.loop-item.held.map (λ v. v.guard) (λ v. v.entries.map)))
     (subst (λ (xs : List Item). AreChosen c.args.self.now xs c.loop-item.invariant.chosen) (take_all c.loop-item.item-index c.args.items.now c.loop-item-test.false) c.loop-item.invariant.are)
