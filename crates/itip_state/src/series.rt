@@ -58,7 +58,7 @@ pub(crate) fn of_item(alloc: Global, item: &SharedItem) -> Result<SeriesState, N
     let best = Greatest {
         value: item.revision().copy()?,
     };
-    if let Key::Series(_) = &item.item().key {
+    if let Key::Series(_) = item.key() {
         return Ok(Guarded {
             guard: Lift::Known(best),
             entries: Keyed::empty(alloc),

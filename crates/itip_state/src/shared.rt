@@ -8,7 +8,7 @@ use crate::NoMemory;
 use crate::revision::Revision;
 use crate::slot::Slot;
 use itip_join::Exact;
-use itip_message::Item;
+use itip_message::{Item, Key};
 use std::alloc::Global;
 use std::cmp::Ordering;
 use std::marker::Model;
@@ -64,6 +64,13 @@ impl SharedItem {
         ensures { result.now ≡ self.now }
     {
         self.revision.item()
+    }
+
+    /// Its key, which lies where its place in a state does.
+    pub(crate) fn key(&self) -> &Key
+        ensures { result.now ≡ self.now.key }
+    {
+        self.slot.key()
     }
 
     /// The item in the order of revisions.

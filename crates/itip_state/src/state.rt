@@ -35,7 +35,7 @@ fn hear(
     ensures { OnOk result ((heard : List Item) → HoldKept heard (shapes held.old.map (λ v. v.guard) (λ v. v.entries.map))
         → HoldKept (heard ++ item.now ∷ []) (shapes held.new.map (λ v. v.guard) (λ v. v.entries.map))) }
 {
-    let uid = uid(&item.item().key);
+    let uid = uid(item.key());
     let one = of_item(alloc, item)?;
     if has(held, uid) {
         let before = held.insert(uid.clone()?, of_nothing(alloc))?;
@@ -66,7 +66,7 @@ fn is_no_later(item: &Item, best: &Best) -> bool
 fn holds_no_earlier(series: &SeriesState, item: &SharedItem) -> bool
     ensures { IsTrue result ↔ HoldsNoEarlier (record { series = series.now.guard; entries = series.now.entries.map }) item.now }
 {
-    match &item.item().key {
+    match item.key() {
         Key::Series(_) => match &series.guard {
             Lift::Nothing => false,
             Lift::Known(best) => is_no_later(item.item(), best),
@@ -85,10 +85,10 @@ fn outdoes(held: &Keyed<Uid, SeriesState>, item: &SharedItem) -> bool
     ensures { ArePlaced (shapes held.now.map (λ v. v.guard) (λ v. v.entries.map))
         → IsTrue result ↔ IsOutdone (items_of (shapes held.now.map (λ v. v.guard) (λ v. v.entries.map))) item.now }
 {
-    let Some(series) = held.get(uid(&item.item().key)) else {
+    let Some(series) = held.get(uid(item.key())) else {
         return false;
     };
-    is_dead_below(&series.guard, &item.item().key, item.item()) || holds_no_earlier(series, item)
+    is_dead_below(&series.guard, item.key(), item.item()) || holds_no_earlier(series, item)
 }
 
 /// Whether what is held of a UID tells all that `theirs` tells of it.

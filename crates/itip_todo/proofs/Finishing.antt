@@ -189,7 +189,8 @@ pub stampless : (e : TodoError) (draft : Draft) (uid : List ℕ) → draft.uid �
     → IfFault e (λ f. (lines : List Line) → AreGood [] lines → IsDraftOf (lines_of lines) draft → RefusesTodo lines f)
 stampless error.NoMemory draft uid there missing = tt
 stampless (error.Fault f) draft uid there (same, none) = λ lines good is. inr (inr (
-    good,
-    is_there IsUidOf (first_named name.Uid lines) uid (subst (λ (v : Option (List ℕ)). IsOptional IsUidOf (first_named name.Uid lines) v) there (is name.Uid)),
-    is_absent IsStampOf (first_named name.DtStamp lines) (subst (λ (v : Option Stamp). IsOptional IsStampOf (first_named name.DtStamp lines) v) none (is name.DtStamp)),
-    same))
+  good,
+  is_there IsUidOf (first_named name.Uid lines) uid (subst (λ (v : Option (List ℕ)). IsOptional IsUidOf (first_named name.Uid lines) v) there (is name.Uid)),
+  is_absent IsStampOf (first_named name.DtStamp lines) (subst (λ (v : Option Stamp). IsOptional IsStampOf (first_named name.DtStamp lines) v) none (is name.DtStamp)),
+  same,
+))

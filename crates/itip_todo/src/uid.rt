@@ -17,7 +17,7 @@ use std::marker::Model;
 
 /// The UID of a to-do (RFC 5545 3.8.4.7), compared by its octets.
 ///
-/// Its first octets stand in it as a number too, so that few comparisons have to look at the text, which lies elsewhere in memory.
+/// Its first octets stand in it as a number too, so that its order seldom has to look at the text, which lies elsewhere in memory.
 #[derive(Debug, Drop)]
 pub struct Uid {
     head: u128,
@@ -26,7 +26,6 @@ pub struct Uid {
 
 impl Model for Uid {
     ghost use Rattle.std.specs.Prelude.{List, ℕ};
-
     ghost use Rattle.itip_todo.specs.Heads.{IsHead};
 
     ghost Value = { List ℕ };

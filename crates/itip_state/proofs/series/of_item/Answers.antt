@@ -16,7 +16,7 @@ not_series (Refresh uid id attendee) h = refl
 pub returns : goal.returns
 returns c =
     let item : Item = c.args.item.now in
-    let other : is_series item.key ≡ false = not_series item.key (λ uid e. c.in_default.not-Series uid (ap (λ (i : Item). i.key) c.item.ensures ∙ e)) in
+    let other : is_series item.key ≡ false = not_series item.key (λ uid e. c.in_default.not-Series uid (c.key.ensures ∙ e)) in
     let one : alone item ≡ record { series = Nothing; entries = (item.key, best item) ∷ [] } =
     ap (λ b. cond b (record { series = Known (best item); entries = [] }) (record { series = Nothing; entries = (item.key, best item) ∷ [] })) other in
     let key : c.in_ok-copy-2.field-0 ≡ item.key = c.in_ok-copy-2.ensures ∙ c.slot.ensures in

@@ -3,7 +3,6 @@ use Rattle.std.specs.Prelude.{cond, is_some}
 use Rattle.std.specs.Ordering.{is_eq, nat_cmp}
 use Rattle.std.specs.Cmp.Lexicographic.{slice_cmp}
 use Rattle.itip_message.specs.KeyParts.{uid_of}
-use Rattle.itip_message.specs.declared.item.Item.{Item}
 use Rattle.itip_join.specs.KeyByKey.{value_at}
 use Rattle.itip_state.proofs.Hearing.{heard_more, join_there, join_first, put_again, none_there}
 use Rattle.itip_state.proofs.state.hear.Goals as goal
@@ -11,8 +10,8 @@ use Rattle.itip_state.proofs.state.hear.Goals as goal
 pub returns-then-has : goal.returns-then-has
 returns-then-has c =
     let u : List ℕ = uid_of c.args.item.now.key in
-    let key : c.in_ok-clone.field-0 ≡ u = c.in_ok-clone.ensures.cases ∙ c.uid-uid.ensures ∙ ap (λ (i : Item). uid_of i.key) c.item.ensures in
-    let again : c.in_ok-clone-2.field-0 ≡ u = c.in_ok-clone-2.ensures.cases ∙ c.uid-uid.ensures ∙ ap (λ (i : Item). uid_of i.key) c.item.ensures in
+    let key : c.in_ok-clone.field-0 ≡ u = c.in_ok-clone.ensures.cases ∙ c.uid-uid.ensures ∙ ap uid_of c.key.ensures in
+    let again : c.in_ok-clone-2.field-0 ≡ u = c.in_ok-clone-2.ensures.cases ∙ c.uid-uid.ensures ∙ ap uid_of c.key.ensures in
     heard_more (λ v. v.guard) (λ v. v.entries.map) (λ v. record { sorted = v.entries.ordered; alive = v.no_dead_entry })
     (λ sh w. record { guard = sh.series; entries = record { map = sh.entries; ordered = w.sorted }; no_dead_entry = w.alive }) (λ sh w. refl)
     c.args.held.now.map c.insert-then-has.new.self.map c.args.held.now.ordered c.insert-then-has.new.self.ordered c.args.item.now
@@ -29,12 +28,12 @@ returns-then-has c =
 pub returns : goal.returns
 returns c =
     let u : List ℕ = uid_of c.args.item.now.key in
-    let key : c.in_ok-clone-3.field-0 ≡ u = c.in_ok-clone-3.ensures.cases ∙ c.uid-uid.ensures ∙ ap (λ (i : Item). uid_of i.key) c.item.ensures in
+    let key : c.in_ok-clone-3.field-0 ≡ u = c.in_ok-clone-3.ensures.cases ∙ c.uid-uid.ensures ∙ ap uid_of c.key.ensures in
     heard_more (λ v. v.guard) (λ v. v.entries.map) (λ v. record { sorted = v.entries.ordered; alive = v.no_dead_entry })
     (λ sh w. record { guard = sh.series; entries = record { map = sh.entries; ordered = w.sorted }; no_dead_entry = w.alive }) (λ sh w. refl)
     c.args.held.now.map c.insert-2.new.self.map c.args.held.now.ordered c.insert-2.new.self.ordered c.args.item.now
     c.in_ok-one.one c.in_ok-one.one c.in_ok-one.ensures.series c.in_ok-one.ensures.entries
     None (none_there (value_at (slice_cmp nat_cmp) c.args.held.now.map u)
-    (sym (ap (λ q. is_some (value_at (slice_cmp nat_cmp) c.args.held.now.map q)) (c.uid-uid.ensures ∙ ap (λ (i : Item). uid_of i.key) c.item.ensures)) ∙ sym c.has.ensures ∙ c.if-has.false))
+    (sym (ap (λ q. is_some (value_at (slice_cmp nat_cmp) c.args.held.now.map q)) (c.uid-uid.ensures ∙ ap uid_of c.key.ensures)) ∙ sym c.has.ensures ∙ c.if-has.false))
     (λ q. c.in_ok-insert-2.ensures.updates q ∙ ap (λ k. cond (is_eq (slice_cmp nat_cmp k q)) (Some c.in_ok-one.one) (value_at (slice_cmp nat_cmp) c.args.held.now.map q)) key)
     (join_first (λ v. v.guard) (λ v. v.entries.map) (λ v. record { sorted = v.entries.ordered; alive = v.no_dead_entry }) c.in_ok-one.one)

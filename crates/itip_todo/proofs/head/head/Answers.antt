@@ -21,11 +21,12 @@ loop-left-preserved c =
     let head = c.loop-left.head in
     let rest = c.loop-left.rest.now in
     let octet : c.from.result ≡ slice_index rest 0 = c.from.ensures ∙ c.split-octet.ensures.first in
-    let small : c.from.result < 256 = omega arith in
-    (ap (λ (x : ℕ). head_from (head * 256 + x) (left - 1) c.split-octet.result.1.now) octet
-      ∙ ap (λ (text : List ℕ). head_from (head * 256 + slice_index rest 0) (left - 1) text) c.split-octet.ensures.behind
-      ∙ sym (head_next left head rest c.loop-left-test.true) ∙ c.loop-left.invariant.0,
-      room_next left head c.from.result c.loop-left-test.true small c.loop-left.invariant.1)
+    let small : c.from.result < 256 = omega arith in (
+      ap (λ (x : ℕ). head_from (head * 256 + x) (left - 1) c.split-octet.result.1.now) octet
+          ∙ ap (λ (text : List ℕ). head_from (head * 256 + slice_index rest 0) (left - 1) text) c.split-octet.ensures.behind
+          ∙ sym (head_next left head rest c.loop-left-test.true) ∙ c.loop-left.invariant.0,
+      room_next left head c.from.result c.loop-left-test.true small c.loop-left.invariant.1,
+    )
 
 pub returns : goal.returns
 returns c =

@@ -11,7 +11,7 @@ returns c =
     let mine = c.self.invariant in
     let theirs = c.other.invariant in
     both ∙ ap (λ (head : ℕ). ordering_then (nat_cmp head c.other.inside.head) (slice_cmp nat_cmp c.self.inside.text c.other.inside.text)) mine.number
-      ∙ ap (λ (head : ℕ). ordering_then (nat_cmp (head_of c.self.inside.text) head) (slice_cmp nat_cmp c.self.inside.text c.other.inside.text)) theirs.number
-      ∙ heads_decide c.self.inside.text c.other.inside.text mine.octets theirs.octets
-      ∙ ap (λ (text : List ℕ). slice_cmp nat_cmp text c.other.inside.text) c.self.view_is
-      ∙ ap (λ (text : List ℕ). slice_cmp nat_cmp c.args.self.now text) c.other.view_is
+    ∙ ap (λ (head : ℕ). ordering_then (nat_cmp (head_of c.self.inside.text) head) (slice_cmp nat_cmp c.self.inside.text c.other.inside.text)) theirs.number
+    ∙ heads_decide c.self.inside.text c.other.inside.text mine.octets theirs.octets
+    ∙ ap (λ (text : List ℕ). slice_cmp nat_cmp text c.other.inside.text) c.self.view_is
+    ∙ ap (λ (text : List ℕ). slice_cmp nat_cmp c.args.self.now text) c.other.view_is
