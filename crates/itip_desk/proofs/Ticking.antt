@@ -11,7 +11,7 @@ use Rattle.std.proofs.lemmas.Cmp.{nat_list_cmp_total}
 use Rattle.std.proofs.lemmas.List.{take_all}
 use Rattle.std.proofs.lemmas.List.Folds.{list_any-append}
 use Rattle.std.proofs.lemmas.Map.Lookups.{exact_bytes}
-use Rattle.lru.specs.LruCache.{LruCache, lru_cache, promoted, demoted, put_entries}
+use Rattle.lru.specs.LruCache.{LruCache, promoted, demoted, put_entries}
 use Rattle.itip_join.specs.KeyByKey.{value_at}
 use Rattle.itip_message.specs.declared.item.Item.{Item}
 use Rattle.itip_message.specs.KeyParts.{uid_of}

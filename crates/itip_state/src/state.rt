@@ -88,7 +88,7 @@ fn outdoes(held: &Keyed<Uid, SeriesState>, item: &SharedItem) -> bool
     let Some(series) = held.get(uid(item.key())) else {
         return false;
     };
-    is_dead_below(&series.guard, item.key(), item.item()) || holds_no_earlier(series, item)
+    holds_no_earlier(series, item) || is_dead_below(&series.guard, item.key(), item.item())
 }
 
 /// Whether what is held of a UID tells all that `theirs` tells of it.

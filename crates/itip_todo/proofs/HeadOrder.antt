@@ -1,5 +1,5 @@
 -- Where the heads of two texts differ, they are in the order of the texts.
-use Rattle.std.proofs.Common.{◌≡◌, ◌+◌, ◌*◌, ◌<◌, ◌≤◌, ◌-◌, ℕ, zero, suc, List, [], ◌∷◌, refl, sym, ◌∙◌, ap, subst, arith, rules, ◌⊎◌, inl, inr}
+use Rattle.std.proofs.Common.{◌≡◌, ◌≢◌, ◌+◌, ◌*◌, ◌<◌, ◌≤◌, ◌-◌, ℕ, zero, suc, List, [], ◌∷◌, refl, sym, ◌∙◌, ap, subst, arith, rules, ◌⊎◌, inl, inr}
 use Rattle.std.specs.Prelude.{slice_index, drop}
 use Rattle.std.specs.Ordering.{nat_cmp, ordering_then, ordering_reverse, MatchOrdering}
 use Rattle.std.specs.declared.cmp.Ordering.{Ordering}
@@ -52,17 +52,13 @@ lesser (suc left) n (x ∷ xs) (y ∷ ys) octets less = elim (three x y) [
   | inr (inr over) ↦ let back : head_from (n * 256 + y) left ys < head_from (n * 256 + x) left xs = stays_less left (n * 256 + y) (n * 256 + x) ys xs (λ place. octets (suc place)) (omega arith) in absurd (omega arith)
 ]
 
--- the heads decide, and where they are the same the texts do
-pub heads_decide : (xs ys : List ℕ) → AreOctets xs → AreOctets ys → ordering_then (nat_cmp (head_of xs) (head_of ys)) (slice_cmp nat_cmp xs ys) ≡ slice_cmp nat_cmp xs ys
-heads_decide xs ys are_xs are_ys = elim (three (head_of xs) (head_of ys)) [
-  | inl under ↦ ap after (sym (nat_cmp_is (head_of xs) (head_of ys) Less under)) ∙ sym (lesser 16 0 xs ys are_ys under)
-  | inr (inl same) ↦ ap after (sym (nat_cmp_is (head_of xs) (head_of ys) Equal same))
-  | inr (inr over) ↦ ap after (sym (nat_cmp_is (head_of xs) (head_of ys) Greater over))
-      ∙ sym (nat_list_cmp_total.antisymm xs ys ∙ ap ordering_reverse (lesser 16 0 ys xs are_xs over))
+-- where the heads differ, they decide
+pub heads_decide : (xs ys : List ℕ) → AreOctets xs → AreOctets ys → head_of xs ≢ head_of ys → nat_cmp (head_of xs) (head_of ys) ≡ slice_cmp nat_cmp xs ys
+heads_decide xs ys are_xs are_ys apart = elim (three (head_of xs) (head_of ys)) [
+  | inl under ↦ sym (nat_cmp_is (head_of xs) (head_of ys) Less under) ∙ sym (lesser 16 0 xs ys are_ys under)
+  | inr (inl same) ↦ absurd (apart same)
+  | inr (inr over) ↦ sym (nat_cmp_is (head_of xs) (head_of ys) Greater over) ∙ sym (nat_list_cmp_total.antisymm xs ys ∙ ap ordering_reverse (lesser 16 0 ys xs are_xs over))
 ]
-  where
-    after : Ordering → Ordering
-    after o = ordering_then o (slice_cmp nat_cmp xs ys)
 
 -- the number stays one of 128 bits, whatever octets follow
 abbrev pub HasRoom : ℕ → ℕ → Type 0

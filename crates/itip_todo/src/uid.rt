@@ -106,9 +106,10 @@ impl Ord for Uid {
     ghost matches_eq = { texts_ties };
 
     fn cmp(&self, other: &Self) -> Ordering {
-        self.head
-            .cmp(&other.head)
-            .then_with(|| self.text.cmp(&other.text))
+        if self.head == other.head {
+            return self.text.cmp(&other.text);
+        }
+        self.head.cmp(&other.head)
     }
 }
 

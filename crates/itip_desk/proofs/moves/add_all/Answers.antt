@@ -1,4 +1,4 @@
-use Rattle.std.proofs.Common.{◌≡◌, ◌+◌, ◌++◌, ◌∷◌, [], ◌∙◌, sym, ap, take}
+use Rattle.std.proofs.Common.{◌+◌, ◌++◌, ◌∷◌, [], ◌∙◌, sym, ap, take}
 use Rattle.std.proofs.lemmas.List.{take_more}
 use Rattle.itip_desk.proofs.Ticking.{place_there, place_made}
 use Rattle.itip_desk.proofs.moves.add_all.Goals as goal

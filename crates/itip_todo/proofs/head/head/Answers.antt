@@ -1,7 +1,7 @@
 use Rattle.std.proofs.Common.{◌≡◌, ◌<◌, ◌+◌, ◌-◌, ◌*◌, ◌∙◌, sym, ap, subst, ℕ, List, arith, refl}
 use Rattle.std.specs.Prelude.{slice_index}
-use Rattle.itip_todo.specs.Heads.{head_from, head_of, IsHead}
-use Rattle.itip_todo.proofs.HeadOrder.{room_for, room_next, head_next, HasRoom}
+use Rattle.itip_todo.specs.Heads.{head_from, head_of}
+use Rattle.itip_todo.proofs.HeadOrder.{room_for, room_next, head_next}
 use Rattle.itip_todo.proofs.head.head.Goals as goal
 
 pub overflow_mul-head : goal.overflow_mul-head

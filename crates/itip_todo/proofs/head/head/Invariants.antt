@@ -1,4 +1,4 @@
-use Rattle.std.proofs.Common.{◌≡◌, ℕ}
+use Rattle.std.proofs.Common.{◌≡◌}
 use Rattle.itip_todo.specs.Heads.{head_from, head_of}
 use Rattle.itip_todo.proofs.HeadOrder.{HasRoom}
 use Rattle.itip_todo.proofs.head.head.Given as goal

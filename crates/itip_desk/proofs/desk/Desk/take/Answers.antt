@@ -5,7 +5,6 @@ use Rattle.itip_state.specs.Order.{IsState}
 use Rattle.itip_state.specs.Told.{MovesWhatItHas}
 use Rattle.itip_state.proofs.Keeping.{are_kept_by}
 use Rattle.std.specs.Prelude.{cond, Some}
-use Rattle.itip_desk.proofs.Refusals.{on_err_always}
 use Rattle.itip_desk.specs.Desk.{Shown}
 use Rattle.itip_desk.specs.Moves.{is_listed, FallFrom}
 use Rattle.itip_desk.proofs.Ticking.{at_uid, fall_more, fall_places, carry_step}

@@ -1,9 +1,8 @@
-use Rattle.std.proofs.Common.{◌≡◌, ◌+◌, ◌++◌, ◌∷◌, [], ℕ, List, ◌∙◌, sym, ap, subst, take, true}
+use Rattle.std.proofs.Common.{◌≡◌, ℕ, List, ◌∙◌, sym, ap, subst, take, true}
 use Rattle.std.specs.Prelude.{is_some}
-use Rattle.std.proofs.lemmas.List.{take_more}
 use Rattle.itip_state.proofs.Parting.{in_listed}
 use Rattle.itip_desk.specs.Moves.{entries_of}
-use Rattle.itip_desk.proofs.Ticking.{at_uid, there_marked, none_marked, one_marked}
+use Rattle.itip_desk.proofs.Ticking.{at_uid, there_marked}
 use Rattle.itip_desk.proofs.moves.MovedUids.mark.Goals as goal
 
 pub mark_one-requires : goal.mark_one-requires
