@@ -1,6 +1,6 @@
 //! What desks keep of messages of all methods: each row has its texts and the number of items kept.
 use crate::{Batch, Desk};
-use itip_message::{Item, Key, read_message};
+use itip_message::{Item, read_message};
 use itip_state::State;
 use itip_todo::Uid;
 use std::alloc::{AllocError, Global};
@@ -122,28 +122,6 @@ fn a_part_has_the_named_uids(rt: HostRuntime) -> Result<(), Fail> {
     assert!(rt; both.part(&uids)?.equal(&State::empty(alloc)));
     uids.push(Uid::copy(alloc, "u1")?)?;
     assert!(rt; both.part(&uids)?.equal(&state(&rt, alloc, TIE)?));
-    Ok(())
-}
-
-#[test]
-fn states_are_read_by_uid_and_key(rt: HostRuntime) -> Result<(), Fail> {
-    let alloc = rt.alloc();
-    let series = state(&rt, alloc, SERIES)?;
-    let other = state(&rt, alloc, OTHER_UID)?;
-    assert_eq!(rt; series.moved_by(&other)?.len(), 1);
-    assert_eq!(rt; series.moved_by(&series)?.len(), 0);
-    let mut both = state(&rt, alloc, INSTANCE)?;
-    both.merge(&series)?;
-    both.merge(&other)?;
-    let uids = both.copied_uids()?;
-    let [first, second] = uids.as_slice() else {
-        panic!(rt; "two UIDs are held");
-    };
-    assert_eq!(rt; (first.as_str(), second.as_str()), ("u1", "u2"));
-    assert_eq!(rt; (both.series()?.len(), both.of_uid(first)?.len()), (2, 2));
-    assert_eq!(rt; both.last_used(first), Some(5));
-    let best = both.best(&Key::Series(second.clone()?));
-    assert_eq!(rt; best.map(|item| item.eff), Some(0));
     Ok(())
 }
 
