@@ -5,8 +5,8 @@ use Rattle.std.proofs.lemmas.List.Elements.{Contains-append_left, Contains-push}
 use Rattle.itip_message.specs.KeyParts.{uid_of}
 use Rattle.itip_message.specs.declared.item.Item.{Item}
 use Rattle.itip_state.specs.Kept.{AreKept, IsKept, KeepSame, Moves, AreMoved, AreUidsOf, SameItems}
-use Rattle.itip_state.specs.Told.{MovesWhatItHas}
 use Rattle.itip_state.proofs.Keeping.{kept_again, kept_iff, kept_beside, kept_of_parts, covers_itself, covers_kept, are_kept_by}
+use Rattle.itip_state.proofs.News.{MovesWhatItHas}
 use Rattle.itip_desk.specs.Desk.{Shown, CarriesAfter, IsDeskOf}
 use Rattle.itip_desk.specs.Heard.{heard, TickStep, Ticks, MovedAfter}
 

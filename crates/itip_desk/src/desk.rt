@@ -5,7 +5,7 @@ ghost use Rattle.itip_message.specs.declared.item.Item.{Item};
 use crate::batch::Batch;
 use crate::error::DeskError;
 use crate::moves::MovedUids;
-use itip_state::State;
+use itip_state::{State, uids};
 use itip_todo::Uid;
 use itip_view::{ViewError, Window, rows, write_list};
 use std::alloc::{AllocError, Global};
@@ -93,8 +93,8 @@ impl Desk {
         ensures spent { IsErrOf result DeskError.TicksSpent → (self.old.tick ≡ u64.MAX) × ((uid : List ℕ) × Moves self.old.kept batch.now uid) }
         ensures err { OnErr result (self.new ≡ self.old) }
     {
-        let heard = self.state.news_of(batch.as_slice())?;
-        let uids = heard.copied_uids()?;
+        let news = self.state.news(batch.as_slice())?;
+        let uids = uids(self.alloc, &news)?;
         if uids.is_empty() {
             return Ok(Changed {
                 tick: self.tick,
@@ -106,7 +106,7 @@ impl Desk {
         }
         let places = self.moves.len();
         self.moves.add_places(&uids)?;
-        if let Err(refused) = self.state.merge(&heard) {
+        if let Err(refused) = self.state.hear(&news) {
             self.moves.truncate(places);
             return Err(refused.into());
         }

@@ -24,6 +24,11 @@ module _ {K : Type 0} (cmp : K → K → Ordering) (q : K) where
   abbrev pub restored : {V : Type 0} → Option V → List K → List (K × V) → Option V
   restored o added raised = before (cond (is_listed added) None o) raised
 
+-- a value in the place of what stands somewhere, if anything does
+abbrev pub replaced : {V : Type 0} → Option V → V → Option V
+replaced None value = None
+replaced (Some old) value = Some value
+
 -- A map that had `mine` has `now`. The keys that were added are new, and the pairs stood where others stand; with the changes taken back the map is as it was.
 pub record TakesBack {K V : Type 0} (cmp : K → K → Ordering) (mine now : K → Option V) (added : List K) (raised : List (K × V)) : Type 0 where
   pub added_are_new : (q : K) → is_listed cmp q added ≡ true → mine q ≡ None

@@ -1,11 +1,13 @@
 //! An ordered map, joined key by key.
-ghost use Rattle.std.specs.Prelude.{◌≡◌, ◌∷◌, [], Some, None, cond, IfOk, OnOk, OnErr};
+ghost use Rattle.std.specs.Prelude.{◌≡◌, ◌∷◌, [], Some, None, false, cond, IfOk, OnOk, OnErr};
 ghost use Rattle.std.specs.Ordering.{is_eq};
 ghost use Rattle.std.specs.Option.{option_copied};
 ghost use Rattle.std.specs.Map.{keys_of};
 ghost use Rattle.std.specs.List.Sorted.{IsStrictlySortedBy};
 ghost use Rattle.std.proofs.lemmas.Map.Keys.{IsStrictlySortedBy-prop};
-ghost use Rattle.itip_join.specs.Optional.{IsBelowAt-refl, IsBelowAt-trans, IsBelowUnder-refl, IsBelowUnder-trans};
+ghost use Rattle.itip_join.specs.Bounds.{IsJoinOf};
+ghost use Rattle.itip_join.specs.Changes.{replaced};
+ghost use Rattle.itip_join.specs.Optional.{IsBelowAt, IsBelowAt-refl, IsBelowAt-trans, IsBelowUnder-refl, IsBelowUnder-trans};
 ghost use Rattle.itip_join.specs.KeyByKey.{value_at, IsMapBelow, IsMapBelow-antisym, IsMapBelowUnder, all_alive};
 ghost use Rattle.itip_join.specs.Killed.{IsMapBelowUnder-antisym};
 ghost use mathlib.Core.HLevel.{is_prop→PathP};
@@ -59,11 +61,40 @@ impl<K: Ord, V> Keyed<K, V> {
         self.map.insert(key, value)
     }
 
+    /// Takes out the entry at `key`, if there is one, and gives its value. This is no join: what was there may be lost.
+    pub fn remove(&mut self, key: &K) -> Option<V>
+    where
+        K: Drop,
+        ensures before { result ≡ value_at K.cmp self.old.map key.now }
+        ensures without { (q : K) → value_at K.cmp self.new.map q ≡ cond (is_eq (K.cmp key.now q)) None (value_at K.cmp self.old.map q) }
+    {
+        self.map.remove(key)
+    }
+
     /// The value at `key`.
     pub fn get(&self, key: &K) -> Option<&V>
         ensures { option_copied result ≡ value_at K.cmp self.now.map key.now }
     {
         self.map.get(key)
+    }
+}
+
+impl<K: Exact, V: Join> Keyed<K, V> {
+    /// Joins `theirs` in at `key`, in place: what stands there is not copied. A refusal, for want of memory, changes nothing.
+    pub fn join_one(&mut self, key: &K, theirs: &V) -> Result<(), NoMemory>
+        ensures joined { OnOk result (IsJoinOf (IsBelowAt V.le) (value_at K.cmp self.old.map key.now) (Some theirs.now) (value_at K.cmp self.new.map key.now)) }
+        ensures others { (q : K) → is_eq (K.cmp key.now q) ≡ false → value_at K.cmp self.new.map q ≡ value_at K.cmp self.old.map q }
+        ensures err { OnErr result (self.new.map ≡ self.old.map) }
+    {
+        self.map.join_one(key, theirs)
+    }
+
+    /// Puts `value` in the place of what stands at `key`, and gives that. Where nothing stands there, nothing changes. This is no join: what was there is taken out.
+    pub fn replace(&mut self, key: &K, value: V) -> Option<V>
+        ensures before { result ≡ value_at K.cmp self.old.map key.now }
+        ensures with { (q : K) → value_at K.cmp self.new.map q ≡ cond (is_eq (K.cmp key.now q)) (replaced (value_at K.cmp self.old.map key.now) value) (value_at K.cmp self.old.map q) }
+    {
+        self.map.replace(key, value)
     }
 }
 

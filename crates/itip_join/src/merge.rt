@@ -5,11 +5,12 @@ ghost use Rattle.std.specs.BTreeMap.{get, IsOrdered};
 ghost use Rattle.itip_join.specs.Bounds.{IsJoinOf};
 ghost use Rattle.itip_join.specs.Optional.{IsBelowAt, alive_part};
 ghost use Rattle.itip_join.specs.KeyByKey.{IsMapBelowUnder, IsMergeOf, kept};
-ghost use Rattle.itip_join.specs.Changes.{is_listed, restored, keys_in, pairs_in, IsNotedIn, IsRaisedIn, CanTakeBack};
+ghost use Rattle.itip_join.specs.Changes.{is_listed, restored, replaced, keys_in, pairs_in, IsNotedIn, IsRaisedIn, CanTakeBack};
 
 use crate::{Exact, Guard, Join, NoMemory};
 use std::alloc::Global;
 use std::collections::BTreeMap;
+use std::mem;
 
 /// What takes changes of a map back.
 #[derive(Drop)]
@@ -100,7 +101,7 @@ fn single<K: Exact, V>(map: &BTreeMap<K, V>) -> Option<(&K, &V)>
 }
 
 /// Joins in the entry `theirs` at `key`, unless `guard` kills it. There is nothing to take back, so that a value at the key is not copied.
-fn join_one<K: Exact, V: Join, S: Guard<K, V>>(
+pub(crate) fn join_one<K: Exact, V: Join, S: Guard<K, V>>(
     map: &mut BTreeMap<K, V>,
     key: &K,
     theirs: &V,
@@ -230,6 +231,17 @@ fn take_out<K: Exact, V: Join>(map: &mut BTreeMap<K, V>, keys: &[&K])
     for key in keys {
         map.remove(*key);
     }
+}
+
+/// Puts `value` in the place of what stands at `key`, and gives that. Where nothing stands there, nothing changes.
+pub(crate) fn replace<K: Exact, V: Join>(map: &mut BTreeMap<K, V>, key: &K, value: V) -> Option<V>
+    requires { IsOrdered K.cmp map.old }
+    ensures ordered { IsOrdered K.cmp map.new }
+    ensures before { result ≡ get K.cmp map.old key.now }
+    ensures with { (q : K) → get K.cmp map.new q ≡ cond (is_eq (K.cmp key.now q)) (replaced (get K.cmp map.old key.now) value) (get K.cmp map.old q) }
+{
+    let place = map.get_mut(key)?;
+    Some(mem::replace(place, value))
 }
 
 /// Puts a value in the place of another.

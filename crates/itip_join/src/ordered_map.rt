@@ -1,11 +1,14 @@
 //! An ordered map, which contracts see as the list of its entries.
-ghost use Rattle.std.specs.Prelude.{◌≡◌, ◌↔◌, [], Some, None, cond, length, IsTrue, IfOk, OnOk, OnErr};
+ghost use Rattle.std.specs.Prelude.{◌≡◌, ◌↔◌, [], Some, None, false, cond, length, IsTrue, IfOk, OnOk, OnErr};
 ghost use Rattle.std.specs.Option.{option_copied};
 ghost use Rattle.std.specs.Map.{keys_of};
 ghost use Rattle.std.specs.Map.Iter.{ShowsInOrder, deref_pair};
 ghost use Rattle.std.specs.List.Sorted.{IsStrictlySortedBy};
 ghost use Rattle.std.specs.Ordering.{is_eq};
 ghost use Rattle.std.specs.BTreeMap.{insert_entry};
+ghost use Rattle.itip_join.specs.Bounds.{IsJoinOf};
+ghost use Rattle.itip_join.specs.Changes.{replaced};
+ghost use Rattle.itip_join.specs.Optional.{IsBelowAt};
 ghost use Rattle.itip_join.specs.KeyByKey.{value_at, IsMapBelowUnder, IsMergeOf, kept};
 
 use crate::{Exact, Guard, Join, NoMemory, merge};
@@ -78,6 +81,17 @@ impl<K: Ord, V> OrderedMap<K, V> {
         Ok(self.map.insert(key, value)?)
     }
 
+    /// Takes out the entry at `key`, if there is one, and gives its value.
+    pub fn remove(&mut self, key: &K) -> Option<V>
+    where
+        K: Drop,
+        ensures before { result ≡ value_at K.cmp self.old key.now }
+        ensures without { (q : K) → value_at K.cmp self.new q ≡ cond (is_eq (K.cmp key.now q)) None (value_at K.cmp self.old q) }
+        ensures ordered { IsStrictlySortedBy K.cmp (keys_of self.new) }
+    {
+        self.map.remove(key)
+    }
+
     /// The entries, in the order of their keys.
     pub fn iter(&self) -> Iter<'_, K, V>
         ensures rest { result ≡ self.now }
@@ -104,6 +118,27 @@ impl<K: Exact, V: Join> OrderedMap<K, V> {
             alloc: self.alloc,
             map: merge::copy_map(self.alloc, &self.map)?,
         })
+    }
+
+    /// Joins `theirs` in at `key`. What stands there is not copied. A refusal changes nothing.
+    pub(crate) fn join_one(&mut self, key: &K, theirs: &V) -> Result<(), NoMemory>
+        requires { IsStrictlySortedBy K.cmp (keys_of self.old) }
+        ensures ordered { IsStrictlySortedBy K.cmp (keys_of self.new) }
+        ensures joined { OnOk result (IsJoinOf (IsBelowAt V.le) (value_at K.cmp self.old key.now) (Some theirs.now) (value_at K.cmp self.new key.now)) }
+        ensures others { (q : K) → is_eq (K.cmp key.now q) ≡ false → value_at K.cmp self.new q ≡ value_at K.cmp self.old q }
+        ensures err { OnErr result (self.new ≡ self.old) }
+    {
+        merge::join_one(&mut self.map, key, theirs, &())
+    }
+
+    /// Puts `value` in the place of what stands at `key`, and gives that. Where nothing stands there, nothing changes.
+    pub(crate) fn replace(&mut self, key: &K, value: V) -> Option<V>
+        requires { IsStrictlySortedBy K.cmp (keys_of self.old) }
+        ensures ordered { IsStrictlySortedBy K.cmp (keys_of self.new) }
+        ensures before { result ≡ value_at K.cmp self.old key.now }
+        ensures with { (q : K) → value_at K.cmp self.new q ≡ cond (is_eq (K.cmp key.now q)) (replaced (value_at K.cmp self.old key.now) value) (value_at K.cmp self.old q) }
+    {
+        merge::replace(&mut self.map, key, value)
     }
 
     /// Takes out the entries that `guard` kills.

@@ -4,6 +4,7 @@ pub mod Best
 pub mod Later
 pub mod Keeping
 pub mod Ascending
+pub mod UidSets
 pub mod Lookups
 pub mod Tests
 pub mod KeptOnes
@@ -14,11 +15,10 @@ pub mod Joining
 pub mod Maps
 pub mod Merging
 pub mod Hearing
+pub mod Undoing
 pub mod News
 pub mod Ordered
 pub mod Reading
-pub mod Selecting
-pub mod Moving
 pub mod Parting
 pub mod Finding
 pub mod Using

@@ -17,13 +17,13 @@ use Rattle.itip_join.specs.Optional.{IsBelowAt}
 use Rattle.itip_message.specs.KeyParts.{uid_of}
 use Rattle.itip_message.specs.declared.item.Item.{Item}
 use Rattle.itip_message.specs.declared.key.Key.{Key}
-use Rattle.itip_state.specs.Kept.{IsBest, AreKept, ArePart, SameItems, KeepSame}
+use Rattle.itip_state.specs.Kept.{IsBest, AreKept, ArePart, SameItems}
 use Rattle.itip_state.specs.Held.{Best, Shape, shape_items, shapes, items_of, IsPlaced, ArePlaced}
 use Rattle.itip_state.specs.Below.{IsShapeBelow}
 use Rattle.itip_state.proofs.Members.{by_bool, none_in, cons_first}
 use Rattle.itip_state.proofs.Lookups.{one_key, itself, at_head, at_other, none_in_tail, value_from_all, all_from_values}
 use Rattle.itip_state.proofs.Best.{best_above}
-use Rattle.itip_state.proofs.Keeping.{kept_in_part, are_kept_same, same_swapped, more_by_below, series_kept}
+use Rattle.itip_state.proofs.Keeping.{kept_in_part, are_kept_same, more_by_below, series_kept}
 use Rattle.itip_state.proofs.Shapes.{IsWhole, IsSound, about, is_state}
 use Rattle.itip_state.proofs.Comparing.{below_kept, kept_below}
 use Rattle.itip_state.proofs.Joining.{placed_of_two, items_of_two, of_one, of_both, shape_below_itself}
@@ -266,29 +266,3 @@ module _ {V : Type 0} (series : V → Lift Best) (entries : V → List (Key × B
     pub joined_kept : AreKept (all_items zs) (all_items xs ++ all_items ys)
     joined_kept = kept_from_parts (all_items zs) (all_items xs ++ all_items ys) (λ uid. items_at shape whole (at zs uid)) (λ uid. items_at shape whole (at xs uid) ++ items_at shape whole (at ys uid))
         (part_at zs o joined_placed) (both_parts xs ys s t p q) (λ uid. (each_joined uid).1)
-
-  -- ---- what another map moves
-  module _ (xs ys : List (List ℕ × V)) (s : AreInOrder xs) (t : AreInOrder ys) (p : ArePlaced (shapes xs series entries)) (q : ArePlaced (shapes ys series entries)) (uid : List ℕ) where
-    abbrev xu : List Item
-    xu = items_at shape whole (at xs uid)
-
-    abbrev yu : List Item
-    yu = items_at shape whole (at ys uid)
-
-    pub knows_keeps : IsBelowAt (IsHeldBelow shape whole) (at ys uid) (at xs uid) → KeepSame uid (all_items xs) (all_items xs ++ all_items ys)
-    knows_keeps le i of_uid =
-        let kept : AreKept xu (xu ++ yu) = are_kept_same xu (yu ++ xu) (xu ++ yu) (same_swapped yu xu) (below_kept_at shape whole uid (at ys uid) (at xs uid) (placed_at ys q uid) (placed_at xs p uid) le) in
-        let two = kept_in_part uid (xu ++ yu) (all_items xs ++ all_items ys) (both_parts xs ys s t p q uid) i of_uid in
-        let mine = map_state xs s p i in
-        let part = part_at xs s p uid i in
-        (λ k. two.0 ((kept i).0 (part.1 (mine.1 k, of_uid))), λ k. mine.0 (part.0 ((kept i).1 (two.1 k))).0)
-
-    pub keeps_knows : KeepSame uid (all_items xs) (all_items xs ++ all_items ys) → IsBelowAt (IsHeldBelow shape whole) (at ys uid) (at xs uid)
-    keeps_knows keep =
-        let parts = both_parts xs ys s t p q uid in
-        let kept : AreKept xu (xu ++ yu) = λ i. (
-          λ h. let r = (part_at xs s p uid i).0 h in (kept_in_part uid (xu ++ yu) (all_items xs ++ all_items ys) parts i r.1).1 ((keep i r.1).0 ((map_state xs s p i).0 r.0)),
-          λ k. let of_uid : uid_of i.key ≡ uid = ((parts i).0 k.best.is_heard).1 in
-              (part_at xs s p uid i).1 ((map_state xs s p i).1 ((keep i of_uid).1 ((kept_in_part uid (xu ++ yu) (all_items xs ++ all_items ys) parts i of_uid).0 k)), of_uid),
-        ) in
-        kept_below_at shape whole uid (at ys uid) (at xs uid) (placed_at ys q uid) (placed_at xs p uid) (are_kept_same xu (xu ++ yu) (yu ++ xu) (same_swapped xu yu) kept)

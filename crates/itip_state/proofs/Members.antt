@@ -1,5 +1,5 @@
 -- Members of lists, and cases by a test.
-use Rattle.std.proofs.Common.{◌≡◌, List, [], ◌∷◌, ◌++◌, refl, subst, ◌⊎◌, inl, inr, Bool, true, false, arith, zero, suc, Ok, Err, Result}
+use Rattle.std.proofs.Common.{◌≡◌, List, [], ◌∷◌, ◌++◌, ◌≤◌, ◌<◌, length, slice_index_or, refl, sym, ap, subst, ◌⊎◌, inl, inr, Bool, true, false, arith, zero, suc, Ok, Err, Result}
 use Rattle.std.specs.Prelude.{OnOk, OnErr, IfOk}
 use Rattle.std.specs.List.{Contains, All, AllPairs}
 use Rattle.std.proofs.lemmas.List.Elements.{Contains-append_cases, Contains-append_left, Contains-append_right, Contains-push, Contains-push_cases, All-contains_itself, All-weaker}
@@ -43,6 +43,12 @@ module _ {X : Type 0} where
 
       head_pair : (y : X) → Contains xs y → R x y
       head_pair y h = subst (R x) h.2 (p zero (suc h.0) y (omega arith) (omega (arith, h.1)))
+
+-- the list of one element
+pub single_is : {X : Type 0} (x : X) (xs : List X) → 1 ≤ length xs → length xs < 2 → x ≡ slice_index_or xs 0 x → xs ≡ x ∷ []
+single_is x [] low high e = absurd (omega (arith, low))
+single_is x (y ∷ []) low high e = ap (λ z. z ∷ []) (sym e)
+single_is x (y ∷ z ∷ zs) low high e = absurd (omega (arith, high))
 
 -- a fact at either end of a call
 pub on_both : {A E P Q R : Type 0} (r : Result A E) → (P → R) → (Q → R) → OnOk r P → OnErr r Q → R

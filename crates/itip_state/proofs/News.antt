@@ -10,46 +10,40 @@ use Rattle.itip_message.specs.Later.{IsLater}
 use Rattle.itip_message.specs.declared.item.Item.{Item}
 use Rattle.itip_message.specs.declared.key.Key.{Key}
 use Rattle.itip_message.specs.declared.key.Key.TheVariants.{Series}
-use Rattle.itip_state.specs.Kept.{AreKept, IsKept, IsDead, KeepSame}
+use Rattle.itip_state.specs.Kept.{IsBest, IsKept, IsDead, KeepSame, Moves}
 use Rattle.itip_state.specs.Slots.{slot_cmp}
 use Rattle.itip_state.specs.Held.{Best, Shape, best, is_series, kills, shapes, items_of, shape_items, ArePlaced}
-use Rattle.itip_state.specs.Told.{IsTold, IsOutdone, MovesWhatItHas, HoldsNoEarlier}
+use Rattle.itip_state.specs.Told.{IsTold, IsOutdone, AreNews, HoldsNoEarlier}
 use Rattle.itip_state.proofs.Members.{by_bool, none_in, cons_cases}
 use Rattle.itip_state.proofs.Later.{neither_later}
-use Rattle.itip_state.proofs.Best.{not_later_itself, later_transitive}
-use Rattle.itip_state.proofs.Keeping.{Covers, covers_itself, covers_kept, kept_of_parts, kept_part, best_part}
+use Rattle.itip_state.proofs.Best.{best_above, not_later_itself, later_transitive}
+use Rattle.itip_state.proofs.Keeping.{Covers, covers_itself, kept_of_parts, kept_part, best_part, series_kept}
 use Rattle.itip_state.proofs.Tests.{series_key, dead_under, can, kill}
 use Rattle.itip_state.proofs.Shapes.{IsWhole, IsSound, IsHeldAs, known_key, series_held, entry_held, entry_key, held_as, series_is, killed_is_dead}
 use Rattle.itip_state.proofs.Maps.{uid_cmp, AreInOrder}
 use Rattle.itip_state.proofs.Reading.{held_part, held_no_part, held_sound}
 
--- those of the items are chosen that the set does not outdo
-pub record AreChosen (set items chosen : List Item) : Type 0 where
-  pub among : (i : Item) → Contains chosen i → Contains items i
-  pub new : (i : Item) → Contains chosen i → ¬ IsOutdone set i
-  pub rest : (i : Item) → Contains items i → Contains chosen i ⊎ IsOutdone set i
+pub no_news : (set : List Item) → AreNews set [] []
+no_news set = record { among = λ i h. h; new = λ i h. absurd (none_in i h); rest = λ i h. inl h }
 
-pub choose_none : (set : List Item) → AreChosen set [] []
-choose_none set = record { among = λ i h. h; new = λ i h. absurd (none_in i h); rest = λ i h. inl h }
-
-pub choose_one : (set items chosen : List Item) (j : Item) → (¬ IsOutdone set j) → AreChosen set items chosen → AreChosen set (items ++ j ∷ []) (chosen ++ j ∷ [])
-choose_one set items chosen j new are = record {
-  new = λ i h. elim (Contains-append_cases chosen (j ∷ []) i h) [
+pub one_more_news : (set items news : List Item) (j : Item) → (¬ IsOutdone set j) → AreNews set items news → AreNews set (items ++ j ∷ []) (news ++ j ∷ [])
+one_more_news set items news j new are = record {
+  new = λ i h. elim (Contains-append_cases news (j ∷ []) i h) [
     | inl before ↦ are.new i before
     | inr now ↦ elim (cons_cases j [] i now) [ inl same ↦ subst (λ (k : Item). ¬ IsOutdone set k) same new | inr none ↦ absurd (none_in i none) ]
   ];
-  among = λ i h. elim (Contains-append_cases chosen (j ∷ []) i h) [
+  among = λ i h. elim (Contains-append_cases news (j ∷ []) i h) [
     | inl before ↦ Contains-append_left items (j ∷ []) i (are.among i before)
     | inr now ↦ Contains-append_right items (j ∷ []) i now
   ];
   rest = λ i h. elim (Contains-append_cases items (j ∷ []) i h) [
-    | inl before ↦ elim (are.rest i before) [ inl one ↦ inl (Contains-append_left chosen (j ∷ []) i one) | inr old ↦ inr old ]
-    | inr now ↦ inl (Contains-append_right chosen (j ∷ []) i now)
+    | inl before ↦ elim (are.rest i before) [ inl one ↦ inl (Contains-append_left news (j ∷ []) i one) | inr old ↦ inr old ]
+    | inr now ↦ inl (Contains-append_right news (j ∷ []) i now)
   ];
 }
 
-pub choose_other : (set items chosen : List Item) (j : Item) → IsOutdone set j → AreChosen set items chosen → AreChosen set (items ++ j ∷ []) chosen
-choose_other set items chosen j old are = record {
+pub nothing_new : (set items news : List Item) (j : Item) → IsOutdone set j → AreNews set items news → AreNews set (items ++ j ∷ []) news
+nothing_new set items news j old are = record {
   new = are.new;
   among = λ i h. Contains-append_left items (j ∷ []) i (are.among i h);
   rest = λ i h. elim (Contains-append_cases items (j ∷ []) i h) [
@@ -72,17 +66,17 @@ outdone_kept : (set items : List Item) (i : Item) → IsKept (set ++ items) i �
 outdone_kept set items i kept (inl told) = told_kept set items i kept told
 outdone_kept set items i kept (inr dead) = absurd (kept.alive (dead_more set items i dead))
 
-chosen_covers : (set items chosen : List Item) → AreChosen set items chosen → Covers (set ++ chosen) (set ++ items)
-chosen_covers set items chosen are i = (
-  λ h. elim (Contains-append_cases set chosen i h) [
+news_cover : (set items news : List Item) → AreNews set items news → Covers (set ++ news) (set ++ items)
+news_cover set items news are i = (
+  λ h. elim (Contains-append_cases set news i h) [
     | inl old ↦ Contains-append_left set items i old
     | inr new ↦ Contains-append_right set items i (are.among i new)
   ],
   λ kept. elim (Contains-append_cases set items i kept.best.is_heard) [
-    | inl old ↦ Contains-append_left set chosen i old
+    | inl old ↦ Contains-append_left set news i old
     | inr new ↦ elim (are.rest i new) [
-      | inl one ↦ Contains-append_right set chosen i one
-      | inr old ↦ Contains-append_left set chosen i (outdone_kept set items i kept old)
+      | inl one ↦ Contains-append_right set news i one
+      | inr old ↦ Contains-append_left set news i (outdone_kept set items i kept old)
     ]
   ],
 )
@@ -92,27 +86,24 @@ covered_kept part whole covers i =
     subst (λ (p : List Item). IsKept p i ↔ IsKept whole i) (append-nil part)
     (subst (λ (w : List Item). IsKept (part ++ []) i ↔ IsKept w i) (append-nil whole) (kept_of_parts whole [] part [] covers (covers_itself []) i))
 
--- what is kept of the chosen items is all that counts beside the set
-pub chosen_kept : (set items chosen news : List Item) → AreChosen set items chosen → AreKept news chosen → (i : Item) → IsKept (set ++ news) i ↔ IsKept (set ++ items) i
-chosen_kept set items chosen news are kept i =
-    let some = kept_of_parts set chosen set news (covers_itself set) (covers_kept news chosen kept) i in
-    let all = covered_kept (set ++ chosen) (set ++ items) (chosen_covers set items chosen are) i in
-    (λ k. all.0 (some.0 k), λ k. some.1 (all.1 k))
+-- the news count beside the set as much as all items
+pub news_kept : (set items news : List Item) → AreNews set items news → (i : Item) → IsKept (set ++ news) i ↔ IsKept (set ++ items) i
+news_kept set items news are = covered_kept (set ++ news) (set ++ items) (news_cover set items news are)
 
--- what is kept of the chosen items is kept beside the set, which outdoes none of them
-new_kept : (set items chosen : List Item) (i : Item) → AreChosen set items chosen → IsKept chosen i → IsKept (set ++ chosen) i
-new_kept set items chosen i are kept = record {
+-- what is kept of the news is kept beside the set, which outdoes none of them
+new_kept : (set items news : List Item) (i : Item) → AreNews set items news → IsKept news i → IsKept (set ++ news) i
+new_kept set items news i are kept = record {
   best = record {
-    is_heard = Contains-append_right set chosen i kept.best.is_heard;
+    is_heard = Contains-append_right set news i kept.best.is_heard;
     about = refl;
-    none_later = λ j h same. elim (Contains-append_cases set chosen j h) [
+    none_later = λ j h same. elim (Contains-append_cases set news j h) [
       | inl old ↦ λ later. new (inl (record { teller = j; there = old; same = same; not_later = λ over. not_later_itself i (later_transitive i j i over later) }))
       | inr now ↦ kept.best.none_later j now same
     ];
   };
-  alive = λ dead. elim (Contains-append_cases set chosen dead.series dead.best.is_heard) [
-    | inl old ↦ new (inr (record { can_die = dead.can_die; series = dead.series; best = best_part (set ++ chosen) set _ dead.series (Contains-append_left set chosen) dead.best old; below = dead.below }))
-    | inr now ↦ kept.alive (record { can_die = dead.can_die; series = dead.series; best = best_part (set ++ chosen) chosen _ dead.series (Contains-append_right set chosen) dead.best now; below = dead.below })
+  alive = λ dead. elim (Contains-append_cases set news dead.series dead.best.is_heard) [
+    | inl old ↦ new (inr (record { can_die = dead.can_die; series = dead.series; best = best_part (set ++ news) set _ dead.series (Contains-append_left set news) dead.best old; below = dead.below }))
+    | inr now ↦ kept.alive (record { can_die = dead.can_die; series = dead.series; best = best_part (set ++ news) news _ dead.series (Contains-append_right set news) dead.best now; below = dead.below })
   ];
 }
   where
@@ -141,19 +132,36 @@ kept_apart set news uid none i of_uid = (up, λ kept. kept_part (set ++ news) se
       });
     }
 
+-- hearing a step moves each UID of an item of the news, and no other
+pub record MovesWhatItHas (before step news : List Item) : Type 0 where
+  pub each : (item : Item) → Contains news item → Moves before step (uid_of item.key)
+  pub others : (uid : List ℕ) → ((item : Item) → Contains news item → uid_of item.key ≢ uid) → KeepSame uid before (before ++ step)
+
 -- the UIDs of the news are those that move
-pub chosen_moves : (set items chosen news : List Item) → AreChosen set items chosen → AreKept news chosen → MovesWhatItHas set items news
-chosen_moves set items chosen news are kept = record {
-  each = λ i h same.
-      let is : IsKept chosen i = (kept i).0 h in
-      let whole : IsKept (set ++ items) i = (covered_kept (set ++ chosen) (set ++ items) (chosen_covers set items chosen are) i).0 (new_kept set items chosen i are is) in
-      let old : Contains set i = ((same i refl).1 whole).best.is_heard in
-      are.new i is.best.is_heard (inl (record { teller = i; there = old; same = refl; not_later = not_later_itself i }));
+pub news_move : (set items news : List Item) → AreNews set items news → MovesWhatItHas set items news
+news_move set items news are = record {
+  each = moves;
   others = λ uid none i of_uid.
       let apart = kept_apart set news uid none i of_uid in
-      let all = chosen_kept set items chosen news are kept i in
+      let all = news_kept set items news are i in
       (λ k. all.0 (apart.0 k), λ k. apart.1 (all.1 k));
 }
+  where
+    -- of a UID that keeps what it kept no item of the news is kept
+    none_kept : (i k : Item) → KeepSame (uid_of i.key) set (set ++ items) → uid_of k.key ≡ uid_of i.key → ¬ IsKept news k
+    none_kept i k same of_uid is =
+        let whole : IsKept (set ++ items) k = (news_kept set items news are k).0 (new_kept set items news k are is) in
+        let old : Contains set k = ((same k of_uid).1 whole).best.is_heard in
+        are.new k is.best.is_heard (inl (record { teller = k; there = old; same = refl; not_later = not_later_itself k }))
+
+    moves : (i : Item) → Contains news i → Moves set items (uid_of i.key)
+    moves i h same =
+        let found = best_above news i h in
+        let about : (found.0).key ≡ i.key = found.1.about in
+        none_kept i found.0 same (ap uid_of about) (record {
+          best = subst (λ k. IsBest news k found.0) (sym about) found.1;
+          alive = λ dead. none_kept i dead.series same (ap uid_of dead.best.about ∙ ap uid_of about) (series_kept news (uid_of (found.0).key) dead.series dead.best);
+        })
 
 -- ---- at the key of an item
 pub not_series : (key : Key) → ((uid : List ℕ) → key ≡ Series uid → ⊥) → is_series key ≡ false

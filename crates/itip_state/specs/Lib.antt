@@ -6,5 +6,7 @@ pub mod Held
 pub mod Dying
 pub mod Below
 pub mod Told
+pub mod Changes
+pub mod Undone
 pub mod Plain
 pub mod Organizers

@@ -1,13 +1,12 @@
--- What adds nothing (our own form): an item no later than one of its key in the set, and an item that is dead beside the set. And the UIDs that move by what is left.
-use Rattle.std.specs.Prelude.{◌≡◌, ◌≢◌, ℕ, List, ◌++◌, Some, ◌⊎◌, true, false}
+-- What adds nothing (our own form): an item no later than one of its key in the set, and an item that is dead beside the set. All else is news.
+use Rattle.std.specs.Prelude.{◌≡◌, List, Some, ◌⊎◌, true, false}
 use Rattle.std.specs.List.{Contains}
 use Rattle.itip_message.specs.Later.{IsLater}
-use Rattle.itip_message.specs.KeyParts.{uid_of}
 use Rattle.itip_message.specs.declared.item.Item.{Item}
 use Rattle.itip_join.specs.declared.lift.Lift.TheVariants.{Known}
 use Rattle.itip_join.specs.KeyByKey.{value_at}
 use Rattle.itip_state.specs.Slots.{slot_cmp}
-use Rattle.itip_state.specs.Kept.{IsDead, Moves, KeepSame}
+use Rattle.itip_state.specs.Kept.{IsDead}
 use Rattle.itip_state.specs.Held.{Best, Shape, is_series}
 
 -- an item of the set has the key of this item, and this item is not later than it
@@ -21,10 +20,11 @@ pub record IsTold (set : List Item) (item : Item) : Type 0 where
 abbrev pub IsOutdone : List Item → Item → Type 0
 IsOutdone set item = IsTold set item ⊎ IsDead set item
 
--- hearing a step moves each UID of an item of the news, and no other
-pub record MovesWhatItHas (before step news : List Item) : Type 0 where
-  pub each : (item : Item) → Contains news item → Moves before step (uid_of item.key)
-  pub others : (uid : List ℕ) → ((item : Item) → Contains news item → uid_of item.key ≢ uid) → KeepSame uid before (before ++ step)
+-- those of the items that the set does not outdo
+pub record AreNews (set items news : List Item) : Type 0 where
+  pub among : (item : Item) → Contains news item → Contains items item
+  pub new : (item : Item) → Contains news item → ¬ IsOutdone set item
+  pub rest : (item : Item) → Contains items item → Contains news item ⊎ IsOutdone set item
 
 -- what is held of a UID is no earlier, at the key of the item, than the item
 pub record HoldsNoEarlier (shape : Shape) (item : Item) : Type 0 where

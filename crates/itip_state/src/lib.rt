@@ -5,6 +5,7 @@
 #![tactic(auto)]
 
 mod dead;
+mod hear;
 mod laws;
 mod plain;
 mod revision;
@@ -18,6 +19,6 @@ pub use laws::{kept_of_kept, least_upper_bound, order_of_states, uid_by_uid};
 pub use plain::kept;
 pub use shared::SharedItem;
 pub use slot::find;
-pub use sorted::by_octets;
+pub use sorted::{by_octets, uids};
 pub use state::State;
 pub use std::alloc::AllocError as NoMemory;

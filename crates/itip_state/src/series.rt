@@ -1,7 +1,12 @@
 //! What a state holds of one UID.
-ghost use Rattle.std.specs.Prelude.{◌≡◌, [], IfOk};
+ghost use Rattle.std.specs.Prelude.{◌≡◌, [], cond, IfOk};
 ghost use Rattle.itip_join.specs.declared.lift.Lift.TheVariants.{Nothing};
-ghost use Rattle.itip_state.specs.Held.{kills as series_kills, alone};
+ghost use Rattle.itip_state.specs.Held.{kills as series_kills, alone, Shape};
+ghost use Rattle.std.specs.Ordering.{is_eq};
+ghost use Rattle.itip_join.specs.KeyByKey.{value_at};
+ghost use Rattle.itip_message.specs.declared.key.Key.{Key};
+ghost use Rattle.itip_state.specs.Slots.{slot_cmp};
+ghost use Rattle.itip_state.specs.Changes.{IsBackAt, in_place_of};
 ghost use Rattle.itip_state.specs.Dying.{kills_below, kills_more};
 
 use crate::NoMemory;
@@ -68,4 +73,29 @@ pub(crate) fn of_item(alloc: Global, item: &SharedItem) -> Result<SeriesState, N
         guard: Lift::Nothing,
         entries: Keyed::of_one(alloc, item.slot().copy()?, best)?,
     })
+}
+
+/// What is held of one UID, with what stood at a key put back.
+pub(crate) fn put_back(series: SeriesState, slot: &Slot, before: Option<Best>) -> SeriesState
+    requires { (old : Shape) × IsBackAt slot.now before (record { series = series.guard; entries = series.entries.map }) old }
+    ensures { (old : Shape) → IsBackAt slot.now before (record { series = series.guard; entries = series.entries.map }) old
+        → record { series = result.guard; entries = result.entries.map } ≡ old }
+{
+    let Guarded { guard, mut entries } = series;
+    put_entry(&mut entries, slot, before);
+    Guarded { guard, entries }
+}
+
+/// Puts another entry in the place of one, or takes it out.
+fn put_entry(entries: &mut Keyed<Slot, Best>, slot: &Slot, entry: Option<Best>)
+    ensures { (q : Key) → value_at slot_cmp entries.new.map q ≡ cond (is_eq (slot_cmp slot.now q)) (in_place_of (value_at slot_cmp entries.old.map slot.now) entry) (value_at slot_cmp entries.old.map q) }
+{
+    match entry {
+        None => {
+            entries.remove(slot);
+        }
+        Some(best) => {
+            entries.replace(slot, best);
+        }
+    }
 }

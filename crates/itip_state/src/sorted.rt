@@ -1,9 +1,12 @@
-//! Items in the order of their octets.
-ghost use Rattle.std.specs.Prelude.{IfOk};
-ghost use Rattle.itip_state.specs.Kept.{IsItemsOf};
+//! Items and UIDs in the order of their octets.
+ghost use Rattle.std.specs.Prelude.{IfOk, map};
+ghost use Rattle.itip_state.specs.Kept.{IsItemsOf, AreUidsOf};
 
 use crate::NoMemory;
 use crate::shared::SharedItem;
+use crate::slot::uid;
+use itip_todo::Uid;
+use std::alloc::Global;
 
 /// The items given, by canonical octets, each once. A refusal, for want of memory, drops them.
 pub fn by_octets(items: Vec<SharedItem>) -> Result<Vec<SharedItem>, NoMemory>
@@ -13,4 +16,17 @@ pub fn by_octets(items: Vec<SharedItem>) -> Result<Vec<SharedItem>, NoMemory>
     items.sort()?;
     items.dedup();
     Ok(items)
+}
+
+/// The UIDs that items are about, by octets, each once.
+pub fn uids(alloc: Global, items: &[&SharedItem]) -> Result<Vec<Uid>, NoMemory>
+    ensures { IfOk result (λ uids. AreUidsOf uids.items (map (λ item. item.now) items.now)) }
+{
+    let mut uids = Vec::new(alloc);
+    for item in items {
+        uids.push(uid(item.key()).clone()?)?;
+    }
+    uids.sort()?;
+    uids.dedup();
+    Ok(uids)
 }

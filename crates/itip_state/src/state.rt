@@ -10,13 +10,13 @@ ghost use Rattle.itip_join.specs.KeyByKey.{value_at};
 ghost use Rattle.std.specs.Map.{keys_of};
 ghost use Rattle.itip_join.specs.Optional.{IsBelowAt};
 ghost use Rattle.itip_state.specs.Held.{shapes, items_of, shape_items, entry_items, HoldKept, ArePlaced, Shape};
-ghost use Rattle.itip_state.specs.Below.{IsShapeBelow, AreNews};
 ghost use Rattle.itip_state.specs.Organizers.{used_by, greater, greatest};
 ghost use Rattle.itip_state.specs.Told.{IsOutdone, HoldsNoEarlier};
 
 use crate::NoMemory;
+use crate::hear::{hear, hear_all};
 use crate::revision::Best;
-use crate::series::{SeriesState, is_dead_below, of_item, of_nothing};
+use crate::series::{SeriesState, is_dead_below};
 use crate::shared::SharedItem;
 use crate::slot::{Slot, compare, uid};
 use crate::sorted::by_octets;
@@ -25,35 +25,6 @@ use itip_message::{Item, Key, Kind};
 use itip_todo::Uid;
 use std::alloc::Global;
 use std::marker::Model;
-
-/// Joins in what is kept of one item. What is held of its UID is taken out for this, so that no copy of it is made; a refusal may leave it out.
-fn hear(
-    held: &mut Keyed<Uid, SeriesState>,
-    alloc: Global,
-    item: &SharedItem,
-) -> Result<(), NoMemory>
-    ensures { OnOk result ((heard : List Item) → HoldKept heard (shapes held.old.map (λ v. v.guard) (λ v. v.entries.map))
-        → HoldKept (heard ++ item.now ∷ []) (shapes held.new.map (λ v. v.guard) (λ v. v.entries.map))) }
-{
-    let uid = uid(item.key());
-    let one = of_item(alloc, item)?;
-    if has(held, uid) {
-        let before = held.insert(uid.clone()?, of_nothing(alloc))?;
-        let mut series = before.unwrap_or(of_nothing(alloc));
-        series.join(&one)?;
-        held.insert(uid.clone()?, series)?;
-        return Ok(());
-    }
-    held.insert(uid.clone()?, one)?;
-    Ok(())
-}
-
-/// Whether something is held of a UID.
-fn has(held: &Keyed<Uid, SeriesState>, uid: &Uid) -> bool
-    ensures { result ≡ is_some (value_at (slice_cmp nat_cmp) held.now.map uid.now) }
-{
-    held.get(uid).is_some()
-}
 
 /// Whether `item` is not later than what is held at its key.
 fn is_no_later(item: &Item, best: &Best) -> bool
@@ -89,46 +60,6 @@ fn outdoes(held: &Keyed<Uid, SeriesState>, item: &SharedItem) -> bool
         return false;
     };
     holds_no_earlier(series, item) || is_dead_below(&series.guard, item.key(), item.item())
-}
-
-/// Whether what is held of a UID tells all that `theirs` tells of it.
-fn knows(held: &Keyed<Uid, SeriesState>, uid: &Uid, theirs: &SeriesState) -> bool
-    ensures { IsTrue result ↔ IsBelowAt IsShapeBelow (Some (record { series = theirs.now.guard; entries = theirs.now.entries.map }))
-        (value_at (slice_cmp nat_cmp) (shapes held.now.map (λ v. v.guard) (λ v. v.entries.map)) uid.now) }
-{
-    match held.get(uid) {
-        None => false,
-        Some(mine) => theirs.below(mine),
-    }
-}
-
-/// The UIDs of which `theirs` tells more than is held, by octets.
-fn news(
-    alloc: Global,
-    held: &Keyed<Uid, SeriesState>,
-    theirs: &Keyed<Uid, SeriesState>,
-) -> Result<Vec<Uid>, NoMemory>
-    ensures { IfOk result (λ uids. AreNews (shapes held.now.map (λ v. v.guard) (λ v. v.entries.map)) (shapes theirs.now.map (λ v. v.guard) (λ v. v.entries.map)) uids.items) }
-{
-    let mut uids = Vec::new(alloc);
-    for (uid, series) in theirs.map.iter() {
-        if knows(held, uid, series) {
-            continue;
-        }
-        uids.push(uid.clone()?)?;
-    }
-    Ok(uids)
-}
-
-/// Copies of the UIDs of a map, in order.
-fn copied_uids(alloc: Global, held: &Keyed<Uid, SeriesState>) -> Result<Vec<Uid>, NoMemory>
-    ensures { IfOk result (λ uids. uids.items ≡ keys_of held.now.map) }
-{
-    let mut uids = Vec::new(alloc);
-    for (uid, _) in held.map.iter() {
-        uids.push(uid.clone()?)?;
-    }
-    Ok(uids)
 }
 
 /// The UIDs of a map, in order.
@@ -257,7 +188,7 @@ impl State {
     ghost use Rattle.itip_state.specs.Kept.{AreKept, IsKept, ArePart, ArePartOf, AreMoved, IsItemsOf, AreSeriesOf, AreUidsOf, SameItems, HasEachOnce, AscendKeys};
     ghost use Rattle.itip_state.specs.Order.{IsState, IsBelow};
     ghost use Rattle.itip_state.specs.Organizers.{IsLastUsed};
-    ghost use Rattle.itip_state.specs.Told.{MovesWhatItHas};
+    ghost use Rattle.itip_state.specs.Told.{AreNews};
 
     /// The state of nothing heard. It takes no memory.
     pub fn empty(alloc: Global) -> State
@@ -281,26 +212,27 @@ impl State {
         Ok(State { alloc, held })
     }
 
-    /// What is kept of these items but for those that this state tells already, and those that are dead beside it.
-    ///
-    /// Beside this state it counts as much as all of them, and these move each UID of which it has an item, and no other.
-    pub fn news_of(&self, items: &[SharedItem]) -> Result<State, NoMemory>
-        ensures kept { IfOk result (λ news. (item : Item) → IsKept (self.now ++ news) item ↔ IsKept (self.now ++ items.now) item) }
-        ensures only { IfOk result (λ news. (item : Item) → Contains news item → Contains items.now item × (¬ IsOutdone self.now item)) }
-        ensures moves { IfOk result (MovesWhatItHas self.now items.now) }
+    /// Those of these items that are news: that this state doesn't tell already, and that are not dead beside it.
+    pub fn news<'a>(&self, items: &'a [SharedItem]) -> Result<Vec<&'a SharedItem>, NoMemory>
+        ensures news { IfOk result (λ news. AreNews self.now items.now (map (λ item. item.now) news.items)) }
         ensures state { OnOk result (IsState self.now) }
     {
-        let mut held = Keyed::empty(self.alloc);
+        let mut news = Vec::new(self.alloc);
         for item in items {
             if outdoes(&self.held, item) {
                 continue;
             }
-            hear(&mut held, self.alloc, item)?;
+            news.push(item)?;
         }
-        Ok(State {
-            alloc: self.alloc,
-            held,
-        })
+        Ok(news)
+    }
+
+    /// Hears these items. A refusal, for want of memory, changes nothing.
+    pub fn hear(&mut self, items: &[&SharedItem]) -> Result<(), NoMemory>
+        ensures ok { OnOk result (AreKept self.new (self.old ++ map (λ item. item.now) items.now)) }
+        ensures err { OnErr result (self.new ≡ self.old) }
+    {
+        hear_all(&mut self.held, self.alloc, items)
     }
 
     /// Hears another state: their least upper bound. A refusal, for want of memory, changes nothing.
@@ -329,14 +261,6 @@ impl State {
             alloc: self.alloc,
             held,
         })
-    }
-
-    /// The UIDs whose kept items differ once another state is heard, by octets, each once.
-    pub fn moved_by(&self, other: &State) -> Result<Vec<Uid>, NoMemory>
-        ensures uids { IfOk result (λ uids. AreMoved uids.items self.now other.now) }
-        ensures state { OnOk result (IsState self.now) }
-    {
-        news(self.alloc, &self.held, &other.held)
     }
 
     /// Copies of the kept items, by canonical octets, each once.
@@ -382,13 +306,6 @@ impl State {
         ensures state { OnOk result (IsState self.now) }
     {
         uids_of(self.alloc, &self.held)
-    }
-
-    /// Copies of the UIDs of which something is kept, by octets, each once.
-    pub fn copied_uids(&self) -> Result<Vec<Uid>, NoMemory>
-        ensures { IfOk result (λ uids. AreUidsOf uids.items self.now) }
-    {
-        copied_uids(self.alloc, &self.held)
     }
 
     /// The kept item of a key, or `None` where none is kept. It takes no memory.

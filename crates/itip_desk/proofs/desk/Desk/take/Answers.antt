@@ -1,9 +1,10 @@
-use Rattle.std.proofs.Common.{◌≡◌, ◌+◌, ◌++◌, ◌↔◌, List, inl, inr, refl, ap, subst, sym, ◌∙◌, length, arith}
+use Rattle.std.proofs.Common.{◌≡◌, ◌+◌, ◌++◌, List, inl, inr, refl, ap, subst, sym, ◌∙◌, length, map, arith}
 use Rattle.itip_message.specs.declared.item.Item.{Item}
-use Rattle.itip_state.specs.Kept.{AreKept, IsKept, AreMoved}
+use Rattle.itip_state.specs.Kept.{AreKept, AreMoved, AreUidsOf}
 use Rattle.itip_state.specs.Order.{IsState}
-use Rattle.itip_state.specs.Told.{MovesWhatItHas}
+use Rattle.itip_state.specs.Told.{AreNews}
 use Rattle.itip_state.proofs.Keeping.{are_kept_by}
+use Rattle.itip_state.proofs.News.{news_kept, news_move}
 use Rattle.std.specs.Prelude.{cond, Some}
 use Rattle.itip_desk.specs.Desk.{Shown}
 use Rattle.itip_desk.specs.Moves.{is_listed, FallFrom}
@@ -12,30 +13,34 @@ use Rattle.itip_desk.proofs.Steps.{moved_by_news, none_moved, none_in, some_move
 use Rattle.itip_desk.proofs.desk.Desk.take.Goals as goal
 use Rattle.itip_desk.proofs.desk.Desk.take.Goals.{In_ok-uids}
 
--- with the news is kept what is kept with the batch
-alike : (c : In_ok-uids) (item : Item) → IsKept (c.self.inside.state ++ c.in_ok-heard.heard) item ↔ IsKept (c.self.inside.state ++ c.args.batch.now) item
-alike c = subst (λ (step : List Item). (item : Item) → IsKept (c.self.inside.state ++ c.in_ok-heard.heard) item ↔ IsKept (c.self.inside.state ++ step) item) c.as_slice.ensures.items c.in_ok-heard.ensures.kept
+-- the news, beside what the desk keeps
+abbrev news : (c : In_ok-uids) → List Item
+news c = map (λ item. item.now) c.in_ok-news.news.items
+
+are_news : (c : In_ok-uids) → AreNews c.args.self.now.kept c.args.batch.now (news c)
+are_news c =
+    let kept : c.self.inside.state ≡ c.args.self.now.kept = ap (λ (d : Shown). d.kept) c.self.view_is in
+    subst (λ (k : List Item). AreNews k c.args.batch.now (news c)) kept
+    (subst (λ (step : List Item). AreNews c.self.inside.state step (news c)) c.as_slice.ensures.items c.in_ok-news.ensures.news)
 
 -- the UIDs are those that the batch moves
 moved : (c : In_ok-uids) → AreMoved c.in_ok-uids.uids.items c.args.self.now.kept c.args.batch.now
 moved c =
-    let kept : c.self.inside.state ≡ c.args.self.now.kept = ap (λ (d : Shown). d.kept) c.self.view_is in
-    let moves : MovesWhatItHas c.self.inside.state c.args.batch.now c.in_ok-heard.heard =
-    subst (λ (step : List Item). MovesWhatItHas c.self.inside.state step c.in_ok-heard.heard) c.as_slice.ensures.items c.in_ok-heard.ensures.moves in
-    subst (λ (k : List Item). AreMoved c.in_ok-uids.uids.items k c.args.batch.now) kept (moved_by_news c.in_ok-uids.uids.items c.self.inside.state c.args.batch.now c.in_ok-heard.heard c.in_ok-uids.ensures moves)
+    let uids : AreUidsOf c.in_ok-uids.uids.items (news c) = subst (λ xs. AreUidsOf c.in_ok-uids.uids.items (map (λ item. item.now) xs)) c.deref.ensures.value c.in_ok-uids.ensures in
+    moved_by_news c.in_ok-uids.uids.items c.args.self.now.kept c.args.batch.now (news c) uids (news_move c.args.self.now.kept c.args.batch.now (news c) (are_news c))
 
 -- what the desk keeps is a state
 state : (c : In_ok-uids) → IsState c.args.self.now.kept
 state c =
     let kept : c.self.inside.state ≡ c.args.self.now.kept = ap (λ (d : Shown). d.kept) c.self.view_is in
-    subst IsState kept c.in_ok-heard.ensures.state
+    subst IsState kept c.in_ok-news.ensures.state
 
--- merging the news is hearing the batch
-kept_with : (c : In_ok-uids) (new : List Item) → AreKept new (c.self.inside.state ++ c.in_ok-heard.heard) → AreKept new (c.args.self.now.kept ++ c.args.batch.now)
+-- hearing the news is hearing the batch
+kept_with : (c : In_ok-uids) (new : List Item) → AreKept new (c.self.inside.state ++ news c) → AreKept new (c.args.self.now.kept ++ c.args.batch.now)
 kept_with c new are_new =
     let kept : c.self.inside.state ≡ c.args.self.now.kept = ap (λ (d : Shown). d.kept) c.self.view_is in
-    let whole : AreKept new (c.self.inside.state ++ c.args.batch.now) = are_kept_by new (c.self.inside.state ++ c.in_ok-heard.heard) (c.self.inside.state ++ c.args.batch.now) (alike c) are_new in
-    subst (λ (k : List Item). AreKept new (k ++ c.args.batch.now)) kept whole
+    are_kept_by new (c.args.self.now.kept ++ news c) (c.args.self.now.kept ++ c.args.batch.now) (news_kept c.args.self.now.kept c.args.batch.now (news c) (are_news c))
+    (subst (λ (k : List Item). AreKept new (k ++ news c)) kept are_new)
 
 pub returns-then-is_empty-clause-kept : goal.returns-then-is_empty-clause-kept
 returns-then-is_empty-clause-kept c =
@@ -67,7 +72,7 @@ returns-then-self-clause-spent c = λ _.
     (sym at ∙ c.if-self.true, some_moved c.in_ok-uids.uids.items c.args.self.now.kept c.args.batch.now (moved before) some)
 
 pub returns-clause-kept : goal.returns-clause-kept
-returns-clause-kept c = kept_with (goal.at.returns-clause-kept c).In_ok-uids c.merge.new.self (c.in_default.ensures.ok)
+returns-clause-kept c = kept_with (goal.at.returns-clause-kept c).In_ok-uids c.hear.new.self (subst (λ xs. AreKept c.hear.new.self (c.self.inside.state ++ map (λ item. item.now) xs)) c.deref-3.ensures.value c.in_default.ensures.ok)
 
 pub returns-clause-uids : goal.returns-clause-uids
 returns-clause-uids c = moved (goal.at.returns-clause-uids c).In_ok-uids
@@ -84,17 +89,17 @@ returns-clause-step c = λ steps start.
     let before = (goal.at.returns-clause-step c).In_ok-uids in
     let some : ¬ (length c.in_ok-uids.uids.items ≡ 0) = grind arith in
     let at : c.self.inside.tick ≡ c.args.self.now.tick = ap (λ (d : Shown). d.tick) c.self.view_is in
-    let new : Shown = record { kept = c.merge.new.self; tick = c.self.inside.tick + 1; changed = c.mark.new.self } in
+    let new : Shown = record { kept = c.hear.new.self; tick = c.self.inside.tick + 1; changed = c.mark.new.self } in
     let made = c.in_ok-add_places.ensures.places in
-    one_more_step steps start c.args.self.now new c.args.batch.now (kept_with before c.merge.new.self (c.in_default.ensures.ok))
+    one_more_step steps start c.args.self.now new c.args.batch.now (kept_with before c.hear.new.self (subst (λ xs. AreKept c.hear.new.self (c.self.inside.state ++ map (λ item. item.now) xs)) c.deref-3.ensures.value c.in_default.ensures.ok))
     (inl (some_moved c.in_ok-uids.uids.items c.args.self.now.kept c.args.batch.now (moved before) some, ap (λ t. t + 1) at))
     (carry_step c.self.inside.moves made.0 c.mark.new.self made.2 c.in_ok-uids.uids.items (c.self.inside.tick + 1)
-    (λ uid. c.mark.ensures.marked uid ∙ ap (λ us. cond (is_listed us uid) (Some (c.self.inside.tick + 1)) (at_uid c.add_places.new.self uid)) c.deref-2.ensures.value
+    (λ uid. c.mark.ensures.marked uid ∙ ap (λ us. cond (is_listed us uid) (Some (c.self.inside.tick + 1)) (at_uid c.add_places.new.self uid)) c.deref-4.ensures.value
     ∙ ap (λ es. cond (is_listed c.in_ok-uids.uids.items uid) (Some (c.self.inside.tick + 1)) (at_uid es uid)) made.1)
     c.args.self.now new c.args.batch.now (sym (ap (λ (d : Shown). d.changed) c.self.view_is)) refl refl (moved before))
 
 pub mark-requires : goal.mark-requires
-mark-requires c = λ uid listed. c.in_ok-add_places.ensures.all uid (ap (λ us. is_listed us uid) (c.deref.ensures.value ∙ sym c.deref-2.ensures.value) ∙ listed)
+mark-requires c = λ uid listed. c.in_ok-add_places.ensures.all uid (ap (λ us. is_listed us uid) (c.deref-2.ensures.value ∙ sym c.deref-4.ensures.value) ∙ listed)
 
 pub invariant_of-self-2 : goal.invariant_of-self-2
 invariant_of-self-2 c =

@@ -14,7 +14,7 @@ loop-item-preserved c = subst (λ (xs : List Item). HoldKept xs (shapes c.hear.n
     (sym (take_more c.args.items.now c.loop-item.item-index c.item-item.result c.loop-item-test.true
     ∙ ap (λ x. take c.loop-item.item-index c.args.items.now ++ x ∷ []) (sym c.item-item.is)))
     (subst (λ (i : Item). HoldKept (take c.loop-item.item-index c.args.items.now ++ i ∷ []) (shapes c.hear.new.held.map (λ v. v.guard) (λ v. v.entries.map))) (c.in_ok-item.ensures ∙ c.in_ok-clone.ensures.cases)
-    (c.in_ok-hear.ensures (take c.loop-item.item-index c.args.items.now) c.loop-item.invariant))
+    (c.in_ok-hear.ensures.kept (take c.loop-item.item-index c.args.items.now) c.loop-item.invariant))
 
 pub invariant_of-result : goal.invariant_of-result
 invariant_of-result c = c.loop-item.invariant.placed

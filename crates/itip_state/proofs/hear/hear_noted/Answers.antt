@@ -1,0 +1,21 @@
+use Rattle.std.proofs.Common.{List, ℕ, sym, subst, Option}
+use Rattle.itip_message.specs.KeyParts.{uid_of}
+use Rattle.itip_state.specs.Changes.{at}
+use Rattle.itip_state.specs.Held.{Shape, shapes}
+use Rattle.itip_state.specs.Undone.{LeadsBack, AreUndone}
+use Rattle.itip_state.proofs.Members.{on_both}
+use Rattle.itip_state.proofs.Undoing.{noted_leads, noted_stays, undone_push}
+use Rattle.itip_state.proofs.hear.hear_noted.Goals as goal
+
+pub returns-clause-noted : goal.returns-clause-noted
+returns-clause-noted c = λ start all.
+    let u : List ℕ = uid_of c.args.item.now.key in
+    let old : List ℕ → Option Shape = at (shapes c.args.held.now.map (λ v. v.guard) (λ v. v.entries.map)) in
+    let now : List ℕ → Option Shape = at (shapes c.hear.new.held.map (λ v. v.guard) (λ v. v.entries.map)) in
+    let leads : LeadsBack c.in_ok-before.before c.args.item.now (now u) (old u) = on_both c.hear.result
+    (λ heard. noted_leads c.in_ok-before.before c.args.item.now (old u) (now u) c.in_ok-before.ensures heard)
+    (λ same. subst (λ es. LeadsBack c.in_ok-before.before c.args.item.now (at (shapes es (λ v. v.guard) (λ v. v.entries.map)) u) (old u)) (sym same)
+    (noted_stays c.in_ok-before.before c.args.item.now (old u) c.in_ok-before.ensures))
+    c.hear.ensures.there c.hear.ensures.err in
+    subst (λ cs. AreUndone cs now start) (sym c.in_ok-push.ensures.items)
+    (undone_push c.args.changes.now.items (record { item = c.args.item; before = c.in_ok-before.before }) now old start all (record { there = leads; others = c.hear.ensures.others }))

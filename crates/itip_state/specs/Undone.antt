@@ -1,0 +1,33 @@
+-- How changes of a map by UID are taken back (our own form).
+use Rattle.std.specs.Prelude.{◌≡◌, true, false, List, [], ◌∷◌, ℕ, Option, Some, None, is_some}
+use Rattle.std.specs.Ordering.{nat_cmp, is_eq}
+use Rattle.std.specs.Cmp.Lexicographic.{slice_cmp}
+use Rattle.itip_message.specs.KeyParts.{uid_of}
+use Rattle.itip_message.specs.declared.item.Item.{Item}
+use Rattle.itip_state.specs.Changes.{IsBackAt}
+use Rattle.itip_state.specs.Held.{Shape, is_series}
+use Rattle.itip_state.specs.declared.hear.Before.{Before}
+use Rattle.itip_state.specs.declared.hear.Before.TheVariants.{Absent, Whole, Entry}
+use Rattle.itip_state.specs.declared.hear.Change.{Change}
+
+-- what was noted of a UID, where `old` was held of it, before the item was heard
+abbrev pub IsNoted : Before → Item → Option Shape → Type 0
+IsNoted Absent item old = old ≡ None
+IsNoted (Whole was) item old = old ≡ Some (record { series = was.guard; entries = was.entries.map })
+IsNoted (Entry held) item old = (w : Shape) × (old ≡ Some w) × IsBackAt item.key held w w × (is_series item.key ≡ false)
+
+-- what was noted leads from what is held of a UID now back to what was held
+abbrev pub LeadsBack : Before → Item → Option Shape → Option Shape → Type 0
+LeadsBack Absent item now old = old ≡ None
+LeadsBack (Whole was) item now old = (is_some now ≡ true) × (old ≡ Some (record { series = was.guard; entries = was.entries.map }))
+LeadsBack (Entry held) item now old = (v : Shape) × (w : Shape) × (now ≡ Some v) × (old ≡ Some w) × IsBackAt item.key held v w
+
+-- taking a change back leads from `now` to `start`
+pub record IsUndone (change : Change) (now start : List ℕ → Option Shape) : Type 0 where
+  pub there : LeadsBack change.before change.item.now (now (uid_of change.item.now.key)) (start (uid_of change.item.now.key))
+  pub others : (q : List ℕ) → is_eq (slice_cmp nat_cmp (uid_of change.item.now.key) q) ≡ false → start q ≡ now q
+
+-- taking all of them back, the last first
+abbrev pub AreUndone : List Change → (List ℕ → Option Shape) → (List ℕ → Option Shape) → Type 0
+AreUndone [] now start = (q : List ℕ) → now q ≡ start q
+AreUndone (c ∷ cs) now start = (mid : List ℕ → Option Shape) × AreUndone cs now mid × IsUndone c mid start
