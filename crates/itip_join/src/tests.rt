@@ -224,6 +224,22 @@ fn a_refused_join_changes_nothing(rt: HostRuntime) -> Result<(), Fail> {
 }
 
 #[test]
+fn entries_are_joined_put_and_taken_one_by_one(rt: HostRuntime) -> Result<(), Fail> {
+    let mut made = map(rt.alloc(), &[(3, 5)])?;
+    made.join_one(&3, &number(7))?;
+    made.join_one(&4, &number(1))?;
+    made.join_one(&3, &number(6))?;
+    let was = made.replace(&3, number(2)).map(|item| item.value);
+    assert_eq!(rt; was, Some(7));
+    assert!(rt; made.replace(&9, number(2)).is_none());
+    let taken = made.remove(&4).map(|item| item.value);
+    assert_eq!(rt; taken, Some(1));
+    assert!(rt; made.remove(&4).is_none());
+    assert_eq!(rt; made.map.len(), 1);
+    Ok(())
+}
+
+#[test]
 fn keys_of_parts_keep_their_order(rt: HostRuntime) -> Result<(), Fail> {
     let alloc = rt.alloc();
     let mut mine: Keyed<(Option<u64>, u8), Number> = Keyed::empty(alloc);

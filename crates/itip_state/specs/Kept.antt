@@ -80,7 +80,7 @@ pub record IsItemsOf (items set : List Item) : Type 0 where
 abbrev pub HasEachOnce : List Item → Type 0
 HasEachOnce = AllPairs (λ (a b : Item). a ≢ b)
 
--- Items in the order of their keys: by UID, then series, instances by recurrence id, answers and refreshes by instance and attendee.
+-- Items in the order of their keys: by UID, then the series item, instances by recurrence id, answers, and refreshes, these by instance and attendee.
 abbrev pub AscendKeys : List Item → Type 0
 AscendKeys = AllPairs (λ (a b : Item). key_cmp a.key b.key ≡ Less)
 

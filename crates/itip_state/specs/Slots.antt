@@ -17,7 +17,7 @@ use Rattle.itip_message.specs.declared.key.Key.{Key}
 use Rattle.itip_message.proofs.Keys.{from_parts}
 use Rattle.itip_join.specs.Ranked.{exact_option}
 
--- by kind, instance and attendee
+-- by kind of key, instance and attendee
 abbrev pub rest_cmp : Key → Key → Ordering
 rest_cmp a b =
     ordering_then (nat_cmp (rank_of a) (rank_of b))

@@ -1,4 +1,4 @@
--- The first octets of a text, as one number.
+-- The first octets of a text, as one number (our own form).
 use Rattle.std.specs.Prelude.{◌≡◌, ◌+◌, ◌*◌, ◌<◌, ℕ, zero, suc, List, [], ◌∷◌}
 use Rattle.std.specs.Prelude.{slice_index}
 
@@ -16,7 +16,7 @@ head_of text = head_from 0 16 text
 abbrev pub AreOctets : List ℕ → Type 0
 AreOctets text = (place : ℕ) → slice_index text place < 256
 
--- The number stands for the first octets of the text.
+-- The number stands for the first octets of the text, of which each place holds an octet.
 pub record IsHead (head : ℕ) (text : List ℕ) : Type 0 where
   pub number : head ≡ head_of text
   pub octets : AreOctets text
