@@ -17,7 +17,7 @@ abbrev pub Ticks : List Item → ℕ → List (List Item) → ℕ → Type 0
 Ticks before tick [] last = last ≡ tick
 Ticks before tick (step ∷ steps) last = (next : ℕ) × TickStep before step tick next × Ticks (before ++ step) next steps last
 
--- a UID moved in a step that left the tick above `since`
+-- a UID moved in one of these steps that left the tick above `since`, where the tick was `tick` when `before` had been heard
 abbrev pub MovedAfter : List Item → ℕ → List (List Item) → ℕ → List ℕ → Type 0
 MovedAfter before tick [] since uid = ⊥
 MovedAfter before tick (step ∷ steps) since uid =

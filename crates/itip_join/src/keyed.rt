@@ -61,7 +61,7 @@ impl<K: Ord, V> Keyed<K, V> {
         self.map.insert(key, value)
     }
 
-    /// Takes out the entry at `key`, if there is one, and gives its value. This is no join: what was there may be lost.
+    /// Takes out the entry at `key`, if there is one, and gives its value. This is no join: what was there is taken out. It takes no memory.
     pub fn remove(&mut self, key: &K) -> Option<V>
     where
         K: Drop,
@@ -80,7 +80,9 @@ impl<K: Ord, V> Keyed<K, V> {
 }
 
 impl<K: Exact, V: Join> Keyed<K, V> {
-    /// Joins `theirs` in at `key`, in place: what stands there is not copied. A refusal, for want of memory, changes nothing.
+    /// Joins `theirs` in at `key`, in place: this copies nothing of what stands there. Where nothing stands there, copies of both are put in.
+    ///
+    /// A refusal, for want of memory, changes nothing.
     pub fn join_one(&mut self, key: &K, theirs: &V) -> Result<(), NoMemory>
         ensures joined { OnOk result (IsJoinOf (IsBelowAt V.le) (value_at K.cmp self.old.map key.now) (Some theirs.now) (value_at K.cmp self.new.map key.now)) }
         ensures others { (q : K) → is_eq (K.cmp key.now q) ≡ false → value_at K.cmp self.new.map q ≡ value_at K.cmp self.old.map q }
@@ -89,7 +91,9 @@ impl<K: Exact, V: Join> Keyed<K, V> {
         self.map.join_one(key, theirs)
     }
 
-    /// Puts `value` in the place of what stands at `key`, and gives that. Where nothing stands there, nothing changes. This is no join: what was there is taken out.
+    /// Puts `value` in the place of what stands at `key`, and gives that. Where nothing stands there, nothing changes, and `value` is dropped.
+    ///
+    /// This is no join: what was there is taken out. It takes no memory.
     pub fn replace(&mut self, key: &K, value: V) -> Option<V>
         ensures before { result ≡ value_at K.cmp self.old.map key.now }
         ensures with { (q : K) → value_at K.cmp self.new.map q ≡ cond (is_eq (K.cmp key.now q)) (replaced (value_at K.cmp self.old.map key.now) value) (value_at K.cmp self.old.map q) }

@@ -1,4 +1,4 @@
-//! How a map takes in what another map tells: in place, with what takes it back where memory is refused on the way.
+//! How a map takes in an entry, or what another map tells: in place, with what takes it back where memory is refused on the way.
 ghost use Rattle.std.specs.Prelude.{◌≡◌, ◌↔◌, ◌∷◌, [], true, false, not, cond, Some, None, map as each, is_some, IfSome, IsTrue, IfOk, OnOk, OnErr};
 ghost use Rattle.std.specs.Ordering.{is_eq};
 ghost use Rattle.std.specs.BTreeMap.{get, IsOrdered};
@@ -100,7 +100,7 @@ fn single<K: Exact, V>(map: &BTreeMap<K, V>) -> Option<(&K, &V)>
     }
 }
 
-/// Joins in the entry `theirs` at `key`, unless `guard` kills it. There is nothing to take back, so that a value at the key is not copied.
+/// Joins in the entry `theirs` at `key`, unless `guard` kills it. It is all or nothing by itself, so nothing is noted, and a value at the key is not copied.
 pub(crate) fn join_one<K: Exact, V: Join, S: Guard<K, V>>(
     map: &mut BTreeMap<K, V>,
     key: &K,
@@ -233,7 +233,7 @@ fn take_out<K: Exact, V: Join>(map: &mut BTreeMap<K, V>, keys: &[&K])
     }
 }
 
-/// Puts `value` in the place of what stands at `key`, and gives that. Where nothing stands there, nothing changes.
+/// Puts `value` in the place of what stands at `key`, and gives that. Where nothing stands there, nothing changes, and `value` is dropped.
 pub(crate) fn replace<K: Exact, V: Join>(map: &mut BTreeMap<K, V>, key: &K, value: V) -> Option<V>
     requires { IsOrdered K.cmp map.old }
     ensures ordered { IsOrdered K.cmp map.new }

@@ -120,7 +120,7 @@ impl<K: Exact, V: Join> OrderedMap<K, V> {
         })
     }
 
-    /// Joins `theirs` in at `key`. What stands there is not copied. A refusal changes nothing.
+    /// Joins `theirs` in at `key`: this copies nothing of what stands there. Where nothing stands there, copies of both are put in. A refusal changes nothing.
     pub(crate) fn join_one(&mut self, key: &K, theirs: &V) -> Result<(), NoMemory>
         requires { IsStrictlySortedBy K.cmp (keys_of self.old) }
         ensures ordered { IsStrictlySortedBy K.cmp (keys_of self.new) }
@@ -131,7 +131,7 @@ impl<K: Exact, V: Join> OrderedMap<K, V> {
         merge::join_one(&mut self.map, key, theirs, &())
     }
 
-    /// Puts `value` in the place of what stands at `key`, and gives that. Where nothing stands there, nothing changes.
+    /// Puts `value` in the place of what stands at `key`, and gives that. Where nothing stands there, nothing changes, and `value` is dropped. It takes no memory.
     pub(crate) fn replace(&mut self, key: &K, value: V) -> Option<V>
         requires { IsStrictlySortedBy K.cmp (keys_of self.old) }
         ensures ordered { IsStrictlySortedBy K.cmp (keys_of self.new) }

@@ -20,7 +20,7 @@ use Rattle.itip_message.specs.declared.item.Item.{Item}
 use Rattle.itip_message.specs.declared.key.Key.{Key}
 use Rattle.itip_state.specs.Below.{IsShapeBelow}
 use Rattle.itip_state.specs.Changes.{at, IsBackAt, IsHeardAt, in_place_of}
-use Rattle.itip_state.specs.Undone.{IsNoted, LeadsBack, IsUndone, AreUndone}
+use Rattle.itip_state.specs.Undone.{IsNoted, LeadsBack, IsUndone, AreUndone, IsOfAll, NotesAll}
 use Rattle.itip_state.specs.declared.hear.Before.{Before}
 use Rattle.itip_state.specs.declared.hear.Before.TheVariants.{Absent, Whole, Entry}
 use Rattle.itip_state.specs.declared.hear.Change.{Change}
@@ -235,6 +235,31 @@ undone_pop (d ∷ cs) c now start (m, rest, first) = let r = undone_pop cs c now
 pub undone_same : (cs : List Change) (now also start : List ℕ → Option Shape) → ((q : List ℕ) → also q ≡ now q) → AreUndone cs now start → AreUndone cs also start
 undone_same [] now also start same all = λ q. same q ∙ all q
 undone_same (c ∷ cs) now also start same (m, rest, first) = (m, undone_same cs now also m same rest, first)
+
+pub of_all : (b : Before) → ((held : Option Best) → b ≡ Entry held → ⊥) → IsOfAll b
+of_all Absent not = tt
+of_all (Whole was) not = tt
+of_all (Entry held) not = not held refl
+
+pub notes_same : (cs ds : List Change) (u v : List ℕ) → cs ≡ ds → u ≡ v → NotesAll cs u → NotesAll ds v
+notes_same cs ds u v e f notes = subst (λ (xs : List Change). NotesAll xs v) e (subst (NotesAll cs) f notes)
+
+leads_still : (b : Before) (item : Item) (now next old : Option Shape) → IsOfAll b → (is_some now ≡ true → is_some next ≡ true) → LeadsBack b item now old → LeadsBack b item next old
+leads_still Absent item now next old all some leads = leads
+leads_still (Whole was) item now next old all some leads = (some leads.0, leads.1)
+leads_still (Entry held) item now next old all some leads = absurd all
+
+-- what is noted of a UID as a whole takes back what happens to it later, too
+pub undone_still : (cs : List Change) (u : List ℕ) (now next start : List ℕ → Option Shape) → NotesAll cs u → (is_some (now u) ≡ true → is_some (next u) ≡ true)
+    → ((q : List ℕ) → is_eq (uid_cmp u q) ≡ false → now q ≡ next q) → AreUndone cs now start → AreUndone cs next start
+undone_still cs u now next start notes some others all =
+    let last = undone_pop notes.earlier notes.last now start (subst (λ ds. AreUndone ds now start) notes.is_last all) in
+    subst (λ ds. AreUndone ds next start) (sym notes.is_last)
+    (undone_push notes.earlier notes.last next last.0 start last.2 (record {
+      there = leads_still (notes.last).before (notes.last).item.now (now (uid_of (notes.last).item.now.key)) (next (uid_of (notes.last).item.now.key)) (last.0 (uid_of (notes.last).item.now.key)) notes.all
+          (subst (λ (v : List ℕ). is_some (now v) ≡ true → is_some (next v) ≡ true) (sym notes.about) some) last.1.there;
+      others = λ q n. last.1.others q n ∙ others q (ap (λ v. is_eq (uid_cmp v q)) (sym notes.about) ∙ n);
+    }))
 
 -- after a change was taken back there is what was there before it
 pub undone_at : (u : List ℕ) (now next mid : List ℕ → Option Shape) → next u ≡ mid u → ((q : List ℕ) → is_eq (uid_cmp u q) ≡ false → next q ≡ now q)

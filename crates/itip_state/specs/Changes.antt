@@ -14,7 +14,8 @@ use Rattle.itip_state.specs.Held.{Best, Shape, is_series, kills}
 abbrev pub at : List (List ℕ × Shape) → List ℕ → Option Shape
 at es uid = value_at (slice_cmp nat_cmp) es uid
 
--- `old` differs from `now` at the key alone, where it has `held`
+-- `old` is `now` with `held` at the key, and the same series item. Where `held` is an item, `now` has one there too. The keys of `old` rise, and none of its
+-- entries is dead.
 pub record IsBackAt (key : Key) (held : Option Best) (now old : Shape) : Type 0 where
   pub series : now.series ≡ old.series
   pub entries : (q : Key) → value_at slot_cmp old.entries q ≡ cond (is_eq (slot_cmp key q)) held (value_at slot_cmp now.entries q)
@@ -22,13 +23,13 @@ pub record IsBackAt (key : Key) (held : Option Best) (now old : Shape) : Type 0 
   pub sorted : IsStrictlySortedBy slot_cmp (keys_of old.entries)
   pub alive : all_alive (λ k v. kills old.series k v.value) old.entries ≡ true
 
--- what stands where `there` stood, once it was taken out, or another was put in its place
+-- what stands where `there` stood, once it was taken out, or another was put in its place; where nothing stood, nothing stands
 abbrev pub in_place_of : Option Best → Option Best → Option Best
 in_place_of there None = None
 in_place_of None (Some best) = None
 in_place_of (Some was) (Some best) = Some best
 
--- where an item was heard that is not a series item, nothing but what stands at its key may differ from what was held
+-- Once an item was heard, something is held of its UID. If something was held before, and the item is no series item, that differs at most at its key.
 pub record IsHeardAt (item : Item) (old now : Option Shape) : Type 0 where
   pub next : Shape
   pub is_next : now ≡ Some next

@@ -25,7 +25,7 @@ CanDie (Answer uid None attendee) = Unit {0}
 CanDie (Answer uid (Some id) attendee) = ⊥
 CanDie (Refresh uid id attendee) = ⊥
 
--- An instance item or an answer to the series is dead below the best series item of its UID. Equal is not dead.
+-- An instance item or an answer to the series is dead where its effective sequence is below that of the best series item of its UID. Equal is not dead.
 pub record IsDead (heard : List Item) (item : Item) : Type 0 where
   pub can_die : CanDie item.key
   pub series : Item

@@ -16,17 +16,17 @@ pub record IsTold (set : List Item) (item : Item) : Type 0 where
   pub same : teller.key ≡ item.key
   pub not_later : ¬ IsLater item teller
 
--- it was told before, or is dead beside the set
+-- the set tells it, or it is dead beside the set
 abbrev pub IsOutdone : List Item → Item → Type 0
 IsOutdone set item = IsTold set item ⊎ IsDead set item
 
--- those of the items that the set does not outdo
+-- those of the items that the set does not outdo, in any order, perhaps more than once
 pub record AreNews (set items news : List Item) : Type 0 where
   pub among : (item : Item) → Contains news item → Contains items item
   pub new : (item : Item) → Contains news item → ¬ IsOutdone set item
   pub rest : (item : Item) → Contains items item → Contains news item ⊎ IsOutdone set item
 
--- what is held of a UID is no earlier, at the key of the item, than the item
+-- something is held at the key of the item, and it is no earlier than the item; `shape` is what is held of its UID
 pub record HoldsNoEarlier (shape : Shape) (item : Item) : Type 0 where
   pub held : Best
   pub place : ((is_series item.key ≡ true) × (shape.series ≡ Known held)) ⊎ ((is_series item.key ≡ false) × (value_at slot_cmp shape.entries item.key ≡ Some held))

@@ -1,5 +1,5 @@
 -- How changes of a map by UID are taken back (our own form).
-use Rattle.std.specs.Prelude.{◌≡◌, true, false, List, [], ◌∷◌, ℕ, Option, Some, None, is_some}
+use Rattle.std.specs.Prelude.{◌≡◌, true, false, List, [], ◌∷◌, ◌++◌, ℕ, Option, Some, None, is_some}
 use Rattle.std.specs.Ordering.{nat_cmp, is_eq}
 use Rattle.std.specs.Cmp.Lexicographic.{slice_cmp}
 use Rattle.itip_message.specs.KeyParts.{uid_of}
@@ -10,24 +10,38 @@ use Rattle.itip_state.specs.declared.hear.Before.{Before}
 use Rattle.itip_state.specs.declared.hear.Before.TheVariants.{Absent, Whole, Entry}
 use Rattle.itip_state.specs.declared.hear.Change.{Change}
 
--- what was noted of a UID, where `old` was held of it, before the item was heard
+-- The note is right, where `old` is held of the UID before the item is heard. Only an item that is no series item has an `Entry`.
 abbrev pub IsNoted : Before → Item → Option Shape → Type 0
 IsNoted Absent item old = old ≡ None
 IsNoted (Whole was) item old = old ≡ Some (record { series = was.guard; entries = was.entries.map })
 IsNoted (Entry held) item old = (w : Shape) × (old ≡ Some w) × IsBackAt item.key held w w × (is_series item.key ≡ false)
 
--- what was noted leads from what is held of a UID now back to what was held
+-- what was noted leads from what is held of a UID now back to what was held, and something is held now, unless nothing was
 abbrev pub LeadsBack : Before → Item → Option Shape → Option Shape → Type 0
 LeadsBack Absent item now old = old ≡ None
 LeadsBack (Whole was) item now old = (is_some now ≡ true) × (old ≡ Some (record { series = was.guard; entries = was.entries.map }))
 LeadsBack (Entry held) item now old = (v : Shape) × (w : Shape) × (now ≡ Some v) × (old ≡ Some w) × IsBackAt item.key held v w
 
--- taking a change back leads from `now` to `start`
-pub record IsUndone (change : Change) (now start : List ℕ → Option Shape) : Type 0 where
-  pub there : LeadsBack change.before change.item.now (now (uid_of change.item.now.key)) (start (uid_of change.item.now.key))
-  pub others : (q : List ℕ) → is_eq (slice_cmp nat_cmp (uid_of change.item.now.key) q) ≡ false → start q ≡ now q
+-- taking a change back leads from `now` to `before`, at the UID of its item; all other UIDs have the same in both
+pub record IsUndone (change : Change) (now before : List ℕ → Option Shape) : Type 0 where
+  pub there : LeadsBack change.before change.item.now (now (uid_of change.item.now.key)) (before (uid_of change.item.now.key))
+  pub others : (q : List ℕ) → is_eq (slice_cmp nat_cmp (uid_of change.item.now.key) q) ≡ false → before q ≡ now q
 
 -- taking all of them back, the last first
 abbrev pub AreUndone : List Change → (List ℕ → Option Shape) → (List ℕ → Option Shape) → Type 0
 AreUndone [] now start = (q : List ℕ) → now q ≡ start q
 AreUndone (c ∷ cs) now start = (mid : List ℕ → Option Shape) × AreUndone cs now mid × IsUndone c mid start
+
+-- the note says all that was held of the UID
+abbrev pub IsOfAll : Before → Type 0
+IsOfAll Absent = Unit {0}
+IsOfAll (Whole was) = Unit {0}
+IsOfAll (Entry held) = ⊥
+
+-- the last change is about the UID, and notes all that was held of it
+pub record NotesAll (changes : List Change) (uid : List ℕ) : Type 0 where
+  pub earlier : List Change
+  pub last : Change
+  pub is_last : changes ≡ earlier ++ last ∷ []
+  pub about : uid_of last.item.now.key ≡ uid
+  pub all : IsOfAll last.before

@@ -1,12 +1,12 @@
 //! How a map by UID hears items: in place, with what takes it back where memory is refused on the way.
-ghost use Rattle.std.specs.Prelude.{◌≡◌, ◌++◌, ◌∷◌, [], ℕ, List, Option, false, map, IfOk, OnOk, OnErr};
+ghost use Rattle.std.specs.Prelude.{◌≡◌, ◌++◌, ◌∷◌, [], ℕ, List, Option, false, map, IsTrue, IfOk, OnOk, OnErr};
 ghost use Rattle.std.specs.Ordering.{nat_cmp, is_eq};
 ghost use Rattle.std.specs.Cmp.Lexicographic.{slice_cmp};
 ghost use Rattle.itip_message.specs.KeyParts.{uid_of};
 ghost use Rattle.itip_message.specs.declared.item.Item.{Item};
 ghost use Rattle.itip_state.specs.Held.{Shape, shapes, HoldKept};
 ghost use Rattle.itip_state.specs.Changes.{at, IsHeardAt};
-ghost use Rattle.itip_state.specs.Undone.{IsNoted, LeadsBack, AreUndone};
+ghost use Rattle.itip_state.specs.Undone.{IsNoted, LeadsBack, AreUndone, NotesAll};
 
 use crate::NoMemory;
 use crate::revision::Best;
@@ -18,18 +18,18 @@ use itip_message::Key;
 use itip_todo::Uid;
 use std::alloc::Global;
 
-/// What was held of a UID before an item was heard.
+/// What was held of a UID before an item was heard, as far as hearing it can change that.
 #[derive(Drop)]
 enum Before {
-    /// Nothing.
+    /// Nothing was held of the UID.
     Absent,
     /// All this. The item is a series item, which may make others dead.
     Whole(SeriesState),
-    /// This at the key of the item, or nothing. The item is no series item, so that all else stays.
+    /// Something was held of the UID; at the key of the item this, or nothing. The item is no series item, so that all else stays.
     Entry(Option<Best>),
 }
 
-/// An item that was heard, and what was held before.
+/// An item that was heard, or whose hearing was refused, and what was held before.
 #[derive(Drop)]
 struct Change<'a> {
     item: &'a SharedItem,
@@ -76,7 +76,7 @@ pub(crate) fn hear_all(
     Ok(())
 }
 
-/// Joins in what is kept of one item, and notes what takes that back.
+/// Joins in what is kept of one item, and notes what takes that back. After a refusal, too, the notes take everything back.
 fn hear_noted<'a>(
     held: &mut Keyed<Uid, SeriesState>,
     alloc: Global,
@@ -88,9 +88,26 @@ fn hear_noted<'a>(
     ensures noted { (start : List ℕ → Option Shape) → AreUndone changes.old.items (at (shapes held.old.map (λ v. v.guard) (λ v. v.entries.map))) start
         → AreUndone changes.new.items (at (shapes held.new.map (λ v. v.guard) (λ v. v.entries.map))) start }
 {
+    if notes_all(changes, uid(item.key())) {
+        return hear(held, alloc, item);
+    }
     let before = note(held, item)?;
     changes.push(Change { item, before })?;
     hear(held, alloc, item)
+}
+
+/// Whether the last change noted all that was held of a UID: then it takes back all that happens to this UID after it. So a batch copies what is held of a UID
+/// once where items of the UID stand together, however many they are.
+fn notes_all(changes: &[Change<'_>], about: &Uid) -> bool
+    ensures { IsTrue result → NotesAll changes.now about.now }
+{
+    let Some((last, _)) = changes.split_last() else {
+        return false;
+    };
+    match &last.before {
+        Before::Entry(_) => false,
+        _ => uid(last.item.key()).cmp(about).is_eq(),
+    }
 }
 
 /// What takes back the hearing of an item.
@@ -121,7 +138,7 @@ fn take_back(held: &mut Keyed<Uid, SeriesState>, alloc: Global, changes: Vec<Cha
     }
 }
 
-/// Takes one change back.
+/// Takes one change back. It takes no memory.
 fn undo(held: &mut Keyed<Uid, SeriesState>, alloc: Global, change: Change<'_>)
     requires { (old : Option Shape) × LeadsBack change.before change.item.now (at (shapes held.old.map (λ v. v.guard) (λ v. v.entries.map)) (uid_of change.item.now.key)) old }
     ensures there { (old : Option Shape) → LeadsBack change.entry.before change.entry.item.now (at (shapes held.old.map (λ v. v.guard) (λ v. v.entries.map)) (uid_of change.entry.item.now.key)) old
@@ -139,6 +156,7 @@ fn undo(held: &mut Keyed<Uid, SeriesState>, alloc: Global, change: Change<'_>)
             held.replace(uid, series);
         }
         Before::Entry(best) => {
+            // It is taken out for this, so that it is not copied; an empty one keeps its place.
             if let Some(series) = held.replace(uid, of_nothing(alloc)) {
                 held.replace(uid, put_back(series, item.slot(), best));
             }

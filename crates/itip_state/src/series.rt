@@ -55,7 +55,7 @@ pub(crate) fn of_nothing(alloc: Global) -> SeriesState
     }
 }
 
-/// The kept items of one item.
+/// What is held where this item alone was heard.
 pub(crate) fn of_item(alloc: Global, item: &SharedItem) -> Result<SeriesState, NoMemory>
     ensures series { IfOk result (λ one. one.guard ≡ (alone item.now).series) }
     ensures entries { IfOk result (λ one. one.entries.map ≡ (alone item.now).entries) }
@@ -86,7 +86,7 @@ pub(crate) fn put_back(series: SeriesState, slot: &Slot, before: Option<Best>) -
     Guarded { guard, entries }
 }
 
-/// Puts another entry in the place of one, or takes it out.
+/// Puts another entry in the place of one, or takes it out. Where none stands, nothing changes.
 fn put_entry(entries: &mut Keyed<Slot, Best>, slot: &Slot, entry: Option<Best>)
     ensures { (q : Key) → value_at slot_cmp entries.new.map q ≡ cond (is_eq (slot_cmp slot.now q)) (in_place_of (value_at slot_cmp entries.old.map slot.now) entry) (value_at slot_cmp entries.old.map q) }
 {

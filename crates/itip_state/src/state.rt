@@ -1,5 +1,5 @@
 //! The state of a desk.
-ghost use Rattle.std.specs.Prelude.{◌≡◌, ◌↔◌, ℕ, List, [], ◌∷◌, ◌++◌, Some, None, cond, IsTrue, IfOk, OnOk, OnErr, IsOk, MatchOption, length, min, map, is_some};
+ghost use Rattle.std.specs.Prelude.{◌≡◌, ◌↔◌, ℕ, List, [], ◌++◌, Some, None, cond, IsTrue, IfOk, OnOk, OnErr, IsOk, MatchOption, length, min, map};
 ghost use Rattle.std.specs.List.{Contains};
 ghost use Rattle.std.specs.Ordering.{nat_cmp, is_eq};
 ghost use Rattle.std.specs.Cmp.Lexicographic.{slice_cmp};
@@ -8,8 +8,7 @@ ghost use Rattle.itip_message.specs.Later.{IsLater};
 ghost use Rattle.itip_message.specs.declared.item.Item.{Item};
 ghost use Rattle.itip_join.specs.KeyByKey.{value_at};
 ghost use Rattle.std.specs.Map.{keys_of};
-ghost use Rattle.itip_join.specs.Optional.{IsBelowAt};
-ghost use Rattle.itip_state.specs.Held.{shapes, items_of, shape_items, entry_items, HoldKept, ArePlaced, Shape};
+ghost use Rattle.itip_state.specs.Held.{shapes, items_of, shape_items, entry_items, ArePlaced};
 ghost use Rattle.itip_state.specs.Organizers.{used_by, greater, greatest};
 ghost use Rattle.itip_state.specs.Told.{IsOutdone, HoldsNoEarlier};
 
@@ -185,7 +184,7 @@ impl Model for State {
 }
 
 impl State {
-    ghost use Rattle.itip_state.specs.Kept.{AreKept, IsKept, ArePart, ArePartOf, AreMoved, IsItemsOf, AreSeriesOf, AreUidsOf, SameItems, HasEachOnce, AscendKeys};
+    ghost use Rattle.itip_state.specs.Kept.{AreKept, ArePart, ArePartOf, IsItemsOf, AreSeriesOf, AreUidsOf, SameItems, HasEachOnce, AscendKeys};
     ghost use Rattle.itip_state.specs.Order.{IsState, IsBelow};
     ghost use Rattle.itip_state.specs.Organizers.{IsLastUsed};
     ghost use Rattle.itip_state.specs.Told.{AreNews};
@@ -227,7 +226,7 @@ impl State {
         Ok(news)
     }
 
-    /// Hears these items. A refusal, for want of memory, changes nothing.
+    /// Hears these items. A refusal, for want of memory, changes nothing. Unlike `merge` it may ask for memory where nothing is new.
     pub fn hear(&mut self, items: &[&SharedItem]) -> Result<(), NoMemory>
         ensures ok { OnOk result (AreKept self.new (self.old ++ map (λ item. item.now) items.now)) }
         ensures err { OnErr result (self.new ≡ self.old) }
