@@ -15,11 +15,11 @@ use Rattle.lru.specs.LruCache.{LruCache, promoted, demoted, put_entries}
 use Rattle.itip_join.specs.KeyByKey.{value_at}
 use Rattle.itip_message.specs.declared.item.Item.{Item}
 use Rattle.itip_message.specs.KeyParts.{uid_of}
-use Rattle.itip_state.specs.Kept.{AreMoved, Moves, ArePartOf, SameItems, IsItemsOf}
+use Rattle.itip_state.specs.Kept.{AreMoved, KeepSame, Moves, ArePartOf, SameItems, IsItemsOf}
 use Rattle.itip_state.proofs.Members.{by_bool, none_in, cons_cases, cons_first, cons_later}
 use Rattle.itip_state.proofs.Lookups.{one_key, itself}
 use Rattle.itip_state.proofs.Parting.{listed_in, in_listed}
-use Rattle.itip_desk.specs.Desk.{Shown, CarriesAfter, IsDeltaOf}
+use Rattle.itip_desk.specs.Desk.{Shown, CarriesAfter, IsCarriedOn, IsDeltaOf}
 use Rattle.itip_desk.specs.Moves.{is_listed, FallFrom, ArePlaces}
 use Rattle.itip_desk.proofs.Steps.{CarryStep}
 
@@ -306,30 +306,64 @@ one_marked tick us now u old new newer more marked put falls = record {
     or_true true = refl
     or_true false = refl
 
+same_carry : (es gs : List (List ℕ × ℕ)) → es ≡ gs → (since : ℕ) (uid : List ℕ) → CarriesAfter es since uid ↔ CarriesAfter gs since uid
+same_carry es gs same since uid = (subst (λ (ch : List (List ℕ × ℕ)). CarriesAfter ch since uid) same, subst (λ (ch : List (List ℕ × ℕ)). CarriesAfter ch since uid) (sym same))
+
 -- the UIDs that moved carry the new tick
 module _ (es places gs : List (List ℕ × ℕ)) (are : ArePlaces places) (uids : List (List ℕ)) (next : ℕ) (marked : (uid : List ℕ) → at_uid gs uid ≡ cond (is_listed uids uid) (Some next) (at_uid (es ++ places) uid)) where
-  pub carry_step : (old new : Shown) (step : List Item) → old.changed ≡ es → new.changed ≡ gs → new.tick ≡ next → AreMoved uids old.kept step → CarryStep old new step
-  carry_step old new step is_old is_new is_next moved = record {
-    up = λ since uid c. by_bool (is_listed uids uid) (CarriesAfter old.changed since uid ⊎ (Moves old.kept step uid × (since < new.tick)))
-        (λ k. let d = subst (λ (ch : List (List ℕ × ℕ)). CarriesAfter ch since uid) is_new c in
-        let at : d.0 ≡ next = some_same d.0 next (sym d.1 ∙ marked uid ∙ ap (λ b. cond b (Some next) (at_uid (es ++ places) uid)) k) in
-        inr (moved.each uid (listed_in uids uid k), subst (λ (n : ℕ). since < n) (at ∙ sym is_next) d.2))
-        (λ k. let d = subst (λ (ch : List (List ℕ × ℕ)). CarriesAfter ch since uid) is_new c in
-        inl (subst (λ (ch : List (List ℕ × ℕ)). CarriesAfter ch since uid) (sym is_old)
-        (carries_before es places are since uid (d.0, sym (ap (λ b. cond b (Some next) (at_uid (es ++ places) uid)) k) ∙ sym (marked uid) ∙ d.1, d.2))));
-    moved = λ since uid moves above. listed_carries since uid above (by_bool (is_listed uids uid) (is_listed uids uid ≡ true)
-        (λ k. k)
-        (λ k. absurd (moves (moved.others uid (λ h. let x : true ≡ false = sym (in_listed uids uid h) ∙ k in cc)))));
-    stays = λ since uid c above. by_bool (is_listed uids uid) (CarriesAfter new.changed since uid)
-        (λ k. listed_carries since uid above k)
-        (λ k. let d = carries_still es places since uid (subst (λ (ch : List (List ℕ × ℕ)). CarriesAfter ch since uid) is_old c) in
-        subst (λ (ch : List (List ℕ × ℕ)). CarriesAfter ch since uid) (sym is_new)
-        (d.0, marked uid ∙ ap (λ b. cond b (Some next) (at_uid (es ++ places) uid)) k ∙ d.1, d.2));
-  }
-    where
-      listed_carries : (since : ℕ) (uid : List ℕ) → since < new.tick → is_listed uids uid ≡ true → CarriesAfter new.changed since uid
-      listed_carries since uid above k = subst (λ (ch : List (List ℕ × ℕ)). CarriesAfter ch since uid) (sym is_new)
-          (next, marked uid ∙ ap (λ b. cond b (Some next) (at_uid (es ++ places) uid)) k, subst (λ (n : ℕ). since < n) is_next above)
+  listed_carries : (since : ℕ) (uid : List ℕ) → is_listed uids uid ≡ true → CarriesAfter gs since uid ↔ (since < next)
+  listed_carries since uid k =
+      let there : at_uid gs uid ≡ Some next = marked uid ∙ ap (λ b. cond b (Some next) (at_uid (es ++ places) uid)) k in (
+        λ c. subst (λ (n : ℕ). since < n) (some_same c.0 next (sym c.1 ∙ there)) c.2,
+        λ above. (next, there, above),
+      )
+
+  unlisted_carries : (since : ℕ) (uid : List ℕ) → is_listed uids uid ≡ false → CarriesAfter gs since uid ↔ CarriesAfter es since uid
+  unlisted_carries since uid k =
+      let there : at_uid gs uid ≡ at_uid (es ++ places) uid = marked uid ∙ ap (λ b. cond b (Some next) (at_uid (es ++ places) uid)) k in (
+        λ c. carries_before es places are since uid (c.0, sym there ∙ c.1, c.2),
+        λ c. let d = carries_still es places since uid c in (d.0, there ∙ d.1, d.2),
+      )
+
+  module _ (old new : Shown) (step : List Item) (is_old : old.changed ≡ es) (is_new : new.changed ≡ gs) (is_next : new.tick ≡ next) (are_moved : AreMoved uids old.kept step) where
+    marked_carries : (since : ℕ) (uid : List ℕ) → is_listed uids uid ≡ true → CarriesAfter new.changed since uid ↔ (since < new.tick)
+    marked_carries since uid k =
+        let now = same_carry new.changed gs is_new since uid in
+        let carries = listed_carries since uid k in (
+          λ c. subst (λ (n : ℕ). since < n) (sym is_next) (carries.0 (now.0 c)),
+          λ above. now.1 (carries.1 (subst (λ (n : ℕ). since < n) is_next above)),
+        )
+
+    others_carry : (since : ℕ) (uid : List ℕ) → is_listed uids uid ≡ false → CarriesAfter new.changed since uid ↔ CarriesAfter old.changed since uid
+    others_carry since uid k =
+        let now = same_carry new.changed gs is_new since uid in
+        let before = same_carry old.changed es is_old since uid in
+        let carries = unlisted_carries since uid k in (λ c. before.1 (carries.0 (now.0 c)), λ c. now.1 (carries.1 (before.0 c)))
+
+    pub carried_on : IsCarriedOn old new step
+    carried_on = record {
+      moved = λ since uid moves. by_bool (is_listed uids uid) (CarriesAfter new.changed since uid ↔ (since < new.tick))
+          (λ k. marked_carries since uid k)
+          (λ k. absurd (moves (are_moved.others uid (λ h. let x : true ≡ false = sym (in_listed uids uid h) ∙ k in cc))));
+      others = λ since uid same. by_bool (is_listed uids uid) (CarriesAfter new.changed since uid ↔ CarriesAfter old.changed since uid)
+          (λ k. absurd (are_moved.each uid (listed_in uids uid k) same))
+          (λ k. others_carry since uid k);
+    }
+
+    pub carry_step : CarryStep old new step
+    carry_step = record {
+      up = λ since uid c. by_bool (is_listed uids uid) (CarriesAfter old.changed since uid ⊎ (Moves old.kept step uid × (since < new.tick)))
+          (λ k. inr (are_moved.each uid (listed_in uids uid k), (marked_carries since uid k).0 c))
+          (λ k. inl ((others_carry since uid k).0 c));
+      moved = λ since uid moves above. (carried_on.moved since uid moves).1 above;
+      stays = λ since uid c above. by_bool (is_listed uids uid) (CarriesAfter new.changed since uid)
+          (λ k. (marked_carries since uid k).1 above)
+          (λ k. (others_carry since uid k).1 c);
+    }
+
+-- where nothing moves each UID carries what it did
+pub nothing_carried : (desk : Shown) (step : List Item) → ((uid : List ℕ) → KeepSame uid desk.kept (desk.kept ++ step)) → IsCarriedOn desk desk step
+nothing_carried desk step same = record { moved = λ since uid moves. absurd (moves (same uid)); others = λ since uid _. (λ c. c, λ c. c) }
 
 -- ---- deltas
 pub delta_is : (desk : Shown) (since : ℕ) (state part items batch : List Item) (uids : List (List ℕ)) → state ≡ desk.kept → ((uid : List ℕ) → Contains uids uid ↔ CarriesAfter desk.changed since uid)

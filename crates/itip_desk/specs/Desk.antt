@@ -1,5 +1,5 @@
 -- A desk as it is seen: what it keeps, its tick, and the UIDs that moved (our own rule).
-use Rattle.std.specs.Prelude.{◌≡◌, ◌↔◌, ℕ, ◌<◌, List, [], Some, refl}
+use Rattle.std.specs.Prelude.{◌≡◌, ◌↔◌, ℕ, ◌<◌, List, [], ◌++◌, Some, refl}
 use Rattle.std.specs.List.{Contains}
 use Rattle.std.specs.Ordering.{nat_cmp}
 use Rattle.std.specs.Cmp.Lexicographic.{slice_cmp}
@@ -8,7 +8,7 @@ use Rattle.itip_message.specs.KeyParts.{uid_of}
 use Rattle.itip_message.specs.contracts.item.Item as item
 use Rattle.itip_message.specs.declared.item.Item.{Item}
 use Rattle.itip_join.specs.KeyByKey.{value_at}
-use Rattle.itip_state.specs.Kept.{AreKept}
+use Rattle.itip_state.specs.Kept.{AreKept, KeepSame, Moves}
 use Rattle.itip_desk.specs.Heard.{heard, Ticks, MovedAfter}
 use Rattle.itip_desk.specs.Octets.{AscendOctets}
 
@@ -26,6 +26,11 @@ shown_code = code_by (List Item × (ℕ × List (List ℕ × ℕ))) (coded× (co
 -- a UID carries a tick above `since`
 abbrev pub CarriesAfter : List (List ℕ × ℕ) → ℕ → List ℕ → Type 0
 CarriesAfter changed since uid = (tick : ℕ) × (value_at (slice_cmp nat_cmp) changed uid ≡ Some tick) × (since < tick)
+
+-- each UID that a step moves carries the tick after the step, and each other carries what it did
+pub record IsCarriedOn (old new : Shown) (step : List Item) : Type 0 where
+  pub moved : (since : ℕ) (uid : List ℕ) → Moves old.kept step uid → CarriesAfter new.changed since uid ↔ (since < new.tick)
+  pub others : (since : ℕ) (uid : List ℕ) → KeepSame uid old.kept (old.kept ++ step) → CarriesAfter new.changed since uid ↔ CarriesAfter old.changed since uid
 
 -- The desk is that of these steps from a starting tick: it keeps what is kept of all heard, its tick is that of the steps, and each UID that moved carries
 -- the tick of the last step that moved it.

@@ -42,7 +42,7 @@ impl Model for Desk {
 
 impl Desk {
     ghost use Rattle.itip_state.specs.Kept.{AreKept, AreMoved, Moves, HasEachOnce};
-    ghost use Rattle.itip_desk.specs.Desk.{IsDeskOf, IsDeltaOf};
+    ghost use Rattle.itip_desk.specs.Desk.{IsDeskOf, IsDeltaOf, IsCarriedOn};
     ghost use Rattle.itip_desk.specs.Heard.{TickStep};
     ghost use Rattle.itip_view.specs.Rows.{AreTooMany};
     ghost use Rattle.itip_view.specs.ListText.{IsListText};
@@ -89,6 +89,7 @@ impl Desk {
         ensures uids { IfOk result (λ changed. AreMoved changed.uids.items self.old.kept batch.now) }
         ensures tick { IfOk result (λ changed. changed.tick ≡ self.new.tick) }
         ensures rises { OnOk result (TickStep self.old.kept batch.now self.old.tick self.new.tick) }
+        ensures carried { OnOk result (IsCarriedOn self.old self.new batch.now) }
         ensures step { OnOk result ((steps : List (List Item)) (start : ℕ) → IsDeskOf steps start self.old → IsDeskOf (steps ++ batch.now ∷ []) start self.new) }
         ensures spent { IsErrOf result DeskError.TicksSpent → (self.old.tick ≡ u64.MAX) × ((uid : List ℕ) × Moves self.old.kept batch.now uid) }
         ensures err { OnErr result (self.new ≡ self.old) }

@@ -18,7 +18,7 @@ use Rattle.itip_state.specs.Kept.{IsBest, IsDead, IsKept, AreKept}
 use Rattle.itip_state.specs.Slots.{slot_cmp}
 use Rattle.itip_state.specs.Held.{Best, Shape, best, is_series, can_die, kills, shape_items}
 use Rattle.itip_state.specs.Dying.{IsNoLater, eff_up_to, less_from}
-use Rattle.itip_state.specs.Below.{IsShapeBelow}
+use Rattle.itip_state.proofs.Below.{IsShapeBelow}
 use Rattle.itip_state.proofs.Members.{by_bool}
 use Rattle.itip_state.proofs.Best.{best_above, not_later_itself, later_transitive, greater_eff}
 use Rattle.itip_state.proofs.Later.{up_to_not_later, not_later_up_to, neither_later}

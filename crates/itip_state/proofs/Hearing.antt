@@ -17,7 +17,7 @@ use Rattle.itip_message.specs.declared.item.Item.{Item}
 use Rattle.itip_message.specs.declared.key.Key.{Key}
 use Rattle.itip_state.specs.Kept.{AreKept}
 use Rattle.itip_state.specs.Held.{Best, Shape, best, is_series, shapes, items_of, shape_items, alone, IsPlaced, ArePlaced, HoldKept}
-use Rattle.itip_state.specs.Below.{IsShapeBelow}
+use Rattle.itip_state.proofs.Below.{IsShapeBelow}
 use Rattle.itip_state.proofs.Members.{by_bool, none_in}
 use Rattle.itip_state.proofs.Lookups.{one_key}
 use Rattle.itip_state.proofs.Keeping.{are_kept_by, kept_beside}

@@ -20,7 +20,7 @@ use Rattle.itip_message.proofs.Revisions.{revisions_total}
 use Rattle.itip_state.specs.Revisions.{revision_exact}
 use Rattle.itip_state.specs.Held.{Best, Shape, best, shape_items, IsSeriesAt, IsEntryAt, IsPlaced}
 use Rattle.itip_state.specs.Dying.{IsNoLater, kills_below, kills_more}
-use Rattle.itip_state.specs.Below.{IsShapeBelow}
+use Rattle.itip_state.proofs.Below.{IsShapeBelow}
 use Rattle.itip_state.proofs.Lookups.{all_from_values, value_from_all}
 use Rattle.itip_state.proofs.Shapes.{AreSorted, IsWhole, IsSound, is_killed, held_as, series_held, entry_held}
 use Rattle.itip_state.proofs.Combine.{combined, combined_sorted, combined_first, combined_second, combined_one}

@@ -1,4 +1,5 @@
 pub mod Members
+pub mod Below
 pub mod OneOrder
 pub mod Best
 pub mod Later

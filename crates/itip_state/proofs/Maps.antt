@@ -19,7 +19,7 @@ use Rattle.itip_message.specs.declared.item.Item.{Item}
 use Rattle.itip_message.specs.declared.key.Key.{Key}
 use Rattle.itip_state.specs.Kept.{IsBest, AreKept, ArePart, SameItems}
 use Rattle.itip_state.specs.Held.{Best, Shape, shape_items, shapes, items_of, IsPlaced, ArePlaced}
-use Rattle.itip_state.specs.Below.{IsShapeBelow}
+use Rattle.itip_state.proofs.Below.{IsShapeBelow}
 use Rattle.itip_state.proofs.Members.{by_bool, none_in, cons_first}
 use Rattle.itip_state.proofs.Lookups.{one_key, itself, at_head, at_other, none_in_tail, value_from_all, all_from_values}
 use Rattle.itip_state.proofs.Best.{best_above}

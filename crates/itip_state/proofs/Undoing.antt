@@ -18,7 +18,7 @@ use Rattle.itip_join.specs.Optional.{IsBelowAt, IsBelowUnder}
 use Rattle.itip_message.specs.KeyParts.{uid_of}
 use Rattle.itip_message.specs.declared.item.Item.{Item}
 use Rattle.itip_message.specs.declared.key.Key.{Key}
-use Rattle.itip_state.specs.Below.{IsShapeBelow}
+use Rattle.itip_state.proofs.Below.{IsShapeBelow}
 use Rattle.itip_state.specs.Changes.{at, IsBackAt, IsHeardAt, in_place_of}
 use Rattle.itip_state.specs.Undone.{IsNoted, LeadsBack, IsUndone, AreUndone, IsOfAll, NotesAll}
 use Rattle.itip_state.specs.declared.hear.Before.{Before}
@@ -200,13 +200,13 @@ held_is key held w back = back.entries key ∙ ap (λ t. cond t held (value_at s
 
 pub noted_leads : (before : Before) (item : Item) (old now : Option Shape) → IsNoted before item old → IsHeardAt item old now → LeadsBack before item now old
 noted_leads Absent item old now is heard = is
-noted_leads (Whole was) item old now is heard = (ap is_some heard.is_next, is)
+noted_leads (Whole was) item old now is heard = (ap is_some heard.is_next, is.0)
 noted_leads (Entry held) item old now (w, e, back, other) heard =
     (heard.next, w, heard.is_next, e, subst (λ (h : Option Best). IsBackAt item.key h heard.next w) (held_is item.key held w back) (heard.others w e other))
 
 pub noted_stays : (before : Before) (item : Item) (old : Option Shape) → IsNoted before item old → LeadsBack before item old old
 noted_stays Absent item old is = is
-noted_stays (Whole was) item old is = (ap is_some is, is)
+noted_stays (Whole was) item old is = (ap is_some is.0, is.0)
 noted_stays (Entry held) item old (w, e, back, other) = (w, w, e, e, back)
 
 -- ---- a list of them
@@ -240,6 +240,32 @@ pub of_all : (b : Before) → ((held : Option Best) → b ≡ Entry held → ⊥
 of_all Absent not = tt
 of_all (Whole was) not = tt
 of_all (Entry held) not = not held refl
+
+first_same : {X : Type 0} (x y : X) (xs ys : List X) → x ∷ xs ≡ y ∷ ys → x ≡ y
+first_same x y xs ys e = cc
+
+rest_same : {X : Type 0} (x y : X) (xs ys : List X) → x ∷ xs ≡ y ∷ ys → xs ≡ ys
+rest_same x y xs ys e = cc
+
+none_begins : {X : Type 0} (x : X) (xs : List X) → [] ≡ x ∷ xs → ⊥
+none_begins x xs e = cc
+
+none_ends : {X : Type 0} (xs : List X) (x : X) → [] ≡ xs ++ x ∷ [] → ⊥
+none_ends [] x e = none_begins x [] e
+none_ends (y ∷ xs) x e = none_begins y (xs ++ x ∷ []) e
+
+-- a list has one last
+one_last : {X : Type 0} (xs ys : List X) (x y : X) → xs ++ x ∷ [] ≡ ys ++ y ∷ [] → x ≡ y
+one_last [] [] x y e = first_same x y [] [] e
+one_last [] (z ∷ ys) x y e = absurd (none_ends ys y (rest_same x z [] (ys ++ y ∷ []) e))
+one_last (z ∷ xs) [] x y e = absurd (none_ends xs x (rest_same y z [] (xs ++ x ∷ []) (sym e)))
+one_last (v ∷ xs) (w ∷ ys) x y e = one_last xs ys x y (rest_same v w (xs ++ x ∷ []) (ys ++ y ∷ []) e)
+
+-- what notes all is the last change
+pub last_notes : (cs earlier : List Change) (c : Change) (u : List ℕ) → cs ≡ earlier ++ c ∷ [] → NotesAll cs u → (uid_of c.item.now.key ≡ u) × IsOfAll c.before
+last_notes cs earlier c u e notes =
+    let same : notes.last ≡ c = one_last notes.earlier earlier notes.last c (sym notes.is_last ∙ e) in
+    (subst (λ (d : Change). uid_of d.item.now.key ≡ u) same notes.about, subst (λ (d : Change). IsOfAll d.before) same notes.all)
 
 pub notes_same : (cs ds : List Change) (u v : List ℕ) → cs ≡ ds → u ≡ v → NotesAll cs u → NotesAll ds v
 notes_same cs ds u v e f notes = subst (λ (xs : List Change). NotesAll xs v) e (subst (NotesAll cs) f notes)

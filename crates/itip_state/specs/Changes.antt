@@ -14,8 +14,8 @@ use Rattle.itip_state.specs.Held.{Best, Shape, is_series, kills}
 abbrev pub at : List (List ℕ × Shape) → List ℕ → Option Shape
 at es uid = value_at (slice_cmp nat_cmp) es uid
 
--- `old` is `now` with `held` at the key, and the same series item. Where `held` is an item, `now` has one there too. The keys of `old` rise, and none of its
--- entries is dead.
+-- `old` is `now` with `held` at the key, and the same series item. Where `held` is an item, `now` has one there too, in whose place it is put. The keys of `old`
+-- rise, and none of its entries is dead.
 pub record IsBackAt (key : Key) (held : Option Best) (now old : Shape) : Type 0 where
   pub series : now.series ≡ old.series
   pub entries : (q : Key) → value_at slot_cmp old.entries q ≡ cond (is_eq (slot_cmp key q)) held (value_at slot_cmp now.entries q)
@@ -29,7 +29,7 @@ in_place_of there None = None
 in_place_of None (Some best) = None
 in_place_of (Some was) (Some best) = Some best
 
--- Once an item was heard, something is held of its UID. If something was held before, and the item is no series item, that differs at most at its key.
+-- Once an item was heard, something is held of its UID. If something was held before, and the item is no series item, the two differ at most at its key.
 pub record IsHeardAt (item : Item) (old now : Option Shape) : Type 0 where
   pub next : Shape
   pub is_next : now ≡ Some next

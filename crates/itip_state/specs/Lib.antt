@@ -4,7 +4,6 @@ pub mod Slots
 pub mod Revisions
 pub mod Held
 pub mod Dying
-pub mod Below
 pub mod Told
 pub mod Changes
 pub mod Undone

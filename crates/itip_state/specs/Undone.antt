@@ -10,13 +10,13 @@ use Rattle.itip_state.specs.declared.hear.Before.{Before}
 use Rattle.itip_state.specs.declared.hear.Before.TheVariants.{Absent, Whole, Entry}
 use Rattle.itip_state.specs.declared.hear.Change.{Change}
 
--- The note is right, where `old` is held of the UID before the item is heard. Only an item that is no series item has an `Entry`.
+-- The note is right, where `old` is held of the UID before the item is heard: of a series item all that was held, of any other what was held at its key.
 abbrev pub IsNoted : Before → Item → Option Shape → Type 0
 IsNoted Absent item old = old ≡ None
-IsNoted (Whole was) item old = old ≡ Some (record { series = was.guard; entries = was.entries.map })
+IsNoted (Whole was) item old = (old ≡ Some (record { series = was.guard; entries = was.entries.map })) × (is_series item.key ≡ true)
 IsNoted (Entry held) item old = (w : Shape) × (old ≡ Some w) × IsBackAt item.key held w w × (is_series item.key ≡ false)
 
--- what was noted leads from what is held of a UID now back to what was held, and something is held now, unless nothing was
+-- what was noted leads from what is held of a UID now back to what was held; where something was held, something is held now, too
 abbrev pub LeadsBack : Before → Item → Option Shape → Option Shape → Type 0
 LeadsBack Absent item now old = old ≡ None
 LeadsBack (Whole was) item now old = (is_some now ≡ true) × (old ≡ Some (record { series = was.guard; entries = was.entries.map }))
@@ -27,7 +27,7 @@ pub record IsUndone (change : Change) (now before : List ℕ → Option Shape) :
   pub there : LeadsBack change.before change.item.now (now (uid_of change.item.now.key)) (before (uid_of change.item.now.key))
   pub others : (q : List ℕ) → is_eq (slice_cmp nat_cmp (uid_of change.item.now.key) q) ≡ false → before q ≡ now q
 
--- taking all of them back, the last first
+-- taking all changes back, the last first, leads from `now` to `start`
 abbrev pub AreUndone : List Change → (List ℕ → Option Shape) → (List ℕ → Option Shape) → Type 0
 AreUndone [] now start = (q : List ℕ) → now q ≡ start q
 AreUndone (c ∷ cs) now start = (mid : List ℕ → Option Shape) × AreUndone cs now mid × IsUndone c mid start

@@ -1,5 +1,5 @@
 //! How a map by UID hears items: in place, with what takes it back where memory is refused on the way.
-ghost use Rattle.std.specs.Prelude.{◌≡◌, ◌++◌, ◌∷◌, [], ℕ, List, Option, false, map, IsTrue, IfOk, OnOk, OnErr};
+ghost use Rattle.std.specs.Prelude.{◌≡◌, ◌↔◌, ◌++◌, ◌∷◌, [], ℕ, List, Option, false, map, IsTrue, IfOk, OnOk, OnErr};
 ghost use Rattle.std.specs.Ordering.{nat_cmp, is_eq};
 ghost use Rattle.std.specs.Cmp.Lexicographic.{slice_cmp};
 ghost use Rattle.itip_message.specs.KeyParts.{uid_of};
@@ -12,7 +12,6 @@ use crate::NoMemory;
 use crate::revision::Best;
 use crate::series::{SeriesState, of_item, of_nothing, put_back};
 use crate::shared::SharedItem;
-use crate::slot::uid;
 use itip_join::{Join, Keyed};
 use itip_message::Key;
 use itip_todo::Uid;
@@ -25,7 +24,7 @@ enum Before {
     Absent,
     /// All this. The item is a series item, which may make others dead.
     Whole(SeriesState),
-    /// Something was held of the UID; at the key of the item this, or nothing. The item is no series item, so that all else stays.
+    /// At the key of the item this, or nothing, and at least one item of the UID. The item is no series item, so that all else stays.
     Entry(Option<Best>),
 }
 
@@ -50,10 +49,10 @@ pub(crate) fn hear(
     ensures err { OnErr result (held.new.map ≡ held.old.map) }
 {
     let one = of_item(alloc, item)?;
-    held.join_one(uid(item.key()), &one)
+    held.join_one(item.key().uid(), &one)
 }
 
-/// Joins in what is kept of these items, in place. Where memory is refused, what was changed is changed back: for a single item that is nothing.
+/// Joins in what is kept of these items, in place. Where memory is refused, what was changed is changed back. A single item needs no note: its hearing is all or nothing.
 pub(crate) fn hear_all(
     held: &mut Keyed<Uid, SeriesState>,
     alloc: Global,
@@ -88,7 +87,7 @@ fn hear_noted<'a>(
     ensures noted { (start : List ℕ → Option Shape) → AreUndone changes.old.items (at (shapes held.old.map (λ v. v.guard) (λ v. v.entries.map))) start
         → AreUndone changes.new.items (at (shapes held.new.map (λ v. v.guard) (λ v. v.entries.map))) start }
 {
-    if notes_all(changes, uid(item.key())) {
+    if notes_all(changes, item.key().uid()) {
         return hear(held, alloc, item);
     }
     let before = note(held, item)?;
@@ -96,17 +95,17 @@ fn hear_noted<'a>(
     hear(held, alloc, item)
 }
 
-/// Whether the last change noted all that was held of a UID: then it takes back all that happens to this UID after it. So a batch copies what is held of a UID
-/// once where items of the UID stand together, however many they are.
+/// Whether the last change noted all that was held of a UID: then it takes back later hearings of this UID too. So a batch copies what is held of a UID at most
+/// once for each run of items of the UID, however long the run is.
 fn notes_all(changes: &[Change<'_>], about: &Uid) -> bool
-    ensures { IsTrue result → NotesAll changes.now about.now }
+    ensures { IsTrue result ↔ NotesAll changes.now about.now }
 {
     let Some((last, _)) = changes.split_last() else {
         return false;
     };
     match &last.before {
         Before::Entry(_) => false,
-        _ => uid(last.item.key()).cmp(about).is_eq(),
+        _ => last.item.key().uid().cmp(about).is_eq(),
     }
 }
 
@@ -114,7 +113,7 @@ fn notes_all(changes: &[Change<'_>], about: &Uid) -> bool
 fn note(held: &Keyed<Uid, SeriesState>, item: &SharedItem) -> Result<Before, NoMemory>
     ensures { IfOk result (λ before. IsNoted before item.now (at (shapes held.now.map (λ v. v.guard) (λ v. v.entries.map)) (uid_of item.now.key))) }
 {
-    let Some(series) = held.get(uid(item.key())) else {
+    let Some(series) = held.get(item.key().uid()) else {
         return Ok(Before::Absent);
     };
     if let Key::Series(_) = item.key() {
@@ -147,7 +146,7 @@ fn undo(held: &mut Keyed<Uid, SeriesState>, alloc: Global, change: Change<'_>)
         → at (shapes held.new.map (λ v. v.guard) (λ v. v.entries.map)) q ≡ at (shapes held.old.map (λ v. v.guard) (λ v. v.entries.map)) q }
 {
     let Change { item, before } = change;
-    let uid = uid(item.key());
+    let uid = item.key().uid();
     match before {
         Before::Absent => {
             held.remove(uid);

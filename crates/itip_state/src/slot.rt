@@ -4,14 +4,12 @@ ghost use Rattle.std.specs.List.{Contains};
 ghost use Rattle.std.specs.Cmp.{partial_order_from_total, partial_equiv_from_equiv, eq_by_cmp_equiv};
 ghost use Rattle.std.specs.Ordering.{as_partial_cmp, eq_by_cmp};
 ghost use Rattle.std.specs.Option.{option_copied};
-ghost use Rattle.itip_message.specs.KeyParts.{uid_of};
 ghost use Rattle.itip_message.specs.declared.item.Item.{Item};
 ghost use Rattle.itip_state.specs.Kept.{AscendKeys};
 ghost use Rattle.itip_state.specs.Slots.{rest_cmp, key_cmp, slot_cmp, slot_total};
 
 use itip_join::{Exact, NoMemory};
 use itip_message::{Item, Key};
-use itip_todo::Uid;
 use std::alloc::Global;
 use std::cmp::Ordering;
 use std::marker::Model;
@@ -53,13 +51,6 @@ impl Slot {
     {
         &self.shared
     }
-}
-
-/// The UID that a key is about.
-pub(crate) fn uid(key: &Key) -> &Uid
-    ensures { result.now ≡ uid_of key.now }
-{
-    key.uid()
 }
 
 /// By UID, then by kind of key, instance and attendee.

@@ -4,7 +4,6 @@ ghost use Rattle.itip_state.specs.Kept.{IsItemsOf, AreUidsOf};
 
 use crate::NoMemory;
 use crate::shared::SharedItem;
-use crate::slot::uid;
 use itip_todo::Uid;
 use std::alloc::Global;
 
@@ -24,7 +23,7 @@ pub fn uids(alloc: Global, items: &[&SharedItem]) -> Result<Vec<Uid>, NoMemory>
 {
     let mut uids = Vec::new(alloc);
     for item in items {
-        uids.push(uid(item.key()).clone()?)?;
+        uids.push(item.key().uid().clone()?)?;
     }
     uids.sort()?;
     uids.dedup();

@@ -17,7 +17,7 @@ use crate::hear::{hear, hear_all};
 use crate::revision::Best;
 use crate::series::{SeriesState, is_dead_below};
 use crate::shared::SharedItem;
-use crate::slot::{Slot, compare, uid};
+use crate::slot::{Slot, compare};
 use crate::sorted::by_octets;
 use itip_join::{Join, Keyed, Lift};
 use itip_message::{Item, Key, Kind};
@@ -55,7 +55,7 @@ fn outdoes(held: &Keyed<Uid, SeriesState>, item: &SharedItem) -> bool
     ensures { ArePlaced (shapes held.now.map (λ v. v.guard) (λ v. v.entries.map))
         → IsTrue result ↔ IsOutdone (items_of (shapes held.now.map (λ v. v.guard) (λ v. v.entries.map))) item.now }
 {
-    let Some(series) = held.get(uid(item.key())) else {
+    let Some(series) = held.get(item.key().uid()) else {
         return false;
     };
     holds_no_earlier(series, item) || is_dead_below(&series.guard, item.key(), item.item())
@@ -312,7 +312,7 @@ impl State {
         ensures { MatchOption (option_copied result) ((item : Item) → Contains self.now item → item.key ≡ key.now → ⊥)
             (λ item. Contains self.now item × (item.key ≡ key.now)) }
     {
-        let Some(series) = self.held.get(uid(key)) else {
+        let Some(series) = self.held.get(key.uid()) else {
             return None;
         };
         match key {

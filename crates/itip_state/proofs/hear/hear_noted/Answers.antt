@@ -30,4 +30,4 @@ returns-then-notes_all-clause-noted c = λ start all.
     (λ heard _. ap is_some heard.is_next)
     (λ same there. subst (λ es. is_some (at (shapes es (λ v. v.guard) (λ v. v.entries.map)) u) ≡ true) (sym same) there)
     c.hear.ensures.there c.hear.ensures.err in
-    undone_still c.args.changes.now.items u now next start (notes_same c.deref.result.now c.args.changes.now.items c.uid.result.now u c.deref.ensures.value (c.uid.ensures ∙ ap uid_of c.key.ensures) (c.notes_all.ensures c.if-notes_all.true)) some c.hear.ensures.others all
+    undone_still c.args.changes.now.items u now next start (notes_same c.deref.result.now c.args.changes.now.items c.uid.result.now u c.deref.ensures.value (c.uid.ensures ∙ ap uid_of c.key.ensures) (c.notes_all.ensures.0 c.if-notes_all.true)) some c.hear.ensures.others all

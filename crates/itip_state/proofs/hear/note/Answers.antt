@@ -3,7 +3,7 @@ use Rattle.std.specs.Ordering.{nat_cmp}
 use Rattle.std.specs.Cmp.Lexicographic.{slice_cmp}
 use Rattle.itip_join.specs.KeyByKey.{value_at}
 use Rattle.itip_message.specs.KeyParts.{uid_of}
-use Rattle.itip_state.specs.Held.{Shape}
+use Rattle.itip_state.specs.Held.{Shape, is_series}
 use Rattle.itip_state.specs.Slots.{slot_cmp}
 use Rattle.itip_state.proofs.News.{not_series}
 use Rattle.itip_state.proofs.Undoing.{put_at, noted_at}
@@ -14,8 +14,11 @@ returns-in_default c = put_at (λ v. v.guard) (λ v. v.entries.map) (λ v. recor
     (sym (ap (value_at (slice_cmp nat_cmp) c.args.held.now.map) (c.uid.ensures ∙ ap uid_of c.key.ensures)) ∙ sym c.in_default.ensures)
 
 pub returns-in-Series : goal.returns-in-Series
-returns-in-Series c = put_at (λ v. v.guard) (λ v. v.entries.map) (λ v. record { sorted = v.entries.ordered; alive = v.no_dead_entry }) c.args.held.now.map (uid_of c.args.item.now.key) (Some c.in_ok-copy.field-0)
-    (sym (ap (value_at (slice_cmp nat_cmp) c.args.held.now.map) (c.uid.ensures ∙ ap uid_of c.key.ensures)) ∙ sym c.in-Some.ensures ∙ ap Some (sym c.in_ok-copy.ensures))
+returns-in-Series c = (
+  put_at (λ v. v.guard) (λ v. v.entries.map) (λ v. record { sorted = v.entries.ordered; alive = v.no_dead_entry }) c.args.held.now.map (uid_of c.args.item.now.key) (Some c.in_ok-copy.field-0)
+      (sym (ap (value_at (slice_cmp nat_cmp) c.args.held.now.map) (c.uid.ensures ∙ ap uid_of c.key.ensures)) ∙ sym c.in-Some.ensures ∙ ap Some (sym c.in_ok-copy.ensures)),
+  ap is_series (sym c.key-2.ensures ∙ c.in-Series.is),
+)
 
 pub returns-in-None : goal.returns-in-None
 returns-in-None c =

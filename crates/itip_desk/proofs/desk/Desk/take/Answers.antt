@@ -8,7 +8,7 @@ use Rattle.itip_state.proofs.News.{news_kept, news_move}
 use Rattle.std.specs.Prelude.{cond, Some}
 use Rattle.itip_desk.specs.Desk.{Shown}
 use Rattle.itip_desk.specs.Moves.{is_listed, FallFrom}
-use Rattle.itip_desk.proofs.Ticking.{at_uid, fall_more, fall_places, carry_step}
+use Rattle.itip_desk.proofs.Ticking.{at_uid, fall_more, fall_places, carried_on, carry_step, nothing_carried}
 use Rattle.itip_desk.proofs.Steps.{moved_by_news, none_moved, none_in, some_moved, still_carry, one_more_step}
 use Rattle.itip_desk.proofs.desk.Desk.take.Goals as goal
 use Rattle.itip_desk.proofs.desk.Desk.take.Goals.{In_ok-uids}
@@ -57,6 +57,12 @@ returns-then-is_empty-clause-rises c =
     let none : length c.in_ok-uids.uids.items ≡ 0 = grind arith in
     inr (none_in c.in_ok-uids.uids.items c.args.self.now.kept c.args.batch.now (moved before) none, refl)
 
+pub returns-then-is_empty-clause-carried : goal.returns-then-is_empty-clause-carried
+returns-then-is_empty-clause-carried c =
+    let before = (goal.at.returns-then-is_empty-clause-carried c).In_ok-uids in
+    let none : length c.in_ok-uids.uids.items ≡ 0 = grind arith in
+    nothing_carried c.args.self.now c.args.batch.now (none_in c.in_ok-uids.uids.items c.args.self.now.kept c.args.batch.now (moved before) none)
+
 pub returns-then-is_empty-clause-step : goal.returns-then-is_empty-clause-step
 returns-then-is_empty-clause-step c = λ steps start.
     let before = (goal.at.returns-then-is_empty-clause-step c).In_ok-uids in
@@ -97,6 +103,16 @@ returns-clause-step c = λ steps start.
     (λ uid. c.mark.ensures.marked uid ∙ ap (λ us. cond (is_listed us uid) (Some (c.self.inside.tick + 1)) (at_uid c.add_places.new.self uid)) c.deref-4.ensures.value
     ∙ ap (λ es. cond (is_listed c.in_ok-uids.uids.items uid) (Some (c.self.inside.tick + 1)) (at_uid es uid)) made.1)
     c.args.self.now new c.args.batch.now (sym (ap (λ (d : Shown). d.changed) c.self.view_is)) refl refl (moved before))
+
+pub returns-clause-carried : goal.returns-clause-carried
+returns-clause-carried c =
+    let before = (goal.at.returns-clause-carried c).In_ok-uids in
+    let new : Shown = record { kept = c.hear.new.self; tick = c.self.inside.tick + 1; changed = c.mark.new.self } in
+    let made = c.in_ok-add_places.ensures.places in
+    carried_on c.self.inside.moves made.0 c.mark.new.self made.2 c.in_ok-uids.uids.items (c.self.inside.tick + 1)
+    (λ uid. c.mark.ensures.marked uid ∙ ap (λ us. cond (is_listed us uid) (Some (c.self.inside.tick + 1)) (at_uid c.add_places.new.self uid)) c.deref-4.ensures.value
+    ∙ ap (λ es. cond (is_listed c.in_ok-uids.uids.items uid) (Some (c.self.inside.tick + 1)) (at_uid es uid)) made.1)
+    c.args.self.now new c.args.batch.now (sym (ap (λ (d : Shown). d.changed) c.self.view_is)) refl refl (moved before)
 
 pub mark-requires : goal.mark-requires
 mark-requires c = λ uid listed. c.in_ok-add_places.ensures.all uid (ap (λ us. is_listed us uid) (c.deref-2.ensures.value ∙ sym c.deref-4.ensures.value) ∙ listed)
