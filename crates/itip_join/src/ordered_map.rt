@@ -82,7 +82,7 @@ impl<K: Ord, V> OrderedMap<K, V> {
     }
 
     /// Takes out the entry at `key`, if there is one, and gives its value.
-    pub fn remove(&mut self, key: &K) -> Option<V>
+    pub(crate) fn remove(&mut self, key: &K) -> Option<V>
     where
         K: Drop,
         ensures before { result ≡ value_at K.cmp self.old key.now }
