@@ -30,12 +30,18 @@ fn all_items(alloc: Global, to_dos: u64) -> Result<Vec<Item>, BenchError> {
     let mut items = Vec::new(alloc);
     for number in 0..to_dos {
         for text in about(alloc, number)? {
-            for item in read_message(alloc, text.as_bytes())? {
-                items.push(item)?;
-            }
+            add(alloc, &mut items, &text)?;
         }
     }
     Ok(items)
+}
+
+/// Adds the items of a message.
+fn add(alloc: Global, items: &mut Vec<Item>, text: &String) -> Result<(), BenchError> {
+    for item in read_message(alloc, text.as_bytes())? {
+        items.push(item)?;
+    }
+    Ok(())
 }
 
 fn take_all<R: AllocGlobal + Clock + Print>(
@@ -43,7 +49,23 @@ fn take_all<R: AllocGlobal + Clock + Print>(
     items: &[Item],
     size: usize,
 ) -> Result<(), BenchError> {
-    let alloc = rt.alloc();
+    let batches = batches(rt.alloc(), items, size)?;
+    let mut desk = Desk::empty_at(rt.alloc(), 0);
+    let start = Instant::now(rt)?;
+    for batch in &batches {
+        desk.take(batch)?;
+    }
+    let time = start.elapsed(rt)?.as_millis();
+    let taken = items.len() as u64 * 2;
+    let entries = desk.entries();
+    println!(rt;
+        "take {taken} items in batches of {size}, of which {entries} are kept, {time} ms"
+    )?;
+    Ok(())
+}
+
+/// These items, each twice, in batches of this size and in random order.
+fn batches(alloc: Global, items: &[Item], size: usize) -> Result<Vec<Batch>, BenchError> {
     let mut batches = Vec::new(alloc);
     let mut batch = Vec::new(alloc);
     for place in shuffled(alloc, items.len())? {
@@ -56,18 +78,7 @@ fn take_all<R: AllocGlobal + Clock + Print>(
         }
     }
     batches.push(Batch::of_items(batch)?)?;
-    let mut desk = Desk::empty_at(alloc, 0);
-    let start = Instant::now(rt)?;
-    for batch in &batches {
-        desk.take(batch)?;
-    }
-    let time = start.elapsed(rt)?.as_millis();
-    let taken = items.len() as u64 * 2;
-    let entries = desk.entries();
-    println!(rt;
-        "take {taken} items in batches of {size}, of which {entries} are kept, {time} ms"
-    )?;
-    Ok(())
+    Ok(batches)
 }
 
 /// The numbers below `count`, each twice, in random order.
@@ -89,21 +100,7 @@ fn shuffled(alloc: Global, count: usize) -> Result<Vec<usize>, BenchError> {
 }
 
 fn merge_halves<R: AllocGlobal + Clock + Print>(rt: &R, items: &[Item]) -> Result<(), BenchError> {
-    let alloc = rt.alloc();
-    let mut mine = State::empty(alloc);
-    let mut theirs = State::empty(alloc);
-    let mut is_mine = true;
-    for item in items {
-        let mut one = Vec::new(alloc);
-        one.push(item.clone()?)?;
-        let one = State::of_items(alloc, &one)?;
-        if is_mine {
-            mine.merge(&one)?;
-        } else {
-            theirs.merge(&one)?;
-        }
-        is_mine = !is_mine;
-    }
+    let (mut mine, theirs) = halves(rt.alloc(), items)?;
     let start = Instant::now(rt)?;
     mine.merge(&theirs)?;
     let time = start.elapsed(rt)?.as_millis();
@@ -112,24 +109,64 @@ fn merge_halves<R: AllocGlobal + Clock + Print>(rt: &R, items: &[Item]) -> Resul
     Ok(())
 }
 
-fn delta<R: AllocGlobal + Clock + Print>(rt: &R, to_dos: u64) -> Result<(), BenchError> {
-    let alloc = rt.alloc();
-    let mut numbers = Numbers::of_seed(SEED);
-    let mut desk = Desk::empty_at(alloc, 0);
-    for number in 0..to_dos {
-        let text = message(alloc, number, &mut numbers)?;
-        desk.take(&Batch::of_items(read_message(alloc, text.as_bytes())?)?)?;
+/// The states of every other item, from the first and from the second.
+fn halves(alloc: Global, items: &[Item]) -> Result<(State, State), BenchError> {
+    let mut mine = State::empty(alloc);
+    let mut theirs = State::empty(alloc);
+    let mut is_mine = true;
+    for item in items {
+        if is_mine {
+            merge_one(alloc, &mut mine, item)?;
+        } else {
+            merge_one(alloc, &mut theirs, item)?;
+        }
+        is_mine = !is_mine;
     }
+    Ok((mine, theirs))
+}
+
+fn merge_one(alloc: Global, state: &mut State, item: &Item) -> Result<(), BenchError> {
+    let mut one = Vec::new(alloc);
+    one.push(item.clone()?)?;
+    state.merge(&State::of_items(alloc, &one)?)?;
+    Ok(())
+}
+
+fn delta<R: AllocGlobal + Clock + Print>(rt: &R, to_dos: u64) -> Result<(), BenchError> {
+    let mut desk = large_desk(rt.alloc(), to_dos)?;
     let since = desk.tick();
     for number in 0..MOVED {
-        for text in about(alloc, number.saturating_mul(to_dos / MOVED))? {
-            desk.take(&Batch::of_items(read_message(alloc, text.as_bytes())?)?)?;
-        }
+        move_one(rt.alloc(), &mut desk, number.saturating_mul(to_dos / MOVED))?;
     }
     let start = Instant::now(rt)?;
     let delta = desk.delta_since(since)?;
     let time = start.elapsed(rt)?.as_micros();
     let items = delta.as_slice().len();
     println!(rt; "delta of {items} items of {MOVED} out of {to_dos} to-dos {time} us")?;
+    Ok(())
+}
+
+/// A desk that has heard of so many to-dos.
+fn large_desk(alloc: Global, to_dos: u64) -> Result<Desk, BenchError> {
+    let mut numbers = Numbers::of_seed(SEED);
+    let mut desk = Desk::empty_at(alloc, 0);
+    for number in 0..to_dos {
+        hear(alloc, &mut desk, &message(alloc, number, &mut numbers)?)?;
+    }
+    Ok(desk)
+}
+
+/// Hears five messages of a to-do.
+fn move_one(alloc: Global, desk: &mut Desk, number: u64) -> Result<(), BenchError> {
+    for text in about(alloc, number)? {
+        hear(alloc, desk, &text)?;
+    }
+    Ok(())
+}
+
+/// Hears a message.
+pub(crate) fn hear(alloc: Global, desk: &mut Desk, text: &String) -> Result<(), BenchError> {
+    let batch = Batch::of_items(read_message(alloc, text.as_bytes())?)?;
+    desk.take(&batch)?;
     Ok(())
 }

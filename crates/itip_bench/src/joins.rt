@@ -24,18 +24,20 @@ pub(crate) fn measure_joins<R: AllocGlobal + Clock + Print>(
     let mut into_large = Duration::ZERO;
     let mut into_small = Duration::ZERO;
     for round in 1..=ROUNDS {
-        let news = news(alloc, keys, round)?;
-        let start = Instant::now(rt)?;
-        large.join(&news)?;
-        into_large = into_large.saturating_add(start.elapsed(rt)?);
+        let time = time_join(rt, &mut large, &news(alloc, keys, round)?)?;
+        into_large = into_large.saturating_add(time);
         let mut small = map_of(alloc, JOINED_IN)?;
-        let news = self::news(alloc, JOINED_IN, round)?;
-        let start = Instant::now(rt)?;
-        small.join(&news)?;
-        into_small = into_small.saturating_add(start.elapsed(rt)?);
+        let time = time_join(rt, &mut small, &news(alloc, JOINED_IN, round)?)?;
+        into_small = into_small.saturating_add(time);
     }
     print(rt, keys, into_large)?;
     print(rt, JOINED_IN, into_small)
+}
+
+fn time_join<R: Clock>(rt: &R, map: &mut Map, news: &Map) -> Result<Duration, BenchError> {
+    let start = Instant::now(rt)?;
+    map.join(news)?;
+    Ok(start.elapsed(rt)?)
 }
 
 fn print<R: Print>(rt: &R, keys: u64, time: Duration) -> Result<(), BenchError> {

@@ -1,9 +1,9 @@
 //! Lists of to-dos with answers, and of series over ten years.
 
+use crate::desks::hear as hear_text;
 use crate::error::BenchError;
 use crate::load::stating;
-use itip_desk::{Batch, Desk};
-use itip_message::read_message;
+use itip_desk::Desk;
 use itip_view::{Window, rows};
 use std::alloc::Global;
 use std::rt::Clock;
@@ -12,49 +12,50 @@ use std::time::Instant;
 /// So many daily series have nearly as many rows in 3,660 days as a list may have.
 const SERIES: u64 = 27;
 
+const ASKED: &str =
+    "DTSTART;VALUE=DATE:20260105\r\nSUMMARY:Sweep\r\nATTENDEE:mailto:a@example.com\r\nATTENDEE:mailto:b@example.com\r\n";
+
+const ACCEPTED: &str = "ATTENDEE;PARTSTAT=ACCEPTED:mailto:a@example.com\r\n";
+
+const DAILY: &str = "DTSTART;VALUE=DATE:20260101\r\nRRULE:FREQ=DAILY\r\nSUMMARY:Sweep\r\n";
+
 /// Lists so many to-dos of two attendees each, of whom one has answered, and 27 daily series over 3,660 days.
 pub(crate) fn measure_lists<R: AllocGlobal + Clock + Print>(
     rt: &R,
     to_dos: u64,
 ) -> Result<(), BenchError> {
-    let alloc = rt.alloc();
+    list(rt, &answered(rt.alloc(), to_dos)?, "single to-dos")?;
+    list(rt, &daily(rt.alloc())?, "daily series")
+}
+
+/// A desk that has heard of so many to-dos, and of one answer to each.
+fn answered(alloc: Global, to_dos: u64) -> Result<Desk, BenchError> {
     let mut desk = Desk::empty_at(alloc, 0);
     for number in 0..to_dos {
         let uid = about(alloc, number)?;
-        hear(
-            &mut desk,
-            alloc,
-            "REQUEST",
-            uid.as_str(),
-            "DTSTART;VALUE=DATE:20260105\r\nSUMMARY:Sweep\r\nATTENDEE:mailto:a@example.com\r\nATTENDEE:mailto:b@example.com\r\n",
-        )?;
-        hear(
-            &mut desk,
-            alloc,
-            "REPLY",
-            uid.as_str(),
-            "ATTENDEE;PARTSTAT=ACCEPTED:mailto:a@example.com\r\n",
-        )?;
+        hear(&mut desk, alloc, "REQUEST", uid.as_str(), ASKED)?;
+        hear(&mut desk, alloc, "REPLY", uid.as_str(), ACCEPTED)?;
     }
-    list(rt, &desk, "single to-dos")?;
+    Ok(desk)
+}
+
+/// A desk that has heard of the daily series.
+fn daily(alloc: Global) -> Result<Desk, BenchError> {
     let mut desk = Desk::empty_at(alloc, 0);
     for number in 0..SERIES {
         let uid = about(alloc, number)?;
-        hear(
-            &mut desk,
-            alloc,
-            "REQUEST",
-            uid.as_str(),
-            "DTSTART;VALUE=DATE:20260101\r\nRRULE:FREQ=DAILY\r\nSUMMARY:Sweep\r\n",
-        )?;
+        hear(&mut desk, alloc, "REQUEST", uid.as_str(), DAILY)?;
     }
-    list(rt, &desk, "daily series")
+    Ok(desk)
 }
 
-pub(crate) fn about(alloc: Global, number: u64) -> Result<String, BenchError> {
-    Ok(format!(in alloc;
-        "UID:to-do-{number}@example.com\r\nSEQUENCE:1\r\nDTSTAMP:20260102T090000Z\r\n"
-    )?)
+fn about(alloc: Global, number: u64) -> Result<String, BenchError> {
+    stamped(alloc, number, "20260102T090000Z")
+}
+
+/// The lines that name a to-do and its revision.
+pub(crate) fn stamped(alloc: Global, number: u64, stamp: &str) -> Result<String, BenchError> {
+    Ok(format!(in alloc; "UID:to-do-{number}@example.com\r\nSEQUENCE:1\r\nDTSTAMP:{stamp}\r\n")?)
 }
 
 pub(crate) fn hear(
@@ -64,9 +65,7 @@ pub(crate) fn hear(
     uid: &str,
     lines: &str,
 ) -> Result<(), BenchError> {
-    let text = stating(alloc, method, uid, lines)?;
-    desk.take(&Batch::of_items(read_message(alloc, text.as_bytes())?)?)?;
-    Ok(())
+    hear_text(alloc, desk, &stating(alloc, method, uid, lines)?)
 }
 
 fn list<R: AllocGlobal + Clock + Print>(rt: &R, desk: &Desk, what: &str) -> Result<(), BenchError> {

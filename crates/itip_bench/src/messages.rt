@@ -14,21 +14,33 @@ pub(crate) fn measure_messages<R: AllocGlobal + Clock + Print>(
     rt: &R,
     count: u64,
 ) -> Result<(), BenchError> {
-    let alloc = rt.alloc();
-    let (texts, octets) = messages(alloc, count)?;
-    let start = Instant::now(rt)?;
-    let batches = read(alloc, &texts)?;
-    let time = start.elapsed(rt)?.as_millis();
-    println!(rt; "read {count} messages {octets} bytes {time} ms")?;
-    let mut desk = Desk::empty_at(alloc, 0);
+    let batches = measure_reading(rt, count)?;
+    let mut desk = Desk::empty_at(rt.alloc(), 0);
     let start = Instant::now(rt)?;
     for batch in &batches {
         desk.take(batch)?;
     }
     let time = start.elapsed(rt)?.as_millis();
     println!(rt; "take {count} items {time} ms")?;
+    measure_list(rt, &desk)
+}
+
+fn measure_reading<R: AllocGlobal + Clock + Print>(
+    rt: &R,
+    count: u64,
+) -> Result<Vec<Batch>, BenchError> {
+    let (texts, octets) = messages(rt.alloc(), count)?;
     let start = Instant::now(rt)?;
-    let octets = desk.list(Window::new(20_454, 20_819)?)?.len();
+    let batches = read(rt.alloc(), &texts)?;
+    let time = start.elapsed(rt)?.as_millis();
+    println!(rt; "read {count} messages {octets} bytes {time} ms")?;
+    Ok(batches)
+}
+
+fn measure_list<R: AllocGlobal + Clock + Print>(rt: &R, desk: &Desk) -> Result<(), BenchError> {
+    let window = Window::new(20_454, 20_819)?;
+    let start = Instant::now(rt)?;
+    let octets = desk.list(window)?.len();
     let time = start.elapsed(rt)?.as_millis();
     let entries = desk.entries();
     println!(rt; "list {entries} to-dos {octets} bytes {time} ms")?;

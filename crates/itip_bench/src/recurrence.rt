@@ -25,21 +25,31 @@ pub(crate) fn measure_recurrence<R: AllocGlobal + Clock + Print>(
     rt: &R,
     rounds: u64,
 ) -> Result<(), BenchError> {
-    let alloc = rt.alloc();
     for (start, rule, from) in SERIES {
-        let series = series(alloc, start, rule)?;
-        let mut time = Duration::ZERO;
-        let mut count = 0u64;
-        for _ in 0..rounds {
-            let begin = Instant::now(rt)?;
-            let moments = occurrences(alloc, &series, from, from.saturating_add(DAYS))?;
-            time = time.saturating_add(begin.elapsed(rt)?);
-            count = count.saturating_add(moments.len() as u64);
-        }
+        let series = series(rt.alloc(), start, rule)?;
+        let (count, time) = time_rounds(rt, &series, from, rounds)?;
         let time = time.as_micros();
         println!(rt; "occurrences {start} {rule} from day {from} {count} in {time} us")?;
     }
     Ok(())
+}
+
+/// Lists the occurrences so many times: how many there were in all, and how long it took.
+fn time_rounds<R: AllocGlobal + Clock>(
+    rt: &R,
+    series: &Series,
+    from: i32,
+    rounds: u64,
+) -> Result<(u64, Duration), BenchError> {
+    let mut time = Duration::ZERO;
+    let mut count = 0u64;
+    for _ in 0..rounds {
+        let start = Instant::now(rt)?;
+        let moments = occurrences(rt.alloc(), series, from, from.saturating_add(DAYS))?;
+        time = time.saturating_add(start.elapsed(rt)?);
+        count = count.saturating_add(moments.len() as u64);
+    }
+    Ok((count, time))
 }
 
 fn series(alloc: Global, start: &str, rule: &str) -> Result<Series, BenchError> {

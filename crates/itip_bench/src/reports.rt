@@ -1,7 +1,7 @@
 //! Reports over to-dos, cancellations, answers without a to-do and refresh requests.
 
 use crate::error::BenchError;
-use crate::lists::{about, hear};
+use crate::lists::{hear, stamped};
 use itip_desk::Desk;
 use itip_report::{cancelled, load_by_attendee, next_seq, orphans, refresh_wanted, resend};
 use itip_state::State;
@@ -16,82 +16,90 @@ pub(crate) fn measure_reports<R: AllocGlobal + Clock + Print>(
     rt: &R,
     entries: u64,
 ) -> Result<(), BenchError> {
-    let alloc = rt.alloc();
-    let mut desk = Desk::empty_at(alloc, 0);
-    // Four to-dos are told of by seven items.
-    for number in 0..entries / 7 {
-        hear_four(&mut desk, alloc, number * 4)?;
-    }
+    let desk = reported(rt.alloc(), entries)?;
     let state = desk.state();
     println!(rt; "reports over {} entries", state.entries())?;
     measure_one(rt, state)?;
-    let start = Instant::now(rt)?;
-    let lines = cancelled(alloc, state)?.len();
-    let time = start.elapsed(rt)?.as_micros();
-    println!(rt; "cancelled {lines} lines {time} us")?;
-    let start = Instant::now(rt)?;
-    let lines = orphans(alloc, state)?.len();
-    let time = start.elapsed(rt)?.as_micros();
-    println!(rt; "orphans {lines} lines {time} us")?;
-    let start = Instant::now(rt)?;
-    let lines = refresh_wanted(alloc, state)?.len();
-    let time = start.elapsed(rt)?.as_micros();
-    println!(rt; "refresh {lines} lines {time} us")?;
+    measure_cancelled(rt, state)?;
+    measure_orphans(rt, state)?;
+    measure_refresh(rt, state)?;
     measure_load(rt, state)
 }
 
-/// Hears of four to-dos: one with a newer refresh request, one cancelled, one that is not known, and one with a cancelled instance.
-fn hear_four(desk: &mut Desk, alloc: Global, number: u64) -> Result<(), BenchError> {
-    let uid = about(alloc, number)?;
-    hear(
-        desk,
-        alloc,
+/// A desk of about so many kept items, of which seven tell of four to-dos.
+fn reported(alloc: Global, entries: u64) -> Result<Desk, BenchError> {
+    let mut desk = Desk::empty_at(alloc, 0);
+    for number in 0..entries / 7 {
+        hear_four(&mut desk, alloc, number * 4)?;
+    }
+    Ok(desk)
+}
+
+/// What is heard of four to-dos: one with a newer refresh request, one cancelled, one that is not known, and one with a cancelled instance. Each has its number, method, stamp and lines.
+const HEARD: [(u64, &str, &str, &str); 7] = [
+    (0, "REQUEST", EARLY, "ATTENDEE:mailto:a@example.com\r\n"),
+    (0, "REFRESH", LATE, "ATTENDEE:mailto:a@example.com\r\n"),
+    (1, "CANCEL", EARLY, ""),
+    (2, "REPLY", EARLY, "ATTENDEE:mailto:a@example.com\r\n"),
+    (2, "REFRESH", EARLY, "ATTENDEE:mailto:a@example.com\r\n"),
+    (
+        3,
         "REQUEST",
-        uid.as_str(),
-        "ATTENDEE:mailto:a@example.com\r\n",
-    )?;
-    let later = format!(in alloc;
-        "UID:to-do-{number}@example.com\r\nSEQUENCE:1\r\nDTSTAMP:20260103T090000Z\r\n"
-    )?;
-    hear(
-        desk,
-        alloc,
-        "REFRESH",
-        later.as_str(),
-        "ATTENDEE:mailto:a@example.com\r\n",
-    )?;
-    let uid = about(alloc, number.wrapping_add(1))?;
-    hear(desk, alloc, "CANCEL", uid.as_str(), "")?;
-    let uid = about(alloc, number.wrapping_add(2))?;
-    hear(
-        desk,
-        alloc,
-        "REPLY",
-        uid.as_str(),
-        "ATTENDEE:mailto:a@example.com\r\n",
-    )?;
-    hear(
-        desk,
-        alloc,
-        "REFRESH",
-        uid.as_str(),
-        "ATTENDEE:mailto:a@example.com\r\n",
-    )?;
-    let uid = about(alloc, number.wrapping_add(3))?;
-    hear(
-        desk,
-        alloc,
-        "REQUEST",
-        uid.as_str(),
+        EARLY,
         "DTSTART;VALUE=DATE:20260105\r\nATTENDEE:mailto:b@example.com\r\n",
-    )?;
-    hear(
-        desk,
-        alloc,
-        "CANCEL",
-        uid.as_str(),
-        "RECURRENCE-ID;VALUE=DATE:20260106\r\n",
-    )
+    ),
+    (3, "CANCEL", EARLY, "RECURRENCE-ID;VALUE=DATE:20260106\r\n"),
+];
+
+const EARLY: &str = "20260102T090000Z";
+
+const LATE: &str = "20260103T090000Z";
+
+/// Hears of four to-dos.
+fn hear_four(desk: &mut Desk, alloc: Global, number: u64) -> Result<(), BenchError> {
+    for (place, method, stamp, lines) in HEARD {
+        let about = stamped(alloc, number.wrapping_add(place), stamp)?;
+        hear(desk, alloc, method, about.as_str(), lines)?;
+    }
+    Ok(())
+}
+
+fn print_lines<R: Clock + Print>(
+    rt: &R,
+    what: &str,
+    lines: usize,
+    start: Instant,
+) -> Result<(), BenchError> {
+    let time = start.elapsed(rt)?.as_micros();
+    println!(rt; "{what} {lines} lines {time} us")?;
+    Ok(())
+}
+
+fn measure_cancelled<R: AllocGlobal + Clock + Print>(
+    rt: &R,
+    state: &State,
+) -> Result<(), BenchError> {
+    let start = Instant::now(rt)?;
+    let lines = cancelled(rt.alloc(), state)?.len();
+    print_lines(rt, "cancelled", lines, start)
+}
+
+fn measure_orphans<R: AllocGlobal + Clock + Print>(
+    rt: &R,
+    state: &State,
+) -> Result<(), BenchError> {
+    let start = Instant::now(rt)?;
+    let lines = orphans(rt.alloc(), state)?.len();
+    print_lines(rt, "orphans", lines, start)
+}
+
+fn measure_refresh<R: AllocGlobal + Clock + Print>(
+    rt: &R,
+    state: &State,
+) -> Result<(), BenchError> {
+    let start = Instant::now(rt)?;
+    let lines = refresh_wanted(rt.alloc(), state)?.len();
+    print_lines(rt, "refresh", lines, start)
 }
 
 /// Counts the rows of each attendee.

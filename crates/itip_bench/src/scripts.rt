@@ -16,24 +16,29 @@ pub(crate) fn measure_scripts<R: AllocGlobal + Clock + Print>(
     rt: &R,
     takes: u64,
 ) -> Result<(), BenchError> {
-    let alloc = rt.alloc();
     let mut numbers = Numbers::of_seed(SEED);
+    let script = taking(rt.alloc(), takes, 1, &mut numbers)?;
+    run(rt, script.as_str(), "takes")?;
+    let mut script = taking(rt.alloc(), EACH.saturating_mul(8), 8, &mut numbers)?;
+    exchange(rt.alloc(), &mut script, 0)?;
+    exchange(rt.alloc(), &mut script, 8)?;
+    let what = "takes, and an exchange of 8 desks twice";
+    run(rt, script.as_str(), what)
+}
+
+/// A script of so many takes, by so many desks in turn.
+fn taking(
+    alloc: Global,
+    takes: u64,
+    desks: u64,
+    numbers: &mut Numbers,
+) -> Result<String, BenchError> {
     let mut script = String::new(alloc);
     for number in 0..takes {
-        take(alloc, &mut script, 0, number, &mut numbers)?;
+        let desk = number.checked_rem(desks).unwrap_or(0);
+        take(alloc, &mut script, desk, number, numbers)?;
     }
-    run(rt, script.as_str(), "takes")?;
-    let mut script = String::new(alloc);
-    for number in 0..EACH.saturating_mul(8) {
-        take(alloc, &mut script, number % 8, number, &mut numbers)?;
-    }
-    exchange(alloc, &mut script, 0)?;
-    exchange(alloc, &mut script, 8)?;
-    run(
-        rt,
-        script.as_str(),
-        "takes, and an exchange of 8 desks twice",
-    )
+    Ok(script)
 }
 
 fn take(

@@ -16,22 +16,38 @@ pub(crate) fn measure_threads<R: AllocGlobal + Clock + Print + Threads + Sync>(
     rt: &R,
     count: u64,
 ) -> Result<(), BenchError> {
-    let alloc = rt.alloc();
     let mut numbers = Numbers::of_seed(SEED);
+    let (texts, octets) = messages(rt.alloc(), count, &mut numbers)?;
+    let start = Instant::now(rt)?;
+    let read = read_all(rt, rt.alloc(), &texts)?.len();
+    let time = start.elapsed(rt)?.as_millis();
+    println!(rt; "read_all {read} messages {octets} bytes {time} ms")?;
+    measure_large(rt, &mut numbers)
+}
+
+/// So many small messages, and how long they are in all.
+fn messages(
+    alloc: Global,
+    count: u64,
+    numbers: &mut Numbers,
+) -> Result<(Vec<Vec<u8>>, u64), BenchError> {
     let mut texts = Vec::new(alloc);
     let mut octets = 0u64;
     for number in 0..count {
-        let text = message(alloc, number, &mut numbers)?;
+        let text = message(alloc, number, numbers)?;
         octets = octets.saturating_add(text.len() as u64);
         texts.push(text.into_bytes())?;
     }
+    Ok((texts, octets))
+}
+
+fn measure_large<R: AllocGlobal + Clock + Print>(
+    rt: &R,
+    numbers: &mut Numbers,
+) -> Result<(), BenchError> {
+    let text = large(rt.alloc(), numbers)?;
     let start = Instant::now(rt)?;
-    let read = read_all(rt, alloc, &texts)?.len();
-    let time = start.elapsed(rt)?.as_millis();
-    println!(rt; "read_all {read} messages {octets} bytes {time} ms")?;
-    let text = large(alloc, &mut numbers)?;
-    let start = Instant::now(rt)?;
-    let items = read_message(alloc, text.as_bytes())?.len();
+    let items = read_message(rt.alloc(), text.as_bytes())?.len();
     let time = start.elapsed(rt)?.as_micros();
     let octets = text.len();
     println!(rt; "read 1 message of {items} to-dos {octets} bytes {time} us")?;

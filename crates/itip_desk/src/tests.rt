@@ -21,15 +21,17 @@ const NEWER: &[u8] =
 const SHOWN: &[u8] =
     b"TODO u1\n  ID -\n  SEQ 2 STATUS - PERCENT - PRIORITY -\n  START - DUE -\n  SUMMARY B\n";
 
+/// Whether a UID would move at the last tick.
+fn is_spent(desk: &mut Desk, batch: &Batch) -> bool {
+    matches!(desk.take(batch), Err(DeskError::TicksSpent))
+}
+
 #[test]
 fn at_the_last_tick_nothing_moves(rt: HostRuntime) -> Result<(), Fail> {
     let older = batch(rt.alloc(), OLDER)?;
     let none = batch(rt.alloc(), b"")?;
     let mut desk = Desk::empty_at(rt.alloc(), u64::MAX);
-    match desk.take(&older) {
-        Err(DeskError::TicksSpent) => {}
-        _ => panic!(rt; "a UID moved at the last tick"),
-    }
+    assert!(rt; is_spent(&mut desk, &older), "a UID moved at the last tick");
     assert_eq!(rt; desk.tick(), u64::MAX);
     assert_eq!(rt; desk.entries(), 0);
     let changed = desk.take(&none)?;
@@ -46,10 +48,7 @@ fn the_last_tick_is_reached_once(rt: HostRuntime) -> Result<(), Fail> {
     let changed = desk.take(&older)?;
     assert_eq!(rt; changed.tick, u64::MAX);
     assert_eq!(rt; changed.uids.len(), 1);
-    match desk.take(&newer) {
-        Err(DeskError::TicksSpent) => {}
-        _ => panic!(rt; "a UID moved at the last tick"),
-    }
+    assert!(rt; is_spent(&mut desk, &newer), "a UID moved at the last tick");
     let again = desk.take(&older)?;
     assert_eq!(rt; again.tick, u64::MAX);
     assert_eq!(rt; again.uids.len(), 0);

@@ -99,24 +99,37 @@ fn parts_join_apart(rt: HostRuntime) -> Result<(), Fail> {
     Ok(())
 }
 
+/// The keys and values of a map, in order.
+fn pairs(alloc: Global, map: &Map) -> Result<Vec<(u32, u32)>, NoMemory> {
+    let mut found = Vec::new(alloc);
+    for (key, item) in map.map.iter() {
+        found.push((*key, item.value))?;
+    }
+    Ok(found)
+}
+
 #[test]
 fn maps_join_by_key(rt: HostRuntime) -> Result<(), Fail> {
     let alloc = rt.alloc();
     let mine = map(alloc, &[(1, 2)])?;
     let theirs = map(alloc, &[(1, 1), (2, 5)])?;
-    let both = met(&mine, &theirs)?;
-    let mut found = Vec::new(alloc);
-    for (key, item) in both.map.iter() {
-        found.push((*key, item.value))?;
-    }
-    assert_eq!(rt; found.as_slice(), [(1, 2), (2, 5)].as_slice());
-    assert_eq!(rt;
-        (mine.map.len(), both.map.len(), both.map.is_empty()),
-        (1, 2, false)
-    );
-    assert!(rt; both.get(&3).is_none());
-    assert!(rt; meet_at(&mine, &theirs, &map(alloc, &[(2, 5), (1, 2)])?)?);
+    let want = map(alloc, &[(2, 5), (1, 2)])?;
+    assert!(rt; meet_at(&mine, &theirs, &want)?);
     assert!(rt; !mine.below(&theirs) && !theirs.below(&mine));
+    Ok(())
+}
+
+#[test]
+fn a_joined_map_has_both_keys(rt: HostRuntime) -> Result<(), Fail> {
+    let alloc = rt.alloc();
+    let mut both = map(alloc, &[(1, 2)])?;
+    both.join(&map(alloc, &[(1, 1), (2, 5)])?)?;
+    assert_eq!(rt;
+        pairs(alloc, &both)?.as_slice(),
+        [(1, 2), (2, 5)].as_slice()
+    );
+    assert_eq!(rt; (both.map.len(), both.map.is_empty()), (2, false));
+    assert!(rt; both.get(&3).is_none());
     Ok(())
 }
 
@@ -125,16 +138,29 @@ fn a_guard_kills_for_good(rt: HostRuntime) -> Result<(), Fail> {
     let alloc = rt.alloc();
     let mine = guarded(alloc, 2, &[(1, 3), (2, 9)])?;
     let theirs = guarded(alloc, 5, &[(3, 5)])?;
-    let both = met(&mine, &theirs)?;
-    let mut found = Vec::new(alloc);
-    for (key, item) in both.entries.map.iter() {
-        found.push((*key, item.value))?;
-    }
-    assert_eq!(rt; both.guard.value, 5);
-    assert_eq!(rt; found.as_slice(), [(2, 9), (3, 5)].as_slice());
-    assert!(rt; meet_at(&mine, &theirs, &guarded(alloc, 5, &[(2, 9), (3, 5)])?)?);
+    let want = guarded(alloc, 5, &[(2, 9), (3, 5)])?;
+    assert!(rt; meet_at(&mine, &theirs, &want)?);
+    Ok(())
+}
 
-    // A late message, whose entry is dead, changes nothing; nor does a guard kill what is equal to it.
+#[test]
+fn a_guard_takes_out_what_is_dead(rt: HostRuntime) -> Result<(), Fail> {
+    let alloc = rt.alloc();
+    let mut both = guarded(alloc, 2, &[(1, 3), (2, 9)])?;
+    both.join(&guarded(alloc, 5, &[(3, 5)])?)?;
+    assert_eq!(rt; both.guard.value, 5);
+    assert_eq!(rt;
+        pairs(alloc, &both.entries)?.as_slice(),
+        [(2, 9), (3, 5)].as_slice()
+    );
+    Ok(())
+}
+
+/// A late message, whose entry is dead, changes nothing; nor does a guard kill what is equal to it.
+#[test]
+fn what_is_dead_stays_below(rt: HostRuntime) -> Result<(), Fail> {
+    let alloc = rt.alloc();
+    let both = guarded(alloc, 5, &[(2, 9), (3, 5)])?;
     let late = guarded(alloc, 2, &[(1, 3)])?;
     assert!(rt; late.below(&both) && same(&met(&both, &late)?, &both));
     assert!(rt; !both.below(&late) && !guarded(alloc, 2, &[(1, 6)])?.below(&both));
@@ -179,17 +205,44 @@ fn end_at<T: Join>(alloc: Global, told: (&T, &T, &T), want: &T) -> Result<bool, 
     Ok(same(&join_all(told.0, &rest)?, want))
 }
 
+/// The same of the three in each order.
+fn end_in_any_order<T: Join>(
+    alloc: Global,
+    (a, b, c): (&T, &T, &T),
+    want: &T,
+) -> Result<bool, NoMemory> {
+    for told in [
+        (a, b, c),
+        (a, c, b),
+        (b, a, c),
+        (b, c, a),
+        (c, a, b),
+        (c, b, a),
+    ] {
+        if !end_at(alloc, told, want)? {
+            return Ok(false);
+        }
+    }
+    Ok(true)
+}
+
+fn at(
+    alloc: Global,
+    key: u32,
+    guard: u32,
+    pairs: &[(u32, u32)],
+) -> Result<Keyed<u32, Guarded<Number, Map>>, NoMemory> {
+    Keyed::of_one(alloc, key, guarded(alloc, guard, pairs)?)
+}
+
 #[test]
 fn any_order_and_repeats_end_up_the_same(rt: HostRuntime) -> Result<(), Fail> {
     let alloc = rt.alloc();
-    let a = Keyed::of_one(alloc, 0u32, guarded(alloc, 2, &[(1, 3), (2, 9)])?)?;
-    let b = Keyed::of_one(alloc, 1u32, guarded(alloc, 5, &[])?)?;
-    let c = Keyed::of_one(alloc, 0u32, guarded(alloc, 4, &[(1, 6), (3, 4)])?)?;
-    let mut want = Keyed::of_one(alloc, 0u32, guarded(alloc, 4, &[(1, 6), (2, 9), (3, 4)])?)?;
-    want.join(&b)?;
-    assert!(rt; end_at(alloc, (&a, &b, &c), &want)? && end_at(alloc, (&a, &c, &b), &want)?);
-    assert!(rt; end_at(alloc, (&b, &a, &c), &want)? && end_at(alloc, (&b, &c, &a), &want)?);
-    assert!(rt; end_at(alloc, (&c, &a, &b), &want)? && end_at(alloc, (&c, &b, &a), &want)?);
+    let a = at(alloc, 0, 2, &[(1, 3), (2, 9)])?;
+    let b = at(alloc, 1, 5, &[])?;
+    let c = at(alloc, 0, 4, &[(1, 6), (3, 4)])?;
+    let want = met(&at(alloc, 0, 4, &[(1, 6), (2, 9), (3, 4)])?, &b)?;
+    assert!(rt; end_in_any_order(alloc, (&a, &b, &c), &want)?);
     Ok(())
 }
 

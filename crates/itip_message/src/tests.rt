@@ -1,4 +1,4 @@
-use crate::{Fault, ReadError, read_all, read_message, write_item};
+use crate::{Fault, Item, ReadError, read_all, read_message, write_item};
 use std::alloc::{AllocError, Global};
 use std::test::Fail;
 
@@ -193,15 +193,24 @@ const REFUSALS: [(&[u8], &str); 21] = [
     ),
 ];
 
+/// Whether this is shown of a text.
+fn is_shown(alloc: Global, text: &[u8], want: &str) -> Result<bool, Fail> {
+    Ok(shown(alloc, text)?.as_str() == want)
+}
+
 #[test]
 fn refusals(rt: HostRuntime) -> Result<(), Fail> {
     for (text, expected) in REFUSALS {
         assert_eq!(rt; shown(rt.alloc(), text)?.as_str(), expected);
     }
-    let long = repeated(rt.alloc(), b"\n", 1_048_577, b"")?;
-    assert_eq!(rt; shown(rt.alloc(), long.as_slice())?.as_str(), "TooLong");
-    let lines = repeated(rt.alloc(), b"A:\n", 20_001, b"")?;
-    assert_eq!(rt; shown(rt.alloc(), lines.as_slice())?.as_str(), "TooMany");
+    Ok(())
+}
+
+#[test]
+fn long_texts_are_refused(rt: HostRuntime) -> Result<(), Fail> {
+    let alloc = rt.alloc();
+    assert!(rt; is_shown(alloc, &repeated(alloc, b"\n", 1_048_577, b"")?, "TooLong")?);
+    assert!(rt; is_shown(alloc, &repeated(alloc, b"A:\n", 20_001, b"")?, "TooMany")?);
     Ok(())
 }
 
@@ -253,31 +262,35 @@ fn first_causes(rt: HostRuntime) -> Result<(), Fail> {
     for (text, expected) in FIRST_CAUSES {
         assert_eq!(rt; shown(alloc, text)?.as_str(), expected);
     }
-    let texts = [
-        repeated(alloc, b"A", 1_048_577, b"")?,
-        repeated(alloc, b"A", 65_537, b"\xFF")?,
-        many(alloc, b"PUBLISH", 1001, b"")?,
-        many(alloc, b"REQUEST", 1001, b"UID:\n")?,
-        attendees(alloc, 500, "ATTENDEE:")?,
-        attendees(alloc, 500, "ATTENDEE:0")?,
-        large(alloc, b"ADD", b"RRULE:\n")?,
-        large(alloc, b"REQUEST", b"END:VTODO\nBEGIN:VTODO\n")?,
-        large(alloc, b"REQUEST", b"")?,
-    ];
-    let expected = [
-        "TooLong",
-        "TooMany",
-        "Method",
-        "TooMany",
-        "BadValue(Attendee)",
-        "TooMany",
-        "AddForm",
-        "Missing(Uid)",
-        "TooMany",
-    ];
-    for (text, expected) in texts.iter().zip(expected) {
-        assert_eq!(rt; shown(alloc, text.as_slice())?.as_str(), expected);
-    }
+    Ok(())
+}
+
+#[test]
+fn first_causes_of_long_texts(rt: HostRuntime) -> Result<(), Fail> {
+    let alloc = rt.alloc();
+    assert!(rt; is_shown(alloc, &repeated(alloc, b"A", 1_048_577, b"")?, "TooLong")?);
+    assert!(rt; is_shown(alloc, &repeated(alloc, b"A", 65_537, b"\xFF")?, "TooMany")?);
+    assert!(rt; is_shown(alloc, &many(alloc, b"PUBLISH", 1001, b"")?, "Method")?);
+    assert!(rt; is_shown(alloc, &many(alloc, b"REQUEST", 1001, b"UID:\n")?, "TooMany")?);
+    Ok(())
+}
+
+#[test]
+fn first_causes_of_many_attendees(rt: HostRuntime) -> Result<(), Fail> {
+    let alloc = rt.alloc();
+    let fault = "BadValue(Attendee)";
+    assert!(rt; is_shown(alloc, &attendees(alloc, 500, "ATTENDEE:")?, fault)?);
+    assert!(rt; is_shown(alloc, &attendees(alloc, 500, "ATTENDEE:0")?, "TooMany")?);
+    Ok(())
+}
+
+#[test]
+fn first_causes_of_large_to_dos(rt: HostRuntime) -> Result<(), Fail> {
+    let alloc = rt.alloc();
+    let two = b"END:VTODO\nBEGIN:VTODO\n";
+    assert!(rt; is_shown(alloc, &large(alloc, b"ADD", b"RRULE:\n")?, "AddForm")?);
+    assert!(rt; is_shown(alloc, &large(alloc, b"REQUEST", two)?, "Missing(Uid)")?);
+    assert!(rt; is_shown(alloc, &large(alloc, b"REQUEST", b"")?, "TooMany")?);
     Ok(())
 }
 
@@ -319,28 +332,33 @@ fn items(rt: HostRuntime) -> Result<(), Fail> {
     Ok(())
 }
 
-#[test]
-fn many_texts(rt: HostRuntime) -> Result<(), Fail> {
-    let alloc = rt.alloc();
-    let texts = [
-        Vec::from_slice(alloc, ITEM.as_bytes())?,
-        Vec::from_slice(alloc, CANCELLED.as_bytes())?,
-        many(alloc, b"PUBLISH", 1, b"")?,
-        Vec::from_slice(alloc, SERIES)?,
-    ];
-    let answers = read_all(&rt, alloc, texts.as_slice())?;
-    assert_eq!(rt; answers.len(), 4);
+fn texts(alloc: Global) -> Result<Vec<Vec<u8>>, Fail> {
+    let mut texts = Vec::new(alloc);
+    texts.push(Vec::from_slice(alloc, ITEM.as_bytes())?)?;
+    texts.push(Vec::from_slice(alloc, CANCELLED.as_bytes())?)?;
+    texts.push(many(alloc, b"PUBLISH", 1, b"")?)?;
+    texts.push(Vec::from_slice(alloc, SERIES)?)?;
+    Ok(texts)
+}
+
+/// How many items each answer has, or why it has none.
+fn counted(alloc: Global, answers: &[Result<Vec<Item>, ReadError>]) -> Result<String, Fail> {
     let mut counts = String::new(alloc);
-    for answer in &answers {
+    for answer in answers {
         match answer {
-            Ok(items) => {
-                let count = items.len();
-                counts.push_str(format!(in alloc; "{count} ")?.as_str())?;
-            }
+            Ok(items) => counts.push_str(format!(in alloc; "{} ", items.len())?.as_str())?,
             Err(ReadError::Fault(Fault::Method)) => counts.push_str("no method ")?,
             Err(_) => counts.push_str("another cause ")?,
         }
     }
-    assert_eq!(rt; counts.as_str(), "1 1 no method 2 ");
+    Ok(counts)
+}
+
+#[test]
+fn many_texts(rt: HostRuntime) -> Result<(), Fail> {
+    let alloc = rt.alloc();
+    let answers = read_all(&rt, alloc, texts(alloc)?.as_slice())?;
+    assert_eq!(rt; answers.len(), 4);
+    assert_eq!(rt; counted(alloc, &answers)?.as_str(), "1 1 no method 2 ");
     Ok(())
 }

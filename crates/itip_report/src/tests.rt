@@ -127,14 +127,14 @@ fn state_of(alloc: Global, heard: &[Heard]) -> Result<State, AllocError> {
     State::of_items(alloc, &items)
 }
 
-/// Lines, each with the line feed that ends it.
-fn joined(alloc: Global, lines: &[String]) -> Result<String, AllocError> {
+/// Whether these lines, each with the line feed that ends it, are this text.
+fn are_lines(alloc: Global, lines: &[String], want: &str) -> Result<bool, AllocError> {
     let mut text = String::new(alloc);
     for line in lines {
         text.push_str(line.as_str())?;
         text.push_str("\n")?;
     }
-    Ok(text)
+    Ok(text.as_str() == want)
 }
 
 #[test]
@@ -175,49 +175,58 @@ fn reports_name_what_they_are_about(rt: HostRuntime) -> Result<(), Fail> {
     ];
     for (heard, first, second, third) in table {
         let state = state_of(alloc, heard)?;
-        assert!(rt; joined(alloc, &cancelled(alloc, &state)?)?.as_str() == first);
-        assert!(rt; joined(alloc, &orphans(alloc, &state)?)?.as_str() == second);
-        assert!(rt; joined(alloc, &refresh_wanted(alloc, &state)?)?.as_str() == third);
+        assert!(rt; are_lines(alloc, &cancelled(alloc, &state)?, first)?);
+        assert!(rt; are_lines(alloc, &orphans(alloc, &state)?, second)?);
+        assert!(rt; are_lines(alloc, &refresh_wanted(alloc, &state)?, third)?);
     }
     Ok(())
+}
+
+/// The state of a series of two days, of which one was moved.
+fn overridden(alloc: Global) -> Result<State, AllocError> {
+    let mut items = Vec::new(alloc);
+    hear(&mut items, OVERRIDDEN)?;
+    State::of_items(alloc, &items)
 }
 
 #[test]
 fn each_row_counts_once(rt: HostRuntime) -> Result<(), Fail> {
     let alloc = rt.alloc();
-    let mut items = Vec::new(alloc);
-    hear(&mut items, OVERRIDDEN)?;
-    let state = State::of_items(alloc, &items)?;
+    let state = overridden(alloc)?;
     let window = match Window::new(20454, 20819) {
         Ok(window) => window,
         Err(BadWindow) => panic!(rt; "a year is a window"),
     };
     let rows = rows(alloc, &state, window)?;
     assert_eq!(rt; rows.len(), 2);
-    let load = load_by_attendee(alloc, &rows)?;
-    assert!(rt; joined(alloc, &load)?.as_str() == "mailto:a@x 2\n");
+    assert!(rt; are_lines(alloc, &load_by_attendee(alloc, &rows)?, "mailto:a@x 2\n")?);
     Ok(())
+}
+
+/// Whether of a UID this is sent again, or nothing is.
+fn is_sent(
+    alloc: Global,
+    state: &State,
+    name: &str,
+    want: Option<&str>,
+) -> Result<bool, AllocError> {
+    let uid = Uid::copy(alloc, name)?;
+    Ok(match (resend(alloc, state, &uid)?, want) {
+        (Some(sent), Some(want)) => sent.as_slice() == want.as_bytes(),
+        (None, None) => true,
+        _ => false,
+    })
 }
 
 #[test]
 fn a_live_series_is_sent_again(rt: HostRuntime) -> Result<(), Fail> {
     let alloc = rt.alloc();
-    let uid = Uid::copy(alloc, "u1")?;
-    let unknown = Uid::copy(alloc, "u9")?;
-    let state = state_of(alloc, &[SERIES, OLDER])?;
-    match resend(alloc, &state, &uid)? {
-        Some(sent) => assert!(rt; sent.as_slice() == SENT.as_bytes()),
-        None => panic!(rt; "the series is live"),
-    }
-    assert!(rt; resend(alloc, &state, &unknown)?.is_none());
-    let state = state_of(alloc, &[SERIES, OLDER, CANCEL])?;
-    assert!(rt; resend(alloc, &state, &uid)?.is_none());
-    let mut items = Vec::new(alloc);
-    hear(&mut items, OVERRIDDEN)?;
-    match resend(alloc, &State::of_items(alloc, &items)?, &uid)? {
-        Some(sent) => assert!(rt; sent.as_slice() == OVERRIDDEN_SENT.as_bytes()),
-        None => panic!(rt; "the series is live"),
-    }
+    let live = state_of(alloc, &[SERIES, OLDER])?;
+    assert!(rt; is_sent(alloc, &live, "u1", Some(SENT))?);
+    assert!(rt; is_sent(alloc, &live, "u9", None)?);
+    let cancelled = state_of(alloc, &[SERIES, OLDER, CANCEL])?;
+    assert!(rt; is_sent(alloc, &cancelled, "u1", None)?);
+    assert!(rt; is_sent(alloc, &overridden(alloc)?, "u1", Some(OVERRIDDEN_SENT))?);
     Ok(())
 }
 

@@ -1,4 +1,4 @@
-use crate::{Fault, PropertyName, TodoError, read_todo, write_todo};
+use crate::{Fault, PropertyName, Todo, TodoError, read_todo, write_todo};
 use itip_lines::read_lines;
 use std::alloc::Global;
 use std::process::Abort;
@@ -6,15 +6,10 @@ use std::test::Fail;
 
 const HEAD: &str = "UID:u\nDTSTAMP:20260101T090000Z\n";
 
-/// The lines that a to-do with these is written as, between BEGIN and END, with a bar for each break; or the fault.
-fn shown(alloc: Global, text: &str) -> Result<String, Fail> {
-    let lines = read_lines(alloc, text.as_bytes())?;
+/// The lines that a to-do is written as, between BEGIN and END, with a bar for each break.
+fn written(alloc: Global, todo: &Todo) -> Result<String, Fail> {
     let mut out = Vec::new(alloc);
-    match read_todo(alloc, lines.as_slice()) {
-        Ok(todo) => write_todo(&todo, &mut out)?,
-        Err(TodoError::Fault(fault)) => return Ok(format!(in alloc; "{fault:?}")?),
-        Err(error) => return Err(error.into()),
-    }
+    write_todo(todo, &mut out)?;
     let mut all = String::new(alloc);
     for line in str::from_utf8(out.as_slice())?.lines() {
         if line != "BEGIN:VTODO" && line != "END:VTODO" {
@@ -23,6 +18,16 @@ fn shown(alloc: Global, text: &str) -> Result<String, Fail> {
         }
     }
     Ok(all)
+}
+
+/// What a to-do with these lines is written as; or the fault.
+fn shown(alloc: Global, text: &str) -> Result<String, Fail> {
+    let lines = read_lines(alloc, text.as_bytes())?;
+    match read_todo(alloc, lines.as_slice()) {
+        Ok(todo) => written(alloc, &todo),
+        Err(TodoError::Fault(fault)) => Ok(format!(in alloc; "{fault:?}")?),
+        Err(error) => Err(error.into()),
+    }
 }
 
 /// Reads each text behind UID and DTSTAMP, and compares what is written behind UID, DTSTAMP and SEQUENCE; or the fault.
