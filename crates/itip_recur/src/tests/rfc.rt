@@ -1,11 +1,9 @@
 //! The examples of RFC 5545 3.8.5.3 that lie in the profile, with the days that its text gives, taken as dates: an UNTIL of
 //! 19971224T000000Z, before which the last day is 19971223, is that date. Where the RFC goes on for ever or leaves days out, a window holds days that it lists.
-use super::{day, listed};
-use std::process::Abort;
+use super::{Example, all_list};
 use std::test::Fail;
 
-/// The start, the rule, the window as dates, and the dates in it.
-const EXAMPLES: [(&str, &str, &str, &str, &str); 24] = [
+const EXAMPLES: [Example; 24] = [
     (
         "19970902",
         "FREQ=DAILY;COUNT=10",
@@ -178,9 +176,5 @@ const EXAMPLES: [(&str, &str, &str, &str, &str); 24] = [
 
 #[test]
 fn examples_of_the_rfc(rt: HostRuntime) -> Result<(), Fail> {
-    for (start, rule, from, to, told) in EXAMPLES {
-        let found = listed(rt.alloc(), start, rule, "-", "-", day(from)?, day(to)?)?;
-        assert_eq!(rt; found.as_str(), told, "{rule}");
-    }
-    Ok(())
+    all_list(&rt, rt.alloc(), &EXAMPLES)
 }
