@@ -69,59 +69,54 @@ fn first_packet<'a>(rt: &impl Abort, world: &'a World) -> &'a Packet {
     }
 }
 
+/// Whether the first two desks of a world keep the same.
+fn are_equal(rt: &impl Abort, world: &World) -> bool {
+    desk(rt, world, 0).state().equal(desk(rt, world, 1).state())
+}
+
+/// Two desks hear two revisions in either order, and each posts to the other.
+fn crossing(alloc: Global) -> Result<Vec<Event>, NoMemory> {
+    let mut events = Vec::new(alloc);
+    for (desk, text) in [(0, TIE), (0, OTHER_TIE), (1, OTHER_TIE), (1, TIE)] {
+        events.push(deliver(alloc, desk, text)?)?;
+    }
+    for (desk, other) in [(0, 1), (1, 0)] {
+        events.push(Event::Post { desk, since: 0 })?;
+        events.push(Event::Arrive {
+            packet: desk,
+            desk: other,
+        })?;
+    }
+    Ok(events)
+}
+
+fn taken(tick: u64, changed: usize) -> Reply {
+    Reply::Taken { tick, changed }
+}
+
+fn posted(packet: usize, items: usize) -> Reply {
+    Reply::Posted { packet, items }
+}
+
+/// What comes of these events.
+fn crossed() -> [Reply; 8] {
+    [
+        taken(1, 1),
+        taken(2, 1),
+        taken(1, 1),
+        taken(1, 0),
+        posted(0, 1),
+        taken(1, 0),
+        posted(1, 1),
+        taken(2, 0),
+    ]
+}
+
 #[test]
 fn two_desks_cross(rt: HostRuntime) -> Result<(), Fail> {
-    let alloc = rt.alloc();
-    let mut events = Vec::new(alloc);
-    events.push(deliver(alloc, 0, TIE)?)?;
-    events.push(deliver(alloc, 0, OTHER_TIE)?)?;
-    events.push(deliver(alloc, 1, OTHER_TIE)?)?;
-    events.push(deliver(alloc, 1, TIE)?)?;
-    events.push(Event::Post { desk: 0, since: 0 })?;
-    events.push(Event::Arrive { packet: 0, desk: 1 })?;
-    events.push(Event::Post { desk: 1, since: 0 })?;
-    events.push(Event::Arrive { packet: 1, desk: 0 })?;
-    let world = world(&rt, alloc, 2, &events);
-    let replies = [
-        Reply::Taken {
-            tick: 1,
-            changed: 1,
-        },
-        Reply::Taken {
-            tick: 2,
-            changed: 1,
-        },
-        Reply::Taken {
-            tick: 1,
-            changed: 1,
-        },
-        Reply::Taken {
-            tick: 1,
-            changed: 0,
-        },
-        Reply::Posted {
-            packet: 0,
-            items: 1,
-        },
-        Reply::Taken {
-            tick: 1,
-            changed: 0,
-        },
-        Reply::Posted {
-            packet: 1,
-            items: 1,
-        },
-        Reply::Taken {
-            tick: 2,
-            changed: 0,
-        },
-    ];
-    assert!(rt; world.replies.as_slice() == replies.as_slice());
-    assert!(rt;
-        desk(&rt, &world, 0)
-            .state()
-            .equal(desk(&rt, &world, 1).state())
-    );
+    let world = world(&rt, rt.alloc(), 2, &crossing(rt.alloc())?);
+    assert!(rt; world.replies.as_slice() == crossed().as_slice());
+    assert!(rt; are_equal(&rt, &world));
     assert_eq!(rt; desk(&rt, &world, 0).entries(), 1);
     for packet in &world.packets {
         assert_eq!(rt; packet.as_slice(), CANONICAL);
@@ -129,26 +124,25 @@ fn two_desks_cross(rt: HostRuntime) -> Result<(), Fail> {
     Ok(())
 }
 
-#[test]
-fn a_packet_has_the_kept_items_by_octets(rt: HostRuntime) -> Result<(), Fail> {
-    let alloc = rt.alloc();
+/// The first desk hears a series and an answer, and posts them to the second.
+fn posting(alloc: Global) -> Result<Vec<Event>, NoMemory> {
     let mut events = Vec::new(alloc);
     events.push(deliver(alloc, 0, SERIES)?)?;
     events.push(deliver(alloc, 0, ANSWER)?)?;
     events.push(Event::Post { desk: 0, since: 0 })?;
     events.push(Event::Arrive { packet: 0, desk: 1 })?;
-    let world = world(&rt, alloc, 2, &events);
+    Ok(events)
+}
+
+#[test]
+fn a_packet_has_the_kept_items_by_octets(rt: HostRuntime) -> Result<(), Fail> {
+    let world = world(&rt, rt.alloc(), 2, &posting(rt.alloc())?);
     assert_eq!(rt; first_packet(&rt, &world).as_slice().len(), 737);
-    let batch = first_packet(&rt, &world).batch(alloc)?;
-    let lengths = [230, 273, 234];
-    for (item, length) in batch.as_slice().iter().zip(&lengths) {
-        assert_eq!(rt; item.bytes.as_slice().len(), *length);
+    let batch = first_packet(&rt, &world).batch(rt.alloc())?;
+    for (item, length) in batch.as_slice().iter().zip([230, 273, 234]) {
+        assert_eq!(rt; item.bytes.as_slice().len(), length);
     }
-    assert!(rt;
-        desk(&rt, &world, 0)
-            .state()
-            .equal(desk(&rt, &world, 1).state())
-    );
+    assert!(rt; are_equal(&rt, &world));
     Ok(())
 }
 
@@ -219,17 +213,7 @@ fn at_the_last_tick_no_uid_moves(rt: HostRuntime) -> Result<(), Fail> {
     assert!(rt; world.step(&deliver(alloc, 0, OTHER_TIE)?) == Err(Cause::TicksSpent));
     assert!(rt; world.step(&deliver(alloc, 0, TIE)?) == Ok(()));
     assert!(rt; world.step(&deliver(alloc, 0, b"A:b\n")?) == Ok(()));
-    let replies = [
-        Reply::Taken {
-            tick: u64::MAX,
-            changed: 1,
-        },
-        Reply::Taken {
-            tick: u64::MAX,
-            changed: 0,
-        },
-        Reply::Refused(5),
-    ];
+    let replies = [taken(u64::MAX, 1), taken(u64::MAX, 0), Reply::Refused(5)];
     assert!(rt; world.replies.as_slice() == replies.as_slice());
     assert_eq!(rt; desk(&rt, &world, 0).tick(), u64::MAX);
     Ok(())
@@ -242,20 +226,7 @@ fn a_desk_posts_what_moved_since(rt: HostRuntime) -> Result<(), Fail> {
     assert!(rt; world.step(&deliver(alloc, 0, TIE)?) == Ok(()));
     assert!(rt; world.step(&Event::Post { desk: 0, since: 5 }) == Ok(()));
     assert!(rt; world.step(&Event::Post { desk: 0, since: 6 }) == Ok(()));
-    let replies = [
-        Reply::Taken {
-            tick: 6,
-            changed: 1,
-        },
-        Reply::Posted {
-            packet: 0,
-            items: 1,
-        },
-        Reply::Posted {
-            packet: 1,
-            items: 0,
-        },
-    ];
+    let replies = [taken(6, 1), posted(0, 1), posted(1, 0)];
     assert!(rt; world.replies.as_slice() == replies.as_slice());
     Ok(())
 }
@@ -276,13 +247,19 @@ fn read(rt: &impl Abort, alloc: Global, parts: &[&[u8]]) -> Result<Result<usize,
 #[test]
 fn a_delta_is_cut_into_messages(rt: HostRuntime) -> Result<(), Fail> {
     let alloc = rt.alloc();
-    let front = &CANONICAL[..CANONICAL.len() - 15];
     let none: [&[u8]; 0] = [];
     assert!(rt; read(&rt, alloc, &none)? == Ok(0));
     assert!(rt; read(&rt, alloc, &[b"\r\n\n\r\n \r\n"])? == Ok(0));
     assert!(rt; read(&rt, alloc, &[CANONICAL, CANONICAL])? == Ok(1));
     assert!(rt; read(&rt, alloc, &[CANONICAL, TIE, b"\n\n"])? == Ok(2));
     assert!(rt; read(&rt, alloc, &[CANONICAL, b"X:y"])? == Err(Fault::NoCalendar));
+    Ok(())
+}
+
+#[test]
+fn an_end_cuts_as_it_is_spelled(rt: HostRuntime) -> Result<(), Fail> {
+    let alloc = rt.alloc();
+    let front = &CANONICAL[..CANONICAL.len() - 15];
     assert!(rt; read(&rt, alloc, &[front, b"end:vCalendar\n", TIE])? == Ok(2));
     assert!(rt; read(&rt, alloc, &[front, b"END:V\r\n CALENDAR\r\n", TIE])? == Ok(2));
     // A line with a parameter cuts nothing, and the next message stands behind the end of the first.
