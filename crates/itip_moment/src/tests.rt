@@ -102,7 +102,7 @@ fn other_texts_are_no_moments(rt: HostRuntime) -> Result<(), Fail> {
 }
 
 #[test]
-fn stamps_and_dates_have_their_numbers(rt: HostRuntime) -> Result<(), Fail> {
+fn stamps_have_their_numbers(rt: HostRuntime) -> Result<(), Fail> {
     let stamp = read_stamp("20260101T090000Z").ok_or("no stamp")?;
     assert_eq!(rt; (stamp.day, stamp.second), (20454, 32400));
     let mut out = Vec::new(rt.alloc());
@@ -110,75 +110,104 @@ fn stamps_and_dates_have_their_numbers(rt: HostRuntime) -> Result<(), Fail> {
     assert_eq!(rt; out.as_slice(), b"20260101T090000Z".as_slice());
     assert!(rt; read_stamp("20260101T090000").is_none());
     assert!(rt; read_stamp("20260101").is_none());
-    let days = [
-        ("00000101", -719_528),
-        ("00000229", -719_469),
-        ("19700101", 0),
-        ("20260101", 20_454),
-        ("20270101", 20_819),
-        ("20360109", 24_114),
-        ("99991231", 2_932_896),
-    ];
-    for (text, number) in days {
-        assert_eq!(rt; read_date(text).ok_or(text)?.number, number, "{text}");
+    Ok(())
+}
+
+const DAYS: [(&str, i32); 7] = [
+    ("00000101", -719_528),
+    ("00000229", -719_469),
+    ("19700101", 0),
+    ("20260101", 20_454),
+    ("20270101", 20_819),
+    ("20360109", 24_114),
+    ("99991231", 2_932_896),
+];
+
+fn all_have_numbers(rt: &impl Abort, rows: &[(&str, i32)]) -> Result<(), Fail> {
+    for (text, number) in rows {
+        assert_eq!(rt; read_date(text).ok_or(*text)?.number, *number, "{text}");
     }
+    Ok(())
+}
+
+#[test]
+fn dates_have_their_numbers(rt: HostRuntime) -> Result<(), Fail> {
     assert!(rt; read_date("20260101T090000Z").is_none());
+    all_have_numbers(&rt, &DAYS)
+}
+
+/// A moment, by how many days and seconds it is shifted, whether it can be, and what it is after that.
+type Shift = (&'static str, i64, i64, bool, &'static str);
+
+const SHIFTS: [Shift; 8] = [
+    ("20260105T233000", 0, 3600, true, "20260106T003000"),
+    ("99991231", 1, 0, false, "99991231"),
+    ("20260105", 1, 1, false, "20260105"),
+    ("20260105", 1, 0, true, "20260106"),
+    ("00000101T000000Z", 0, -1, false, "00000101T000000Z"),
+    ("00000101T000000Z", 1, -86_400, true, "00000101T000000Z"),
+    (
+        "99991231T235959Z",
+        i64::MAX,
+        i64::MAX,
+        false,
+        "99991231T235959Z",
+    ),
+    (
+        "99991231T235959Z",
+        i64::MIN,
+        i64::MIN,
+        false,
+        "99991231T235959Z",
+    ),
+];
+
+fn all_shift(rt: &impl Abort, alloc: Global, rows: &[Shift]) -> Result<(), Fail> {
+    for (text, days, seconds, done, after) in rows {
+        let mut moment = read_moment(alloc, text, None)?.ok_or(*text)?;
+        assert_eq!(rt; moment.shift(*days, *seconds), *done, "{text}");
+        let again = written(alloc, &moment)?;
+        assert_eq!(rt; again.as_slice(), after.as_bytes(), "{text}");
+    }
     Ok(())
 }
 
 #[test]
 fn shifts_are_exact(rt: HostRuntime) -> Result<(), Fail> {
-    let rows = [
-        ("20260105T233000", 0, 3600, true, "20260106T003000"),
-        ("99991231", 1, 0, false, "99991231"),
-        ("20260105", 1, 1, false, "20260105"),
-        ("20260105", 1, 0, true, "20260106"),
-        ("00000101T000000Z", 0, -1, false, "00000101T000000Z"),
-        ("00000101T000000Z", 1, -86_400, true, "00000101T000000Z"),
-        (
-            "99991231T235959Z",
-            i64::MAX,
-            i64::MAX,
-            false,
-            "99991231T235959Z",
-        ),
-        (
-            "99991231T235959Z",
-            i64::MIN,
-            i64::MIN,
-            false,
-            "99991231T235959Z",
-        ),
-    ];
-    for (text, days, seconds, done, after) in rows {
-        let mut moment = read_moment(rt.alloc(), text, None)?.ok_or(text)?;
-        assert_eq!(rt; moment.shift(days, seconds), done, "{text}");
-        assert_eq!(rt;
-            written(rt.alloc(), &moment)?.as_slice(),
-            after.as_bytes(),
-            "{text}"
-        );
+    all_shift(&rt, rt.alloc(), &SHIFTS)
+}
+
+const ASCENDING: [(&str, Option<&str>); 7] = [
+    ("20260105T235959Z", None),
+    ("20260106", None),
+    ("20260106T000000", None),
+    ("20260106T000000Z", None),
+    ("20260106T000000", Some("A")),
+    ("20260106T000000", Some("B")),
+    ("20260106T000001", None),
+];
+
+fn moment(alloc: Global, row: &(&str, Option<&str>)) -> Result<Moment, Fail> {
+    Ok(read_moment(alloc, row.0, row.1)?.ok_or("no moment")?)
+}
+
+fn all_ascend(rt: &impl Abort, alloc: Global, rows: &[(&str, Option<&str>)]) -> Result<(), Fail> {
+    for (i, row) in rows.iter().enumerate() {
+        let one = moment(alloc, row)?;
+        for (j, other) in rows.iter().enumerate() {
+            assert_eq!(rt;
+                one.cmp(&moment(alloc, other)?),
+                i.cmp(&j),
+                "{} {}",
+                row.0,
+                other.0
+            );
+        }
     }
     Ok(())
 }
 
 #[test]
 fn moments_of_one_day_are_in_order(rt: HostRuntime) -> Result<(), Fail> {
-    let rows = [
-        ("20260105T235959Z", None),
-        ("20260106", None),
-        ("20260106T000000", None),
-        ("20260106T000000Z", None),
-        ("20260106T000000", Some("A")),
-        ("20260106T000000", Some("B")),
-        ("20260106T000001", None),
-    ];
-    for (i, (text, tzid)) in rows.iter().enumerate() {
-        let one = read_moment(rt.alloc(), text, *tzid)?.ok_or(*text)?;
-        for (j, (other, zone)) in rows.iter().enumerate() {
-            let two = read_moment(rt.alloc(), other, *zone)?.ok_or(*other)?;
-            assert_eq!(rt; one.cmp(&two), i.cmp(&j), "{text} {other}");
-        }
-    }
-    Ok(())
+    all_ascend(&rt, rt.alloc(), &ASCENDING)
 }
