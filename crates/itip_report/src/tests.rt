@@ -4,6 +4,7 @@ use itip_state::State;
 use itip_todo::Uid;
 use itip_view::{BadWindow, Window, rows};
 use std::alloc::{AllocError, Global};
+use std::process::Abort;
 use std::test::Fail;
 
 /// A method, and the lines of the to-do that its message has.
@@ -137,49 +138,70 @@ fn are_lines(alloc: Global, lines: &[String], want: &str) -> Result<bool, AllocE
     Ok(text.as_str() == want)
 }
 
-#[test]
-fn reports_name_what_they_are_about(rt: HostRuntime) -> Result<(), Fail> {
-    let alloc = rt.alloc();
-    let answers =
-        "u1 - answer mailto:a@x\nu1 - refresh mailto:a@x\nu1 20260106 refresh mailto:a@x\nu1 TZID=Z:20260106T090000 answer mailto:b@x\n";
-    let table: [(&[Heard], &str, &str, &str); 9] = [
-        (&[], "", "", ""),
-        (&[SERIES, OLDER, CANCEL], "u1 -\n", "", ""),
-        (&[SERIES, INSTANCE_CANCEL], "u1 20260106\n", "", ""),
-        (&[CANCEL, INSTANCE_CANCEL], "u1 -\n", "", ""),
-        (
-            &[ANSWER, REFRESH, INSTANCE_ANSWER, INSTANCE_REFRESH],
-            "",
-            answers,
-            "",
-        ),
-        (
-            &[INSTANCE, INSTANCE_ANSWER, INSTANCE_REFRESH],
-            "",
-            "u1 TZID=Z:20260106T090000 answer mailto:b@x\n",
-            "",
-        ),
-        (&[SERIES, ANSWER, REFRESH], "", "", "u1 - mailto:a@x\n"),
-        (
-            &[SERIES, INSTANCE_REFRESH],
-            "",
-            "",
-            "u1 20260106 mailto:a@x\n",
-        ),
-        (
-            &[SERIES, INSTANCE, INSTANCE_REFRESH, REFRESH],
-            "",
-            "",
-            "u1 - mailto:a@x\n",
-        ),
-    ];
-    for (heard, first, second, third) in table {
+/// What is heard, and the lines of what is cancelled, of what belongs to nothing and of who waits.
+type Told = (&'static [Heard], &'static str, &'static str, &'static str);
+
+const ANSWERS: &str =
+    "u1 - answer mailto:a@x\nu1 - refresh mailto:a@x\nu1 20260106 refresh mailto:a@x\nu1 TZID=Z:20260106T090000 answer mailto:b@x\n";
+
+const TOLD: [Told; 9] = [
+    (&[], "", "", ""),
+    (&[SERIES, OLDER, CANCEL], "u1 -\n", "", ""),
+    (&[SERIES, INSTANCE_CANCEL], "u1 20260106\n", "", ""),
+    (&[CANCEL, INSTANCE_CANCEL], "u1 -\n", "", ""),
+    (
+        &[ANSWER, REFRESH, INSTANCE_ANSWER, INSTANCE_REFRESH],
+        "",
+        ANSWERS,
+        "",
+    ),
+    (
+        &[INSTANCE, INSTANCE_ANSWER, INSTANCE_REFRESH],
+        "",
+        "u1 TZID=Z:20260106T090000 answer mailto:b@x\n",
+        "",
+    ),
+    (&[SERIES, ANSWER, REFRESH], "", "", "u1 - mailto:a@x\n"),
+    (
+        &[SERIES, INSTANCE_REFRESH],
+        "",
+        "",
+        "u1 20260106 mailto:a@x\n",
+    ),
+    (
+        &[SERIES, INSTANCE, INSTANCE_REFRESH, REFRESH],
+        "",
+        "",
+        "u1 - mailto:a@x\n",
+    ),
+];
+
+/// Whether each report of a state has these lines.
+fn is_told(
+    alloc: Global,
+    state: &State,
+    first: &str,
+    second: &str,
+    third: &str,
+) -> Result<bool, AllocError> {
+    Ok(
+        are_lines(alloc, &cancelled(alloc, state)?, first)?
+            && are_lines(alloc, &orphans(alloc, state)?, second)?
+            && are_lines(alloc, &refresh_wanted(alloc, state)?, third)?,
+    )
+}
+
+fn all_are_told(rt: &impl Abort, alloc: Global, rows: &[Told]) -> Result<(), Fail> {
+    for (heard, first, second, third) in rows {
         let state = state_of(alloc, heard)?;
-        assert!(rt; are_lines(alloc, &cancelled(alloc, &state)?, first)?);
-        assert!(rt; are_lines(alloc, &orphans(alloc, &state)?, second)?);
-        assert!(rt; are_lines(alloc, &refresh_wanted(alloc, &state)?, third)?);
+        assert!(rt; is_told(alloc, &state, first, second, third)?);
     }
     Ok(())
+}
+
+#[test]
+fn reports_name_what_they_are_about(rt: HostRuntime) -> Result<(), Fail> {
+    all_are_told(&rt, rt.alloc(), &TOLD)
 }
 
 /// The state of a series of two days, of which one was moved.
@@ -218,34 +240,56 @@ fn is_sent(
     })
 }
 
+/// The same where these messages were heard.
+fn is_sent_of(
+    alloc: Global,
+    heard: &[Heard],
+    name: &str,
+    want: Option<&str>,
+) -> Result<bool, AllocError> {
+    is_sent(alloc, &state_of(alloc, heard)?, name, want)
+}
+
 #[test]
 fn a_live_series_is_sent_again(rt: HostRuntime) -> Result<(), Fail> {
     let alloc = rt.alloc();
-    let live = state_of(alloc, &[SERIES, OLDER])?;
-    assert!(rt; is_sent(alloc, &live, "u1", Some(SENT))?);
-    assert!(rt; is_sent(alloc, &live, "u9", None)?);
-    let cancelled = state_of(alloc, &[SERIES, OLDER, CANCEL])?;
-    assert!(rt; is_sent(alloc, &cancelled, "u1", None)?);
-    assert!(rt; is_sent(alloc, &overridden(alloc)?, "u1", Some(OVERRIDDEN_SENT))?);
+    assert!(rt; is_sent_of(alloc, &[SERIES, OLDER], "u1", Some(SENT))?);
+    assert!(rt; is_sent_of(alloc, &[SERIES, OLDER], "u9", None)?);
+    assert!(rt; is_sent_of(alloc, &[SERIES, OLDER, CANCEL], "u1", None)?);
+    Ok(())
+}
+
+#[test]
+fn what_is_below_the_series_is_sent_with_its_own_sequence(rt: HostRuntime) -> Result<(), Fail> {
+    let state = overridden(rt.alloc())?;
+    assert!(rt; is_sent(rt.alloc(), &state, "u1", Some(OVERRIDDEN_SENT))?);
+    Ok(())
+}
+
+const NEXT: [(&[Heard], Option<u32>); 5] = [
+    (&[SERIES, OLDER], Some(3)),
+    (&[SERIES, REMOVAL], Some(4)),
+    (&[SERIES, INSTANCE], Some(4)),
+    (&[ANSWER], Some(0)),
+    (&[LAST], None),
+];
+
+fn all_are_next(
+    rt: &impl Abort,
+    alloc: Global,
+    rows: &[(&[Heard], Option<u32>)],
+) -> Result<(), Fail> {
+    let uid = Uid::copy(alloc, "u1")?;
+    let unknown = Uid::copy(alloc, "u9")?;
+    for (heard, next) in rows {
+        let state = state_of(alloc, heard)?;
+        assert_eq!(rt; next_seq(&state, &uid), *next);
+        assert_eq!(rt; next_seq(&state, &unknown), Some(0));
+    }
     Ok(())
 }
 
 #[test]
 fn the_next_sequence_is_one_more(rt: HostRuntime) -> Result<(), Fail> {
-    let alloc = rt.alloc();
-    let uid = Uid::copy(alloc, "u1")?;
-    let unknown = Uid::copy(alloc, "u9")?;
-    let table: [(&[Heard], Option<u32>); 5] = [
-        (&[SERIES, OLDER], Some(3)),
-        (&[SERIES, REMOVAL], Some(4)),
-        (&[SERIES, INSTANCE], Some(4)),
-        (&[ANSWER], Some(0)),
-        (&[LAST], None),
-    ];
-    for (heard, next) in table {
-        let state = state_of(alloc, heard)?;
-        assert_eq!(rt; next_seq(&state, &uid), next);
-        assert_eq!(rt; next_seq(&state, &unknown), Some(0));
-    }
-    Ok(())
+    all_are_next(&rt, rt.alloc(), &NEXT)
 }
