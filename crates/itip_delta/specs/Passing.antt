@@ -1,9 +1,8 @@
 -- What is known while lines and octets are passed (our own form).
-use Rattle.std.specs.Prelude.{◌≡◌, ◌<◌, ℕ, Bool, false, List, ◌∷◌, ◌++◌, length, map}
+use Rattle.std.specs.Prelude.{◌≡◌, ◌<◌, ℕ, Bool, false, ◌&&◌, ◌||◌, ◌==◌, List, ◌∷◌, ◌++◌, length}
 use Rattle.std.specs.List.{AllByRecursion, concat, list_all}
-use Rattle.std.specs.Char.{to_ascii_uppercase}
-use Rattle.itip_message.specs.Frame.{same_text}
-use Rattle.itip_delta.specs.Cutting.{lines_of, said_behind, is_empty, ends_calendar}
+use Rattle.itip_lines.specs.Cutting.{is_blank}
+use Rattle.itip_delta.specs.Cutting.{lines_of, is_return, said, is_empty, ends_calendar}
 
 -- the first line of some octets, and what follows it
 pub record IsFirstLine (bytes line after : List ℕ) : Type 0 where
@@ -11,9 +10,14 @@ pub record IsFirstLine (bytes line after : List ℕ) : Type 0 where
   pub lines : lines_of bytes ≡ line ∷ lines_of after
   pub some : 0 < length line
 
--- These octets, behind a break or not, go on to say a word.
-abbrev pub says_on : Bool → List ℕ → List ℕ → Bool
-says_on behind bytes word = same_text (map to_ascii_uppercase (said_behind behind bytes)) word
+-- An octet of a break, or the blank behind one.
+abbrev pub is_left_out : ℕ → Bool → List ℕ → Bool
+is_left_out b behind after = b == 10 || is_return b after || (behind && is_blank b)
+
+-- the first octet that a line says, and what follows it
+pub record SaysFirst (line : List ℕ) (b : ℕ) (after : List ℕ) : Type 0 where
+  pub said : said line ≡ b ∷ said after
+  pub shorter : length after < length line
 
 -- Lines of which none ends a calendar were passed, and the rest is left.
 pub record Passes (bytes rest : List ℕ) (blank : Bool) : Type 0 where

@@ -1,7 +1,7 @@
 //! Cutting a delta into messages. Nothing is copied: each message is a slice of the delta.
 ghost use Rattle.std.specs.Prelude.{◌≡◌, ◌≤◌, [], length, MatchOption};
-ghost use Rattle.itip_delta.specs.Cutting.{begins_blank, ends_line, line_length, is_return, says, is_empty, ends_calendar, messages_of, CutsMessage};
-ghost use Rattle.itip_delta.specs.Passing.{IsFirstLine};
+ghost use Rattle.itip_delta.specs.Cutting.{begins_blank, ends_line, line_length, is_return, says, said, is_empty, ends_calendar, messages_of, CutsMessage};
+ghost use Rattle.itip_delta.specs.Passing.{IsFirstLine, SaysFirst, is_left_out};
 ghost use Rattle.itip_lines.specs.Cutting.{is_blank};
 
 const CR: u8 = b'\r';
@@ -99,25 +99,38 @@ fn says(line: &[u8], word: &[u8]) -> bool
 {
     let mut left = word;
     let mut rest = line;
-    let mut is_behind = false;
-    while let [b, after @ ..] = rest {
-        rest = after;
-        if *b == LF {
-            is_behind = true;
-            continue;
-        }
-        let is_left_out = is_return(*b, after) || (is_behind && is_blank(*b));
-        is_behind = false;
-        if is_left_out {
-            continue;
-        }
+    while let Some((b, after)) = first_said(rest) {
         let [first, others @ ..] = left else {
             return false;
         };
         if b.to_ascii_uppercase() != *first {
             return false;
         }
+        rest = after;
         left = others;
     }
     left.is_empty()
+}
+
+/// The first octet that a line says, and what follows it.
+fn first_said(line: &[u8]) -> Option<(u8, &[u8])>
+    ensures { MatchOption result (said line.now ≡ []) (λ cut. SaysFirst line.now cut.0 cut.1.now) }
+{
+    let mut rest = line;
+    let mut is_behind = false;
+    while let [b, after @ ..] = rest {
+        if !is_left_out(*b, is_behind, after) {
+            return Some((*b, after));
+        }
+        is_behind = *b == LF;
+        rest = after;
+    }
+    None
+}
+
+/// Whether an octet is of a break, or is the blank behind one.
+fn is_left_out(b: u8, is_behind: bool, after: &[u8]) -> bool
+    ensures { result ≡ is_left_out b is_behind after.now }
+{
+    b == LF || is_return(b, after) || (is_behind && is_blank(b))
 }

@@ -51,8 +51,8 @@ impl Clone for Item {
     ghost is_clone = { λ item copy. copy ≡ item };
 
     fn clone(&self) -> Result<Item, NoMemory> {
-        let key = self.key.clone()?;
         let bytes = self.bytes.clone()?;
+        let key = self.key.clone()?;
         let todo = self.todo.clone()?;
         Ok(Item {
             key,

@@ -83,11 +83,14 @@ fn series(
     ensures rdates { IfOk result (λ s. s.rdates ≡ rdates.now) }
     ensures exdates { IfOk result (λ s. s.exdates ≡ exdates.now) }
 {
+    let rdates = copy(rdates)?;
+    let exdates = copy(exdates)?;
+    let start = start.clone()?;
     Ok(Series {
-        start: start.clone()?,
+        start,
         rule,
-        rdates: copy(rdates)?,
-        exdates: copy(exdates)?,
+        rdates,
+        exdates,
     })
 }
 

@@ -42,11 +42,9 @@ impl SharedItem {
     pub fn new(alloc: Global, item: Item) -> Result<SharedItem, NoMemory>
         ensures { IfOk result (λ shared. shared ≡ item) }
     {
-        let slot = Slot::new(alloc, item.key.clone()?)?;
-        Ok(SharedItem {
-            revision: Revision::new(alloc, item)?,
-            slot,
-        })
+        let revision = Revision::new(alloc, item)?;
+        let slot = Slot::new(alloc, revision.item().key.clone()?)?;
+        Ok(SharedItem { revision, slot })
     }
 
     /// The item of a revision.

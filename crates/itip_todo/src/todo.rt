@@ -2,9 +2,7 @@
 ghost use Rattle.std.specs.Prelude.{◌≡◌};
 ghost use Rattle.itip_todo.specs.Lawful.{IsLawful, IsLawful-prop};
 
-use crate::copies::{
-    copy_lines, copy_moment, copy_moments, copy_properties, copy_property, copy_texts,
-};
+use crate::copies::{copy_lists, copy_subject, copy_times};
 use crate::property::Property;
 use crate::status::Status;
 use crate::uid::Uid;
@@ -58,24 +56,28 @@ impl Clone for Todo {
     ghost is_clone = { λ todo copy. copy ≡ todo };
 
     fn clone(&self) -> Result<Todo, NoMemory> {
+        let uid = self.uid.clone()?;
+        let times = copy_times(self)?;
+        let subject = copy_subject(self)?;
+        let lists = copy_lists(self)?;
         Ok(Todo {
-            uid: self.uid.clone()?,
+            uid,
             stamp: self.stamp,
             seq: self.seq,
             base: self.base,
-            rid: copy_moment(&self.rid)?,
-            start: copy_moment(&self.start)?,
-            due: copy_moment(&self.due)?,
+            rid: times.rid,
+            start: times.start,
+            due: times.due,
             status: self.status,
             percent: self.percent,
             priority: self.priority,
-            summary: copy_property(&self.summary)?,
-            organizer: copy_property(&self.organizer)?,
-            attendees: copy_properties(&self.attendees)?,
-            rule: copy_texts(&self.rule)?,
-            rdates: copy_moments(&self.rdates)?,
-            exdates: copy_moments(&self.exdates)?,
-            others: copy_lines(&self.others)?,
+            summary: subject.summary,
+            organizer: subject.organizer,
+            attendees: subject.attendees,
+            rule: lists.rule,
+            rdates: lists.rdates,
+            exdates: lists.exdates,
+            others: lists.others,
         })
     }
 }

@@ -1,12 +1,13 @@
 -- The rows of one UID, place by place.
 use Rattle.std.proofs.Common.{◌≡◌, ◌<◌, ℕ, List, [], ◌∷◌, ◌++◌, sym, ◌∙◌, ap, subst, ◌⊎◌, inl, inr, arith, zero, suc, length, take, Option, Some, None, get_or}
 use Rattle.std.specs.List.{Contains, AllPairs}
-use Rattle.std.specs.Option.{option_cmp}
+use Rattle.std.specs.Option.{option_cmp, option_to_list}
 use Rattle.std.specs.Ordering.{nat_cmp, ordering_then}
 use Rattle.std.specs.Cmp.{tied_itself}
 use Rattle.std.specs.Cmp.Lexicographic.{slice_cmp}
 use Rattle.std.specs.declared.cmp.Ordering.TheVariants.{Less}
 use Rattle.std.proofs.lemmas.Cmp.{nat_list_cmp_total}
+use Rattle.std.proofs.lemmas.List.{append-nil}
 use Rattle.std.proofs.lemmas.List.Elements.{Contains-append_left, Contains-get_or, Contains-push, Contains-push_cases}
 use Rattle.std.proofs.lemmas.List.Quantifiers.{all_pairs_push}
 use Rattle.itip_moment.specs.Order.{moment_cmp}
@@ -32,10 +33,6 @@ pub record RowsUpTo (items : List Item) (window : Window) (uid : List ℕ) (done
   pub whole : (row : Row) → IsRowAt items window uid None row → Contains rows row
   pub at : (at : Moment) (row : Row) → Contains done at → IsRowAt items window uid (Some at) row → Contains rows row
 
-abbrev pub listed : Option Row → List Row
-listed None = []
-listed (Some row) = row ∷ []
-
 module _ (items : List Item) (window : Window) (uid : List ℕ) where
   same_row : (m : Option Moment) (a b : Row) → IsRowAt items window uid m a → IsRowAt items window uid m b → a ≡ b
   same_row m a b p q = one_place items window a b (p.uid_is ∙ sym q.uid_is) (p.at_is ∙ sym q.at_is) p.is_row q.is_row
@@ -43,7 +40,7 @@ module _ (items : List Item) (window : Window) (uid : List ℕ) where
   in_one : (x y : Row) → Contains (x ∷ []) y → x ≡ y
   in_one x y h = elim (Contains-push_cases [] x y h) [ inl none ↦ absurd (none_in y none) | inr same ↦ same ]
 
-  pub rows_begin : (o : Option Row) → IsAnswerAt items window uid None o → RowsUpTo items window uid [] (listed o)
+  pub rows_begin : (o : Option Row) → IsAnswerAt items window uid None o → RowsUpTo items window uid [] (option_to_list o)
   rows_begin None none = record {
     ascend = no_pairs (λ (a b : Row). row_cmp a b ≡ Less);
     each = λ row h. absurd (none_in row h);
@@ -62,7 +59,7 @@ module _ (items : List Item) (window : Window) (uid : List ℕ) where
     more_named row (inl none) = inl none
     more_named row (inr (at, h, is)) = inr (at, Contains-append_left done (next ∷ []) at h, is)
 
-    pub rows_pass : ((row : Row) → IsRowAt items window uid (Some next) row → ⊥) → RowsUpTo items window uid (done ++ next ∷ []) rows
+    rows_pass : ((row : Row) → IsRowAt items window uid (Some next) row → ⊥) → RowsUpTo items window uid (done ++ next ∷ []) rows
     rows_pass none = record {
       ascend = so.ascend;
       each = λ row h. let r = so.each row h in (r.0, r.1, more_named row r.2);
@@ -85,7 +82,7 @@ module _ (items : List Item) (window : Window) (uid : List ℕ) where
           ∙ ap (λ o. ordering_then o (option_cmp moment_cmp (moment_of row.id) (moment_of new.id))) (tied_itself nat_list_cmp_total new.uid)
           ∙ ap (λ (o : Option Moment). option_cmp moment_cmp (moment_of row.id) o) is.at_is ∙ before_next (moment_of row.id) r.2
 
-      pub rows_more : (new : Row) → IsRowAt items window uid (Some next) new → RowsUpTo items window uid (done ++ next ∷ []) (rows ++ new ∷ [])
+      rows_more : (new : Row) → IsRowAt items window uid (Some next) new → RowsUpTo items window uid (done ++ next ∷ []) (rows ++ new ∷ [])
       rows_more new is = record {
         ascend = all_pairs_push (λ (a b : Row). row_cmp a b ≡ Less) rows new so.ascend (λ k d below. before new (get_or rows k d) is (Contains-get_or rows k d below));
         each = λ row h. elim (Contains-push_cases rows new row h) [
@@ -98,6 +95,10 @@ module _ (items : List Item) (window : Window) (uid : List ℕ) where
           | inr same ↦ subst (Contains (rows ++ new ∷ [])) (same_row (Some next) new row is (subst (λ (m : Moment). IsRowAt items window uid (Some m) row) (sym same) also)) (Contains-push rows new)
         ];
       }
+
+      pub rows_next : (row : Option Row) → IsAnswerAt items window uid (Some next) row → RowsUpTo items window uid (done ++ next ∷ []) (rows ++ option_to_list row)
+      rows_next None none = subst (λ (rs : List Row). RowsUpTo items window uid (done ++ next ∷ []) rs) (sym (append-nil rows)) (rows_pass none)
+      rows_next (Some new) is = rows_more new is
 
   -- with all places the rows are those of the UID
   pub rows_of_places : (places : List Moment) (rows : List Row) → ArePlaces items window uid places → RowsUpTo items window uid places rows → AreRowsOf items window uid rows

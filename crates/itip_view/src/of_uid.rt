@@ -1,5 +1,5 @@
 //! The rows of one UID.
-ghost use Rattle.std.specs.Prelude.{◌≡◌, ◌∷◌, [], IfOk, MatchBool, map, Some, None};
+ghost use Rattle.std.specs.Prelude.{◌≡◌, ◌∷◌, [], ◌++◌, IfOk, OnOk, MatchBool, map, Some, None, option_to_list};
 ghost use Rattle.std.specs.Option.{option_copied, option_map};
 ghost use Rattle.itip_message.specs.declared.item.Item.{Item};
 ghost use Rattle.itip_message.specs.declared.key.Key.TheVariants.{Series};
@@ -46,18 +46,43 @@ pub(crate) fn rows_of_uid(
 {
     let series = series_item(items, uid)?;
     let whole = whole_of(alloc, series)?;
-    let whole = &whole;
-    let mut rows = Vec::new(alloc);
-    if let Some(row) = whole_row(alloc, items, uid, whole, window)? {
-        rows.push(row)?;
-    }
+    rows_beside(alloc, items, uid, series, &whole, window)
+}
+
+/// The same, beside the series item and the to-do as a whole.
+fn rows_beside(
+    alloc: Global,
+    items: &[&Item],
+    uid: &Uid,
+    series: Option<&Item>,
+    whole: &Option<Whole<'_>>,
+    window: Window,
+) -> Result<Vec<Row>, NoMemory>
+    requires ordered { AscendKeys (map (λ item. item.now) items.now) }
+    requires about { AreOf uid.now (map (λ item. item.now) items.now) }
+    requires series { IsSeriesItem (map (λ item. item.now) items.now) uid.now (option_copied series) }
+    requires whole { IsWhole (map (λ item. item.now) items.now) uid.now whole.now }
+    ensures { IfOk result (λ rows. AreRowsOf (map (λ item. item.now) items.now) window uid.now rows.items) }
+{
     let places = places(alloc, items, series, whole, window)?;
+    let mut rows = Vec::new(alloc);
+    let row = whole_row(alloc, items, uid, whole, window)?;
+    push_some(&mut rows, row)?;
     for at in &places {
-        if let Some(row) = row_at(alloc, items, uid, series, whole, window, at)? {
-            rows.push(row)?;
-        }
+        let row = row_at(alloc, items, uid, series, whole, window, at)?;
+        push_some(&mut rows, row)?;
     }
     Ok(rows)
+}
+
+/// Adds a row where there is one.
+fn push_some(rows: &mut Vec<Row>, row: Option<Row>) -> Result<(), NoMemory>
+    ensures { OnOk result (rows.new.items ≡ rows.old.items ++ option_to_list row) }
+{
+    if let Some(row) = row {
+        rows.push(row)?;
+    }
+    Ok(())
 }
 
 /// The row of a to-do as a whole.
@@ -231,6 +256,8 @@ fn row_of(
     ensures { IfOk result (IsRowOf (map (λ item. item.now) items.now) item.now uid.now place.id place.start place.due ids.now) }
 {
     let todo = &item.todo;
+    let attendees = shown_attendees(alloc, items, item, uid, ids)?;
+    let summary = summary(todo)?;
     Ok(Row {
         uid: uid.clone()?,
         id: place.id,
@@ -240,8 +267,8 @@ fn row_of(
         priority: todo.priority,
         start: place.start,
         due: place.due,
-        summary: summary(todo)?,
-        attendees: shown_attendees(alloc, items, item, uid, ids)?,
+        summary,
+        attendees,
     })
 }
 

@@ -4,22 +4,22 @@ use Rattle.itip_todo.proofs.todo.TodoClone.clone.Goals as goal
 pub returns : goal.returns
 returns c = record {
   cases = same_todo _ c.args.self.now (λ i. record {
-    uid = c.in_ok-clone.ensures.cases i;
+    uid = c.in_ok-uid.ensures.cases i;
     stamp = c.args.self.now.stamp;
     seq = c.args.self.now.seq;
     base = c.args.self.now.base;
-    rid = c.in_ok-copy_moment.ensures i;
-    start = c.in_ok-copy_moment-2.ensures i;
-    due = c.in_ok-copy_moment-3.ensures i;
+    rid = (c.in_ok-times.ensures i).rid;
+    start = (c.in_ok-times.ensures i).start;
+    due = (c.in_ok-times.ensures i).due;
     status = c.args.self.now.status;
     percent = c.args.self.now.percent;
     priority = c.args.self.now.priority;
-    summary = c.in_ok-copy_property.ensures i;
-    organizer = c.in_ok-copy_property-2.ensures i;
-    attendees = c.in_ok-copy_properties.ensures i;
-    rule = c.in_ok-copy_texts.ensures i;
-    rdates = c.in_ok-copy_moments.ensures i;
-    exdates = c.in_ok-copy_moments-2.ensures i;
-    others = c.in_ok-copy_lines.ensures i;
+    summary = (c.in_ok-subject.ensures i).summary;
+    organizer = (c.in_ok-subject.ensures i).organizer;
+    attendees = (c.in_ok-subject.ensures i).attendees;
+    rule = (c.in_ok-lists.ensures i).rule;
+    rdates = (c.in_ok-lists.ensures i).rdates;
+    exdates = (c.in_ok-lists.ensures i).exdates;
+    others = (c.in_ok-lists.ensures i).others;
   });
 }
