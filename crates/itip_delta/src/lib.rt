@@ -8,8 +8,6 @@ mod laws;
 mod packet;
 mod run;
 mod stop;
-#[cfg(test)]
-mod tests;
 mod world;
 
 pub use delta::{read_delta, write_delta};

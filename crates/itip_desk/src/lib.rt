@@ -6,10 +6,6 @@ mod desk;
 mod error;
 mod laws;
 mod moves;
-#[cfg(test)]
-mod rows;
-#[cfg(test)]
-mod tests;
 
 pub use batch::Batch;
 pub use desk::{Changed, Desk};

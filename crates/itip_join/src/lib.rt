@@ -106,8 +106,6 @@ pub mod laws;
 pub mod lift;
 mod merge;
 pub mod ordered_map;
-#[cfg(test)]
-mod tests;
 pub mod under_guard;
 
 pub use both::Both;

@@ -12,8 +12,6 @@ mod line;
 mod list;
 mod read;
 mod scan;
-#[cfg(test)]
-mod tests;
 mod text;
 mod write;
 

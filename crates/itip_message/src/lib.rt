@@ -18,8 +18,6 @@ mod ordered;
 mod read;
 mod sequences;
 mod sort;
-#[cfg(test)]
-mod tests;
 
 pub use canonical::write_item;
 pub use error::{Fault, ReadError};

@@ -26,6 +26,3 @@ pub use stamp::Stamp;
 pub use std::alloc::AllocError as NoMemory;
 pub use write::{write_moment, write_stamp};
 pub use zone_name::ZoneName;
-
-#[cfg(test)]
-mod tests;

@@ -14,12 +14,8 @@ mod laws;
 mod line;
 mod output;
 mod reply;
-#[cfg(test)]
-mod report_tests;
 mod reports;
 mod run;
-#[cfg(test)]
-mod tests;
 mod word;
 
 pub use command::{Command, ReportName};

@@ -27,6 +27,3 @@ pub use rule::{End, Frequency, MonthDays, MonthWeekday, Place, Rule, WeekDays, Y
 pub use series::{Series, Shape};
 pub use shapes::shape;
 pub use std::alloc::AllocError as NoMemory;
-
-#[cfg(test)]
-mod tests;

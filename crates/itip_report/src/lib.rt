@@ -11,8 +11,6 @@ mod organizing;
 mod places;
 mod report;
 mod reported;
-#[cfg(test)]
-mod tests;
 
 pub use laws::{one_report, reports_of_kept, resend_is_read};
 pub use lines::{cancelled, orphans, refresh_wanted};

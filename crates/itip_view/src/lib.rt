@@ -9,8 +9,6 @@ mod list;
 mod of_uid;
 mod row;
 mod standing;
-#[cfg(test)]
-mod tests;
 mod view;
 mod whole;
 mod window;

@@ -1,0 +1,126 @@
+//! Calls about one desk that takes messages, each a batch; an empty text is a batch of nothing.
+
+use crate::error::CallError;
+use crate::texts::{batch, number, text};
+use crate::views::window;
+use itip_desk::{Batch, Changed, Desk, DeskError};
+use itip_state::State;
+use itip_view::Window;
+use std::alloc::Global;
+
+pub(crate) fn answer(
+    alloc: Global,
+    word: &str,
+    arguments: &[Vec<u8>],
+) -> Result<Vec<u8>, CallError> {
+    match (word, arguments) {
+        ("takes", [tick, texts @ ..]) => takes(alloc, number(tick)?, texts),
+        ("take_again", [texts @ .., last]) => take_again(alloc, texts, last),
+        ("in_orders", [orders, texts @ ..]) => in_orders(alloc, text(orders)?, texts),
+        ("shown", [from, to, texts @ ..]) => shown(alloc, window(from, to)?, texts),
+        ("since", [tick, texts @ ..]) => since(alloc, number(tick)?, texts),
+        _ => Err(CallError::NoSuchCall),
+    }
+}
+
+/// A desk that has taken these messages.
+fn desk_after(alloc: Global, texts: &[Vec<u8>]) -> Result<Desk, CallError> {
+    let mut desk = Desk::empty_at(alloc, 0);
+    for text in texts {
+        take(&mut desk, &batch(alloc, text)?)?;
+    }
+    Ok(desk)
+}
+
+fn take(desk: &mut Desk, batch: &Batch) -> Result<(), CallError> {
+    desk.take(batch)?;
+    Ok(())
+}
+
+/// What comes of each take, and the desk after it.
+fn takes(alloc: Global, tick: u64, texts: &[Vec<u8>]) -> Result<Vec<u8>, CallError> {
+    let mut desk = Desk::empty_at(alloc, tick);
+    let mut told = String::new(alloc);
+    for text in texts {
+        told.push_str(taken(alloc, &mut desk, text)?.as_str())?;
+        told.push_str(counts(alloc, &desk)?.as_str())?;
+    }
+    Ok(told.into_bytes())
+}
+
+fn taken(alloc: Global, desk: &mut Desk, text: &[u8]) -> Result<String, CallError> {
+    outcome(alloc, desk.take(&batch(alloc, text)?))
+}
+
+fn outcome(alloc: Global, taken: Result<Changed, DeskError>) -> Result<String, CallError> {
+    match taken {
+        Ok(changed) => {
+            let tick = changed.tick;
+            let moved = changed.uids.len();
+            Ok(format!(in alloc; "moved {moved} at {tick}: ")?)
+        }
+        Err(fault) => Ok(format!(in alloc; "{fault:?}: ")?),
+    }
+}
+
+fn counts(alloc: Global, desk: &Desk) -> Result<String, CallError> {
+    let tick = desk.tick();
+    let entries = desk.entries();
+    Ok(format!(in alloc; "tick {tick} entries {entries}\n")?)
+}
+
+/// Takes the last message, and where memory is refused sees that nothing has changed, and takes it again. To be run with each allocation refused in turn.
+fn take_again(alloc: Global, texts: &[Vec<u8>], last: &[u8]) -> Result<Vec<u8>, CallError> {
+    let mut desk = desk_after(alloc, texts)?;
+    if !is_taken(alloc, &mut desk, &batch(alloc, last)?)? {
+        return Ok(String::from_str(alloc, "a refused take changed the desk")?.into_bytes());
+    }
+    Ok(counts(alloc, &desk)?.into_bytes())
+}
+
+/// Takes a batch, again where memory is refused. Says whether a refusal changed nothing.
+fn is_taken(alloc: Global, desk: &mut Desk, batch: &Batch) -> Result<bool, CallError> {
+    let before = State::of_items(alloc, &desk.state().items()?)?;
+    let tick = desk.tick();
+    if take(desk, batch).is_ok() {
+        return Ok(true);
+    }
+    let is_same = desk.state().equal(&before) && desk.tick() == tick;
+    take(desk, batch)?;
+    Ok(is_same)
+}
+
+/// How many items a desk keeps that takes the messages in each of these orders, as `012 210`, and whether it keeps what one keeps that takes them as they stand.
+fn in_orders(alloc: Global, orders: &str, texts: &[Vec<u8>]) -> Result<Vec<u8>, CallError> {
+    let told = desk_after(alloc, texts)?;
+    let mut lines = String::new(alloc);
+    for order in orders.split(' ') {
+        let desk = desk_in_order(alloc, order, texts)?;
+        let entries = desk.entries();
+        let equal = desk.state().equal(told.state());
+        lines.push_str(format!(in alloc; "entries {entries} equal {equal}\n")?.as_str())?;
+    }
+    Ok(lines.into_bytes())
+}
+
+fn desk_in_order(alloc: Global, order: &str, texts: &[Vec<u8>]) -> Result<Desk, CallError> {
+    let mut desk = Desk::empty_at(alloc, 0);
+    for digit in order.as_bytes() {
+        let place = usize::from(digit.wrapping_sub(b'0'));
+        let text = texts.get(place).ok_or(CallError::NoSuchCall)?;
+        take(&mut desk, &batch(alloc, text)?)?;
+    }
+    Ok(desk)
+}
+
+/// The list of a desk.
+fn shown(alloc: Global, window: Window, texts: &[Vec<u8>]) -> Result<Vec<u8>, CallError> {
+    Ok(desk_after(alloc, texts)?.list(window)?)
+}
+
+/// How many items the delta since a tick has.
+fn since(alloc: Global, tick: u64, texts: &[Vec<u8>]) -> Result<Vec<u8>, CallError> {
+    let delta = desk_after(alloc, texts)?.delta_since(tick)?;
+    let count = delta.as_slice().len();
+    Ok(format!(in alloc; "{count}")?.into_bytes())
+}

@@ -1,0 +1,56 @@
+//! Makes calls of the crates from joins to scripts, and shows what they answer.
+//!
+//! A line of standard input is a call: its word, and behind it the arguments in hexadecimal (`-` for an empty one),
+//! with a blank before each. A line of standard output is the answer to it, in hexadecimal. A fault is an answer too,
+//! by its name, and so is `no such call`. `bin/calls itip_desk_calls` sends the calls of `examples/calls/itip_desk_calls`
+//! and compares what is answered; `topics` has the words of all calls, and each other file the calls of one topic.
+#![tactic(auto)]
+
+mod agree;
+mod batches;
+mod call;
+mod commands;
+mod deltas;
+mod desks;
+mod error;
+mod events;
+mod joins;
+mod keys;
+mod limit;
+mod maps;
+mod narrow;
+mod notation;
+mod orders;
+mod pieces;
+mod reports;
+mod scripts;
+mod states;
+mod texts;
+mod topics;
+mod views;
+mod worlds;
+
+use crate::error::CallError;
+use crate::topics::answer;
+use std::io::{BufRead, BufReader};
+use std::process::ExitCode;
+
+fn main(rt: HostRuntime) -> ExitCode {
+    match run(&rt) {
+        Ok(()) => ExitCode::SUCCESS,
+        Err(error) => {
+            let _ = eprintln!(rt; "itip_desk_calls: {error}");
+            ExitCode::from(2)
+        }
+    }
+}
+
+fn run(rt: &(impl AllocGlobal + Input + Print)) -> Result<(), CallError> {
+    let alloc = rt.alloc();
+    for line in BufReader::new(alloc, rt.reader())?.lines(alloc) {
+        let line = line?;
+        let answer = answer(alloc, line.as_str())?;
+        rt.println(hex::encode(alloc, answer)?.as_str())?;
+    }
+    Ok(())
+}
