@@ -1,10 +1,10 @@
 //! Reading to-dos with few and with many attendees.
 
 use crate::error::BenchError;
+use crate::watch::{millis, now};
 use itip_message::read_message;
 use std::alloc::{AllocError, Global};
 use std::rt::Clock;
-use std::time::Instant;
 
 /// How many attendees the messages of one load have in all, for each one of the size.
 const ATTENDEES: u64 = 500;
@@ -23,14 +23,29 @@ fn measure<R: AllocGlobal + Clock + Print>(
     count: u64,
     attendees: u64,
 ) -> Result<(), BenchError> {
-    let alloc = rt.alloc();
-    let text = message(alloc, attendees)?;
-    let start = Instant::now(rt)?;
+    let text = message(rt.alloc(), attendees)?;
+    let start = now(rt)?;
+    read(rt.alloc(), text.as_str(), count)?;
+    let time = millis(rt, start)?;
+    print(rt, count, attendees, text.len(), time)
+}
+
+/// Reads a message so many times.
+fn read(alloc: Global, text: &str, count: u64) -> Result<(), BenchError> {
     for _ in 0..count {
         read_message(alloc, text.as_bytes())?;
     }
-    let time = start.elapsed(rt)?.as_millis();
-    let octets = count.saturating_mul(text.len() as u64);
+    Ok(())
+}
+
+fn print<R: Print>(
+    rt: &R,
+    count: u64,
+    attendees: u64,
+    length: usize,
+    time: u128,
+) -> Result<(), BenchError> {
+    let octets = count.saturating_mul(length as u64);
     println!(rt; "read {count} to-dos with {attendees} attendees {octets} bytes {time} ms")?;
     Ok(())
 }

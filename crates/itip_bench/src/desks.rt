@@ -2,12 +2,12 @@
 
 use crate::error::BenchError;
 use crate::load::{Numbers, SEED, about, message};
+use crate::watch::{micros, millis, now};
 use itip_desk::{Batch, Desk};
 use itip_message::{Item, read_message};
 use itip_state::State;
 use std::alloc::Global;
 use std::rt::Clock;
-use std::time::Instant;
 
 /// How many UIDs of a large desk a delta is about.
 const MOVED: u64 = 100;
@@ -51,13 +51,37 @@ fn take_all<R: AllocGlobal + Clock + Print>(
 ) -> Result<(), BenchError> {
     let batches = batches(rt.alloc(), items, size)?;
     let mut desk = Desk::empty_at(rt.alloc(), 0);
-    let start = Instant::now(rt)?;
-    for batch in &batches {
+    let time = time_taking(rt, &mut desk, &batches)?;
+    print_taken(rt, items.len(), size, desk.entries(), time)
+}
+
+/// Has a desk take these batches: how many milliseconds it took.
+pub(crate) fn time_taking<R: Clock>(
+    rt: &R,
+    desk: &mut Desk,
+    batches: &[Batch],
+) -> Result<u128, BenchError> {
+    let start = now(rt)?;
+    take_batches(desk, batches)?;
+    millis(rt, start)
+}
+
+/// Takes these batches, one after another.
+fn take_batches(desk: &mut Desk, batches: &[Batch]) -> Result<(), BenchError> {
+    for batch in batches {
         desk.take(batch)?;
     }
-    let time = start.elapsed(rt)?.as_millis();
-    let taken = items.len() as u64 * 2;
-    let entries = desk.entries();
+    Ok(())
+}
+
+fn print_taken<R: Print>(
+    rt: &R,
+    items: usize,
+    size: usize,
+    entries: usize,
+    time: u128,
+) -> Result<(), BenchError> {
+    let taken = items.saturating_mul(2);
     println!(rt;
         "take {taken} items in batches of {size}, of which {entries} are kept, {time} ms"
     )?;
@@ -101,10 +125,17 @@ fn shuffled(alloc: Global, count: usize) -> Result<Vec<usize>, BenchError> {
 
 fn merge_halves<R: AllocGlobal + Clock + Print>(rt: &R, items: &[Item]) -> Result<(), BenchError> {
     let (mut mine, theirs) = halves(rt.alloc(), items)?;
-    let start = Instant::now(rt)?;
-    mine.merge(&theirs)?;
-    let time = start.elapsed(rt)?.as_millis();
-    let entries = mine.entries();
+    let time = time_merging(rt, &mut mine, &theirs)?;
+    print_merged(rt, mine.entries(), time)
+}
+
+fn time_merging<R: Clock>(rt: &R, mine: &mut State, theirs: &State) -> Result<u128, BenchError> {
+    let start = now(rt)?;
+    mine.merge(theirs)?;
+    millis(rt, start)
+}
+
+fn print_merged<R: Print>(rt: &R, entries: usize, time: u128) -> Result<(), BenchError> {
     println!(rt; "merge two states to {entries} entries {time} ms")?;
     Ok(())
 }
@@ -135,13 +166,23 @@ fn merge_one(alloc: Global, state: &mut State, item: &Item) -> Result<(), BenchE
 fn delta<R: AllocGlobal + Clock + Print>(rt: &R, to_dos: u64) -> Result<(), BenchError> {
     let mut desk = large_desk(rt.alloc(), to_dos)?;
     let since = desk.tick();
-    for number in 0..MOVED {
-        move_one(rt.alloc(), &mut desk, number.saturating_mul(to_dos / MOVED))?;
-    }
-    let start = Instant::now(rt)?;
+    move_some(rt.alloc(), &mut desk, to_dos)?;
+    measure_delta(rt, &desk, since, to_dos)
+}
+
+fn measure_delta<R: Clock + Print>(
+    rt: &R,
+    desk: &Desk,
+    since: u64,
+    to_dos: u64,
+) -> Result<(), BenchError> {
+    let start = now(rt)?;
     let delta = desk.delta_since(since)?;
-    let time = start.elapsed(rt)?.as_micros();
-    let items = delta.as_slice().len();
+    let time = micros(rt, start)?;
+    print_delta(rt, delta.as_slice().len(), to_dos, time)
+}
+
+fn print_delta<R: Print>(rt: &R, items: usize, to_dos: u64, time: u128) -> Result<(), BenchError> {
     println!(rt; "delta of {items} items of {MOVED} out of {to_dos} to-dos {time} us")?;
     Ok(())
 }
@@ -151,9 +192,27 @@ fn large_desk(alloc: Global, to_dos: u64) -> Result<Desk, BenchError> {
     let mut numbers = Numbers::of_seed(SEED);
     let mut desk = Desk::empty_at(alloc, 0);
     for number in 0..to_dos {
-        hear(alloc, &mut desk, &message(alloc, number, &mut numbers)?)?;
+        hear_new(alloc, &mut desk, number, &mut numbers)?;
     }
     Ok(desk)
+}
+
+/// Hears of a to-do of its own.
+fn hear_new(
+    alloc: Global,
+    desk: &mut Desk,
+    number: u64,
+    numbers: &mut Numbers,
+) -> Result<(), BenchError> {
+    hear(alloc, desk, &message(alloc, number, numbers)?)
+}
+
+/// Has 100 UIDs move, at even distances.
+fn move_some(alloc: Global, desk: &mut Desk, to_dos: u64) -> Result<(), BenchError> {
+    for number in 0..MOVED {
+        move_one(alloc, desk, number.saturating_mul(to_dos / MOVED))?;
+    }
+    Ok(())
 }
 
 /// Hears five messages of a to-do.

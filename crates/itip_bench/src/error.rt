@@ -2,7 +2,6 @@
 
 use itip_desk::DeskError;
 use itip_message::ReadError;
-use itip_office::ScriptFault;
 use itip_recur::RecurError;
 use itip_view::{BadWindow, ViewError};
 use std::alloc::{AllocError, AllocFailed};
@@ -28,8 +27,6 @@ pub(crate) enum BenchError {
     View(#[from] ViewError),
     #[error("{0}")]
     Recur(#[from] RecurError),
-    #[error("{0}")]
-    Script(#[from] ScriptFault),
 }
 
 impl From<AllocError> for BenchError {

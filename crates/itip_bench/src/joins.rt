@@ -1,10 +1,11 @@
 //! Joins of a small map into a large one and into a small one.
 
 use crate::error::BenchError;
+use crate::watch::now;
 use itip_join::{Greatest, Join, Keyed, NoMemory};
 use std::alloc::Global;
 use std::rt::Clock;
-use std::time::{Duration, Instant};
+use std::time::Duration;
 
 type Map = Keyed<u64, Greatest<u64>>;
 
@@ -19,23 +20,38 @@ pub(crate) fn measure_joins<R: AllocGlobal + Clock + Print>(
     rt: &R,
     keys: u64,
 ) -> Result<(), BenchError> {
-    let alloc = rt.alloc();
-    let mut large = map_of(alloc, keys)?;
+    let mut large = map_of(rt.alloc(), keys)?;
     let mut into_large = Duration::ZERO;
     let mut into_small = Duration::ZERO;
     for round in 1..=ROUNDS {
-        let time = time_join(rt, &mut large, &news(alloc, keys, round)?)?;
+        let time = time_round(rt, &mut large, keys, round)?;
         into_large = into_large.saturating_add(time);
-        let mut small = map_of(alloc, JOINED_IN)?;
-        let time = time_join(rt, &mut small, &news(alloc, JOINED_IN, round)?)?;
+        let time = time_small(rt, round)?;
         into_small = into_small.saturating_add(time);
     }
     print(rt, keys, into_large)?;
     print(rt, JOINED_IN, into_small)
 }
 
+/// Joins what is heard in a round into a map of 100 keys.
+fn time_small<R: AllocGlobal + Clock>(rt: &R, round: u64) -> Result<Duration, BenchError> {
+    let mut small = map_of(rt.alloc(), JOINED_IN)?;
+    time_round(rt, &mut small, JOINED_IN, round)
+}
+
+/// Joins what is heard in a round into a map of so many keys.
+fn time_round<R: AllocGlobal + Clock>(
+    rt: &R,
+    map: &mut Map,
+    keys: u64,
+    round: u64,
+) -> Result<Duration, BenchError> {
+    let news = news(rt.alloc(), keys, round)?;
+    time_join(rt, map, &news)
+}
+
 fn time_join<R: Clock>(rt: &R, map: &mut Map, news: &Map) -> Result<Duration, BenchError> {
-    let start = Instant::now(rt)?;
+    let start = now(rt)?;
     map.join(news)?;
     Ok(start.elapsed(rt)?)
 }

@@ -3,11 +3,11 @@
 use crate::desks::hear as hear_text;
 use crate::error::BenchError;
 use crate::load::stating;
+use crate::watch::{micros, now};
 use itip_desk::Desk;
 use itip_view::{Window, rows};
 use std::alloc::Global;
 use std::rt::Clock;
-use std::time::Instant;
 
 /// So many daily series have nearly as many rows in 3,660 days as a list may have.
 const SERIES: u64 = 27;
@@ -71,10 +71,29 @@ pub(crate) fn hear(
 fn list<R: AllocGlobal + Clock + Print>(rt: &R, desk: &Desk, what: &str) -> Result<(), BenchError> {
     // 2026-01-01, and the 3,660 days from there.
     let window = Window::new(20_454, 24_114)?;
-    let count = rows(rt.alloc(), desk.state(), window)?.len();
-    let start = Instant::now(rt)?;
-    let octets = desk.list(window)?.len();
-    let time = start.elapsed(rt)?.as_micros();
+    let count = count_rows(rt.alloc(), desk, window)?;
+    let start = now(rt)?;
+    let octets = list_octets(desk, window)?;
+    let time = micros(rt, start)?;
+    print(rt, count, what, octets, time)
+}
+
+fn count_rows(alloc: Global, desk: &Desk, window: Window) -> Result<usize, BenchError> {
+    Ok(rows(alloc, desk.state(), window)?.len())
+}
+
+/// Lists what a desk shows: how long the list is.
+pub(crate) fn list_octets(desk: &Desk, window: Window) -> Result<usize, BenchError> {
+    Ok(desk.list(window)?.len())
+}
+
+fn print<R: Print>(
+    rt: &R,
+    count: usize,
+    what: &str,
+    octets: usize,
+    time: u128,
+) -> Result<(), BenchError> {
     println!(rt; "list {count} rows of {what} {octets} bytes {time} us")?;
     Ok(())
 }

@@ -32,13 +32,10 @@ pub(crate) fn message(
     number: u64,
     numbers: &mut Numbers,
 ) -> Result<String, AllocError> {
-    let mut text = String::from_str(
-        alloc,
-        "BEGIN:VCALENDAR\r\nVERSION:2.0\r\nMETHOD:REQUEST\r\n",
-    )?;
-    text.push_str(to_do(alloc, number, numbers)?.as_str())?;
-    text.push_str("END:VCALENDAR\r\n")?;
-    Ok(text)
+    let to_do = to_do(alloc, number, numbers)?;
+    format!(in alloc;
+        "BEGIN:VCALENDAR\r\nVERSION:2.0\r\nMETHOD:REQUEST\r\n{to_do}END:VCALENDAR\r\n"
+    )
 }
 
 /// A small to-do.
@@ -50,38 +47,43 @@ pub(crate) fn to_do(
     let sequence = numbers.next() % 10;
     let minute = numbers.next() % 60;
     let summary = numbers.next();
-    let mut text = String::from_str(alloc, "BEGIN:VTODO\r\n")?;
-    let about = format!(in alloc; "UID:to-do-{number}@example.com\r\nSEQUENCE:{sequence}\r\n")?;
-    let said = format!(in alloc;
-        "DTSTAMP:20260101T09{minute:02}00Z\r\nSUMMARY:Task {number} of project {summary}, as it was agreed\r\n"
-    )?;
-    text.push_str(about.as_str())?;
-    text.push_str(said.as_str())?;
-    text.push_str("END:VTODO\r\n")?;
-    Ok(text)
+    format!(in alloc;
+        "BEGIN:VTODO\r\nUID:to-do-{number}@example.com\r\nSEQUENCE:{sequence}\r\nDTSTAMP:20260101T09{minute:02}00Z\r\nSUMMARY:Task {number} of project {summary}, as it was agreed\r\nEND:VTODO\r\n"
+    )
 }
 
-/// Five messages about one to-do: its series, an instance and three answers.
+/// What is said of a to-do: its series, an instance and three answers. Each has its method and lines.
+const ABOUT: [(&str, &str); 5] = [
+    (
+        "REQUEST",
+        "DTSTART;VALUE=DATE:20260105\r\nRRULE:FREQ=DAILY;COUNT=5\r\nSUMMARY:Stand-up\r\n",
+    ),
+    (
+        "REQUEST",
+        "RECURRENCE-ID;VALUE=DATE:20260106\r\nSUMMARY:Moved\r\n",
+    ),
+    (
+        "REPLY",
+        "ATTENDEE;PARTSTAT=ACCEPTED:mailto:a@example.com\r\n",
+    ),
+    (
+        "REPLY",
+        "ATTENDEE;PARTSTAT=ACCEPTED:mailto:b@example.com\r\n",
+    ),
+    (
+        "REPLY",
+        "ATTENDEE;PARTSTAT=ACCEPTED:mailto:c@example.com\r\n",
+    ),
+];
+
+/// Five messages about one to-do.
 pub(crate) fn about(alloc: Global, number: u64) -> Result<Vec<String>, AllocError> {
     let uid = format!(in alloc;
         "UID:to-do-{number}@example.com\r\nSEQUENCE:10\r\nDTSTAMP:20260102T090000Z\r\n"
     )?;
     let mut texts = Vec::new(alloc);
-    texts.push(stating(
-        alloc,
-        "REQUEST",
-        uid.as_str(),
-        "DTSTART;VALUE=DATE:20260105\r\nRRULE:FREQ=DAILY;COUNT=5\r\nSUMMARY:Stand-up\r\n",
-    )?)?;
-    texts.push(stating(
-        alloc,
-        "REQUEST",
-        uid.as_str(),
-        "RECURRENCE-ID;VALUE=DATE:20260106\r\nSUMMARY:Moved\r\n",
-    )?)?;
-    for name in ["a", "b", "c"] {
-        let answer = format!(in alloc; "ATTENDEE;PARTSTAT=ACCEPTED:mailto:{name}@example.com\r\n")?;
-        texts.push(stating(alloc, "REPLY", uid.as_str(), answer.as_str())?)?;
+    for (method, lines) in ABOUT {
+        texts.push(stating(alloc, method, uid.as_str(), lines)?)?;
     }
     Ok(texts)
 }
@@ -93,10 +95,7 @@ pub(crate) fn stating(
     uid: &str,
     lines: &str,
 ) -> Result<String, AllocError> {
-    let mut text = format!(in alloc; "BEGIN:VCALENDAR\r\nVERSION:2.0\r\nMETHOD:{method}\r\n")?;
-    text.push_str("BEGIN:VTODO\r\n")?;
-    text.push_str(uid)?;
-    text.push_str(lines)?;
-    text.push_str("END:VTODO\r\nEND:VCALENDAR\r\n")?;
-    Ok(text)
+    format!(in alloc;
+        "BEGIN:VCALENDAR\r\nVERSION:2.0\r\nMETHOD:{method}\r\nBEGIN:VTODO\r\n{uid}{lines}END:VTODO\r\nEND:VCALENDAR\r\n"
+    )
 }

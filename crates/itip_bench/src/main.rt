@@ -1,6 +1,7 @@
 //! A benchmark: it makes its own input from a seed, and prints how long each thing took.
 //!
-//! The words are a topic and a size, as `messages 1000` or `joins 100000`. Without words it prints nothing.
+//! The words are a topic and a size, as `messages 1000` or `joins 100000`; `takes` and `exchange` print a script for the
+//! program. Without words it prints nothing.
 #![tactic(auto)]
 
 mod attendees;
@@ -14,6 +15,7 @@ mod recurrence;
 mod reports;
 mod scripts;
 mod threads;
+mod watch;
 
 use crate::attendees::measure_attendees;
 use crate::desks::measure_desks;
@@ -23,7 +25,7 @@ use crate::lists::measure_lists;
 use crate::messages::measure_messages;
 use crate::recurrence::measure_recurrence;
 use crate::reports::measure_reports;
-use crate::scripts::measure_scripts;
+use crate::scripts::{print_exchange, print_takes};
 use crate::threads::measure_threads;
 use std::env;
 use std::process::ExitCode;
@@ -58,7 +60,8 @@ fn run<R: AllocGlobal + Clock + Env + Print + Threads + Sync>(rt: &R) -> Result<
         "desks" => measure_desks(rt, size),
         "lists" => measure_lists(rt, size),
         "reports" => measure_reports(rt, size),
-        "scripts" => measure_scripts(rt, size),
+        "takes" => print_takes(rt, size),
+        "exchange" => print_exchange(rt, size),
         _ => Err(BenchError::Words),
     }
 }

@@ -1,13 +1,15 @@
 //! Reading, taking and listing small messages.
 
+use crate::desks::time_taking;
 use crate::error::BenchError;
+use crate::lists::list_octets;
 use crate::load::{Numbers, SEED, message};
+use crate::watch::{millis, now};
 use itip_desk::{Batch, Desk};
 use itip_message::read_message;
 use itip_view::Window;
 use std::alloc::Global;
 use std::rt::Clock;
-use std::time::Instant;
 
 /// Reads so many messages, takes them one after another, lists what the desk keeps, and prints a line for each.
 pub(crate) fn measure_messages<R: AllocGlobal + Clock + Print>(
@@ -16,12 +18,7 @@ pub(crate) fn measure_messages<R: AllocGlobal + Clock + Print>(
 ) -> Result<(), BenchError> {
     let batches = measure_reading(rt, count)?;
     let mut desk = Desk::empty_at(rt.alloc(), 0);
-    let start = Instant::now(rt)?;
-    for batch in &batches {
-        desk.take(batch)?;
-    }
-    let time = start.elapsed(rt)?.as_millis();
-    println!(rt; "take {count} items {time} ms")?;
+    measure_taking(rt, &mut desk, &batches)?;
     measure_list(rt, &desk)
 }
 
@@ -30,19 +27,43 @@ fn measure_reading<R: AllocGlobal + Clock + Print>(
     count: u64,
 ) -> Result<Vec<Batch>, BenchError> {
     let (texts, octets) = messages(rt.alloc(), count)?;
-    let start = Instant::now(rt)?;
+    let start = now(rt)?;
     let batches = read(rt.alloc(), &texts)?;
-    let time = start.elapsed(rt)?.as_millis();
-    println!(rt; "read {count} messages {octets} bytes {time} ms")?;
+    let time = millis(rt, start)?;
+    print_read(rt, count, octets, time)?;
     Ok(batches)
 }
 
-fn measure_list<R: AllocGlobal + Clock + Print>(rt: &R, desk: &Desk) -> Result<(), BenchError> {
+fn print_read<R: Print>(rt: &R, count: u64, octets: u64, time: u128) -> Result<(), BenchError> {
+    println!(rt; "read {count} messages {octets} bytes {time} ms")?;
+    Ok(())
+}
+
+fn measure_taking<R: Clock + Print>(
+    rt: &R,
+    desk: &mut Desk,
+    batches: &[Batch],
+) -> Result<(), BenchError> {
+    let time = time_taking(rt, desk, batches)?;
+    let count = batches.len();
+    println!(rt; "take {count} items {time} ms")?;
+    Ok(())
+}
+
+fn measure_list<R: Clock + Print>(rt: &R, desk: &Desk) -> Result<(), BenchError> {
     let window = Window::new(20_454, 20_819)?;
-    let start = Instant::now(rt)?;
-    let octets = desk.list(window)?.len();
-    let time = start.elapsed(rt)?.as_millis();
-    let entries = desk.entries();
+    let start = now(rt)?;
+    let octets = list_octets(desk, window)?;
+    let time = millis(rt, start)?;
+    print_list(rt, desk.entries(), octets, time)
+}
+
+fn print_list<R: Print>(
+    rt: &R,
+    entries: usize,
+    octets: usize,
+    time: u128,
+) -> Result<(), BenchError> {
     println!(rt; "list {entries} to-dos {octets} bytes {time} ms")?;
     Ok(())
 }

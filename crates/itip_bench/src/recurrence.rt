@@ -1,12 +1,13 @@
 //! Occurrences of rules, near and far.
 
 use crate::error::BenchError;
+use crate::watch::now;
 use itip_lines::ListOf;
 use itip_moment::read_moment;
 use itip_recur::{Reading, Series, occurrences, read_rule};
 use std::alloc::Global;
 use std::rt::Clock;
-use std::time::{Duration, Instant};
+use std::time::Duration;
 
 /// DTSTART, RRULE, and the first day of the window of 3,660 days, counted from 1970-01-01.
 const SERIES: [(&str, &str, i32); 5] = [
@@ -26,12 +27,23 @@ pub(crate) fn measure_recurrence<R: AllocGlobal + Clock + Print>(
     rounds: u64,
 ) -> Result<(), BenchError> {
     for (start, rule, from) in SERIES {
-        let series = series(rt.alloc(), start, rule)?;
-        let (count, time) = time_rounds(rt, &series, from, rounds)?;
-        let time = time.as_micros();
+        let (count, time) = measure_series(rt, start, rule, from, rounds)?;
         println!(rt; "occurrences {start} {rule} from day {from} {count} in {time} us")?;
     }
     Ok(())
+}
+
+/// Lists the occurrences of a series so many times: how many there were in all, and how many microseconds it took.
+fn measure_series<R: AllocGlobal + Clock>(
+    rt: &R,
+    start: &str,
+    rule: &str,
+    from: i32,
+    rounds: u64,
+) -> Result<(u64, u128), BenchError> {
+    let series = series(rt.alloc(), start, rule)?;
+    let (count, time) = time_rounds(rt, &series, from, rounds)?;
+    Ok((count, time.as_micros()))
 }
 
 /// Lists the occurrences so many times: how many there were in all, and how long it took.
@@ -44,7 +56,7 @@ fn time_rounds<R: AllocGlobal + Clock>(
     let mut time = Duration::ZERO;
     let mut count = 0u64;
     for _ in 0..rounds {
-        let start = Instant::now(rt)?;
+        let start = now(rt)?;
         let moments = occurrences(rt.alloc(), series, from, from.saturating_add(DAYS))?;
         time = time.saturating_add(start.elapsed(rt)?);
         count = count.saturating_add(moments.len() as u64);

@@ -2,6 +2,7 @@
 
 use crate::error::BenchError;
 use crate::lists::{hear, stamped};
+use crate::watch::{micros, now};
 use itip_desk::Desk;
 use itip_report::{cancelled, load_by_attendee, next_seq, orphans, refresh_wanted, resend};
 use itip_state::State;
@@ -18,12 +19,17 @@ pub(crate) fn measure_reports<R: AllocGlobal + Clock + Print>(
 ) -> Result<(), BenchError> {
     let desk = reported(rt.alloc(), entries)?;
     let state = desk.state();
-    println!(rt; "reports over {} entries", state.entries())?;
+    print_entries(rt, state.entries())?;
     measure_one(rt, state)?;
     measure_cancelled(rt, state)?;
     measure_orphans(rt, state)?;
     measure_refresh(rt, state)?;
     measure_load(rt, state)
+}
+
+fn print_entries<R: Print>(rt: &R, entries: usize) -> Result<(), BenchError> {
+    println!(rt; "reports over {entries} entries")?;
+    Ok(())
 }
 
 /// A desk of about so many kept items, of which seven tell of four to-dos.
@@ -70,7 +76,7 @@ fn print_lines<R: Clock + Print>(
     lines: usize,
     start: Instant,
 ) -> Result<(), BenchError> {
-    let time = start.elapsed(rt)?.as_micros();
+    let time = micros(rt, start)?;
     println!(rt; "{what} {lines} lines {time} us")?;
     Ok(())
 }
@@ -79,7 +85,7 @@ fn measure_cancelled<R: AllocGlobal + Clock + Print>(
     rt: &R,
     state: &State,
 ) -> Result<(), BenchError> {
-    let start = Instant::now(rt)?;
+    let start = now(rt)?;
     let lines = cancelled(rt.alloc(), state)?.len();
     print_lines(rt, "cancelled", lines, start)
 }
@@ -88,7 +94,7 @@ fn measure_orphans<R: AllocGlobal + Clock + Print>(
     rt: &R,
     state: &State,
 ) -> Result<(), BenchError> {
-    let start = Instant::now(rt)?;
+    let start = now(rt)?;
     let lines = orphans(rt.alloc(), state)?.len();
     print_lines(rt, "orphans", lines, start)
 }
@@ -97,7 +103,7 @@ fn measure_refresh<R: AllocGlobal + Clock + Print>(
     rt: &R,
     state: &State,
 ) -> Result<(), BenchError> {
-    let start = Instant::now(rt)?;
+    let start = now(rt)?;
     let lines = refresh_wanted(rt.alloc(), state)?.len();
     print_lines(rt, "refresh", lines, start)
 }
@@ -106,24 +112,36 @@ fn measure_refresh<R: AllocGlobal + Clock + Print>(
 fn measure_load<R: AllocGlobal + Clock + Print>(rt: &R, state: &State) -> Result<(), BenchError> {
     // 2026-01-01, and a year from there.
     let rows = rows(rt.alloc(), state, Window::new(20_454, 20_819)?)?;
-    let start = Instant::now(rt)?;
+    let start = now(rt)?;
     let lines = load_by_attendee(rt.alloc(), &rows)?.len();
-    let time = start.elapsed(rt)?.as_micros();
-    println!(rt; "load {} rows {lines} lines {time} us", rows.len())?;
+    let time = micros(rt, start)?;
+    print_load(rt, rows.len(), lines, time)
+}
+
+fn print_load<R: Print>(rt: &R, rows: usize, lines: usize, time: u128) -> Result<(), BenchError> {
+    println!(rt; "load {rows} rows {lines} lines {time} us")?;
     Ok(())
 }
 
 /// Asks what to send again of one to-do, and for its next sequence.
 fn measure_one<R: AllocGlobal + Clock + Print>(rt: &R, state: &State) -> Result<(), BenchError> {
-    let alloc = rt.alloc();
-    let uid = Uid::copy(alloc, "to-do-3@example.com")?;
-    let start = Instant::now(rt)?;
-    let octets = match resend(alloc, state, &uid)? {
-        Some(messages) => messages.len(),
-        None => 0,
-    };
+    let uid = Uid::copy(rt.alloc(), "to-do-3@example.com")?;
+    let start = now(rt)?;
+    let octets = resend_octets(rt.alloc(), state, &uid)?;
     let next = next_seq(state, &uid).unwrap_or(0);
-    let time = start.elapsed(rt)?.as_micros();
+    let time = micros(rt, start)?;
+    print_one(rt, octets, next, time)
+}
+
+/// What is sent again of a to-do: how long it is.
+fn resend_octets(alloc: Global, state: &State, uid: &Uid) -> Result<usize, BenchError> {
+    match resend(alloc, state, uid)? {
+        Some(messages) => Ok(messages.len()),
+        None => Ok(0),
+    }
+}
+
+fn print_one<R: Print>(rt: &R, octets: usize, next: u32, time: u128) -> Result<(), BenchError> {
     println!(rt; "resend {octets} bytes next {next} {time} us")?;
     Ok(())
 }

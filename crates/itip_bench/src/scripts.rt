@@ -1,29 +1,29 @@
-//! Whole scripts: takes, and desks that exchange everything.
+//! Scripts for the program to be measured with: takes, and desks that exchange everything.
 
 use crate::error::BenchError;
 use crate::load::{Numbers, SEED, message};
-use itip_office::run_script;
-use itip_view::Window;
 use std::alloc::Global;
-use std::rt::Clock;
-use std::time::Instant;
 
-/// How many to-dos each of the desks has that exchange theirs.
-const EACH: u64 = 100;
-
-/// Runs a script of so many takes, and one in which eight desks exchange everything with everybody twice.
-pub(crate) fn measure_scripts<R: AllocGlobal + Clock + Print>(
-    rt: &R,
-    takes: u64,
-) -> Result<(), BenchError> {
+/// Prints a script of so many takes.
+pub(crate) fn print_takes<R: AllocGlobal + Print>(rt: &R, takes: u64) -> Result<(), BenchError> {
     let mut numbers = Numbers::of_seed(SEED);
-    let script = taking(rt.alloc(), takes, 1, &mut numbers)?;
-    run(rt, script.as_str(), "takes")?;
-    let mut script = taking(rt.alloc(), EACH.saturating_mul(8), 8, &mut numbers)?;
-    exchange(rt.alloc(), &mut script, 0)?;
-    exchange(rt.alloc(), &mut script, 8)?;
-    let what = "takes, and an exchange of 8 desks twice";
-    run(rt, script.as_str(), what)
+    rt.println(taking(rt.alloc(), takes, 1, &mut numbers)?.as_str())?;
+    Ok(())
+}
+
+/// Prints a script in which eight desks, of so many to-dos each, exchange everything with everybody twice.
+pub(crate) fn print_exchange<R: AllocGlobal + Print>(rt: &R, each: u64) -> Result<(), BenchError> {
+    let mut numbers = Numbers::of_seed(SEED);
+    rt.println(exchanging(rt.alloc(), each, &mut numbers)?.as_str())?;
+    Ok(())
+}
+
+/// A script in which eight desks take so many to-dos each, and then exchange everything twice.
+fn exchanging(alloc: Global, each: u64, numbers: &mut Numbers) -> Result<String, BenchError> {
+    let mut script = taking(alloc, each.saturating_mul(8), 8, numbers)?;
+    exchange(alloc, &mut script, 0)?;
+    exchange(alloc, &mut script, 8)?;
+    Ok(script)
 }
 
 /// A script of so many takes, by so many desks in turn.
@@ -60,22 +60,15 @@ fn exchange(alloc: Global, script: &mut String, first: u64) -> Result<(), BenchE
         script.push_str(format!(in alloc; "!post {desk} 0\n")?.as_str())?;
     }
     for packet in 0..8u64 {
-        let packet = packet.saturating_add(first);
-        for desk in 0..8u64 {
-            script.push_str(format!(in alloc; "!arrive {packet} {desk}\n")?.as_str())?;
-        }
+        arrive(alloc, script, packet.saturating_add(first))?;
     }
     Ok(())
 }
 
-fn run<R: AllocGlobal + Clock + Print>(rt: &R, script: &str, what: &str) -> Result<(), BenchError> {
-    let window = Window::new(20_454, 20_819)?;
-    let mut output = Vec::new(rt.alloc());
-    let mut reader = script.as_bytes();
-    let octets = script.len();
-    let start = Instant::now(rt)?;
-    run_script(rt.alloc(), &mut reader, &mut output, 8, window)?;
-    let time = start.elapsed(rt)?.as_millis();
-    println!(rt; "script of {what} {octets} bytes {time} ms")?;
+/// A packet arrives at each of eight desks.
+fn arrive(alloc: Global, script: &mut String, packet: u64) -> Result<(), BenchError> {
+    for desk in 0..8u64 {
+        script.push_str(format!(in alloc; "!arrive {packet} {desk}\n")?.as_str())?;
+    }
     Ok(())
 }

@@ -2,11 +2,11 @@
 
 use crate::error::BenchError;
 use crate::load::{Numbers, SEED, message, to_do};
+use crate::watch::{micros, millis, now};
 use itip_message::{read_all, read_message};
 use std::alloc::{AllocError, Global};
 use std::rt::Clock;
 use std::thread::Threads;
-use std::time::Instant;
 
 /// How many to-dos a message may have.
 const TO_DOS: u64 = 1000;
@@ -18,11 +18,16 @@ pub(crate) fn measure_threads<R: AllocGlobal + Clock + Print + Threads + Sync>(
 ) -> Result<(), BenchError> {
     let mut numbers = Numbers::of_seed(SEED);
     let (texts, octets) = messages(rt.alloc(), count, &mut numbers)?;
-    let start = Instant::now(rt)?;
+    let start = now(rt)?;
     let read = read_all(rt, rt.alloc(), &texts)?.len();
-    let time = start.elapsed(rt)?.as_millis();
-    println!(rt; "read_all {read} messages {octets} bytes {time} ms")?;
+    let time = millis(rt, start)?;
+    print_read(rt, read, octets, time)?;
     measure_large(rt, &mut numbers)
+}
+
+fn print_read<R: Print>(rt: &R, read: usize, octets: u64, time: u128) -> Result<(), BenchError> {
+    println!(rt; "read_all {read} messages {octets} bytes {time} ms")?;
+    Ok(())
 }
 
 /// So many small messages, and how long they are in all.
@@ -46,10 +51,22 @@ fn measure_large<R: AllocGlobal + Clock + Print>(
     numbers: &mut Numbers,
 ) -> Result<(), BenchError> {
     let text = large(rt.alloc(), numbers)?;
-    let start = Instant::now(rt)?;
-    let items = read_message(rt.alloc(), text.as_bytes())?.len();
-    let time = start.elapsed(rt)?.as_micros();
-    let octets = text.len();
+    let start = now(rt)?;
+    let items = count_items(rt.alloc(), text.as_str())?;
+    let time = micros(rt, start)?;
+    print_large(rt, items, text.len(), time)
+}
+
+fn count_items(alloc: Global, text: &str) -> Result<usize, BenchError> {
+    Ok(read_message(alloc, text.as_bytes())?.len())
+}
+
+fn print_large<R: Print>(
+    rt: &R,
+    items: usize,
+    octets: usize,
+    time: u128,
+) -> Result<(), BenchError> {
     println!(rt; "read 1 message of {items} to-dos {octets} bytes {time} us")?;
     Ok(())
 }
