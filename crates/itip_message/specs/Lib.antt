@@ -8,4 +8,5 @@ pub mod Head
 pub mod Sorting
 pub mod Message
 pub mod OctetOrder
+pub mod Revisions
 pub mod Numbers

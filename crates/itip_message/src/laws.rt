@@ -1,5 +1,8 @@
 //! What holds of items. The functions do nothing: their contracts are the laws.
 ghost use Rattle.std.specs.Prelude.{◌≡◌, ◌∷◌, [], List, ℕ};
+ghost use Rattle.std.specs.Cmp.{IsTotalOrder};
+ghost use Rattle.std.proofs.lemmas.Map.Lookups.{CmpEqualImpliesEq};
+ghost use Rattle.itip_message.specs.Later.{revision_cmp};
 ghost use Rattle.itip_message.specs.Message.{ReadsMessage, RefusesMessage};
 ghost use Rattle.itip_message.specs.declared.error.Fault.{Fault};
 ghost use Rattle.itip_message.specs.declared.item.Item.{Item};
@@ -22,4 +25,10 @@ pub fn one_reading()
         → RefusesMessage bytes fault → RefusesMessage bytes other → fault ≡ other }
     ensures apart { (bytes : List ℕ) (items : List Item) (fault : Fault)
         → ReadsMessage bytes items → RefusesMessage bytes fault → ⊥ }
+{}
+
+/// The order of revisions, [`Item::cmp_rev`](crate::Item::cmp_rev), is total, and two items that are equal in it are one item.
+pub fn order_of_revisions()
+    ensures total { IsTotalOrder revision_cmp }
+    ensures exact { CmpEqualImpliesEq revision_cmp }
 {}

@@ -37,7 +37,7 @@ same_stamp a b d s =
     }
 
 -- where one order and then another answer Equal, each does
-then_equal : (r s : Ordering) → ordering_then r s ≡ Equal → (r ≡ Equal) × (s ≡ Equal)
+pub then_equal : (r s : Ordering) → ordering_then r s ≡ Equal → (r ≡ Equal) × (s ≡ Equal)
 then_equal Less s e = cc
 then_equal Equal s e = (refl, e)
 then_equal Greater s e = cc
