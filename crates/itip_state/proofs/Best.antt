@@ -11,7 +11,7 @@ use Rattle.itip_message.specs.Later.{revision_cmp, IsLater}
 use Rattle.itip_message.specs.declared.item.Item.{Item}
 use Rattle.itip_message.specs.declared.key.Key.{Key}
 use Rattle.itip_message.proofs.Keys.{told_keys}
-use Rattle.itip_message.proofs.Revisions.{revisions_total}
+use Rattle.itip_message.specs.Revisions.{revisions_total}
 use Rattle.itip_state.specs.Kept.{IsBest}
 
 -- the first of a list, or one of the others

@@ -3,7 +3,7 @@ ghost use Rattle.std.specs.Prelude.{◌≡◌, IfOk, refl};
 ghost use Rattle.std.specs.Cmp.{partial_order_from_total, partial_equiv_from_equiv, eq_by_cmp_equiv};
 ghost use Rattle.std.specs.Ordering.{as_partial_cmp, eq_by_cmp};
 ghost use Rattle.itip_message.specs.Later.{revision_cmp};
-ghost use Rattle.itip_message.proofs.Revisions.{revisions_total};
+ghost use Rattle.itip_message.specs.Revisions.{revisions_total};
 
 use itip_join::{Exact, Greatest, NoMemory};
 use itip_message::Item;
@@ -92,7 +92,7 @@ impl Ord for Revision {
 }
 
 impl Exact for Revision {
-    ghost use Rattle.itip_state.specs.Revisions.{revision_exact};
+    ghost use Rattle.itip_message.specs.Revisions.{revision_exact};
 
     ghost exact = { revision_exact };
 
