@@ -25,10 +25,13 @@ use Rattle.itip_message.proofs.SameItem.{Is, contents, bytes_are}
 use Rattle.itip_state.specs.Kept.{SameItems, IsItemsOf}
 use Rattle.itip_state.proofs.OneOrder.{less_one_way, same_ascending}
 use Rattle.itip_desk.specs.Octets.{AscendOctets}
-use Rattle.itip_delta.specs.Cutting.{begins_blank, lines_of, ends_calendar, groups_of, texts_of, messages_of, CutsMessage}
-use Rattle.itip_delta.specs.Delta.{delta_octets, AreMessages, FirstRefused, all_of, ReadsDelta, RefusesDelta, IsDelta, Continues}
+use Rattle.itip_delta.specs.Scanned.{begins_blank, lines_of, ends_calendar, groups_of, texts_of, messages_of, CutsMessage}
+use Rattle.itip_delta.specs.Delta.{delta_octets, AreMessages, FirstRefused, all_of, ReadsDelta, RefusesDelta, IsDelta}
+use Rattle.itip_delta.specs.Passing.{Continues}
+use Rattle.itip_delta.proofs.Cuts.{cut_by_scan}
 use Rattle.itip_delta.proofs.Folded.{contents_lines, contents_end_none}
 use Rattle.itip_delta.proofs.Messages.{texts_end}
+use Rattle.itip_delta.proofs.OneCut.{one_cut}
 use Rattle.itip_delta.proofs.Plain.{IsNotEnd, none_ends_both, parts_not_end}
 
 -- ---- the text of one item
@@ -128,7 +131,9 @@ concat_alone (item ∷ items) = ap (λ (is : List Item). item ∷ is) (concat_al
 
 pub written_read : (batch : List Item) → AscendOctets batch → ReadsDelta (delta_octets batch) batch
 written_read batch ascend = record {
+  messages = messages_of (delta_octets batch);
   given = alone batch;
+  cut = cut_by_scan (delta_octets batch);
   read = subst (λ (ts : List (List ℕ)). AreMessages ts (alone batch)) (sym (messages_written batch)) (are_messages batch);
   batch_is = subst (λ (is : List Item). IsItemsOf batch is) (sym (concat_alone batch)) (record { ascend = ascend; same = λ item. (λ h. h, λ h. h) });
 }
@@ -152,7 +157,8 @@ one_given (t ∷ ts) (x ∷ xs) (y ∷ ys) h k = ap (λ (z : List Item). z ∷ x
 
 pub one_batch : (bytes : List ℕ) (batch other : List Item) → ReadsDelta bytes batch → ReadsDelta bytes other → batch ≡ other
 one_batch bytes batch other a b =
-    let same : all_of a.given ≡ all_of b.given = ap all_of (one_given (messages_of bytes) a.given b.given a.read b.read) in
+    let cut : a.messages ≡ b.messages = one_cut bytes a.messages b.messages a.cut b.cut in
+    let same : all_of a.given ≡ all_of b.given = ap all_of (one_given b.messages a.given b.given (subst (λ (ts : List (List ℕ)). AreMessages ts a.given) cut a.read) b.read) in
     let is : IsItemsOf batch (all_of b.given) = subst (λ (all : List Item). IsItemsOf batch all) same a.batch_is in
     one_order batch other is.ascend b.batch_is.ascend (λ item. (λ h. (b.batch_is.same item).1 ((is.same item).0 h), λ h. (is.same item).1 ((b.batch_is.same item).0 h)))
 
@@ -164,7 +170,7 @@ first_once (t ∷ ts) f g (inr h) (inl k) = absurd (message_apart t h.0.0 g h.0.
 first_once (t ∷ ts) f g (inr h) (inr k) = first_once ts f g h.1 k.1
 
 pub one_refusal : (bytes : List ℕ) (f g : Fault) → RefusesDelta bytes f → RefusesDelta bytes g → f ≡ g
-one_refusal bytes f g h k = first_once (messages_of bytes) f g h k
+one_refusal bytes f g h k = first_once k.messages f g (subst (λ (ts : List (List ℕ)). FirstRefused ts f) (one_cut bytes h.messages k.messages h.cut k.cut) h.first) k.first
 
 apart_from : (texts : List (List ℕ)) (given : List (List Item)) (f : Fault) → AreMessages texts given → FirstRefused texts f → ⊥
 apart_from [] given f h k = k
@@ -173,7 +179,7 @@ apart_from (t ∷ ts) (x ∷ xs) f h (inl k) = message_apart t x f h.0 k
 apart_from (t ∷ ts) (x ∷ xs) f h (inr k) = apart_from ts xs f h.1 k.1
 
 pub delta_apart : (bytes : List ℕ) (batch : List Item) (f : Fault) → ReadsDelta bytes batch → RefusesDelta bytes f → ⊥
-delta_apart bytes batch f h k = apart_from (messages_of bytes) h.given f h.read k
+delta_apart bytes batch f h k = apart_from h.messages h.given f h.read (subst (λ (ts : List (List ℕ)). FirstRefused ts f) (one_cut bytes k.messages h.messages k.cut h.cut) k.first)
 
 -- a batch is known by its octets
 pub known_by_octets : (a b : List Item) → AscendOctets a → AscendOctets b → delta_octets a ≡ delta_octets b → a ≡ b
@@ -194,12 +200,16 @@ reads_more bytes rest message after items more so_far cut reads = record {
 }
 
 pub refuses_here : (bytes rest message after : List ℕ) (items : List Item) (fault : Fault) → Continues bytes rest items → CutsMessage rest message after → RefusesMessage message fault → RefusesDelta bytes fault
-refuses_here bytes rest message after items fault so_far cut refuses = so_far.refused fault (subst (λ (ts : List (List ℕ)). FirstRefused ts fault) (sym cut.messages) (inl refuses))
+refuses_here bytes rest message after items fault so_far cut refuses = record {
+  messages = messages_of bytes;
+  cut = cut_by_scan bytes;
+  first = so_far.refused fault (subst (λ (ts : List (List ℕ)). FirstRefused ts fault) (sym cut.messages) (inl refuses));
+}
 
 pub ends_reading : (bytes rest : List ℕ) (items batch : List Item) → Continues bytes rest items → messages_of rest ≡ [] → IsItemsOf batch items → ReadsDelta bytes batch
 ends_reading bytes rest items batch so_far none is =
     let all = so_far.read [] (subst (λ (ts : List (List ℕ)). AreMessages ts []) (sym none) tt) in
-    record { given = all.0; read = all.1; batch_is = subst (λ (xs : List Item). IsItemsOf batch xs) (sym (all.2 ∙ append-nil items)) is }
+    record { messages = messages_of bytes; given = all.0; cut = cut_by_scan bytes; read = all.1; batch_is = subst (λ (xs : List Item). IsItemsOf batch xs) (sym (all.2 ∙ append-nil items)) is }
 
 -- ---- one item after another
 

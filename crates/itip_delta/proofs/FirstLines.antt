@@ -1,7 +1,7 @@
 -- The first line of some octets.
 use Rattle.std.proofs.Common.{◌≡◌, ℕ, suc, ◌<◌, ◌≤◌, true, false, cond, List, [], ◌∷◌, length, take, drop, refl, ap, sym, arith, length-take, take-append-drop}
 use Rattle.std.specs.List.{onto_first}
-use Rattle.itip_delta.specs.Cutting.{lines_of, line_length, ends_line}
+use Rattle.itip_delta.specs.Scanned.{lines_of, line_length, ends_line}
 use Rattle.itip_delta.specs.Passing.{IsFirstLine}
 
 -- the first line is that many octets

@@ -11,7 +11,7 @@ use Rattle.itip_lines.proofs.OctetLemmas.{value_no_break}
 use Rattle.itip_todo.specs.Lawful.{IsLawfulContent}
 use Rattle.itip_todo.specs.Written.{Content, content_octets, contents_octets}
 use Rattle.itip_message.specs.Frame.{same_text}
-use Rattle.itip_delta.specs.Cutting.{begins_blank, lines_of, is_return, said_behind, said, ends_calendar}
+use Rattle.itip_delta.specs.Scanned.{begins_blank, lines_of, is_return, said_behind, said, ends_calendar}
 use Rattle.itip_delta.proofs.Plain.{clean_content, name_octet_no_blank, IsNotEnd, text_apart}
 
 -- ---- lines

@@ -7,7 +7,7 @@ use Rattle.std.proofs.lemmas.List.{append-nil, length-append, take_at}
 use Rattle.std.proofs.lemmas.List.Folds.{list_all-append}
 use Rattle.std.proofs.Math.Bool.{and-true}
 use Rattle.itip_message.specs.Frame.{same_text}
-use Rattle.itip_delta.specs.Cutting.{lines_of, said, says, is_empty, ends_calendar, groups_of, texts_of, messages_of, CutsMessage}
+use Rattle.itip_delta.specs.Scanned.{lines_of, said, says, is_empty, ends_calendar, groups_of, texts_of, messages_of, CutsMessage}
 use Rattle.itip_delta.specs.Passing.{IsFirstLine, Passes}
 
 -- lines up to one that ends a calendar are a group
@@ -19,7 +19,7 @@ groups_end (l ∷ ls) line rest none ends =
     ∙ ap (λ (gs : List (List (List ℕ))). onto_first l gs) (groups_end ls line rest none.1 ends)
 
 -- and so are lines of which none does
-groups_none : (l : List ℕ) (ls : List (List ℕ)) → AllByRecursion (λ line. ends_calendar line ≡ false) (l ∷ ls) → groups_of (l ∷ ls) ≡ (l ∷ ls) ∷ []
+pub groups_none : (l : List ℕ) (ls : List (List ℕ)) → AllByRecursion (λ line. ends_calendar line ≡ false) (l ∷ ls) → groups_of (l ∷ ls) ≡ (l ∷ ls) ∷ []
 groups_none l [] none = ap (λ (t : Bool). cond t ((l ∷ []) ∷ []) ((l ∷ []) ∷ [])) none.0
 groups_none l (m ∷ ls) none =
     ap (λ (t : Bool). cond t ((l ∷ []) ∷ groups_of (m ∷ ls)) (onto_first l (groups_of (m ∷ ls)))) none.0
@@ -29,7 +29,7 @@ says_no_other : (text : List ℕ) → same_text text (codes "END:VCALENDAR") ≡
 says_no_other [] says = absurd cc
 says_no_other (b ∷ text) says = refl
 
-not_empty : (passed : List (List ℕ)) (line : List ℕ) → ends_calendar line ≡ true → list_all is_empty (passed ++ line ∷ []) ≡ false
+pub not_empty : (passed : List (List ℕ)) (line : List ℕ) → ends_calendar line ≡ true → list_all is_empty (passed ++ line ∷ []) ≡ false
 not_empty [] line ends = ap (λ (t : Bool). t && true) (says_no_other (map to_ascii_uppercase (said line)) ends)
 not_empty (p ∷ passed) line ends =
     ap (λ (t : Bool). is_empty p && t) (not_empty passed line ends) ∙ and_false (is_empty p)
@@ -52,7 +52,7 @@ texts_end passed line rest none ends =
 pub start_passing : (bytes : List ℕ) → Passes bytes bytes true
 start_passing bytes = record { passed = []; whole = refl; lines = refl; none_ends = tt; blank_is = refl }
 
-none_ends_more : (passed : List (List ℕ)) (line : List ℕ) → AllByRecursion (λ line. ends_calendar line ≡ false) passed → ends_calendar line ≡ false → AllByRecursion (λ line. ends_calendar line ≡ false) (passed ++ line ∷ [])
+pub none_ends_more : (passed : List (List ℕ)) (line : List ℕ) → AllByRecursion (λ line. ends_calendar line ≡ false) passed → ends_calendar line ≡ false → AllByRecursion (λ line. ends_calendar line ≡ false) (passed ++ line ∷ [])
 none_ends_more [] line none not = (not, tt)
 none_ends_more (p ∷ passed) line none not = (none.0, none_ends_more passed line none.1 not)
 

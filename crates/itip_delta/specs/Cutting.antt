@@ -1,69 +1,54 @@
--- The messages of a delta: its lines as they came, cut behind each line that ends a calendar (RFC 5545 3.1 and 3.4; the format of a delta is our own).
-use Rattle.std.specs.Prelude.{◌≡◌, ◌<◌, ℕ, suc, Bool, true, false, ◌&&◌, ◌||◌, not, ◌==◌, List, [], ◌∷◌, length, map, if◌then◌else◌, codes}
-use Rattle.std.specs.List.{onto_first, concat, list_all}
-use Rattle.std.specs.Char.{to_ascii_uppercase}
-use Rattle.itip_lines.specs.Cutting.{is_blank}
+-- The messages of a delta: its lines (RFC 5545 3.1) in pieces, each up to a line that ends a calendar (RFC 5545 3.4; that deltas are cut so is our own rule).
+use Rattle.std.specs.Prelude.{◌≡◌, ℕ, Bool, false, IsTrue, List, [], ◌∷◌, ◌++◌, map, codes}
+use Rattle.std.specs.List.{concat, AllByRecursion}
+use Rattle.std.specs.Str.{str_to_ascii_uppercase}
+use Rattle.itip_lines.specs.Cutting.{Piece, IsCutting, stretches, unfolded, lines_of}
+use Rattle.itip_lines.specs.Scan.{LacksBlank}
 use Rattle.itip_message.specs.Frame.{same_text}
 
-abbrev pub begins_blank : List ℕ → Bool
-begins_blank [] = false
-begins_blank (b ∷ bytes) = is_blank b
+-- an unfolded line is END:VCALENDAR, without regard to case
+abbrev pub is_calendar_end : List ℕ → Bool
+is_calendar_end line = same_text (str_to_ascii_uppercase line) (codes "END:VCALENDAR")
 
--- LF (10) ends a line, unless a blank stands behind it: that is a fold
-abbrev pub ends_line : ℕ → List ℕ → Bool
-ends_line b after = b == 10 && not (begins_blank after)
+abbrev pub EndNoCalendar : List (List ℕ) → Type 0
+EndNoCalendar lines = AllByRecursion (λ line. is_calendar_end line ≡ false) lines
 
--- The lines of some octets as they came, each with its folds and with its break, which the last may lack.
-abbrev pub lines_of : List ℕ → List (List ℕ)
-lines_of [] = []
-lines_of (b ∷ bytes) = if ends_line b bytes then (b ∷ []) ∷ lines_of bytes else onto_first b (lines_of bytes)
+-- Whole physical lines, each with its break. Unfolded, the last of them is END:VCALENDAR, and it is the only one.
+pub record IsCalendar (text : List ℕ) : Type 0 where
+  pub pieces : List Piece
+  pub cut : IsCutting text pieces []
+  pub front : List (List ℕ)
+  pub line : List ℕ
+  pub lines : unfolded (map (λ p. p.text) pieces) ≡ front ++ line ∷ []
+  pub none_before : EndNoCalendar front
+  pub ends : IsTrue (is_calendar_end line)
 
--- how many octets the first line has
-abbrev pub line_length : List ℕ → ℕ
-line_length [] = 0
-line_length (b ∷ bytes) = if ends_line b bytes then 1 else suc (line_length bytes)
+-- Behind none of these texts stands a blank, which would make its last break a fold.
+abbrev pub AreApart : List (List ℕ) → List ℕ → Type 0
+AreApart [] rest = Unit {0}
+AreApart (text ∷ texts) rest = LacksBlank (concat texts ++ rest) × AreApart texts rest
 
--- CR (13) directly before LF is part of the break
-abbrev pub is_return : ℕ → List ℕ → Bool
-is_return b [] = false
-is_return b (c ∷ bytes) = b == 13 && c == 10
+-- A text without END:VCALENDAR, or where it is the last line and has no break.
+pub record IsRest (text : List ℕ) : Type 0 where
+  pub pieces : List Piece
+  pub last : List ℕ
+  pub cut : IsCutting text pieces last
+  pub front : List (List ℕ)
+  pub line : List ℕ
+  pub lines : unfolded (stretches pieces last) ≡ front ++ line ∷ []
+  pub none_before : EndNoCalendar front
 
--- What a line says: its octets without breaks and without the blank behind each. The flag tells that a break stands before.
-abbrev pub said_behind : Bool → List ℕ → List ℕ
-said_behind behind [] = []
-said_behind behind (b ∷ bytes) =
-    if b == 10 then said_behind true bytes else
-    if is_return b bytes || (behind && is_blank b) then said_behind false bytes else
-    b ∷ said_behind false bytes
+-- the text is a message where it has these lines, unless it has none
+abbrev pub unless_empty : List ℕ → List (List ℕ) → List (List ℕ)
+unless_empty text [] = []
+unless_empty text (line ∷ lines) = text ∷ []
 
-abbrev pub said : List ℕ → List ℕ
-said line = said_behind false line
-
--- A line says a word, given in upper case, without regard to case.
-abbrev pub says : List ℕ → List ℕ → Bool
-says line word = same_text (map to_ascii_uppercase (said line)) word
-
-abbrev pub is_empty : List ℕ → Bool
-is_empty line = says line []
-
-abbrev pub ends_calendar : List ℕ → Bool
-ends_calendar line = says line (codes "END:VCALENDAR")
-
--- Lines in groups, each up to a line that ends a calendar, which the last group may lack.
-abbrev pub groups_of : List (List ℕ) → List (List (List ℕ))
-groups_of [] = []
-groups_of (line ∷ lines) = if ends_calendar line then (line ∷ []) ∷ groups_of lines else onto_first line (groups_of lines)
-
--- A group of empty lines is no message.
-abbrev pub texts_of : List (List (List ℕ)) → List (List ℕ)
-texts_of [] = []
-texts_of (group ∷ groups) = if list_all is_empty group then texts_of groups else concat group ∷ texts_of groups
-
--- the texts of the messages of a delta
-unfoldable pub messages_of : List ℕ → List (List ℕ)
-messages_of bytes = texts_of (groups_of (lines_of bytes))
-
--- the first message of some octets, and what follows it
-pub record CutsMessage (bytes message after : List ℕ) : Type 0 where
-  pub messages : messages_of bytes ≡ message ∷ messages_of after
-  pub shorter : length after < length bytes
+-- The octets are cut into these messages: behind each line END:VCALENDAR. What is left is one more, unless it has only empty lines.
+pub record IsCutInto (bytes : List ℕ) (messages : List (List ℕ)) : Type 0 where
+  pub calendars : List (List ℕ)
+  pub rest : List ℕ
+  pub whole : bytes ≡ concat calendars ++ rest
+  pub each : AllByRecursion IsCalendar calendars
+  pub apart : AreApart calendars rest
+  pub rest_is : IsRest rest
+  pub messages_are : messages ≡ calendars ++ unless_empty rest (lines_of rest_is.pieces rest_is.last)

@@ -5,7 +5,7 @@ use Rattle.itip_message.specs.declared.error.Fault.{Fault}
 use Rattle.itip_message.specs.declared.item.Item.{Item}
 use Rattle.itip_state.specs.Kept.{IsItemsOf}
 use Rattle.itip_desk.specs.Octets.{AscendOctets}
-use Rattle.itip_delta.specs.Cutting.{messages_of}
+use Rattle.itip_delta.specs.Cutting.{IsCutInto}
 
 -- the canonical octets of items, in their order
 unfoldable pub delta_octets : List Item → List ℕ
@@ -30,21 +30,20 @@ all_of (items ∷ given) = items ++ all_of given
 
 -- the items of all messages of these octets make this batch
 pub record ReadsDelta (bytes : List ℕ) (batch : List Item) : Type 0 where
+  pub messages : List (List ℕ)
   pub given : List (List Item)
-  pub read : AreMessages (messages_of bytes) given
+  pub cut : IsCutInto bytes messages
+  pub read : AreMessages messages given
   pub batch_is : IsItemsOf batch (all_of given)
 
-abbrev pub RefusesDelta : List ℕ → Fault → Type 0
-RefusesDelta bytes fault = FirstRefused (messages_of bytes) fault
+-- the first message of these octets that is refused, is for this cause
+pub record RefusesDelta (bytes : List ℕ) (fault : Fault) : Type 0 where
+  pub messages : List (List ℕ)
+  pub cut : IsCutInto bytes messages
+  pub first : FirstRefused messages fault
 
 -- the octets of a batch
 pub record IsDelta (bytes : List ℕ) : Type 0 where
   pub batch : List Item
   pub ascend : AscendOctets batch
   pub octets : bytes ≡ delta_octets batch
-
--- What the rest of some octets gives stands behind the items of what was read before it.
-pub record Continues (bytes rest : List ℕ) (items : List Item) : Type 0 where
-  pub read : (given : List (List Item)) → AreMessages (messages_of rest) given
-      → (all : List (List Item)) × AreMessages (messages_of bytes) all × (all_of all ≡ items ++ all_of given)
-  pub refused : (fault : Fault) → FirstRefused (messages_of rest) fault → FirstRefused (messages_of bytes) fault

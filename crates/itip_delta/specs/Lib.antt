@@ -2,6 +2,7 @@ pub use Rattle.itip_state.specs.Kept
 pub use Rattle.itip_desk.specs.Heard
 pub use Rattle.itip_desk.specs.Desk
 pub mod Cutting
-pub mod Passing
 pub mod Delta
+pub mod Scanned
+pub mod Passing
 pub mod Worlds

@@ -1,8 +1,11 @@
--- What is known while lines and octets are passed (our own form).
+-- What is known while lines, octets and messages are passed (our own form).
 use Rattle.std.specs.Prelude.{◌≡◌, ◌<◌, ℕ, Bool, false, ◌&&◌, ◌||◌, ◌==◌, List, ◌∷◌, ◌++◌, length}
 use Rattle.std.specs.List.{AllByRecursion, concat, list_all}
 use Rattle.itip_lines.specs.Cutting.{is_blank}
-use Rattle.itip_delta.specs.Cutting.{lines_of, is_return, said, is_empty, ends_calendar}
+use Rattle.itip_message.specs.declared.error.Fault.{Fault}
+use Rattle.itip_message.specs.declared.item.Item.{Item}
+use Rattle.itip_delta.specs.Scanned.{lines_of, is_return, said, is_empty, ends_calendar, messages_of}
+use Rattle.itip_delta.specs.Delta.{AreMessages, FirstRefused, all_of}
 
 -- the first line of some octets, and what follows it
 pub record IsFirstLine (bytes line after : List ℕ) : Type 0 where
@@ -26,3 +29,9 @@ pub record Passes (bytes rest : List ℕ) (blank : Bool) : Type 0 where
   pub lines : lines_of bytes ≡ passed ++ lines_of rest
   pub none_ends : AllByRecursion (λ line. ends_calendar line ≡ false) passed
   pub blank_is : blank ≡ list_all is_empty passed
+
+-- What the rest of some octets gives stands behind the items of what was read before it.
+pub record Continues (bytes rest : List ℕ) (items : List Item) : Type 0 where
+  pub read : (given : List (List Item)) → AreMessages (messages_of rest) given
+      → (all : List (List Item)) × AreMessages (messages_of bytes) all × (all_of all ≡ items ++ all_of given)
+  pub refused : (fault : Fault) → FirstRefused (messages_of rest) fault → FirstRefused (messages_of bytes) fault

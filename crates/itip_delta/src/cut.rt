@@ -1,6 +1,6 @@
 //! Cutting a delta into messages. Nothing is copied: each message is a slice of the delta.
 ghost use Rattle.std.specs.Prelude.{◌≡◌, ◌≤◌, [], length, MatchOption};
-ghost use Rattle.itip_delta.specs.Cutting.{begins_blank, ends_line, line_length, is_return, says, said, is_empty, ends_calendar, messages_of, CutsMessage};
+ghost use Rattle.itip_delta.specs.Scanned.{begins_blank, ends_line, line_length, is_return, says, said, is_empty, ends_calendar, messages_of, CutsMessage};
 ghost use Rattle.itip_delta.specs.Passing.{IsFirstLine, SaysFirst, is_left_out};
 ghost use Rattle.itip_lines.specs.Cutting.{is_blank};
 

@@ -17,7 +17,7 @@ use Rattle.itip_message.specs.declared.frame.Placed.TheVariants.{CalendarLine, T
 use Rattle.itip_message.specs.declared.kind.Kind.{Kind}
 use Rattle.itip_message.specs.declared.kind.Kind.TheVariants as kind
 use Rattle.itip_message.specs.declared.error.Fault.{Fault}
-use Rattle.itip_message.proofs.Contents.{lines_from, contents_of}
+use Rattle.itip_todo.proofs.ContentLines.{lines_from, contents_of}
 use Rattle.itip_message.proofs.Pieces.{base_of, rid_of, start_of, due_of, status_of, percent_of, priority_of, summary_of, organizer_of, attendees_of, rule_of, rdates_of, exdates_of, others_of, from_rid, from_start, from_due, from_status, from_percent, from_priority, from_summary, from_organizer, from_attendees, from_rule, from_rdates, from_exdates}
 
 -- contents that neither begin nor end a component

@@ -17,7 +17,8 @@ use Rattle.itip_message.specs.Message.{AreComponents, IsItemOf, AreItemsOf, Read
 use Rattle.itip_message.specs.declared.item.Item.{Item}
 use Rattle.itip_message.specs.declared.error.Fault.{Fault}
 use Rattle.itip_message.proofs.Keys.{Told}
-use Rattle.itip_message.proofs.Contents.{lines_from, reads_contents, canonical_lawful}
+use Rattle.itip_todo.proofs.ContentLines.{lines_from}
+use Rattle.itip_message.proofs.Contents.{reads_contents, canonical_lawful}
 use Rattle.itip_message.proofs.Placing.{IsFramed, canonical_framed}
 use Rattle.itip_message.proofs.SameItem.{Is, stable, contents, draft, few_lines, few_octets, bytes_are, own_is, stamp_is, alone}
 

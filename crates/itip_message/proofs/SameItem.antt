@@ -30,7 +30,8 @@ use Rattle.itip_message.specs.declared.kind.Kind.TheVariants as kind
 use Rattle.itip_message.specs.declared.kind.Method.{Method}
 use Rattle.itip_message.specs.declared.kind.Method.TheVariants as method
 use Rattle.itip_message.proofs.Keys.{Told, told_by_cmp, told_bytes, told_keys}
-use Rattle.itip_message.proofs.Contents.{lines_from, contents_of, same_contents, canonical_lawful}
+use Rattle.itip_todo.proofs.ContentLines.{lines_from, contents_of}
+use Rattle.itip_message.proofs.Contents.{same_contents, canonical_lawful}
 
 -- what can be told is known where it is merely so
 pub stable : {A : Type 0} {a b : A} → Told a b → ∥ a ≡ b ∥₁ → a ≡ b

@@ -1,4 +1,5 @@
 pub mod Calendar
+pub mod Decided
 pub mod DigitLemmas
 pub mod ValueLaws
 pub mod WrittenOctets

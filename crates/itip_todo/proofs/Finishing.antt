@@ -1,5 +1,5 @@
 -- From the draft of all lines to the to-do.
-use Rattle.std.proofs.Common.{◌≡◌, ◌≢◌, true, ◌&&◌, ℕ, ◌+◌, ◌<◌, ◌≤◌, List, [], ◌∷◌, length, map, refl, sym, ap, subst, ◌∙◌, inl, inr, arith, length-append, Option, Some, None}
+use Rattle.std.proofs.Common.{◌≡◌, ◌≢◌, true, ◌&&◌, ℕ, zero, suc, ◌+◌, ◌<◌, ◌≤◌, List, [], ◌∷◌, length, map, refl, sym, ap, subst, ◌∙◌, inl, inr, arith, length-append, Option, Some, None}
 use Rattle.std.specs.BTreeSet.{BTreeSet, IsOrdered}
 use Rattle.std.specs.Fmt.{decimal}
 use Rattle.std.specs.List.{AllByRecursion, Contains, IsDistinct, list_all}
@@ -13,10 +13,11 @@ use Rattle.itip_lines.proofs.LawfulLemmas.{lawful_without_params}
 use Rattle.itip_moment.specs.Order.{moment_cmp}
 use Rattle.itip_moment.specs.declared.moment.Moment.{Moment}
 use Rattle.itip_moment.specs.declared.stamp.Stamp.{Stamp}
+use Rattle.itip_todo.specs.Parts.{Parts}
 use Rattle.itip_todo.specs.Drafts.{IsDraftOf, IsLawfulDraft, IsSetOf, draft_parts}
 use Rattle.itip_todo.specs.Lawful.{IsLawfulContent, HasValue, keys_of}
 use Rattle.itip_todo.specs.Participation.{same_text}
-use Rattle.itip_todo.specs.Reading.{IsOptional, IsOrNought, IfFault, AreGood, RefusesTodo, IsUidOf, IsStampOf, IsSequenceOf, IsPercentOf, IsPriorityOf, IsMomentOf, IsPropertyOf, IsOrganizerOf, AreMomentsOf, ListMoments, lines_of, first_of, first_named, whole_property, value_of, key_of}
+use Rattle.itip_todo.specs.Reading.{IsOptional, IsOrNought, IfFault, AreGood, RefusesTodo, IsUidOf, IsStampOf, IsSequenceOf, IsPercentOf, IsPriorityOf, IsMomentOf, IsStatusOf, IsPropertyOf, IsOrganizerOf, AreMomentsOf, ListMoments, lines_of, first_of, first_named, whole_property, value_of, key_of}
 use Rattle.itip_todo.specs.StatusText.{status_text}
 use Rattle.itip_todo.specs.Table.{name_text, place_of, is_same, property_of, is_other, sequence_limit, percent_limit, priority_limit, attendee_limit}
 use Rattle.itip_todo.specs.Values.{IsNumberUpTo, AreMoments}
@@ -31,7 +32,7 @@ use Rattle.itip_todo.specs.declared.property_name.PropertyName.TheVariants as na
 use Rattle.itip_todo.proofs.LawfulLines.{stamp_lawful, number_lawful, status_lawful, moment_lawful}
 use Rattle.itip_todo.proofs.Names.{all_named, first_named_is, has_name}
 use Rattle.itip_todo.proofs.Segments.{all_append, all_optional, all_map, all_parts}
-use Rattle.itip_todo.proofs.Sets.{all_of_set, same_members}
+use Rattle.itip_todo.proofs.Sets.{same_members}
 
 -- a value that is there has a line
 found : {A : Type 0} (P : Line → A → Type 0) (o : Option Line) (v : Option A) (a : A) → IsOptional P o v → v ≡ Some a → (l : Line) × (o ≡ Some l) × P l a
@@ -90,10 +91,6 @@ listed_moments p few short (l ∷ lines) ms named is =
     subst (λ (xs : List Moment). AllByRecursion (λ m. IsLawfulContent (moment_line p m)) xs) (sym is.2)
     (all_append (λ m. IsLawfulContent (moment_line p m)) is.0 is.1 (text_moments p l.params l.value (lawful_line l p named.0 few) short l.value is.0 is.3 (omega arith)) (listed_moments p few short lines is.1 named.1 is.4))
 
-set_moments : (lines : List Line) (p : PropertyName) (set : BTreeSet Moment) → place_of p < 16 → length (name_text p) ≤ 100 → IsSetOf (lines_of lines p) set → AllByRecursion IsLawfulContent (map (moment_line p) set.keys)
-set_moments lines p set few short is =
-    all_map IsLawfulContent (moment_line p) set.keys (all_of_set (λ m. IsLawfulContent (moment_line p m)) set is.listed is.each (listed_moments p few short (lines_of lines p) is.listed (all_named lines p) is.list))
-
 -- attendees, rules and the others, as their lines
 whole_lines : (lines : List Line) → AllByRecursion (λ (l : Line). property_of l ≡ name.Attendee) lines → AllByRecursion IsLawfulContent (map (property_line name.Attendee) (map whole_property lines))
 whole_lines [] h = tt
@@ -115,56 +112,95 @@ keys_whole : (lines : List Line) → keys_of (map whole_property lines) ≡ map 
 keys_whole [] = refl
 keys_whole (l ∷ lines) = ap (λ (ks : List (List ℕ)). key_of l ∷ ks) (keys_whole lines)
 
-draft_contents : (lines : List Line) (d : Draft) (uid : List ℕ) (stamp : Stamp) → IsDraftOf (lines_of lines) d → d.uid ≡ Some uid → unwrap_or d.seq 0 ≤ sequence_limit → AllByRecursion IsLawfulContent (parts_contents (draft_parts uid stamp d))
-draft_contents lines d uid stamp is known seq =
-    let uid_at = found IsUidOf (first_of (lines_of lines name.Uid)) d.uid uid (is name.Uid) known in
-    let uid_lawful : line.IsLawful (codes "UID") [] uid = subst (λ (u : List ℕ). line.IsLawful (codes "UID") [] u) (sym uid_at.2.0) (lawful_plain uid_at.0 name.Uid (first_named_is lines name.Uid uid_at.0 uid_at.1) (omega arith)) in
+-- what the lines of each property say
+pub record AreParts (lines : List Line) (parts : Parts) : Type 0 where
+  pub uid : IsOptional IsUidOf (first_named name.Uid lines) (Some parts.uid)
+  pub stamp : IsOptional IsStampOf (first_named name.DtStamp lines) (Some parts.stamp)
+  pub seq : IsOrNought IsSequenceOf (first_named name.Sequence lines) parts.seq
+  pub base : IsOptional IsSequenceOf (first_named name.DeskBase lines) parts.base
+  pub rid : IsOptional IsMomentOf (first_named name.RecurrenceId lines) parts.rid
+  pub start : IsOptional IsMomentOf (first_named name.DtStart lines) parts.start
+  pub due : IsOptional IsMomentOf (first_named name.Due lines) parts.due
+  pub status : IsOptional IsStatusOf (first_named name.Status lines) parts.status
+  pub percent : IsOptional IsPercentOf (first_named name.PercentComplete lines) parts.percent
+  pub priority : IsOptional IsPriorityOf (first_named name.Priority lines) parts.priority
+  pub summary : IsOptional IsPropertyOf (first_named name.Summary lines) parts.summary
+  pub organizer : IsOptional IsOrganizerOf (first_named name.Organizer lines) parts.organizer
+  pub attendees : parts.attendees ≡ map whole_property (lines_of lines name.Attendee)
+  pub rule : parts.rule ≡ map value_of (lines_of lines name.RRule)
+  pub rdates : AreMomentsOf (lines_of lines name.RDate) parts.rdates
+  pub exdates : AreMomentsOf (lines_of lines name.ExDate) parts.exdates
+  pub others : parts.others ≡ lines_of lines name.Others
+
+-- what ATTENDEE lines keep to
+pub record AreAttendees (lines : List Line) : Type 0 where
+  pub few : length lines ≤ attendee_limit
+  pub values : AllByRecursion HasValue (map whole_property lines)
+  pub distinct : IsDistinct same_text (map key_of lines)
+
+sequence_small : (o : Option Line) (n : ℕ) → IsOrNought IsSequenceOf o n → n ≤ sequence_limit
+sequence_small None n h = omega (arith, h)
+sequence_small (Some l) n h = small sequence_limit l.value n h
+
+-- what holds of the moments that are listed holds of the same moments in order
+contained : (P : Moment → Type 0) (ms : List Moment) (m : Moment) → AllByRecursion P ms → Contains ms m → P m
+contained P [] m h (k, within, e) = absurd (omega arith)
+contained P (x ∷ ms) m h (zero, within, e) = subst P e h.0
+contained P (x ∷ ms) m h (suc k, within, e) = contained P ms m h.1 (k, omega arith, e)
+
+members : (P : Moment → Type 0) (ms listed : List Moment) → ((m : Moment) → Contains ms m → Contains listed m) → AllByRecursion P listed → AllByRecursion P ms
+members P [] listed among all = tt
+members P (x ∷ ms) listed among all = (contained P listed x all (among x (0, omega arith, refl)), members P ms listed (λ m h. among m (suc h.0, omega (arith, h.1), h.2)) all)
+
+moments_lawful : (lines : List Line) (p : PropertyName) (moments : List Moment) → place_of p < 16 → length (name_text p) ≤ 100 → AreMomentsOf (lines_of lines p) moments → AllByRecursion IsLawfulContent (map (moment_line p) moments)
+moments_lawful lines p moments few short is =
+    all_map IsLawfulContent (moment_line p) moments
+    (members (λ m. IsLawfulContent (moment_line p m)) moments is.listed (λ m. (is.each m).0) (listed_moments p few short (lines_of lines p) is.listed (all_named lines p) is.list))
+
+contents_lawful : (lines : List Line) (parts : Parts) → AreParts lines parts → AllByRecursion IsLawfulContent (parts_contents parts)
+contents_lawful lines parts is =
+    let uid_at = found IsUidOf (first_named name.Uid lines) (Some parts.uid) parts.uid is.uid refl in
+    let uid_lawful : line.IsLawful (codes "UID") [] parts.uid = subst (λ (u : List ℕ). line.IsLawful (codes "UID") [] u) (sym uid_at.2.0) (lawful_plain uid_at.0 name.Uid (first_named_is lines name.Uid uid_at.0 uid_at.1) (omega arith)) in
     let P : Content → Type 0 = IsLawfulContent in
-    all_parts P (draft_parts uid stamp d) (record {
-      head = (uid_lawful, (stamp_lawful stamp, (number_lawful (codes "SEQUENCE") (record { some = omega arith; upper = refl }) (omega arith) (unwrap_or d.seq 0) seq, tt)));
-      base = all_optional P (λ n. plain name.DeskBase (decimal n)) d.base (λ n e. number_lawful (codes "X-DESK-BASE") (record { some = omega arith; upper = refl }) (omega arith) n (at_most IsSequenceOf sequence_limit (λ l. small sequence_limit l.value) (first_of (lines_of lines name.DeskBase)) d.base n (is name.DeskBase) e));
-      rid = all_optional P (moment_line name.RecurrenceId) d.rid (one_moment lines name.RecurrenceId d.rid (omega arith) (omega arith) (is name.RecurrenceId));
-      start = all_optional P (moment_line name.DtStart) d.start (one_moment lines name.DtStart d.start (omega arith) (omega arith) (is name.DtStart));
-      due = all_optional P (moment_line name.Due) d.due (one_moment lines name.Due d.due (omega arith) (omega arith) (is name.Due));
-      status = all_optional P (λ s. plain name.Status (status_text s)) d.status (λ s e. status_lawful s);
-      percent = all_optional P (λ n. plain name.PercentComplete (decimal n)) d.percent (λ n e. number_lawful (codes "PERCENT-COMPLETE") (record { some = omega arith; upper = refl }) (omega arith) n (let below : n ≤ 100 = at_most IsPercentOf percent_limit (λ l. small percent_limit l.value) (first_of (lines_of lines name.PercentComplete)) d.percent n (is name.PercentComplete) e in omega arith));
-      priority = all_optional P (λ n. plain name.Priority (decimal n)) d.priority (λ n e. number_lawful (codes "PRIORITY") (record { some = omega arith; upper = refl }) (omega arith) n (let below : n ≤ 9 = at_most IsPriorityOf priority_limit (λ l. small priority_limit l.value) (first_of (lines_of lines name.Priority)) d.priority n (is name.Priority) e in omega arith));
-      summary = all_optional P (property_line name.Summary) d.summary (one_property IsPropertyOf (λ l x h. h) lines name.Summary d.summary (omega arith) (is name.Summary));
-      organizer = all_optional P (property_line name.Organizer) d.organizer (one_property IsOrganizerOf (λ l x h. h.0) lines name.Organizer d.organizer (omega arith) (is name.Organizer));
-      attendee = subst (λ (ps : List Property). AllByRecursion P (map (property_line name.Attendee) ps)) (sym (is name.Attendee).whole) (whole_lines (lines_of lines name.Attendee) (all_named lines name.Attendee));
-      rule = subst (λ (vs : List (List ℕ)). AllByRecursion P (map (plain name.RRule) vs)) (sym (is name.RRule)) (rule_lines (lines_of lines name.RRule) (all_named lines name.RRule));
-      rdate = set_moments lines name.RDate d.rdates (omega arith) (omega arith) (is name.RDate);
-      exdate = set_moments lines name.ExDate d.exdates (omega arith) (omega arith) (is name.ExDate);
-      other = subst (λ (ls : List Line). AllByRecursion P (map content_of ls)) (sym (is name.Others)) (other_lines (lines_of lines name.Others));
+    all_parts P parts (record {
+      head = (uid_lawful, (stamp_lawful parts.stamp, (number_lawful (codes "SEQUENCE") (record { some = omega arith; upper = refl }) (omega arith) parts.seq (sequence_small (first_named name.Sequence lines) parts.seq is.seq), tt)));
+      base = all_optional P (λ n. plain name.DeskBase (decimal n)) parts.base (λ n e. number_lawful (codes "X-DESK-BASE") (record { some = omega arith; upper = refl }) (omega arith) n (at_most IsSequenceOf sequence_limit (λ l. small sequence_limit l.value) (first_named name.DeskBase lines) parts.base n is.base e));
+      rid = all_optional P (moment_line name.RecurrenceId) parts.rid (one_moment lines name.RecurrenceId parts.rid (omega arith) (omega arith) is.rid);
+      start = all_optional P (moment_line name.DtStart) parts.start (one_moment lines name.DtStart parts.start (omega arith) (omega arith) is.start);
+      due = all_optional P (moment_line name.Due) parts.due (one_moment lines name.Due parts.due (omega arith) (omega arith) is.due);
+      status = all_optional P (λ s. plain name.Status (status_text s)) parts.status (λ s e. status_lawful s);
+      percent = all_optional P (λ n. plain name.PercentComplete (decimal n)) parts.percent (λ n e. number_lawful (codes "PERCENT-COMPLETE") (record { some = omega arith; upper = refl }) (omega arith) n (let below : n ≤ 100 = at_most IsPercentOf percent_limit (λ l. small percent_limit l.value) (first_named name.PercentComplete lines) parts.percent n is.percent e in omega arith));
+      priority = all_optional P (λ n. plain name.Priority (decimal n)) parts.priority (λ n e. number_lawful (codes "PRIORITY") (record { some = omega arith; upper = refl }) (omega arith) n (let below : n ≤ 9 = at_most IsPriorityOf priority_limit (λ l. small priority_limit l.value) (first_named name.Priority lines) parts.priority n is.priority e in omega arith));
+      summary = all_optional P (property_line name.Summary) parts.summary (one_property IsPropertyOf (λ l x h. h) lines name.Summary parts.summary (omega arith) is.summary);
+      organizer = all_optional P (property_line name.Organizer) parts.organizer (one_property IsOrganizerOf (λ l x h. h.0) lines name.Organizer parts.organizer (omega arith) is.organizer);
+      attendee = subst (λ (ps : List Property). AllByRecursion P (map (property_line name.Attendee) ps)) (sym is.attendees) (whole_lines (lines_of lines name.Attendee) (all_named lines name.Attendee));
+      rule = subst (λ (vs : List (List ℕ)). AllByRecursion P (map (plain name.RRule) vs)) (sym is.rule) (rule_lines (lines_of lines name.RRule) (all_named lines name.RRule));
+      rdate = moments_lawful lines name.RDate parts.rdates (omega arith) (omega arith) is.rdates;
+      exdate = moments_lawful lines name.ExDate parts.exdates (omega arith) (omega arith) is.exdates;
+      other = subst (λ (ls : List Line). AllByRecursion P (map content_of ls)) (sym is.others) (other_lines (lines_of lines name.Others));
     })
 
--- the draft of lines, which are lawful, is
-pub lawful_draft : (lines : List Line) (d : Draft) → IsDraftOf (lines_of lines) d → IsLawfulDraft d
-lawful_draft lines d is = λ uid stamp known _ rdates exdates.
-    let uid_at = found IsUidOf (first_of (lines_of lines name.Uid)) d.uid uid (is name.Uid) known in
-    let seq : unwrap_or d.seq 0 ≤ sequence_limit = small_or (first_of (lines_of lines name.Sequence)) d.seq (is name.Sequence) in
+-- the parts that lines say are lawful
+pub lawful_parts : (lines : List Line) (parts : Parts) → AreParts lines parts → AreAttendees (lines_of lines name.Attendee) → IsLawful parts
+lawful_parts lines parts is attendees =
+    let uid_at = found IsUidOf (first_named name.Uid lines) (Some parts.uid) parts.uid is.uid refl in
     record {
       uid = subst (λ (u : List ℕ). 0 < length u) (sym uid_at.2.0) uid_at.2.1;
-      seq = seq;
-      base = λ n. at_most IsSequenceOf sequence_limit (λ l. small sequence_limit l.value) (first_of (lines_of lines name.DeskBase)) d.base n (is name.DeskBase);
-      percent = λ n. at_most IsPercentOf percent_limit (λ l. small percent_limit l.value) (first_of (lines_of lines name.PercentComplete)) d.percent n (is name.PercentComplete);
-      priority = λ n. at_most IsPriorityOf priority_limit (λ l. small priority_limit l.value) (first_of (lines_of lines name.Priority)) d.priority n (is name.Priority);
+      seq = sequence_small (first_named name.Sequence lines) parts.seq is.seq;
+      base = λ n. at_most IsSequenceOf sequence_limit (λ l. small sequence_limit l.value) (first_named name.DeskBase lines) parts.base n is.base;
+      percent = λ n. at_most IsPercentOf percent_limit (λ l. small percent_limit l.value) (first_named name.PercentComplete lines) parts.percent n is.percent;
+      priority = λ n. at_most IsPriorityOf priority_limit (λ l. small priority_limit l.value) (first_named name.Priority lines) parts.priority n is.priority;
       organizer = λ p e.
-          let at = found IsOrganizerOf (first_of (lines_of lines name.Organizer)) d.organizer p (is name.Organizer) e in
+          let at = found IsOrganizerOf (first_named name.Organizer lines) parts.organizer p is.organizer e in
           subst (λ (x : Property). HasValue x) (sym at.2.0) at.2.1;
-      attendee_count = subst (λ (ps : List Property). length ps ≤ attendee_limit) (sym (is name.Attendee).whole) (omega (arith, (is name.Attendee).few, length-map (lines_of lines name.Attendee) whole_property));
-      attendee_values = (is name.Attendee).values;
-      attendee_keys = subst (λ (ps : List Property). IsDistinct same_text (keys_of ps)) (sym (is name.Attendee).whole) (subst (λ (ks : List (List ℕ)). IsDistinct same_text ks) (sym (keys_whole (lines_of lines name.Attendee))) (is name.Attendee).distinct);
-      rdates = rdates;
-      exdates = exdates;
-      others = subst (λ (ls : List Line). IsTrue (list_all is_other ls)) (sym (is name.Others)) (all_others (lines_of lines name.Others) (all_named lines name.Others));
-      lines = draft_contents lines d uid stamp is known seq;
+      attendee_count = subst (λ (ps : List Property). length ps ≤ attendee_limit) (sym is.attendees) (omega (arith, attendees.few, length-map (lines_of lines name.Attendee) whole_property));
+      attendee_values = subst (λ (ps : List Property). AllByRecursion HasValue ps) (sym is.attendees) attendees.values;
+      attendee_keys = subst (λ (ps : List Property). IsDistinct same_text (keys_of ps)) (sym is.attendees) (subst (λ (ks : List (List ℕ)). IsDistinct same_text ks) (sym (keys_whole (lines_of lines name.Attendee))) attendees.distinct);
+      rdates = is.rdates.ascending;
+      exdates = is.exdates.ascending;
+      others = subst (λ (ls : List Line). IsTrue (list_all is_other ls)) (sym is.others) (all_others (lines_of lines name.Others) (all_named lines name.Others));
+      lines = contents_lawful lines parts is;
     }
-  where
-    small_or : (o : Option Line) (v : Option ℕ) → IsOptional IsSequenceOf o v → unwrap_or v 0 ≤ sequence_limit
-    small_or o None h = omega arith
-    small_or None (Some n) h = absurd h
-    small_or (Some l) (Some n) h = small sequence_limit l.value n h
 
 -- the moments of the set, in their order
 pub moments_of : (lines : List Line) (set : BTreeSet Moment) (moments : List Moment) → IsSetOf lines set → moments ≡ set.keys → IsOrdered moment_cmp set → AreMomentsOf lines moments
@@ -175,12 +211,41 @@ moments_of lines set moments is same ordered = record {
   each = λ m. subst (λ (ms : List Moment). Contains ms m ↔ Contains is.listed m) (sym same) (same_members set is.listed is.each m);
 }
 
+-- the draft of lines, which are lawful, is
+pub lawful_draft : (lines : List Line) (d : Draft) → IsDraftOf (lines_of lines) d → IsLawfulDraft d
+lawful_draft lines d is = λ uid stamp known stamped rdates exdates.
+    lawful_parts lines (draft_parts uid stamp d)
+    (record {
+      uid = subst (λ (v : Option (List ℕ)). IsOptional IsUidOf (first_named name.Uid lines) v) known (is name.Uid);
+      stamp = subst (λ (v : Option Stamp). IsOptional IsStampOf (first_named name.DtStamp lines) v) stamped (is name.DtStamp);
+      seq = or_nought IsSequenceOf (first_named name.Sequence lines) d.seq (is name.Sequence);
+      base = is name.DeskBase;
+      rid = is name.RecurrenceId;
+      start = is name.DtStart;
+      due = is name.Due;
+      status = is name.Status;
+      percent = is name.PercentComplete;
+      priority = is name.Priority;
+      summary = is name.Summary;
+      organizer = is name.Organizer;
+      attendees = (is name.Attendee).whole;
+      rule = is name.RRule;
+      rdates = moments_of (lines_of lines name.RDate) d.rdates d.rdates.keys (is name.RDate) refl rdates;
+      exdates = moments_of (lines_of lines name.ExDate) d.exdates d.exdates.keys (is name.ExDate) refl exdates;
+      others = is name.Others;
+    })
+    (record {
+      few = (is name.Attendee).few;
+      values = subst (λ (ps : List Property). AllByRecursion HasValue ps) (is name.Attendee).whole (is name.Attendee).values;
+      distinct = (is name.Attendee).distinct;
+    })
+
 -- a line is there where a value is read, and none where none is
-is_there : {A : Type 0} (P : Line → A → Type 0) (line : Option Line) (value : A) → IsOptional P line (Some value) → line ≢ None
+pub is_there : {A : Type 0} (P : Line → A → Type 0) (line : Option Line) (value : A) → IsOptional P line (Some value) → line ≢ None
 is_there P None value read = λ e. read
 is_there P (Some line) value read = λ e. absurd (cc)
 
-is_absent : {A : Type 0} (P : Line → A → Type 0) (line : Option Line) → IsOptional P line None → line ≡ None
+pub is_absent : {A : Type 0} (P : Line → A → Type 0) (line : Option Line) → IsOptional P line None → line ≡ None
 is_absent P None read = refl
 is_absent P (Some line) read = absurd read
 

@@ -34,7 +34,7 @@ IfFault-weaker error.NoMemory P Q more h = tt
 IfFault-weaker (error.Fault f) P Q more h = more f h
 
 -- the lines of each property, with one more
-lines_more : (above : List Line) (line : Line) (p : PropertyName) → more (lines_of above) (property_of line) line p ≡ lines_of (above ++ line ∷ []) p
+pub lines_more : (above : List Line) (line : Line) (p : PropertyName) → more (lines_of above) (property_of line) line p ≡ lines_of (above ++ line ∷ []) p
 lines_more above line p =
     (elim (is_same (property_of line) p) as (λ b. cond b (lines_of above p ++ line ∷ []) (lines_of above p) ≡ lines_of above p ++ cond b (line ∷ []) []) [
       | true ↦ refl

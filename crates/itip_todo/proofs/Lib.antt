@@ -1,8 +1,11 @@
 pub mod Commas
+pub mod ContentLines
 pub mod Contents
+pub mod Decided
 pub mod Drafting
 pub mod Empty
 pub mod Finishing
+pub mod InOrder
 pub mod GoodLines
 pub mod LawfulLines
 pub mod Listing
@@ -11,6 +14,8 @@ pub mod Putting
 pub mod ReadingLaws
 pub mod SameTodo
 pub mod Segments
+pub mod SomeTodo
+pub mod TodoOctets
 pub mod Sets
 pub mod WritingLaws
 pub mod ByProperty

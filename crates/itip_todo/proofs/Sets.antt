@@ -51,26 +51,3 @@ same_members set listed h m =
     let here = contains_any (is_at (moment_cmp m)) set.keys m (itself m) (only_at m) in
     let there = contains_any (λ x. eq_by_cmp moment_cmp x m) listed m (itself m) (only_listed m) in
     (λ k. there.1 (sym (h m) ∙ here.0 k), λ k. here.1 (h m ∙ there.0 k))
-
-found_listed : (P : Moment → Type 0) (listed : List Moment) (m : Moment) → AllByRecursion P listed → is_listed listed m ≡ true → P m
-found_listed P [] m h e = absurd cc
-found_listed P (x ∷ xs) m h e =
-    elim (eq_by_cmp moment_cmp x m) as (λ b. eq_by_cmp moment_cmp x m ≡ b → (b || is_listed xs m) ≡ true → P m) [
-      | true ↦ λ yes _. subst P (only_listed m x yes) h.0
-      | false ↦ λ _ later. found_listed P xs m h.1 later
-    ] refl e
-
-all_in : (front back : List Moment) → AllByRecursion (λ m. list_any (is_at (moment_cmp m)) (front ++ back) ≡ true) back
-all_in front [] = tt
-all_in front (m ∷ back) = (
-  list_any-append (is_at (moment_cmp m)) front (m ∷ back) ∙ ap (λ b. list_any (is_at (moment_cmp m)) front || (b || list_any (is_at (moment_cmp m)) back)) (itself m) ∙ or_true (list_any (is_at (moment_cmp m)) front),
-  subst (λ (ms : List Moment). AllByRecursion (λ k. list_any (is_at (moment_cmp k)) ms ≡ true) back) (append_assoc front (m ∷ []) back) (all_in (front ++ m ∷ []) back),
-)
-  where
-    or_true : (b : Bool) → (b || true) ≡ true
-    or_true true = refl
-    or_true false = refl
-
--- what holds of the moments that are listed holds of those of the set
-pub all_of_set : (P : Moment → Type 0) (set : BTreeSet Moment) (listed : List Moment) → ((m : Moment) → contains moment_cmp set m ≡ is_listed listed m) → AllByRecursion P listed → AllByRecursion P set.keys
-all_of_set P set listed h all = all_weaker (λ m. list_any (is_at (moment_cmp m)) set.keys ≡ true) P set.keys (λ m e. found_listed P listed m all (sym (h m) ∙ e)) (all_in [] set.keys)

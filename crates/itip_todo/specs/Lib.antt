@@ -6,6 +6,7 @@ pub mod Lawful
 pub mod PartsOf
 pub mod Values
 pub mod Reading
+pub mod Octets
 pub mod Drafts
 pub mod Participation
 pub mod Heads

@@ -1,7 +1,8 @@
 //! Writing a to-do.
-ghost use Rattle.std.specs.Prelude.{◌≡◌, ◌++◌, ◌∷◌, [], map, OnOk, OnErr};
+ghost use Rattle.std.specs.Prelude.{◌≡◌, ◌++◌, ◌∷◌, [], List, ℕ, map, OnOk, OnErr};
 ghost use Rattle.std.specs.Fmt.{decimal};
 ghost use Rattle.itip_todo.specs.Written.{content_of, contents_octets, todo_contents, head_contents, bare, plain, moment_line, property_line, optional};
+ghost use Rattle.itip_todo.specs.Octets.{AreReadAs};
 ghost use Rattle.itip_todo.specs.PartsOf.{parts_of};
 ghost use Rattle.itip_todo.specs.StatusText.{status_text};
 ghost use Rattle.itip_todo.specs.declared.property_name.PropertyName.TheVariants as name;
@@ -15,11 +16,13 @@ use itip_lines::{Line, Text, write_line, write_property};
 use itip_moment::write_stamp;
 use std::alloc::AllocError;
 
-/// Appends the canonical lines of a to-do, from BEGIN:VTODO to END:VTODO.
+/// Appends the canonical lines of a to-do, from BEGIN:VTODO to END:VTODO, which are read as this to-do.
 ///
-/// On an error, for want of memory, the vector is as before.
+/// On an error, when memory was refused, the vector is as before.
 pub fn write_todo(todo: &Todo, out: &mut Vec<u8>) -> Result<(), AllocError>
     ensures ok { OnOk result (out.new.items ≡ out.old.items ++ contents_octets (todo_contents (parts_of todo.now))) }
+    ensures read_again { OnOk result ((octets : List ℕ)
+        → out.new.items ≡ out.old.items ++ octets → AreReadAs octets todo.now) }
     ensures err { OnErr result (out.new.items ≡ out.old.items) }
 {
     let mut text = Vec::new(*out.allocator());

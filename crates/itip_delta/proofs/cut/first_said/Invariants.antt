@@ -1,5 +1,5 @@
 use Rattle.std.proofs.Common.{◌≡◌, ◌≤◌, length}
-use Rattle.itip_delta.specs.Cutting.{said, said_behind}
+use Rattle.itip_delta.specs.Scanned.{said, said_behind}
 use Rattle.itip_delta.proofs.cut.first_said.Given as goal
 
 abbrev pub invariant-loop-rest : goal.invariant-loop-rest

@@ -1,5 +1,5 @@
 use Rattle.std.proofs.Common.{◌≡◌, ◌+◌, ◌≤◌, length}
-use Rattle.itip_delta.specs.Cutting.{line_length}
+use Rattle.itip_delta.specs.Scanned.{line_length}
 use Rattle.itip_delta.proofs.cut.line_length.Given as goal
 
 abbrev pub invariant-loop-rest : goal.invariant-loop-rest

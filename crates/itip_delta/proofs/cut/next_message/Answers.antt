@@ -1,5 +1,5 @@
 use Rattle.std.proofs.Common.{Bool, ◌&&◌, ap, ◌∙◌, sym, subst}
-use Rattle.itip_delta.specs.Cutting.{is_empty}
+use Rattle.itip_delta.specs.Scanned.{is_empty}
 use Rattle.itip_delta.specs.Passing.{Passes}
 use Rattle.itip_delta.proofs.Messages.{pass_line, message_ends, no_message, last_message}
 use Rattle.itip_delta.proofs.cut.next_message.Goals as goal

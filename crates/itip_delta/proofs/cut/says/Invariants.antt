@@ -1,5 +1,5 @@
 use Rattle.std.proofs.Common.{◌≡◌, length}
-use Rattle.itip_delta.specs.Cutting.{says}
+use Rattle.itip_delta.specs.Scanned.{says}
 use Rattle.itip_delta.proofs.cut.says.Given as goal
 
 abbrev pub invariant-loop-b : goal.invariant-loop-b

@@ -1,6 +1,6 @@
 use Rattle.std.proofs.Common.{List, subst, sym}
 use Rattle.itip_message.specs.declared.item.Item.{Item}
-use Rattle.itip_delta.specs.Delta.{Continues}
+use Rattle.itip_delta.specs.Passing.{Continues}
 use Rattle.itip_delta.proofs.Deltas.{reads_more, ends_reading}
 use Rattle.itip_delta.proofs.delta.read_delta.Goals as goal
 

@@ -1,5 +1,5 @@
 use Rattle.std.proofs.Common.{length}
-use Rattle.itip_delta.specs.Delta.{Continues}
+use Rattle.itip_delta.specs.Passing.{Continues}
 use Rattle.itip_delta.proofs.delta.read_delta.Given as goal
 
 abbrev pub invariant-loop-message : goal.invariant-loop-message
