@@ -15,5 +15,6 @@ pub mod Properties
 pub mod ReadAgain
 pub mod SameItem
 pub mod SeriesSequences
+pub mod SomeMessage
 pub mod Stages
 pub mod Uids

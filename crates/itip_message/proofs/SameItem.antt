@@ -21,6 +21,7 @@ use Rattle.std.specs.List.{AllByRecursion}
 use Rattle.itip_todo.specs.PartsOf.{parts_of}
 use Rattle.itip_todo.specs.declared.todo.Todo.{Todo}
 use Rattle.itip_todo.proofs.ReadingLaws.{one_todo}
+use Rattle.itip_todo.proofs.SameTodo.{todo_of}
 use Rattle.itip_todo.proofs.WritingLaws as todo_laws
 use Rattle.itip_message.specs.Items.{Draft, draft_of, drafts, drafts_of, task_draft, add_drafts, attendee_draft, instance_sequence, kind_of, IsItem, canonical_contents, canonical_octets, method_of, method_text, bare}
 use Rattle.itip_message.specs.Head.{method_named}
@@ -131,28 +132,6 @@ same_inner k l p q e = append_cancel_right (parts_contents p) (parts_contents q)
 
 same_method_text : (k l : Kind) (p q : Parts) → canonical_contents k p ≡ canonical_contents l q → method_text (method_of k) ≡ method_text (method_of l)
 same_method_text k l p q e = ap (λ (cs : List Content). value_of (behind (behind (behind cs)))) e
-
-abbrev todo_of : (p : Parts) → IsLawful p → Todo
-todo_of p h = record {
-  uid = p.uid;
-  stamp = p.stamp;
-  seq = p.seq;
-  base = p.base;
-  rid = p.rid;
-  start = p.start;
-  due = p.due;
-  status = p.status;
-  percent = p.percent;
-  priority = p.priority;
-  summary = p.summary;
-  organizer = p.organizer;
-  attendees = p.attendees;
-  rule = p.rule;
-  rdates = p.rdates;
-  exdates = p.exdates;
-  others = p.others;
-  lawful = h;
-}
 
 -- to-dos are known by their lines
 same_lines : (a b : Todo) → parts_contents (parts_of a) ≡ parts_contents (parts_of b) → a ≡ b

@@ -1,5 +1,5 @@
 //! What holds of items. The functions do nothing: their contracts are the laws.
-ghost use Rattle.std.specs.Prelude.{◌≡◌, ◌∷◌, [], List, ℕ};
+ghost use Rattle.std.specs.Prelude.{◌≡◌, ◌⊎◌, ◌∷◌, [], List, ℕ};
 ghost use Rattle.std.specs.Cmp.{IsTotalOrder};
 ghost use Rattle.std.proofs.lemmas.Map.Lookups.{CmpEqualImpliesEq};
 ghost use Rattle.itip_message.specs.Later.{revision_cmp};
@@ -19,6 +19,8 @@ pub fn read_again()
 
 /// A text is read as one list of items, or it is refused for one cause, and not both.
 pub fn one_reading()
+    ensures some { (bytes : List ℕ)
+        → ((items : List Item) × ReadsMessage bytes items) ⊎ ((fault : Fault) × RefusesMessage bytes fault) }
     ensures items { (bytes : List ℕ) (items others : List Item)
         → ReadsMessage bytes items → ReadsMessage bytes others → items ≡ others }
     ensures fault { (bytes : List ℕ) (fault other : Fault)

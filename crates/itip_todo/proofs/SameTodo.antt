@@ -1,7 +1,8 @@
--- To-dos with the same parts are one.
+-- To-dos with the same parts are one, and lawful parts are a to-do's.
 use Rattle.std.proofs.Common.{◌≡◌}
 use mathlib.Core.HLevel.{is_prop→PathP}
 use Rattle.itip_todo.specs.Lawful.{IsLawful, IsLawful-prop}
+use Rattle.itip_todo.specs.Parts.{Parts}
 use Rattle.itip_todo.specs.PartsOf.{parts_of}
 use Rattle.itip_todo.specs.declared.todo.Todo.{Todo}
 
@@ -25,4 +26,27 @@ same_todo a b e = λ i. record {
   exdates = (e i).exdates;
   others = (e i).others;
   lawful = is_prop→PathP (λ j. IsLawful (e j)) (λ j. IsLawful-prop (e j)) a.lawful b.lawful i;
+}
+
+-- the to-do of lawful parts
+abbrev pub todo_of : (parts : Parts) → IsLawful parts → Todo
+todo_of p h = record {
+  uid = p.uid;
+  stamp = p.stamp;
+  seq = p.seq;
+  base = p.base;
+  rid = p.rid;
+  start = p.start;
+  due = p.due;
+  status = p.status;
+  percent = p.percent;
+  priority = p.priority;
+  summary = p.summary;
+  organizer = p.organizer;
+  attendees = p.attendees;
+  rule = p.rule;
+  rdates = p.rdates;
+  exdates = p.exdates;
+  others = p.others;
+  lawful = h;
 }

@@ -30,6 +30,7 @@ use Rattle.itip_todo.proofs.Finishing.{AreParts, AreAttendees, lawful_parts, is_
 use Rattle.itip_todo.proofs.GoodLines.{lines_more}
 use Rattle.itip_todo.proofs.InOrder.{in_order, in_contained, contained_in}
 use Rattle.itip_todo.proofs.Names.{same_is}
+use Rattle.itip_todo.proofs.SameTodo.{todo_of}
 use Rattle.itip_todo.proofs.Segments.{all_append}
 
 -- ---- a line is good, or has a fault
@@ -139,30 +140,7 @@ no_attendees = record { few = omega arith; values = tt; distinct = tt }
 
 -- ---- the to-do
 
-todo_of : (parts : Parts) → IsLawful parts → Todo
-todo_of p h = record {
-  uid = p.uid;
-  stamp = p.stamp;
-  seq = p.seq;
-  base = p.base;
-  rid = p.rid;
-  start = p.start;
-  due = p.due;
-  status = p.status;
-  percent = p.percent;
-  priority = p.priority;
-  summary = p.summary;
-  organizer = p.organizer;
-  attendees = p.attendees;
-  rule = p.rule;
-  rdates = p.rdates;
-  exdates = p.exdates;
-  others = p.others;
-  lawful = h;
-}
-
 reads : (lines : List Line) (parts : Parts) → AreGood [] lines → AreParts lines parts → (todo : Todo) × ReadsTodo lines todo
-unfolding todo_of
 reads lines parts good is = (
   todo_of parts (lawful_parts lines parts is (attendees_of [] lines no_attendees good)),
   record {

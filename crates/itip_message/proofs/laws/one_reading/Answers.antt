@@ -1,5 +1,9 @@
 use Rattle.itip_message.proofs.laws.one_reading.Goals as goal
 use Rattle.itip_message.proofs.OneMessage.{one_message, one_cause, message_apart}
+use Rattle.itip_message.proofs.SomeMessage.{some_message}
+
+pub returns-clause-some : goal.returns-clause-some
+returns-clause-some c = some_message
 
 pub returns-clause-items : goal.returns-clause-items
 returns-clause-items c = one_message

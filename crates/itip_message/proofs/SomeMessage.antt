@@ -1,0 +1,181 @@
+-- A text is a message, or it is refused.
+use Rattle.std.proofs.Common.{◌≡◌, refl, ℕ, zero, suc, ◌<◌, ◌≤◌, List, [], ◌∷◌, ◌++◌, length, map, get_or, arith, subst, inl, inr, ◌⊎◌, true, Option, Some, None, Ok, Err}
+use Rattle.std.specs.Prelude.{Result}
+use Rattle.std.specs.List.{AllByRecursion, Any, flat_map}
+use Rattle.std.proofs.lemmas.Bool.Decides.{leb_tells}
+use Rattle.itip_lines.specs.Reading as lines
+use Rattle.itip_lines.specs.declared.line.Line.{Line}
+use Rattle.itip_lines.proofs.Decided.{reads_or_refused}
+use Rattle.itip_moment.specs.declared.moment.Moment.{Moment}
+use Rattle.itip_todo.specs.Lawful.{IsLawful}
+use Rattle.itip_todo.specs.Parts.{Parts}
+use Rattle.itip_todo.specs.PartsOf.{parts_of}
+use Rattle.itip_todo.specs.Reading.{ReadsTodo}
+use Rattle.itip_todo.specs.declared.property.Property.{Property}
+use Rattle.itip_todo.specs.declared.todo.Todo.{Todo}
+use Rattle.itip_todo.proofs.SameTodo.{todo_of}
+use Rattle.itip_todo.proofs.SomeTodo.{some_todo}
+use Rattle.itip_message.specs.Faults.{of_lines, of_todo}
+use Rattle.itip_message.specs.Frame.{frame, todos}
+use Rattle.itip_message.specs.Head.{head}
+use Rattle.itip_message.specs.Items.{Draft, drafts, drafts_of, task_draft, add_drafts, attendee_draft, only_of, kind_of, raised, series_sequence, is_task, canonical_base, canonical_contents, canonical_octets, Sends, IsCanonical, IsWithinLimits}
+use Rattle.itip_message.specs.Needs.{method_fault, Suits}
+use Rattle.itip_message.specs.Message.{ReadsComponent, RefusesComponent, AreComponents, FirstRefused, IsItemOf, AreItemsOf, drafts_among, HasHead, ReadsMessage, RefusesMessage, at_lines, at_frame, at_head, at_component, at_canonical_form}
+use Rattle.itip_message.specs.declared.frame.Placed.{Placed}
+use Rattle.itip_message.specs.declared.item.Item.{Item}
+use Rattle.itip_message.specs.declared.kind.Kind.{Kind}
+use Rattle.itip_message.specs.declared.kind.Kind.TheVariants as kind
+use Rattle.itip_message.specs.declared.kind.Method.{Method}
+use Rattle.itip_message.specs.declared.kind.Method.TheVariants as method
+use Rattle.itip_message.specs.declared.error.Fault.{Fault}
+use Rattle.itip_message.specs.declared.error.Fault.TheVariants as fault
+use Rattle.itip_message.proofs.Drafting.{sends, series_canonical, instance_canonical, add_canonical, attendee_canonical}
+use Rattle.itip_message.proofs.Lawfulness.{base_lawful, raised_small, canonical_small, series_small, only_each}
+use Rattle.itip_message.proofs.Properties.{framed_suit}
+
+-- ---- components
+
+decide_component : (m : Method) (ls : List Line) → ((todo : Todo) × ReadsComponent m ls todo) ⊎ ((f : Fault) × RefusesComponent m ls f)
+decide_component m ls =
+    elim (some_todo ls) [
+      | inr refused ↦ inr (of_todo refused.0, inl (refused.0, refused.1, refl))
+      | inl read ↦ fitting read.0 read.1 (method_fault m (parts_of read.0)) refl
+    ]
+  where
+    fitting : (todo : Todo) → ReadsTodo ls todo → (o : Option Fault) → method_fault m (parts_of todo) ≡ o → ((t : Todo) × ReadsComponent m ls t) ⊎ ((f : Fault) × RefusesComponent m ls f)
+    fitting todo reads None e = inl (todo, record { reads = reads; fits = e })
+    fitting todo reads (Some f) e = inr (f, inr (todo, reads, e))
+
+decide_components : (m : Method) (all : List (List Line)) → ((todos : List Todo) × AreComponents m all todos) ⊎ ((f : Fault) × FirstRefused m all f)
+decide_components m [] = inl ([], tt)
+decide_components m (ls ∷ all) =
+    elim (decide_component m ls) [
+      | inr refused ↦ inr (refused.0, inl refused.1)
+      | inl first ↦ elim (decide_components m all) [
+        | inr refused ↦ inr (refused.0, inr (first, refused.1))
+        | inl more ↦ inl (first.0 ∷ more.0, (first.1, more.1))
+      ]
+    ]
+
+-- ---- limits
+
+decide_draft : (draft : Draft) → IsWithinLimits draft ⊎ (IsWithinLimits draft → ⊥)
+decide_draft draft =
+    elim (leb_tells (length (canonical_octets draft.kind draft.parts)) 262144) [
+      | inr long ↦ inr (λ h. omega (arith, long.1, h.octets))
+      | inl short ↦ elim (leb_tells (length (canonical_contents draft.kind draft.parts)) 20000) [
+        | inr many ↦ inr (λ h. omega (arith, many.1, h.lines))
+        | inl few ↦ inl (record { octets = short.1; lines = few.1 })
+      ]
+    ]
+
+decide_drafts : (ds : List Draft) → AllByRecursion IsWithinLimits ds ⊎ Any (λ draft. ¬ IsWithinLimits draft) ds
+decide_drafts [] = inl tt
+decide_drafts (d ∷ ds) =
+    elim (decide_draft d) [
+      | inr over ↦ inr (0, d, omega arith, refl, over)
+      | inl within ↦ elim (decide_drafts ds) [
+        | inl more ↦ inl (within, more)
+        | inr (k, x, less, at, over) ↦ inr (suc k, x, omega arith, at, over)
+      ]
+    ]
+
+-- ---- each draft is that of an item
+
+record IsSound (d : Draft) : Type 0 where
+  canonical : IsCanonical d
+  lawful : IsLawful d.parts
+
+abbrev AreSound : List Draft → Type 0
+AreSound ds = AllByRecursion IsSound ds
+
+sound_both : (ds es : List Draft) → AreSound ds → AreSound es → AreSound (ds ++ es)
+sound_both [] es h k = k
+sound_both (d ∷ ds) es h k = (h.0, sound_both ds es h.1 k)
+
+module _ (p : Parts) (above : ℕ) (small : above ≤ 2147483647) (lawful : IsLawful p) where
+  based : IsLawful (record p { base = canonical_base p.seq (raised p above) })
+  based = base_lawful p (canonical_base p.seq (raised p above)) lawful (canonical_small p.seq (raised p above) (raised_small p above lawful small))
+
+  task_sound : (k : Kind) → Sends k p → is_task k ≡ true → (r : Option Moment) → p.rid ≡ r → AreSound (task_draft k (raised p above) r p ∷ [])
+  task_sound k h task None e = (record { canonical = series_canonical k p h task e; lawful = base_lawful p None lawful (λ n same. absurd cc) }, tt)
+  task_sound k h task (Some id) e = (record { canonical = instance_canonical k p id above h task e; lawful = based }, tt)
+
+  add_sound : Suits (method.Add) p → (s : Option Moment) → p.start ≡ s → AreSound (add_drafts (raised p above) s p)
+  add_sound h None e = tt
+  add_sound h (Some id) e = (record { canonical = add_canonical p id above h e; lawful = based }, tt)
+
+  attendees_sound : (k : Kind) → ((a : Property) → IsCanonical (attendee_draft k p a)) → (list : List Property) → AllByRecursion (λ a. IsLawful (only_of a p)) list → AreSound (map (attendee_draft k p) list)
+  attendees_sound k canonical [] h = tt
+  attendees_sound k canonical (a ∷ list) h = (record { canonical = canonical a; lawful = h.0 }, attendees_sound k canonical list h.1)
+
+  drafts_sound : (k : Kind) → Sends k p → AreSound (drafts_of k (raised p above) p)
+  drafts_sound kind.Request h = task_sound kind.Request h refl p.rid refl
+  drafts_sound kind.Cancel h = task_sound kind.Cancel h refl p.rid refl
+  drafts_sound kind.Add h = add_sound h.suits p.start refl
+  drafts_sound kind.Remove h = attendees_sound kind.Remove (λ a. attendee_canonical kind.Remove p a h refl (λ e. cc)) p.attendees (only_each p lawful)
+  drafts_sound kind.Reply h = attendees_sound kind.Reply (λ a. attendee_canonical kind.Reply p a h refl (λ e. cc)) p.attendees (only_each p lawful)
+  drafts_sound kind.Refresh h = attendees_sound kind.Refresh (λ a. attendee_canonical kind.Refresh p a h refl (λ e. cc)) p.attendees (only_each p lawful)
+
+among_sound : (m : Method) (all rest : List Todo) → AllByRecursion (Suits m) (map parts_of rest) → AreSound (drafts_among m (map parts_of all) (map parts_of rest))
+among_sound m all [] h = tt
+among_sound m all (todo ∷ rest) h =
+    let above : ℕ = series_sequence m todo.uid (map parts_of all) in
+    sound_both (drafts_of (kind_of m (parts_of todo)) (raised (parts_of todo) above) (parts_of todo)) (drafts_among m (map parts_of all) (map parts_of rest))
+    (drafts_sound (parts_of todo) above (series_small m todo.uid all) todo.lawful (kind_of m (parts_of todo)) (sends m (parts_of todo) h.0)) (among_sound m all rest h.1)
+
+item_of : (d : Draft) → IsSound d → IsWithinLimits d → (item : Item) × IsItemOf d item
+item_of d h within = (
+  record {
+    key = d.key;
+    own = d.parts.seq;
+    eff = d.eff;
+    stamp = d.parts.stamp;
+    bytes = canonical_octets d.kind d.parts;
+    todo = todo_of d.parts h.lawful;
+    kind = d.kind;
+    canonical = ∣ record { is_canonical = h.canonical; within = within; own_is = refl; stamp_is = refl; bytes_are = refl } ∣₁;
+  },
+  record { key_is = refl; kind_is = refl; eff_is = refl; parts_are = refl; own_is = refl; stamp_is = refl; bytes_are = refl },
+)
+
+items_of : (ds : List Draft) → AreSound ds → AllByRecursion IsWithinLimits ds → (items : List Item) × AreItemsOf ds items
+items_of [] h within = ([], tt)
+items_of (d ∷ ds) h within =
+    let first = item_of d h.0 within.0 in let more = items_of ds h.1 within.1 in (first.0 ∷ more.0, (first.1, more.1))
+
+-- ---- the stages, from the last to the first
+
+abbrev ReadOrRefused : List ℕ → Type 0
+ReadOrRefused bytes = ((items : List Item) × ReadsMessage bytes items) ⊎ ((f : Fault) × RefusesMessage bytes f)
+
+module _ (bytes : List ℕ) (content : List Line) (reads : lines.Reads bytes content) where
+  with_components : (placed : List Placed) (m : Method) (all : List Todo) → frame content ≡ Ok placed → HasHead bytes m (todos placed) → AreComponents m (todos placed) all → ReadOrRefused bytes
+  with_components placed m all framed has are =
+      elim (decide_drafts (drafts m (map parts_of all))) [
+        | inr over ↦ inr (fault.TooMany, at_canonical_form (record { method_is = m; components = todos placed; all = all; begins = has; read = are; over = over }))
+        | inl within ↦
+            let items = items_of (drafts m (map parts_of all)) (among_sound m all all (framed_suit m content placed all framed are)) within in
+            inl (items.0, record { method_is = m; components = todos placed; all = all; begins = has; read = are; within = within; items_are = items.1 })
+      ]
+
+  with_head : (placed : List Placed) → frame content ≡ Ok placed → (r : Result Method Fault) → head placed ≡ r → ReadOrRefused bytes
+  with_head placed framed (Err f) e = inr (f, at_head content placed f reads framed e)
+  with_head placed framed (Ok m) e =
+      let has : HasHead bytes m (todos placed) = record { content = content; placed = placed; reads = reads; framed = framed; headed = e; components_are = refl } in
+      elim (decide_components m (todos placed)) [
+        | inr refused ↦ inr (refused.0, at_component m (todos placed) refused.0 has refused.1)
+        | inl read ↦ with_components placed m read.0 framed has read.1
+      ]
+
+  with_frame : (r : Result (List Placed) Fault) → frame content ≡ r → ReadOrRefused bytes
+  with_frame (Err f) e = inr (f, at_frame content f reads e)
+  with_frame (Ok placed) e = with_head placed e (head placed) refl
+
+-- octets are read as items, or they are refused
+pub some_message : (bytes : List ℕ) → ((items : List Item) × ReadsMessage bytes items) ⊎ ((f : Fault) × RefusesMessage bytes f)
+some_message bytes =
+    elim (reads_or_refused bytes) [
+      | inr refused ↦ inr (of_lines refused.0, at_lines refused.0 refused.1)
+      | inl read ↦ with_frame bytes read.0 read.1 (frame read.0) refl
+    ]
