@@ -138,6 +138,10 @@ written_read batch ascend = record {
   batch_is = subst (λ (is : List Item). IsItemsOf batch is) (sym (concat_alone batch)) (record { ascend = ascend; same = λ item. (λ h. h, λ h. h) });
 }
 
+-- octets that are those of a batch are read as this batch
+pub written_so : (bytes : List ℕ) (batch : List Item) → AscendOctets batch → bytes ≡ delta_octets batch → ReadsDelta bytes batch
+written_so bytes batch ascend is = subst (λ (t : List ℕ). ReadsDelta t batch) (sym is) (written_read batch ascend)
+
 -- ---- one reading
 
 octets_apart : (a b : Item) → slice_cmp nat_cmp a.bytes b.bytes ≡ Less → slice_cmp nat_cmp b.bytes a.bytes ≡ Less → ⊥

@@ -10,5 +10,6 @@ mod OneCut
 pub mod Packets
 mod Plain
 pub mod Running
+mod SomeDelta
 mod Swaps
 mod Unfolding

@@ -9,9 +9,10 @@ use itip_desk::Batch;
 use itip_message::{ReadError, read_message};
 use std::alloc::Global;
 
-/// The canonical octets of the items, in their order (our own format).
+/// The canonical octets of the items, in their order (our own format). They are read as this batch.
 pub fn write_delta(alloc: Global, batch: &Batch) -> Result<Vec<u8>, NoMemory>
-    ensures { IfOk result (λ octets. octets.items ≡ delta_octets batch.now) }
+    ensures octets { IfOk result (λ octets. octets.items ≡ delta_octets batch.now) }
+    ensures read_again { IfOk result (λ octets. ReadsDelta octets.items batch.now) }
 {
     let mut octets = Vec::new(alloc);
     for item in batch.as_slice() {
@@ -24,7 +25,7 @@ pub fn write_delta(alloc: Global, batch: &Batch) -> Result<Vec<u8>, NoMemory>
 ///
 /// The octets are cut behind each line that is END:VCALENDAR, unfolded and without regard to case, and each piece is
 /// read as a message, with limits and line numbers of its own. Empty lines behind the last are no piece. The first
-/// piece that is refused decides; a delta as a whole has no limit. Want of memory is answered only where a growth was refused.
+/// piece that is refused decides; a delta as a whole has no limit. Out of memory is answered only where a growth was refused.
 pub fn read_delta(alloc: Global, octets: &[u8]) -> Result<Batch, ReadError>
     ensures found { IfOk result (ReadsDelta octets.now) }
     ensures fault { IfErr result (λ e. IfFault e (RefusesDelta octets.now)) }

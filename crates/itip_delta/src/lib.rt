@@ -12,7 +12,7 @@ mod world;
 
 pub use delta::{read_delta, write_delta};
 pub use event::{Event, Reply};
-pub use laws::{delta_read_again, one_delta};
+pub use laws::{delta_cutting, delta_read_again, one_delta};
 pub use packet::Packet;
 pub use run::run_world;
 pub use std::alloc::AllocError as NoMemory;

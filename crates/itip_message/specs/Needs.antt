@@ -1,12 +1,13 @@
 -- What a method needs of a to-do beside UID and DTSTAMP (our own rule).
-use Rattle.std.specs.Prelude.{◌≡◌, Bool, true, false, ◌||◌, not, IsTrue, List, [], ◌∷◌, codes, Option, Some, None}
+use Rattle.std.specs.Prelude.{◌≡◌, Bool, true, false, ◌||◌, not, IsTrue, List, [], ◌∷◌, Option, Some, None}
 use Rattle.std.specs.Option.{is_some}
-use Rattle.std.specs.List.{list_any, list_all}
+use Rattle.std.specs.List.{list_all}
 use Rattle.itip_lines.specs.declared.line.Line.{Line}
 use Rattle.itip_todo.specs.Parts.{Parts}
+use Rattle.itip_todo.specs.Table.{has_period}
 use Rattle.itip_todo.specs.declared.property.Property.{Property}
 use Rattle.itip_todo.specs.declared.property_name.PropertyName.TheVariants as name
-use Rattle.itip_message.specs.Frame.{same_text, is_begin, is_end}
+use Rattle.itip_message.specs.Frame.{is_begin, is_end}
 use Rattle.itip_message.specs.declared.kind.Method.{Method}
 use Rattle.itip_message.specs.declared.kind.Method.TheVariants as method
 use Rattle.itip_message.specs.declared.error.Fault.{Fault}
@@ -16,13 +17,9 @@ abbrev pub has_some : {A : Type 0} → List A → Bool
 has_some [] = false
 has_some (x ∷ xs) = true
 
--- a line of RDATE
-abbrev pub is_rdate : Line → Bool
-is_rdate line = same_text line.name (codes "RDATE")
-
 -- The to-do is of an instance or recurs: it has RECURRENCE-ID, RRULE or RDATE. RDATE with `/` in its value stands among the others.
 abbrev pub recurs : Parts → Bool
-recurs parts = is_some parts.rid || (has_some parts.rule || (has_some parts.rdates || list_any is_rdate parts.others))
+recurs parts = is_some parts.rid || (has_some parts.rule || (has_some parts.rdates || has_period parts.others))
 
 abbrev pub when : Bool → Fault → Option Fault
 when true f = Some f

@@ -2,14 +2,12 @@
 ghost use Rattle.std.specs.Prelude.{◌≡◌, IfOk};
 ghost use Rattle.itip_todo.specs.Lawful.{IsLawful};
 ghost use Rattle.itip_todo.specs.PartsOf.{parts_of};
-ghost use Rattle.itip_todo.specs.Table as table;
 ghost use Rattle.itip_message.specs.Items.{only_of, attendee_key_of, refreshes};
 
 use crate::key::Key;
 use crate::kind::Kind;
-use itip_lines::{ListOf, NoMemory, Text};
-use itip_moment::Moment;
-use itip_todo::{Property, Todo};
+use itip_lines::{ListOf, NoMemory};
+use itip_todo::{Property, Todo, attendee_key};
 use std::alloc::Global;
 
 /// The one attendee that it is of, and few properties (our own rule).
@@ -24,14 +22,14 @@ pub(crate) fn only_of(alloc: Global, attendee: &Property, todo: &Todo) -> Result
         stamp: todo.stamp,
         seq: todo.seq,
         base: None,
-        rid: copy_moment(&todo.rid)?,
+        rid: todo.rid.clone()?,
         start: None,
         due: None,
         status: todo.status,
         percent: todo.percent,
         priority: None,
         summary: None,
-        organizer: copy_property(&todo.organizer)?,
+        organizer: todo.organizer.clone()?,
         attendees: ListOf::from_vec(attendees),
         rule: ListOf::new(alloc),
         rdates: ListOf::new(alloc),
@@ -41,12 +39,17 @@ pub(crate) fn only_of(alloc: Global, attendee: &Property, todo: &Todo) -> Result
 }
 
 /// The key of what an attendee answers, or wants.
-pub(crate) fn attendee_key(kind: Kind, todo: &Todo, attendee: &Property) -> Result<Key, NoMemory>
+pub(crate) fn key_of(
+    alloc: Global,
+    kind: Kind,
+    todo: &Todo,
+    attendee: &Property,
+) -> Result<Key, NoMemory>
     ensures { IfOk result (λ key. key ≡ attendee_key_of kind (parts_of todo.now) attendee.now) }
 {
     let uid = todo.uid.clone()?;
-    let rid = copy_moment(&todo.rid)?;
-    let name = lower_case(&attendee.value)?;
+    let rid = todo.rid.clone()?;
+    let name = attendee_key(alloc, attendee.value.as_str())?;
     if refreshes(kind) {
         Ok(Key::Refresh(uid, rid, name))
     } else {
@@ -59,31 +62,4 @@ fn refreshes(kind: Kind) -> bool
     ensures { result ≡ refreshes kind }
 {
     kind == Kind::Refresh
-}
-
-/// The key of an attendee: the address with ASCII letters in lower case.
-fn lower_case(address: &Text) -> Result<Text, NoMemory>
-    ensures { IfOk result (λ name. name ≡ table.attendee_key address.now) }
-{
-    let mut name = address.clone()?.into_string();
-    name.make_ascii_lowercase();
-    Ok(Text::new(name))
-}
-
-fn copy_moment(moment: &Option<Moment>) -> Result<Option<Moment>, NoMemory>
-    ensures { IfOk result (λ copy. copy ≡ moment.now) }
-{
-    match moment {
-        Some(moment) => Ok(Some(moment.clone()?)),
-        None => Ok(None),
-    }
-}
-
-fn copy_property(property: &Option<Property>) -> Result<Option<Property>, NoMemory>
-    ensures { IfOk result (λ copy. copy ≡ property.now) }
-{
-    match property {
-        Some(property) => Ok(Some(property.clone()?)),
-        None => Ok(None),
-    }
 }

@@ -36,13 +36,13 @@ pub enum Fault {
     #[error("there is no to-do")]
     NoTodo,
     /// The property has to be there, and is not.
-    #[error("{0:?} is missing")]
+    #[error("{0} is missing")]
     Missing(PropertyName),
     /// The property may stand once, and stands again.
-    #[error("{0:?} stands twice")]
+    #[error("{0} stands twice")]
     Twice(PropertyName),
     /// The value is not one that the property may have.
-    #[error("{0:?} has a bad value")]
+    #[error("{0} has a bad value")]
     BadValue(PropertyName),
     /// RECURRENCE-ID has a RANGE parameter.
     #[error("RECURRENCE-ID has a RANGE parameter")]

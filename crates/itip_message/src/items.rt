@@ -10,7 +10,7 @@ ghost use Rattle.itip_message.specs.Items.{drafts, drafts_of, kind_of, raised, t
 ghost use Rattle.itip_message.specs.Message.{GivesItems, IsOver, Adds, Gives};
 ghost use Rattle.itip_message.specs.declared.kind.Kind.TheVariants as kinds;
 
-use crate::attendee::{attendee_key, only_of};
+use crate::attendee::{key_of, only_of};
 use crate::canonical::finish_item;
 use crate::error::ReadError;
 use crate::item::Item;
@@ -147,7 +147,7 @@ fn attendee_item(
     ensures found { IfOk result (Gives (attendee_draft kind (parts_of todo.now) attendee.now)) }
     ensures fault { IfErr result (λ e. IfFault e (IsOver (attendee_draft kind (parts_of todo.now) attendee.now ∷ []))) }
 {
-    let key = attendee_key(kind, todo, attendee)?;
+    let key = key_of(alloc, kind, todo, attendee)?;
     let only = only_of(alloc, attendee, todo)?;
     finish_item(alloc, kind, key, todo.seq, only)
 }

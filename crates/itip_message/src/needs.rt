@@ -1,13 +1,12 @@
 //! What a method needs of a to-do beside UID and DTSTAMP.
 ghost use Rattle.std.specs.Prelude.{◌≡◌};
-ghost use Rattle.std.specs.List.{list_any};
 ghost use Rattle.itip_todo.specs.PartsOf.{parts_of};
-ghost use Rattle.itip_message.specs.Needs.{method_fault, recurs, is_rdate, has_some, wants_some, wants_one};
+ghost use Rattle.itip_message.specs.Needs.{method_fault, recurs, has_some, wants_some, wants_one};
 
 use crate::error::Fault;
 use crate::kind::Method;
-use itip_lines::{Line, ListOf};
-use itip_todo::{Property, PropertyName, Todo};
+use itip_lines::ListOf;
+use itip_todo::{Property, PropertyName, Todo, has_period};
 
 /// The fault of a to-do that is not what its method needs (our own rule).
 pub(crate) fn method_fault(method: Method, todo: &Todo) -> Option<Fault>
@@ -36,19 +35,13 @@ fn recurs(todo: &Todo) -> bool
     todo.rid.is_some()
         || has_some(&todo.rule)
         || has_some(&todo.rdates)
-        || has_rdate(todo.others.as_slice())
+        || has_period(todo.others.as_slice())
 }
 
 fn has_some<T>(list: &ListOf<T>) -> bool
     ensures { result ≡ has_some list.now }
 {
     !list.is_empty()
-}
-
-fn has_rdate(lines: &[Line]) -> bool
-    ensures { result ≡ list_any is_rdate lines.now }
-{
-    lines.iter().any(|line| line.name.as_str() == "RDATE")
 }
 
 fn wants_some(attendees: &[Property]) -> Option<Fault>

@@ -130,12 +130,6 @@ same_date date day h e =
       number = e;
     }
 
-epoch : days_from_civil (pos 1970) 1 1 ≡ pos 0
-epoch = omega (arith, signed_arith, days_from_civil-day_count (pos 1970) 1 1, day_count-epoch)
-
--- 1970-01-01 has the number 0
-pub epoch_day-epoch : (d : CalendarDate) → IsYmd (pos 1970) (pos 1) (pos 1) d → epoch_day d ≡ pos 0
-epoch_day-epoch d (y, m, k) =
-    let month : d.month ≡ 1 = cc in
-    let day : d.day ≡ 1 = cc in
-    rw (y, month, day) epoch
+-- its year has four digits
+pub year_high : (day : ℤ) → IsDayNumber day → (date_of day).year ≤ 9999
+year_high day h = year-bound (date_of day) day (date_of-IsDateAt day h) h

@@ -1,12 +1,9 @@
 ghost use Rattle.std.specs.Prelude.{◌≡◌, ◌<◌, ◌++◌, ◌∷◌, [], OnOk, OnErr};
-ghost use Rattle.jiff.specs.Words.{epoch_day};
 ghost use Rattle.itip_moment.specs.Digits.{two_digits};
 ghost use Rattle.itip_moment.specs.Years.{IsDayNumber};
-ghost use Rattle.itip_moment.specs.Written.{date_of, date_text, clock_text, local_text, stamp_text, moment_text};
+ghost use Rattle.itip_moment.specs.Written.{date_text, clock_text, local_text, stamp_text, moment_text};
 
-use crate::{Moment, NoMemory, Stamp};
-use jiff::ToSpan;
-use jiff::civil::{self, Date};
+use crate::{Day, Moment, NoMemory, Stamp};
 
 /// Appends the text of a stamp, `YYYYMMDDTHHMMSSZ` (RFC 5545 3.3.5).
 ///
@@ -50,7 +47,7 @@ fn date_bytes(day: i32) -> [u8; 8]
     requires { IsDayNumber day }
     ensures { result ≡ date_text day }
 {
-    let (year, month, day) = year_month_day(day);
+    let (year, month, day) = Day { number: day }.year_month_day();
     let [y1, y2] = digit_bytes((year / 100) as u8);
     let [y3, y4] = digit_bytes((year % 100) as u8);
     let [m1, m2] = digit_bytes(month);
@@ -73,24 +70,4 @@ fn digit_bytes(n: u8) -> [u8; 2]
     ensures { result ≡ two_digits n }
 {
     [b'0' + n / 10, b'0' + n % 10]
-}
-
-fn year_month_day(day: i32) -> (u16, u8, u8)
-    requires { IsDayNumber day }
-    ensures year { result.0 ≡ (date_of day).year }
-    ensures month { result.1 ≡ (date_of day).month }
-    ensures day { result.2 ≡ (date_of day).day }
-    ensures bounds { (result.0 < 10_000) × (result.1 < 100) × (result.2 < 100) }
-{
-    let date = calendar_date(day);
-    (date.year() as u16, date.month() as u8, date.day() as u8)
-}
-
-fn calendar_date(day: i32) -> Date
-    requires { IsDayNumber day }
-    ensures { epoch_day result ≡ day }
-{
-    civil::date(1970, 1, 1)
-        .checked_add((day as i64).days())
-        .unwrap()
 }

@@ -4,21 +4,26 @@ use Rattle.jiff.specs.Types.{Date}
 use Rattle.jiff.specs.Words.{epoch_day}
 use Rattle.jiff_core.proofs.SignedLemmas.{signed_arith}
 use Rattle.itip_moment.specs.Years.{IsDayNumber}
-use Rattle.itip_moment.proofs.Calendar.{calendar_date, same_date, epoch_day-in_years}
-use Rattle.itip_recur.specs.Calendar.{days_from_zero, year_number, month_number, month_of_year, IsDateOf}
+use Rattle.itip_moment.proofs.Calendar as calendar
+use Rattle.itip_moment.proofs.Calendar.{same_date, epoch_day-in_years}
+use Rattle.itip_recur.specs.Calendar.{days_from_zero, year_number, month_number, month_of_year, day_of_month}
 use Rattle.itip_recur.proofs.Dates.{date_of-IsPlain, first_of_month}
 
-pub date_is : (date : Date) (day : ℤ) → IsDayNumber day → epoch_day date ≡ day → IsDateOf day date
+-- the calendar's date of the day
+record IsDateOf (day : ℤ) (date : Date) : Type 0 where
+  year : date.year ≡ pos (year_number day)
+  month : date.month ≡ month_of_year day
+  day_of_month : date.day ≡ day_of_month day
+
+date_is : (date : Date) (day : ℤ) → IsDayNumber day → epoch_day date ≡ day → IsDateOf day date
 unfolding days_from_zero
 date_is date day in_years same =
     let is = same_date date day in_years same in
     record { year = is.year; month = is.month; day_of_month = is.day_of_month }
 
-pub year_high : (day : ℤ) → IsDayNumber day → year_number day ≤ 9999
+year_high : (day : ℤ) → IsDayNumber day → year_number day ≤ 9999
 unfolding days_from_zero
-year_high day in_years =
-    let one = calendar_date day in_years in
-    omega (arith, signed_arith, one.1.year, one.0.year_in)
+year_high day in_years = calendar.year_high day in_years
 
 -- no day lies in a month of the years after 9999
 pub month_high : (month : ℕ) → 9999 < (month - 1) / 12 → (day : ℤ) → IsDayNumber day → month_number day < month

@@ -5,7 +5,8 @@ use Rattle.itip_lines.specs.declared.line.Line.{Line}
 use Rattle.itip_moment.specs.declared.moment.Moment.{Moment}
 use Rattle.itip_recur.specs.declared.rule.Rule.{Rule}
 use Rattle.itip_recur.specs.RuleText.{RuleText}
-use Rattle.itip_recur.specs.ToDoShape.{has_period, EndFits, IsRuleOf}
+use Rattle.itip_todo.specs.Table.{has_period}
+use Rattle.itip_recur.specs.ToDoShape.{EndFits, IsRuleOf}
 use Rattle.itip_recur.specs.Given.{are_given}
 
 some_is : {A : Type 0} (x : A) (xs : List A) → not (length (x ∷ xs) == 0) ≡ true

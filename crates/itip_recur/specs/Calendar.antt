@@ -1,7 +1,6 @@
 -- The weekday, the week, the month and the year of a day, which is given by its number from 1970-01-01 (Gregorian calendar, our own form).
-use Rattle.std.specs.Prelude.{◌≡◌, ℕ, ◌+◌, ◌-◌, ◌*◌, ◌/◌, ◌%◌, ℤ, pos, neg_ℤ, ◌+ℤ◌, unsigned_abs}
+use Rattle.std.specs.Prelude.{ℕ, ◌+◌, ◌-◌, ◌*◌, ◌/◌, ◌%◌, ℤ, pos, neg_ℤ, ◌+ℤ◌, unsigned_abs}
 use Rattle.jiff.specs.Words.{days_in_month, monday_zero, IsBetween}
-use Rattle.jiff_core.specs.declared.civil.date.Date.{Date}
 use Rattle.jiff_core.specs.declared.civil.weekday.Weekday.{Weekday}
 use Rattle.itip_moment.specs.Written.{YearMonthDay, nth_date}
 
@@ -38,12 +37,6 @@ day_of_month day = (date_of day).day
 -- how many days the day's month has
 abbrev pub month_length : ℤ → ℕ
 month_length day = days_in_month (pos (year_number day)) (month_of_year day)
-
--- the calendar's date of the day
-pub record IsDateOf (day : ℤ) (date : Date) : Type 0 where
-  pub year : date.year ≡ pos (year_number day)
-  pub month : date.month ≡ month_of_year day
-  pub day_of_month : date.day ≡ day_of_month day
 
 -- a day of the calendar, or the end of it: the day after 9999-12-31
 abbrev pub IsDayOrEnd : ℤ → Type 0

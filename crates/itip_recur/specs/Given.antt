@@ -2,7 +2,7 @@
 use Rattle.std.specs.Prelude.{ℕ, ◌==◌, ◌||◌, not, Bool, List, length}
 use Rattle.itip_lines.specs.declared.line.Line.{Line}
 use Rattle.itip_moment.specs.declared.moment.Moment.{Moment}
-use Rattle.itip_recur.specs.ToDoShape.{has_period}
+use Rattle.itip_todo.specs.Table.{has_period}
 
 -- one of these lists has a value, or a period is among the lines
 abbrev pub are_given : List (List ℕ) → List Moment → List Moment → List Line → Bool

@@ -1,13 +1,9 @@
 -- How a to-do recurs (RFC 5545 3.8.5; what is opaque is our own rule).
-use Rattle.std.specs.Prelude.{◌≡◌, ◌≢◌, ℕ, ◌⊎◌, Bool, true, List, [], ◌∷◌, Option, Some, None}
-use Rattle.std.specs.List.{list_any}
-use Rattle.itip_lines.specs.declared.line.Line.{Line}
+use Rattle.std.specs.Prelude.{◌≡◌, ◌≢◌, ℕ, ◌⊎◌, true, List, [], ◌∷◌, Option, Some, None}
 use Rattle.itip_moment.specs.declared.moment.Moment.{Moment}
 use Rattle.itip_moment.specs.declared.moment.Form.TheVariants.{Zoned}
 use Rattle.itip_moment.specs.Moment.{moment_form}
-use Rattle.itip_todo.specs.Participation.{same_text}
-use Rattle.itip_todo.specs.Table.{name_text}
-use Rattle.itip_todo.specs.declared.property_name.PropertyName.TheVariants as name
+use Rattle.itip_todo.specs.Table.{has_period}
 use Rattle.itip_todo.specs.declared.todo.Todo.{Todo}
 use Rattle.itip_recur.specs.declared.rule.Rule.{Rule}
 use Rattle.itip_recur.specs.declared.rule.End.{End}
@@ -18,9 +14,6 @@ use Rattle.itip_recur.specs.declared.series.Shape.TheVariants.{Single, Opaque, R
 use Rattle.itip_recur.specs.RuleText.{RuleText}
 
 -- an RDATE that was kept as a line: one with a period in it
-abbrev pub has_period : List Line → Bool
-has_period lines = list_any (λ (line : Line). same_text line.name (name_text name.RDate)) lines
-
 abbrev pub HasPeriod : Todo → Type 0
 HasPeriod todo = has_period todo.others ≡ true
 

@@ -3,9 +3,10 @@ ghost use Rattle.std.specs.Prelude.{◌≡◌, ◌<◌, ◌≤◌, ◌↔◌, �
 ghost use Rattle.itip_moment.specs.Years.{IsDayNumber};
 ghost use Rattle.std.specs.Int.{IsInRange};
 ghost use Rattle.jiff.specs.Words.{monday_zero, days_in_month};
-ghost use Rattle.itip_recur.specs.Calendar.{days_from_zero, weekday_number, week_number, year_number, month_of_year, month_number, day_of_month, month_length, IsDayOrEnd, IsDateOf};
+ghost use Rattle.itip_recur.specs.Calendar.{days_from_zero, weekday_number, week_number, year_number, month_of_year, month_number, day_of_month, month_length, IsDayOrEnd};
 
 use crate::Weekday;
+use itip_moment::Day;
 use jiff_core::civil::{self, Date};
 
 /// The number of the day after the last of the calendar, 9999-12-31.
@@ -31,11 +32,13 @@ pub(crate) struct CalendarDay {
 }
 
 impl CalendarDay {
+    #[tactic(auto, unfolding(crate::specs::Calendar::days_from_zero))]
     pub(crate) fn new(day: i32) -> CalendarDay
         requires { IsDayNumber day }
         ensures { result.number ≡ day }
     {
-        let (year, month, day_of_month) = year_month_day(day);
+        let (year, month, day_of_month) = Day { number: day }.year_month_day();
+        let year = year as u32;
         CalendarDay {
             number: day,
             year,
@@ -50,25 +53,6 @@ impl CalendarDay {
     {
         12 * self.year + self.month as u32
     }
-}
-
-fn year_month_day(day: i32) -> (u32, u8, u8)
-    requires { IsDayNumber day }
-    ensures year { result.0 ≡ year_number day }
-    ensures month { result.1 ≡ month_of_year day }
-    ensures day { result.2 ≡ day_of_month day }
-    ensures bounds { (result.0 < 10_000) × IsInRange 1 12 result.1
-        × IsInRange 1 (days_in_month (pos result.0) result.1) result.2 }
-{
-    let date = date_of(day);
-    (date.year as u32, date.month, date.day)
-}
-
-fn date_of(day: i32) -> Date
-    requires { IsDayNumber day }
-    ensures { IsDateOf day result }
-{
-    Date::from_unix_epoch_day(day as i64).unwrap()
 }
 
 fn days_in_month(year: u32, month: u8) -> u8

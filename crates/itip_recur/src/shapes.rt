@@ -3,7 +3,7 @@ ghost use Rattle.std.specs.Prelude.{◌≡◌, ◌↔◌, IsTrue, IfOk, MatchOpt
 ghost use Rattle.itip_recur.specs.declared.rule.Rule.{Rule};
 ghost use Rattle.itip_recur.specs.declared.series.Series.{Series};
 ghost use Rattle.itip_recur.specs.RuleText.{RuleText};
-ghost use Rattle.itip_recur.specs.ToDoShape.{has_period, Recurs, EndFits, IsRuleOf, IsSeriesOf, IsShape};
+ghost use Rattle.itip_recur.specs.ToDoShape.{Recurs, EndFits, IsRuleOf, IsSeriesOf, IsShape};
 ghost use Rattle.itip_recur.specs.Given.{are_given};
 
 use crate::NoMemory;
@@ -12,7 +12,7 @@ use crate::rule::{End, Rule};
 use crate::series::{Series, Shape};
 use itip_lines::{Line, ListOf, Text};
 use itip_moment::{Form, Moment};
-use itip_todo::Todo;
+use itip_todo::{Todo, has_period};
 use std::alloc::Global;
 
 /// How a to-do recurs.
@@ -48,12 +48,6 @@ fn are_given(rules: &[Text], rdates: &[Moment], exdates: &[Moment], lines: &[Lin
     ensures { result ≡ are_given rules.now rdates.now exdates.now lines.now }
 {
     !rules.is_empty() || !rdates.is_empty() || !exdates.is_empty() || has_period(lines)
-}
-
-fn has_period(lines: &[Line]) -> bool
-    ensures { result ≡ has_period lines.now }
-{
-    lines.iter().any(|line| line.name.as_str() == "RDATE")
 }
 
 fn series_of(alloc: Global, todo: &Todo) -> Result<Option<Series>, NoMemory>

@@ -108,3 +108,11 @@ attendee_key address = map to_ascii_lowercase address
 -- a property that is told apart by name is spelled by that name
 abbrev pub IsSpelled : PropertyName → List ℕ → Type 0
 IsSpelled p name = place_of p < 16 → name ≡ name_text p
+
+-- a line of RDATE
+abbrev pub is_rdate : Line → Bool
+is_rdate line = same_text line.name (codes "RDATE")
+
+-- RDATE with `/` in its value stands among the lines of other properties: one with a period
+abbrev pub has_period : List Line → Bool
+has_period lines = list_any is_rdate lines

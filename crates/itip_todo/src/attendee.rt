@@ -1,7 +1,9 @@
-ghost use Rattle.std.specs.Prelude.{◌≡◌, ◌++◌, ◌<◌, drop, length};
+ghost use Rattle.std.specs.Prelude.{◌≡◌, ◌++◌, ◌<◌, drop, length, IfOk};
 ghost use Rattle.itip_todo.specs.Participation.{partstat_of, partstat_named, partstat_text, param_value};
+ghost use Rattle.itip_todo.specs.Table.{attendee_key};
 
-use itip_lines::Param;
+use itip_lines::{NoMemory, Param, Text};
+use std::alloc::Global;
 
 /// The participation of an attendee (RFC 5545 3.2.12). Absent and unknown ones are `NeedsAction`.
 #[derive(Clone, Copy, Debug, PartialEq, Eq)]
@@ -52,6 +54,13 @@ pub fn participation(params: &[Param]) -> PartStat
     } else {
         PartStat::NeedsAction
     }
+}
+
+/// The key that tells an attendee from others: the address with ASCII letters in lower case (our own rule).
+pub fn attendee_key(alloc: Global, address: &str) -> Result<Text, NoMemory>
+    ensures { IfOk result (λ key. key ≡ attendee_key address.now) }
+{
+    Ok(Text::new(address.to_ascii_lowercase(alloc)?))
 }
 
 /// The first value of the first parameter of this name, empty where there is none.

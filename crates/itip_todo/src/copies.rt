@@ -18,9 +18,9 @@ pub(crate) fn copy_times(todo: &Todo) -> Result<Times, NoMemory>
     ensures { IfOk result (λ copy. copy ≡ record { rid = todo.now.rid; start = todo.now.start; due = todo.now.due }) }
 {
     Ok(Times {
-        rid: copy_moment(&todo.rid)?,
-        start: copy_moment(&todo.start)?,
-        due: copy_moment(&todo.due)?,
+        rid: todo.rid.clone()?,
+        start: todo.start.clone()?,
+        due: todo.due.clone()?,
     })
 }
 
@@ -36,9 +36,9 @@ pub(crate) fn copy_subject(todo: &Todo) -> Result<Subject, NoMemory>
     ensures { IfOk result (λ copy. copy ≡ record { summary = todo.now.summary; organizer = todo.now.organizer; attendees = todo.now.attendees }) }
 {
     Ok(Subject {
-        summary: copy_property(&todo.summary)?,
-        organizer: copy_property(&todo.organizer)?,
-        attendees: copy_properties(&todo.attendees)?,
+        summary: todo.summary.clone()?,
+        organizer: todo.organizer.clone()?,
+        attendees: todo.attendees.clone()?,
     })
 }
 
@@ -55,51 +55,9 @@ pub(crate) fn copy_lists(todo: &Todo) -> Result<Lists, NoMemory>
     ensures { IfOk result (λ copy. copy ≡ record { rule = todo.now.rule; rdates = todo.now.rdates; exdates = todo.now.exdates; others = todo.now.others }) }
 {
     Ok(Lists {
-        rule: copy_texts(&todo.rule)?,
-        rdates: copy_moments(&todo.rdates)?,
-        exdates: copy_moments(&todo.exdates)?,
-        others: copy_lines(&todo.others)?,
+        rule: todo.rule.clone()?,
+        rdates: todo.rdates.clone()?,
+        exdates: todo.exdates.clone()?,
+        others: todo.others.clone()?,
     })
-}
-
-fn copy_moment(moment: &Option<Moment>) -> Result<Option<Moment>, NoMemory>
-    ensures { IfOk result (λ copy. copy ≡ moment.now) }
-{
-    match moment {
-        Some(moment) => Ok(Some(moment.clone()?)),
-        None => Ok(None),
-    }
-}
-
-fn copy_property(property: &Option<Property>) -> Result<Option<Property>, NoMemory>
-    ensures { IfOk result (λ copy. copy ≡ property.now) }
-{
-    match property {
-        Some(property) => Ok(Some(property.clone()?)),
-        None => Ok(None),
-    }
-}
-
-fn copy_properties(list: &ListOf<Property>) -> Result<ListOf<Property>, NoMemory>
-    ensures { IfOk result (λ copy. copy ≡ list.now) }
-{
-    list.clone()
-}
-
-fn copy_texts(list: &ListOf<Text>) -> Result<ListOf<Text>, NoMemory>
-    ensures { IfOk result (λ copy. copy ≡ list.now) }
-{
-    list.clone()
-}
-
-fn copy_moments(list: &ListOf<Moment>) -> Result<ListOf<Moment>, NoMemory>
-    ensures { IfOk result (λ copy. copy ≡ list.now) }
-{
-    list.clone()
-}
-
-fn copy_lines(list: &ListOf<Line>) -> Result<ListOf<Line>, NoMemory>
-    ensures { IfOk result (λ copy. copy ≡ list.now) }
-{
-    list.clone()
 }

@@ -26,11 +26,11 @@ mod values;
 mod write;
 mod write_moment;
 
-pub use attendee::{PartStat, participation};
+pub use attendee::{PartStat, attendee_key, participation};
 pub use error::{Fault, TodoError};
 pub use laws::{reading_laws, writing_laws};
 pub use property::Property;
-pub use property_name::PropertyName;
+pub use property_name::{PropertyName, has_period};
 pub use read::read_todo;
 pub use status::Status;
 pub use std::alloc::AllocError as NoMemory;

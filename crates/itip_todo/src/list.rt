@@ -4,17 +4,16 @@ ghost use Rattle.itip_moment.specs.declared.moment.Moment.{Moment};
 ghost use Rattle.itip_moment.specs.Spelling.{MomentText};
 ghost use Rattle.itip_todo.specs.Drafts.{Takes, Refuses, HasNoComma, PutsMoment, PutsMoments};
 ghost use Rattle.itip_todo.specs.Reading.{IfFault};
-ghost use Rattle.itip_todo.specs.Table.{attendee_key};
 ghost use Rattle.itip_todo.specs.Values.{AreMoments};
 ghost use Rattle.itip_todo.specs.declared.error.Fault.TheVariants as fault;
 ghost use Rattle.itip_todo.specs.declared.property_name.PropertyName.TheVariants as name;
 
-use crate::attendee::first_value;
+use crate::attendee::{attendee_key, first_value};
 use crate::draft::Draft;
 use crate::error::{Fault, TodoError};
 use crate::property_name::PropertyName;
 use crate::values::{bad_value, property_of};
-use itip_lines::{Line, Text};
+use itip_lines::Line;
 use itip_moment::{Moment, read_moment};
 use std::alloc::Global;
 use std::collections::BTreeSet;
@@ -31,20 +30,13 @@ pub(crate) fn add_attendee(alloc: Global, draft: &mut Draft, line: &Line) -> Res
     if draft.attendees.len() >= ATTENDEE_LIMIT {
         return Err(TodoError::Fault(Fault::TooMany));
     }
-    let key = key_of(alloc, line)?;
+    let key = attendee_key(alloc, line.value.as_str())?;
     if !draft.keys.insert(key)? {
         return Err(TodoError::Fault(Fault::SameAttendee));
     }
     let property = property_of(line)?;
     draft.attendees.push(property)?;
     Ok(())
-}
-
-fn key_of(alloc: Global, line: &Line) -> Result<Text, TodoError>
-    ensures key { IfOk result (λ key. key ≡ attendee_key line.now.value) }
-    ensures fault { IfErr result (λ e. IfFault e (λ f. ⊥)) }
-{
-    Ok(Text::new(line.value.as_str().to_ascii_lowercase(alloc)?))
 }
 
 pub(crate) fn add_rule(draft: &mut Draft, line: &Line) -> Result<(), TodoError>

@@ -1,7 +1,9 @@
 ghost use Rattle.std.specs.Prelude.{◌≡◌, ◌==◌};
 ghost use Rattle.std.specs.List.{list_any};
+ghost use Rattle.itip_todo.specs.Table.{has_period};
 
 use itip_lines::Line;
+use std::fmt;
 
 /// The properties of a to-do that are told apart by name, in canonical order (RFC 5545 3.8; `X-DESK-BASE` is our own).
 #[derive(Clone, Copy, Debug, PartialEq, Eq)]
@@ -108,6 +110,22 @@ impl PropertyName {
             PropertyName::Others
         }
     }
+}
+
+impl fmt::Display for PropertyName {
+    fn fmt(&self, f: &mut fmt::Formatter<'_>) -> fmt::Result {
+        match self {
+            PropertyName::Others => f.write_str("another property"),
+            _ => f.write_str(self.as_str()),
+        }
+    }
+}
+
+/// Whether an RDATE stands among the lines of other properties: one with a `/` in its value, a period (RFC 5545 3.8.5.2).
+pub fn has_period(others: &[Line]) -> bool
+    ensures { result ≡ has_period others.now }
+{
+    others.iter().any(|line| line.name.as_str() == "RDATE")
 }
 
 fn has_slash(text: &str) -> bool

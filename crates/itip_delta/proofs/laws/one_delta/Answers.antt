@@ -1,5 +1,9 @@
 use Rattle.itip_delta.proofs.Deltas.{one_batch, one_refusal, delta_apart}
+use Rattle.itip_delta.proofs.SomeDelta.{some_delta}
 use Rattle.itip_delta.proofs.laws.one_delta.Goals as goal
+
+pub returns-clause-some : goal.returns-clause-some
+returns-clause-some c = some_delta
 
 pub returns-clause-batch : goal.returns-clause-batch
 returns-clause-batch c = one_batch

@@ -1,7 +1,6 @@
 use Rattle.std.proofs.Common.{arith, FitsSigned, w32, w64, to_z-of_z}
 use Rattle.jiff_core.proofs.SignedLemmas.{signed_arith}
-use Rattle.itip_recur.proofs.CalendarDays.{date_is}
-use Rattle.itip_recur.proofs.calendar.date_of.Goals as goal
+use Rattle.itip_moment.proofs.day.date_of.Goals as goal
 
 pub unwrap-requires : goal.unwrap-requires
 unwrap-requires c =
@@ -14,4 +13,4 @@ returns c =
     let fits : FitsSigned w32 c.args.day = c.ranges.day in
     let wide : FitsSigned w64 c.args.day = omega (arith, signed_arith) in
     let value = rw c.unwrap.ensures at c.from_unix_epoch_day.ensures.value in
-    date_is c.unwrap.result c.args.day c.requires (simp to_z-of_z at value)
+    simp to_z-of_z at value
