@@ -44,24 +44,23 @@ record HasFirst (bytes : List ℕ) : Type 0 where
 lacks_nothing : LacksBlank []
 lacks_nothing = λ b more e. absurd cc
 
+first_is : (x y : ℕ) (xs ys : List ℕ) → x ∷ xs ≡ y ∷ ys → x ≡ y
+first_is x y xs ys e = cc
+
 lacks_blank : (t : List ℕ) → begins_blank t ≡ false → LacksBlank t
 lacks_blank [] h = lacks_nothing
 lacks_blank (b ∷ t) h = λ c more e. subst (λ (x : ℕ). is_blank x ≡ false) (first_is b c t more e) h
-  where
-    first_is : (x y : ℕ) (xs ys : List ℕ) → x ∷ xs ≡ y ∷ ys → x ≡ y
-    first_is x y xs ys e = cc
-
 -- what an octet says that is in no break
 octet_said : (b : ℕ) (t : List ℕ) → (b == 10) ≡ false → is_return b t ≡ false → said (b ∷ t) ≡ b ∷ said t
-octet_said b t feed return =
+octet_said b t feed ret =
     ap (λ (v : Bool). cond v (said_behind true t) (cond (is_return b t || false) (said_behind false t) (b ∷ said_behind false t))) feed
-    ∙ ap (λ (v : Bool). cond (v || false) (said_behind false t) (b ∷ said_behind false t)) return
+    ∙ ap (λ (v : Bool). cond (v || false) (said_behind false t) (b ∷ said_behind false t)) ret
 
 -- the blank of a fold is left out
 fold_said : (b : ℕ) (t : List ℕ) → is_blank b ≡ true → (b == 10) ≡ false → is_return b t ≡ false → said (10 ∷ (b ∷ t)) ≡ said t
-fold_said b t blank feed return =
+fold_said b t blank feed ret =
     ap (λ (v : Bool). cond v (said_behind true t) (cond (is_return b t || is_blank b) (said_behind false t) (b ∷ said_behind false t))) feed
-    ∙ ap (λ (v : Bool). cond (v || is_blank b) (said_behind false t) (b ∷ said_behind false t)) return
+    ∙ ap (λ (v : Bool). cond (v || is_blank b) (said_behind false t) (b ∷ said_behind false t)) ret
     ∙ ap (λ (v : Bool). cond v (said_behind false t) (b ∷ said_behind false t)) blank
 
 blank_is : (b : ℕ) → is_blank b ≡ true → ((b == 10) ≡ false) × ((b == 13) ≡ false)
@@ -87,8 +86,8 @@ goes_on line b raw = append_assoc line (b ∷ []) raw
 
 -- an octet that is in no break, before a line
 octet_before : (b : ℕ) (bytes : List ℕ) → (b == 10) ≡ false → is_return b bytes ≡ false → HasFirst bytes → HasFirst (b ∷ bytes)
-octet_before b bytes feed return first =
-    let raw_return : (t : List ℕ) → is_return b (first.raw ++ t) ≡ false = λ t. same_return b bytes first.raw first.after first.whole first.some t ∙ return in
+octet_before b bytes feed ret first =
+    let raw_return : (t : List ℕ) → is_return b (first.raw ++ t) ≡ false = λ t. same_return b bytes first.raw first.after first.whole first.some t ∙ ret in
     let alone_return : is_return b first.raw ≡ false = ap (is_return b) (sym (append-nil first.raw)) ∙ raw_return [] in
     let says : said (b ∷ first.raw) ≡ b ∷ said first.raw = octet_said b first.raw feed alone_return in
     record {
@@ -138,10 +137,6 @@ return_before t first = put first.raw first.whole first.lines first.some first.e
             | inr o ↦ inr (λ line. pass line raw ∙ o.0 line ∙ ap (λ s. (line ++ s) ∷ []) (sym says), o.1)
           ];
         }
-      where
-        first_is : (x y : ℕ) (xs ys : List ℕ) → x ∷ xs ≡ y ∷ ys → x ≡ y
-        first_is x y xs ys e = cc
-
 -- a break that ends the line
 feed_only : (t : List ℕ) → begins_blank t ≡ false → HasFirst (10 ∷ t)
 feed_only t plain = record {
@@ -258,13 +253,13 @@ record Scans (bytes rest : List ℕ) (passed : List (List ℕ)) : Type 0 where
 start : (bytes : List ℕ) → Scans bytes bytes []
 start bytes = record { whole = refl; lines = refl; none_ends = tt; closed = λ t h. refl; apart = inl refl }
 
+not_none : (ps : List (List ℕ)) (r : List ℕ) → ps ++ r ∷ [] ≡ [] → ⊥
+not_none [] r e = cc
+not_none (p ∷ ps) r e = cc
+
 lacks_also : (raw after t : List ℕ) → 0 < length raw → LacksBlank (raw ++ after) → LacksBlank (raw ++ t)
 lacks_also [] after t some lacks = absurd (omega arith)
 lacks_also (b ∷ raw) after t some lacks = λ c more e. subst (λ (x : ℕ). is_blank x ≡ false) (first_is b c (raw ++ t) more e) (lacks b (raw ++ after) refl)
-  where
-    first_is : (x y : ℕ) (xs ys : List ℕ) → x ∷ xs ≡ y ∷ ys → x ≡ y
-    first_is x y xs ys e = cc
-
 module _ (bytes rest : List ℕ) (passed : List (List ℕ)) (so_far : Scans bytes rest passed) (first : HasFirst rest) where
   passed_whole : bytes ≡ concat (passed ++ first.raw ∷ []) ++ first.after
   passed_whole =
@@ -294,11 +289,6 @@ module _ (bytes rest : List ℕ) (passed : List (List ℕ)) (so_far : Scans byte
     closed = λ t h. elim h [ inl none ↦ absurd (not_none passed first.raw none) | inr lacks ↦ more_closed c t lacks ];
     apart = inr c.apart;
   }
-    where
-      not_none : (ps : List (List ℕ)) (r : List ℕ) → ps ++ r ∷ [] ≡ [] → ⊥
-      not_none [] r e = cc
-      not_none (p ∷ ps) r e = cc
-
   -- the unfolded lines of all, where the line is the last and has no break
   open_lines : IsOpen first.raw → first.after ≡ [] → lines_onto [] bytes ≡ map said passed ++ said first.raw ∷ []
   open_lines o last =

@@ -61,9 +61,9 @@ first_return [] h = stretches_of_last (13 ∷ []) no_lf_cr ∙ ap (onto_first 13
 first_return (c ∷ t) h = lone_return c t h
 
 first_octet : (b : ℕ) (t : List ℕ) → (b == 10) ≡ false → is_return b t ≡ false → stretches_of (b ∷ t) ≡ onto_first b (stretches_of t)
-first_octet b t feed return =
+first_octet b t feed ret =
     elim (eqb_tells b 13) [
-      | inl k ↦ subst (λ (x : ℕ). stretches_of (x ∷ t) ≡ onto_first x (stretches_of t)) (sym k.1) (first_return t (subst (λ (x : ℕ). is_return x t ≡ false) k.1 return))
+      | inl k ↦ subst (λ (x : ℕ). stretches_of (x ∷ t) ≡ onto_first x (stretches_of t)) (sym k.1) (first_return t (subst (λ (x : ℕ). is_return x t ≡ false) k.1 ret))
       | inr k ↦ stretches_of_cons b t feed k.0
     ]
 
@@ -74,7 +74,7 @@ onto_octet line b (c ∷ cs) h = ap (λ l. unfolded_onto l cs) (sym (append_asso
 -- any other octet goes on the line
 pub octet_goes_on : (line : List ℕ) (b : ℕ) (t : List ℕ) → (b == 10) ≡ false → is_return b t ≡ false → lines_onto line (b ∷ t) ≡ lines_onto (line ++ b ∷ []) t
 unfolding lines_onto
-octet_goes_on line b t feed return = ap (onto_stretches line) (first_octet b t feed return) ∙ onto_octet line b (stretches_of t) (stretches_of_some t)
+octet_goes_on line b t feed ret = ap (onto_stretches line) (first_octet b t feed ret) ∙ onto_octet line b (stretches_of t) (stretches_of_some t)
 
 pub no_octets : (line : List ℕ) → lines_onto line [] ≡ line ∷ []
 unfolding lines_onto

@@ -15,7 +15,7 @@ use Rattle.itip_moment.specs.declared.moment.Moment.{Moment}
 use Rattle.itip_moment.specs.declared.stamp.Stamp.{Stamp}
 use Rattle.itip_todo.specs.Parts.{Parts}
 use Rattle.itip_todo.specs.Drafts.{IsDraftOf, IsLawfulDraft, IsSetOf, draft_parts}
-use Rattle.itip_todo.specs.Lawful.{IsLawfulContent, HasValue, keys_of}
+use Rattle.itip_todo.specs.Lawful.{IsLawful, IsLawfulContent, HasValue, keys_of}
 use Rattle.itip_todo.specs.Participation.{same_text}
 use Rattle.itip_todo.specs.Reading.{IsOptional, IsOrNought, IfFault, AreGood, RefusesTodo, IsUidOf, IsStampOf, IsSequenceOf, IsPercentOf, IsPriorityOf, IsMomentOf, IsStatusOf, IsPropertyOf, IsOrganizerOf, AreMomentsOf, ListMoments, lines_of, first_of, first_named, whole_property, value_of, key_of}
 use Rattle.itip_todo.specs.StatusText.{status_text}

@@ -113,7 +113,7 @@ impl PropertyName {
 }
 
 impl fmt::Display for PropertyName {
-    fn fmt(&self, f: &mut fmt::Formatter<'_>) -> fmt::Result {
+    fn fmt<W: fmt::Write>(&self, f: &mut fmt::Formatter<W>) -> fmt::Result {
         match self {
             PropertyName::Others => f.write_str("another property"),
             _ => f.write_str(self.as_str()),

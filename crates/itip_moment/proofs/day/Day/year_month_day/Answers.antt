@@ -7,14 +7,16 @@ use Rattle.itip_moment.proofs.day.Day.year_month_day.Goals as goal
 
 pub overflow_cast-result : goal.overflow_cast-result
 overflow_cast-result c =
-    let fits : FitsSigned w32 c.args.self.number = c.ranges.self.number in
+    let within = c.args.self.in_years in
+    let fits : FitsSigned w32 c.args.self.number = omega (arith, signed_arith) in
     let is : IsDateOf c.args.self.number c.date_of-date.result = same_date _ _ c.args.self.in_years (simp to_z-of_z at c.date_of-date.ensures) in
     let high = year_high c.args.self.number c.args.self.in_years in
     grind (arith, signed_arith, is.year, high)
 
 pub returns : goal.returns
 returns c =
-    let fits : FitsSigned w32 c.args.self.number = c.ranges.self.number in
+    let within = c.args.self.in_years in
+    let fits : FitsSigned w32 c.args.self.number = omega (arith, signed_arith) in
     let is : IsDateOf c.args.self.number c.date_of-date.result = same_date _ _ c.args.self.in_years (simp to_z-of_z at c.date_of-date.ensures) in
     let high = year_high c.args.self.number c.args.self.in_years in
     let back : pos (unsigned_abs (to_z w16 (of_z w16 c.date_of-date.result.year))) ≡ c.date_of-date.result.year = omega (arith, signed_arith, is.year) in
