@@ -13,6 +13,7 @@ pub mod Pieces
 pub mod Placing
 pub mod Properties
 pub mod ReadAgain
+pub mod Revisions
 pub mod SameItem
 pub mod SeriesSequences
 pub mod SomeMessage

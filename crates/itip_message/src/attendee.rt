@@ -7,6 +7,7 @@ ghost use Rattle.itip_message.specs.Items.{only_of, attendee_key_of, refreshes};
 use crate::key::Key;
 use crate::kind::Kind;
 use itip_lines::{ListOf, NoMemory};
+use itip_moment::Moment;
 use itip_todo::{Property, Todo, attendee_key};
 use std::alloc::Global;
 
@@ -22,14 +23,14 @@ pub(crate) fn only_of(alloc: Global, attendee: &Property, todo: &Todo) -> Result
         stamp: todo.stamp,
         seq: todo.seq,
         base: None,
-        rid: todo.rid.clone()?,
+        rid: copy_moment(&todo.rid)?,
         start: None,
         due: None,
         status: todo.status,
         percent: todo.percent,
         priority: None,
         summary: None,
-        organizer: todo.organizer.clone()?,
+        organizer: copy_property(&todo.organizer)?,
         attendees: ListOf::from_vec(attendees),
         rule: ListOf::new(alloc),
         rdates: ListOf::new(alloc),
@@ -62,4 +63,16 @@ fn refreshes(kind: Kind) -> bool
     ensures { result ≡ refreshes kind }
 {
     kind == Kind::Refresh
+}
+
+fn copy_moment(moment: &Option<Moment>) -> Result<Option<Moment>, NoMemory>
+    ensures { IfOk result (λ copy. copy ≡ moment.now) }
+{
+    moment.clone()
+}
+
+fn copy_property(property: &Option<Property>) -> Result<Option<Property>, NoMemory>
+    ensures { IfOk result (λ copy. copy ≡ property.now) }
+{
+    property.clone()
 }

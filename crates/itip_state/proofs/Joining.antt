@@ -16,7 +16,8 @@ use Rattle.itip_join.proofs.Under.{all_alive-kept, value_at-kept}
 use Rattle.itip_message.specs.declared.item.Item.{Item}
 use Rattle.itip_message.specs.declared.key.Key.{Key}
 use Rattle.itip_state.specs.Slots.{slot_cmp, slot_total, slot_exact}
-use Rattle.itip_message.specs.Revisions.{revisions_total, revision_exact}
+use Rattle.itip_message.specs.Revisions.{revisions_total}
+use Rattle.itip_message.proofs.Revisions.{revision_exact}
 use Rattle.itip_state.specs.Held.{Best, Shape, best, shape_items, IsSeriesAt, IsEntryAt, IsPlaced}
 use Rattle.itip_state.specs.Dying.{IsNoLater, kills_below, kills_more}
 use Rattle.itip_state.proofs.Below.{IsShapeBelow}

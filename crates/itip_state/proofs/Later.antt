@@ -6,7 +6,8 @@ use Rattle.std.specs.declared.cmp.Ordering.TheVariants.{Less, Equal, Greater}
 use Rattle.itip_join.specs.Ranked.{IsUpTo, IsUpTo-tie}
 use Rattle.itip_message.specs.Later.{revision_cmp, IsLater}
 use Rattle.itip_message.specs.declared.item.Item.{Item}
-use Rattle.itip_message.specs.Revisions.{revisions_total, revision_exact}
+use Rattle.itip_message.specs.Revisions.{revisions_total}
+use Rattle.itip_message.proofs.Revisions.{revision_exact}
 
 less_of : (r s : Ordering) → r ≡ ordering_reverse s → is_lt r ≡ true → is_gt s ≡ false → ⊥
 less_of Less Less e l g = let x : Less ≡ Greater = e in cc

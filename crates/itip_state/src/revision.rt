@@ -92,7 +92,7 @@ impl Ord for Revision {
 }
 
 impl Exact for Revision {
-    ghost use Rattle.itip_message.specs.Revisions.{revision_exact};
+    ghost use Rattle.itip_message.proofs.Revisions.{revision_exact};
 
     ghost exact = { revision_exact };
 

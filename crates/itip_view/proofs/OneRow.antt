@@ -16,7 +16,7 @@ use Rattle.itip_message.specs.declared.item.Item.{Item}
 use Rattle.itip_message.specs.declared.key.Key.{Key}
 use Rattle.itip_message.specs.declared.key.Key.TheVariants.{Series, Instance}
 use Rattle.itip_state.specs.Kept.{IsBest}
-use Rattle.itip_message.specs.Revisions.{revision_exact}
+use Rattle.itip_message.proofs.Revisions.{revision_exact}
 use Rattle.itip_state.specs.Slots.{then_equal}
 use Rattle.itip_state.proofs.Best.{later_than_less}
 use Rattle.itip_view.specs.Standing.{Stands, NoneStands, IsLiveSeries}

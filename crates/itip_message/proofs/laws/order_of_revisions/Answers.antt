@@ -1,4 +1,5 @@
-use Rattle.itip_message.specs.Revisions.{revisions_total, revision_exact}
+use Rattle.itip_message.specs.Revisions.{revisions_total}
+use Rattle.itip_message.proofs.Revisions.{revision_exact}
 use Rattle.itip_message.proofs.laws.order_of_revisions.Goals as goal
 
 pub returns-clause-total : goal.returns-clause-total
