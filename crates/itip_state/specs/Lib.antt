@@ -3,7 +3,9 @@ pub mod Order
 pub mod Slots
 pub mod Revisions
 pub mod Held
+pub mod Stored
 pub mod Dying
+pub mod Joined
 pub mod Told
 pub mod Changes
 pub mod Undone

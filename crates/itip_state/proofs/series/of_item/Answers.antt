@@ -21,7 +21,5 @@ returns c =
     ap (λ b. cond b (record { series = Known (best item); entries = [] }) (record { series = Nothing; entries = (item.key, best item) ∷ [] })) other in
     let key : c.in_ok-copy-2.field-0 ≡ item.key = c.in_ok-copy-2.ensures ∙ c.slot.ensures in
     let value : c.in_ok-copy.field-0 ≡ item = c.in_ok-copy.ensures ∙ c.revision.ensures in
-    record {
-      series = sym (ap (λ (sh : Shape). sh.series) one);
-      entries = c.in_ok-of_one.ensures ∙ (λ i. (key i, best (value i)) ∷ []) ∙ sym (ap (λ (sh : Shape). sh.entries) one);
-    }
+    let entries : c.in_ok-of_one.field-0.map ≡ (item.key, best item) ∷ [] = c.in_ok-of_one.ensures ∙ (λ i. (key i, best (value i)) ∷ []) in
+    (λ i. record { series = Nothing; entries = entries i }) ∙ sym one
