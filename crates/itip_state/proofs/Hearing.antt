@@ -10,7 +10,7 @@ use Rattle.itip_join.specs.declared.lift.Lift.TheVariants.{Nothing, Known}
 use Rattle.itip_message.specs.KeyParts.{uid_of}
 use Rattle.itip_message.specs.declared.item.Item.{Item}
 use Rattle.itip_state.specs.Kept.{AreKept}
-use Rattle.itip_state.specs.Held.{Shape, best, is_series, items_of, shape_items, alone, at, IsPlaced, IsWhole, IsSound, AreOrdered, AreHeld, HoldKept}
+use Rattle.itip_state.specs.Held.{Shape, best, is_series, items_of, shape_items, alone, at, IsSound, AreOrdered, AreHeld, HoldKept}
 use Rattle.itip_state.specs.Joined.{IsJoinedAt}
 use Rattle.itip_state.proofs.Members.{by_bool, none_in}
 use Rattle.itip_state.proofs.Lookups.{one_key, at_head, at_other}
@@ -25,10 +25,13 @@ alone_sound item =
     elim (is_series item.key) as (λ b. is_series item.key ≡ b → IsSound (uid_of item.key) (cond b (record { series = Known (best item); entries = [] }) (record { series = Nothing; entries = (item.key, best item) ∷ [] }))
     × (0 < length (shape_items (cond b (record { series = Known (best item); entries = [] }) (record { series = Nothing; entries = (item.key, best item) ∷ [] }))))) [
       | true ↦ λ e. (record { placed = record { series = series_key item.key e; entries = tt }; whole = record { sorted = tt; alive = refl } }, omega arith)
-      | false ↦ λ e. (record {
-        placed = record { series = tt; entries = (record { in_place = refl; about = refl; other = e }, tt) };
-        whole = record { sorted = (tt, tt); alive = refl };
-      }, omega arith)
+      | false ↦ λ e. (
+        record {
+          placed = record { series = tt; entries = (record { in_place = refl; about = refl; other = e }, tt) };
+          whole = record { sorted = (tt, tt); alive = refl };
+        },
+        omega arith,
+      )
     ] refl
 
 alone_items : (item : Item) → shape_items (alone item) ≡ item ∷ []

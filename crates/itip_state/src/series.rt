@@ -91,7 +91,11 @@ pub(crate) fn of_item(alloc: Global, item: &SharedItem) -> Result<SeriesState, N
 }
 
 /// Adds the items of one UID, the series item first.
-pub(crate) fn share(alloc: Global, series: &SeriesState, items: &mut Vec<SharedItem>) -> Result<(), NoMemory>
+pub(crate) fn share(
+    alloc: Global,
+    series: &SeriesState,
+    items: &mut Vec<SharedItem>,
+) -> Result<(), NoMemory>
     ensures { OnOk result (items.new.items ≡ items.old.items ++ shape_items (shape series.now)) }
 {
     if let Lift::Known(best) = &series.guard {

@@ -1,8 +1,8 @@
-use Rattle.std.proofs.Common.{◌≡◌, List, ℕ, sym, subst, ap, true}
+use Rattle.std.proofs.Common.{◌≡◌, List, ℕ, sym, subst, true}
 use Rattle.std.specs.Prelude.{is_some}
 use Rattle.itip_message.specs.KeyParts.{uid_of}
 use Rattle.itip_state.specs.Held.{Shape, alone, at}
-use Rattle.itip_state.specs.Undone.{LeadsBack, IsUndone, AreUndone}
+use Rattle.itip_state.specs.Undone.{LeadsBack, AreUndone}
 use Rattle.itip_state.proofs.Members.{on_both}
 use Rattle.itip_state.proofs.Undoing.{joined_some, noted_leads, noted_stays, undone_push, undone_still, notes_same}
 use Rattle.itip_state.proofs.hear.hear_noted.Goals as goal

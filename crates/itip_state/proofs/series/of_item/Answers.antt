@@ -4,7 +4,7 @@ use Rattle.itip_join.specs.declared.lift.Lift.TheVariants.{Nothing, Known}
 use Rattle.itip_message.specs.declared.item.Item.{Item}
 use Rattle.itip_message.specs.declared.key.Key.{Key}
 use Rattle.itip_message.specs.declared.key.Key.TheVariants.{Series, Instance, Answer, Refresh}
-use Rattle.itip_state.specs.Held.{Shape, alone, best, is_series}
+use Rattle.itip_state.specs.Held.{alone, best, is_series}
 use Rattle.itip_state.proofs.series.of_item.Goals as goal
 
 not_series : (key : Key) → ((uid : List ℕ) → key ≡ Series uid → ⊥) → is_series key ≡ false

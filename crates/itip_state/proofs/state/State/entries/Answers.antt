@@ -1,5 +1,4 @@
-use Rattle.std.proofs.Common.{◌≡◌, List, ◌∙◌, ap, subst, length, min}
-use Rattle.itip_message.specs.declared.item.Item.{Item}
+use Rattle.std.proofs.Common.{subst}
 use Rattle.itip_state.specs.Kept.{HasEachOnce}
 use Rattle.itip_state.proofs.Ordered.{held_once}
 use Rattle.itip_state.proofs.state.State.entries.Goals as goal
