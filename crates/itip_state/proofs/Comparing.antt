@@ -16,15 +16,15 @@ use Rattle.itip_message.specs.declared.key.Key.{Key}
 use Rattle.itip_message.specs.declared.key.Key.TheVariants.{Series}
 use Rattle.itip_state.specs.Kept.{IsBest, IsDead, IsKept, AreKept}
 use Rattle.itip_state.specs.Slots.{slot_cmp}
-use Rattle.itip_state.specs.Held.{Best, Shape, best, is_series, can_die, kills, shape_items}
+use Rattle.itip_state.specs.Held.{Best, Shape, best, is_series, can_die, is_killed, kills, shape_items, IsSound}
 use Rattle.itip_state.specs.Dying.{IsNoLater, eff_up_to, less_from}
-use Rattle.itip_state.proofs.Below.{IsShapeBelow}
+use Rattle.itip_state.specs.Joined.{IsShapeBelow}
 use Rattle.itip_state.proofs.Members.{by_bool}
 use Rattle.itip_state.proofs.Best.{best_above, not_later_itself, later_transitive, greater_eff}
 use Rattle.itip_state.proofs.Later.{up_to_not_later, not_later_up_to, neither_later}
 use Rattle.itip_state.proofs.Keeping.{series_kept}
 use Rattle.itip_state.proofs.Tests.{series_key, can, killed, kill}
-use Rattle.itip_state.proofs.Shapes.{IsSound, is_killed, held_as, series_held, entry_held, entry_key, known_key, about, series_is, entry_is, one_of_key, not_killed, is_state, killed_is_dead}
+use Rattle.itip_state.proofs.Shapes.{held_as, series_held, entry_held, entry_key, known_key, about, series_is, entry_is, one_of_key, not_killed, is_state, killed_is_dead}
 
 -- where no item can be dead, none is killed
 abbrev pub IsToldBy : Shape → Item → Type 0

@@ -7,8 +7,8 @@ use Rattle.std.specs.Map.{keys_of}
 use Rattle.std.specs.declared.cmp.Ordering.{Ordering}
 use Rattle.std.specs.declared.cmp.Ordering.TheVariants.{Less}
 use Rattle.itip_join.specs.declared.lift.Lift.{Lift}
-use Rattle.itip_join.specs.KeyByKey.{value_at, kept}
-use Rattle.itip_join.specs.Killed.{found_alive}
+use Rattle.itip_join.specs.KeyByKey.{value_at, kept, all_alive, IsMapBelowUnder}
+use Rattle.itip_join.specs.Killed.{found_alive, IsMapBelowUnder-antisym}
 use Rattle.itip_join.specs.Optional.{IsBelowAt, IsBelowUnder, alive_part}
 use Rattle.itip_join.specs.Lifted.{IsLiftedBelow, IsLiftedBelow-refl, IsLiftedBelow-antisym, IsLiftedBelow-comparable}
 use Rattle.itip_join.specs.Ranked.{IsUpTo-refl, IsUpTo-trans, IsUpTo-tie, IsUpTo-comparable}
@@ -18,11 +18,11 @@ use Rattle.itip_message.specs.declared.key.Key.{Key}
 use Rattle.itip_state.specs.Slots.{slot_cmp, slot_total, slot_exact}
 use Rattle.itip_message.specs.Revisions.{revisions_total}
 use Rattle.itip_message.proofs.Revisions.{revision_exact}
-use Rattle.itip_state.specs.Held.{Best, Shape, best, shape_items, IsSeriesAt, IsEntryAt, IsPlaced}
+use Rattle.itip_state.specs.Held.{Best, Shape, best, shape_items, is_killed, IsSeriesAt, IsEntryAt, IsPlaced, IsWhole, IsSound}
+use Rattle.itip_state.specs.Joined.{IsShapeBelow, HoldsOfTwo}
 use Rattle.itip_state.specs.Dying.{IsNoLater, kills_below, kills_more}
-use Rattle.itip_state.proofs.Below.{IsShapeBelow}
 use Rattle.itip_state.proofs.Lookups.{all_from_values, value_from_all}
-use Rattle.itip_state.proofs.Shapes.{AreSorted, IsWhole, IsSound, is_killed, held_as, series_held, entry_held}
+use Rattle.itip_state.proofs.Shapes.{AreSorted, held_as, series_held, entry_held}
 use Rattle.itip_state.proofs.Combine.{combined, combined_sorted, combined_first, combined_second, combined_one}
 
 no_later_itself : (b : Best) → IsNoLater b b
@@ -57,11 +57,6 @@ module _ {K V : Type 0} (cmp : K → K → Ordering) (dead : K → V → Bool) w
 alive_some : (dead : Best → Bool) (o : Option Best) (b : Best) → alive_part dead o ≡ Some b → o ≡ Some b
 alive_some dead None b e = let x : None ≡ Some b = e in absurd (cc)
 alive_some dead (Some c) b e = elim (dead c) as (λ t. cond t None (Some c) ≡ Some b → Some c ≡ Some b) [ true ↦ λ f. let x : None ≡ Some b = f in absurd (cc) | false ↦ λ f. f ] e
-
--- what one or the other holds
-pub record HoldsOfTwo (a b c : Shape) : Type 0 where
-  pub series : (c.series ≡ a.series) ⊎ (c.series ≡ b.series)
-  pub entries : (q : Key) (v : Best) → value_at slot_cmp c.entries q ≡ Some v → (value_at slot_cmp a.entries q ≡ Some v) ⊎ (value_at slot_cmp b.entries q ≡ Some v)
 
 -- ---- a bound that holds nothing but what is told again
 module _ (a b c bound : Shape) (whole_c : IsWhole c) (above_a : IsShapeBelow a c) (above_b : IsShapeBelow b c) (le : IsShapeBelow c bound) (of_two : HoldsOfTwo a b bound) where
@@ -181,9 +176,14 @@ shape_below_itself sh = (IsLiftedBelow-refl IsNoLater no_later_itself sh.series,
     at q None = tt
     at q (Some v) = inr (no_later_itself v)
 
--- of one alone
-pub of_one : (a c : Shape) → IsWhole c → IsShapeBelow a c → IsShapeBelow c a → HoldsOfTwo a a c
-of_one a c whole_c up down = of_bound a a c a whole_c up up down (record { series = inl refl; entries = λ q v e. inl e })
+-- each below the other, the two are one
+pub same_shape : (a b : Shape) → IsWhole a → IsWhole b → IsShapeBelow a b → IsShapeBelow b a → a ≡ b
+same_shape a b whole_a whole_b up down =
+    let s : a.series ≡ b.series = IsLiftedBelow-antisym IsNoLater no_later_same a.series b.series up.0 down.0 in
+    let e : a.entries ≡ b.entries = IsMapBelowUnder-antisym slot_exact (is_killed b.series) slot_total IsNoLater no_later_same a.entries b.entries whole_a.sorted whole_b.sorted
+    (subst (λ (t : Lift Best). all_alive (is_killed t) a.entries ≡ true) s whole_a.alive) whole_b.alive up.1
+    (subst (λ (t : Lift Best). IsMapBelowUnder (is_killed t) slot_cmp IsNoLater b.entries a.entries) s down.1) in
+    λ i. record { series = s i; entries = e i }
 
 pub of_both : (a b : Shape) → IsWhole a → IsWhole b → (c : Shape) → IsWhole c → IsShapeBelow a c → IsShapeBelow b c
     → ((d : Shape) → IsWhole d → IsShapeBelow a d → IsShapeBelow b d → IsShapeBelow c d) → HoldsOfTwo a b c

@@ -1,5 +1,4 @@
 pub mod Members
-pub mod Below
 pub mod OneOrder
 pub mod Best
 pub mod Later
@@ -14,7 +13,7 @@ pub mod Comparing
 pub mod Combine
 pub mod Joining
 pub mod Maps
-pub mod Merging
+pub mod Seeing
 pub mod Hearing
 pub mod Undoing
 pub mod News

@@ -1,7 +1,6 @@
 -- What a map by UID holds, UID by UID.
-use Rattle.std.proofs.Common.{◌≡◌, ℕ, List, [], ◌∷◌, ◌++◌, ◌<◌, ◌↔◌, refl, sym, ◌∙◌, ap, subst, ◌⊎◌, inl, inr, true, false, arith, Option, Some, None, length}
-use Rattle.std.specs.List.{Contains, AllByRecursion}
-use Rattle.std.specs.List.Sorted.{IsStrictlySortedBy}
+use Rattle.std.proofs.Common.{◌≡◌, ℕ, List, [], ◌∷◌, ◌++◌, ◌<◌, ◌↔◌, refl, sym, ◌∙◌, ap, subst, inl, inr, true, false, arith, Option, Some, None, length, append-nil}
+use Rattle.std.specs.List.{Contains}
 use Rattle.std.specs.Map.{keys_of}
 use Rattle.std.specs.Ordering.{nat_cmp, is_eq}
 use Rattle.std.specs.declared.cmp.Ordering.{Ordering}
@@ -10,23 +9,20 @@ use Rattle.std.proofs.lemmas.Cmp.{nat_list_cmp_total}
 use Rattle.std.proofs.lemmas.List.Elements.{Contains-append_cases, Contains-append_left, Contains-append_right}
 use Rattle.std.proofs.lemmas.Map.Keys.{sorted_tail}
 use Rattle.std.proofs.lemmas.Map.Lookups.{exact_bytes}
-use Rattle.itip_join.specs.declared.lift.Lift.{Lift}
-use Rattle.itip_join.specs.Bounds.{IsJoinOf}
-use Rattle.itip_join.specs.KeyByKey.{value_at, IsMapBelow}
 use Rattle.itip_join.specs.Optional.{IsBelowAt}
 use Rattle.itip_message.specs.KeyParts.{uid_of}
 use Rattle.itip_message.specs.declared.item.Item.{Item}
-use Rattle.itip_message.specs.declared.key.Key.{Key}
 use Rattle.itip_state.specs.Kept.{IsBest, AreKept, ArePart, SameItems}
-use Rattle.itip_state.specs.Held.{Best, Shape, shape_items, shapes, items_of, IsPlaced, ArePlaced}
-use Rattle.itip_state.proofs.Below.{IsShapeBelow}
+use Rattle.itip_state.specs.Order.{IsState, IsBelow}
+use Rattle.itip_state.specs.Held.{Shape, shape_items, items_of, at, IsSound, AreOrdered, AreSound, AreHeld, HoldKept}
+use Rattle.itip_state.specs.Joined.{IsShapeBelow, AreBelow, IsJoined, IsJoinedAt}
 use Rattle.itip_state.proofs.Members.{by_bool, none_in, cons_first}
 use Rattle.itip_state.proofs.Lookups.{one_key, itself, at_head, at_other, none_in_tail, value_from_all, all_from_values}
 use Rattle.itip_state.proofs.Best.{best_above}
-use Rattle.itip_state.proofs.Keeping.{kept_in_part, are_kept_same, more_by_below, series_kept}
-use Rattle.itip_state.proofs.Shapes.{IsWhole, IsSound, about, is_state}
+use Rattle.itip_state.proofs.Keeping.{kept_in_part, are_kept_same, more_by_below, series_kept, below_both_ways, below_from_same}
+use Rattle.itip_state.proofs.Shapes.{about, is_state}
 use Rattle.itip_state.proofs.Comparing.{below_kept, kept_below}
-use Rattle.itip_state.proofs.Joining.{placed_of_two, items_of_two, of_one, of_both, shape_below_itself}
+use Rattle.itip_state.proofs.Joining.{placed_of_two, items_of_two}
 
 abbrev pub uid_cmp : List ℕ → List ℕ → Ordering
 uid_cmp = slice_cmp nat_cmp
@@ -56,7 +52,7 @@ kept_from_parts z h zs hs z_is h_is kept i =
 
 pub kept_to_part : (uid : List ℕ) (z h zu hu : List Item) → ArePart uid zu z → ArePart uid hu h → AreKept z h → AreKept zu hu
 kept_to_part uid z h zu hu z_is h_is kept i = (
-  λ there. let at = (z_is i).0 there in (kept_in_part uid hu h h_is i at.1).1 ((kept i).0 at.0),
+  λ there. let one = (z_is i).0 there in (kept_in_part uid hu h h_is i one.1).1 ((kept i).0 one.0),
   λ is. let of_uid : uid_of i.key ≡ uid = ((h_is i).0 is.best.is_heard).1 in (z_is i).1 ((kept i).1 ((kept_in_part uid hu h h_is i of_uid).0 is), of_uid),
 )
 
@@ -73,196 +69,152 @@ part_append uid xu yu x y p q i = (
 )
 
 -- ---- one UID, of which nothing may be held
-module _ {V : Type 0} (shape : V → Shape) (whole : (v : V) → IsWhole (shape v)) where
-  abbrev pub IsHeldBelow : V → V → Type 0
-  IsHeldBelow v w = IsShapeBelow (shape v) (shape w)
+abbrev pub items_at : Option Shape → List Item
+items_at None = []
+items_at (Some sh) = shape_items sh
 
-  abbrev pub items_at : Option V → List Item
-  items_at None = []
-  items_at (Some v) = shape_items (shape v)
+abbrev pub IsSoundAt : List ℕ → Option Shape → Type 0
+IsSoundAt uid None = Unit {0}
+IsSoundAt uid (Some sh) = IsSound uid sh × (0 < length (shape_items sh))
 
-  abbrev pub IsPlacedAt : List ℕ → Option V → Type 0
-  IsPlacedAt uid None = Unit {0}
-  IsPlacedAt uid (Some v) = IsPlaced uid (shape v) × (0 < length (shape_items (shape v)))
+nothing_kept : AreKept [] []
+nothing_kept i = (λ h. absurd (none_in i h), λ kept. kept.best.is_heard)
 
-  sound : (uid : List ℕ) (v : V) → IsPlaced uid (shape v) → IsSound uid (shape v)
-  sound uid v p = record { placed = p; whole = whole v }
+state_at : (uid : List ℕ) (a : Option Shape) → IsSoundAt uid a → AreKept (items_at a) (items_at a)
+state_at uid None p = nothing_kept
+state_at uid (Some v) p = is_state uid v p.0
 
-  nothing_kept : AreKept [] []
-  nothing_kept i = (λ h. absurd (none_in i h), λ kept. kept.best.is_heard)
+below_kept_at : (uid : List ℕ) (a b : Option Shape) → IsSoundAt uid a → IsSoundAt uid b → IsBelowAt IsShapeBelow a b → AreKept (items_at b) (items_at a ++ items_at b)
+below_kept_at uid None b p q le = state_at uid b q
+below_kept_at uid (Some v) None p q le = absurd le
+below_kept_at uid (Some v) (Some w) p q le = below_kept uid v w p.0 q.0 le
 
-  pub state_at : (uid : List ℕ) (a : Option V) → IsPlacedAt uid a → AreKept (items_at a) (items_at a)
-  state_at uid None p = nothing_kept
-  state_at uid (Some v) p = is_state uid (shape v) (sound uid v p.0)
+kept_below_at : (uid : List ℕ) (a b : Option Shape) → IsSoundAt uid a → IsSoundAt uid b → AreKept (items_at b) (items_at a ++ items_at b) → IsBelowAt IsShapeBelow a b
+kept_below_at uid None b p q kept = tt
+kept_below_at uid (Some v) None p q kept =
+    let some = first_of (shape_items v) p.1 in
+    let x : 0 < 0 = kept_some [] (shape_items v ++ []) kept some.0 (Contains-append_left (shape_items v) [] some.0 some.1) in absurd (omega (arith, x))
+kept_below_at uid (Some v) (Some w) p q kept = kept_below uid v w p.0 q.0 kept
 
-  pub below_kept_at : (uid : List ℕ) (a b : Option V) → IsPlacedAt uid a → IsPlacedAt uid b → IsBelowAt IsHeldBelow a b → AreKept (items_at b) (items_at a ++ items_at b)
-  below_kept_at uid None b p q le = state_at uid b q
-  below_kept_at uid (Some v) None p q le = absurd le
-  below_kept_at uid (Some v) (Some w) p q le = below_kept uid (shape v) (shape w) (sound uid v p.0) (sound uid w q.0) le
+-- what two are joined to has what is kept of their items
+module _ (uid : List ℕ) (a b c : Shape) (p : IsSound uid a) (q : IsSound uid b) (j : IsJoined a b c) where
+  joined_sound : IsSound uid c
+  joined_sound = record { placed = placed_of_two uid a b c j.of_two j.whole p.placed q.placed; whole = j.whole }
 
-  pub kept_below_at : (uid : List ℕ) (a b : Option V) → IsPlacedAt uid a → IsPlacedAt uid b → AreKept (items_at b) (items_at a ++ items_at b) → IsBelowAt IsHeldBelow a b
-  kept_below_at uid None b p q kept = tt
-  kept_below_at uid (Some v) None p q kept =
-      let some = first_of (shape_items (shape v)) p.1 in
-      let x : 0 < 0 = kept_some [] (shape_items (shape v) ++ []) kept some.0 (Contains-append_left (shape_items (shape v)) [] some.0 some.1) in absurd (omega (arith, x))
-  kept_below_at uid (Some v) (Some w) p q kept = kept_below uid (shape v) (shape w) (sound uid v p.0) (sound uid w q.0) kept
+  same_of_two : SameItems (shape_items a ++ (shape_items b ++ shape_items c)) (shape_items a ++ shape_items b)
+  same_of_two i = (
+    λ h. elim (Contains-append_cases (shape_items a) (shape_items b ++ shape_items c) i h) [
+      | inl left ↦ Contains-append_left (shape_items a) (shape_items b) i left
+      | inr rest ↦ elim (Contains-append_cases (shape_items b) (shape_items c) i rest) [
+        | inl right ↦ Contains-append_right (shape_items a) (shape_items b) i right
+        | inr new ↦ elim (items_of_two uid a b c j.of_two j.whole p q joined_sound i new) [ inl left ↦ Contains-append_left (shape_items a) (shape_items b) i left | inr right ↦ Contains-append_right (shape_items a) (shape_items b) i right ]
+      ]
+    ],
+    λ h. elim (Contains-append_cases (shape_items a) (shape_items b) i h) [
+      | inl left ↦ Contains-append_left (shape_items a) (shape_items b ++ shape_items c) i left
+      | inr right ↦ Contains-append_right (shape_items a) (shape_items b ++ shape_items c) i (Contains-append_left (shape_items b) (shape_items c) i right)
+    ],
+  )
 
-  module _ (uid : List ℕ) (a b : Option V) (p : IsPlacedAt uid a) (q : IsPlacedAt uid b) where
-    same_of_two : (z : List Item) → ((i : Item) → Contains z i → Contains (items_at a) i ⊎ Contains (items_at b) i) → SameItems (items_at a ++ (items_at b ++ z)) (items_at a ++ items_at b)
-    same_of_two z from i = (
-      λ h. elim (Contains-append_cases (items_at a) (items_at b ++ z) i h) [
-        | inl left ↦ Contains-append_left (items_at a) (items_at b) i left
-        | inr rest ↦ elim (Contains-append_cases (items_at b) z i rest) [
-          | inl right ↦ Contains-append_right (items_at a) (items_at b) i right
-          | inr new ↦ elim (from i new) [ inl left ↦ Contains-append_left (items_at a) (items_at b) i left | inr right ↦ Contains-append_right (items_at a) (items_at b) i right ]
-        ]
-      ],
-      λ h. elim (Contains-append_cases (items_at a) (items_at b) i h) [
-        | inl left ↦ Contains-append_left (items_at a) (items_at b ++ z) i left
-        | inr right ↦ Contains-append_right (items_at a) (items_at b ++ z) i (Contains-append_left (items_at b) z i right)
-      ],
-    )
+  kept_of_two : AreKept (shape_items c) (shape_items a ++ shape_items b)
+  kept_of_two = are_kept_same (shape_items c) (shape_items a ++ (shape_items b ++ shape_items c)) (shape_items a ++ shape_items b) same_of_two
+      (more_by_below (shape_items a) (shape_items b) (shape_items c) (is_state uid a p) (below_kept uid a c p joined_sound j.above_first) (below_kept uid b c q joined_sound j.above_second))
 
-    -- what is above both, with nothing but their items, is what is kept of them
-    kept_of_two : (c : V) → IsPlaced uid (shape c) → IsBelowAt IsHeldBelow a (Some c) → IsBelowAt IsHeldBelow b (Some c)
-        → ((i : Item) → Contains (shape_items (shape c)) i → Contains (items_at a) i ⊎ Contains (items_at b) i) → (i : Item) → Contains (items_at a ++ items_at b) i
-        → IsPlacedAt uid (Some c) × AreKept (shape_items (shape c)) (items_at a ++ items_at b)
-    kept_of_two c r up_a up_b from some there =
-        let at : IsPlaced uid (shape c) → (0 < length (shape_items (shape c))) → IsPlacedAt uid (Some c) = λ x y. (x, y) in
-        let kept : AreKept (shape_items (shape c)) (items_at a ++ items_at b) = are_kept_same (shape_items (shape c)) (items_at a ++ (items_at b ++ shape_items (shape c))) (items_at a ++ items_at b)
-        (same_of_two (shape_items (shape c)) from)
-        (more_by_below (items_at a) (items_at b) (shape_items (shape c)) (state_at uid a p) (kept_above a p up_a) (kept_above b q up_b)) in
-        (at r (kept_some (shape_items (shape c)) (items_at a ++ items_at b) kept some there), kept)
-      where
-        kept_above : (d : Option V) → IsPlacedAt uid d → IsBelowAt IsHeldBelow d (Some c) → AreKept (shape_items (shape c)) (items_at d ++ shape_items (shape c))
-        kept_above None s le = is_state uid (shape c) (sound uid c r)
-        kept_above (Some v) s le = below_kept uid (shape v) (shape c) (sound uid v s.0) (sound uid c r) le
-
-  pub joined_at : (make : (sh : Shape) → IsWhole sh → V) (made : (sh : Shape) (w : IsWhole sh) → shape (make sh w) ≡ sh)
-      → (uid : List ℕ) (a b c : Option V) → IsPlacedAt uid a → IsPlacedAt uid b → IsJoinOf (IsBelowAt IsHeldBelow) a b c → IsPlacedAt uid c × AreKept (items_at c) (items_at a ++ items_at b)
-  joined_at make made uid None None None p q j = (tt, nothing_kept)
-  joined_at make made uid (Some a) b None p q j = absurd j.above_first
-  joined_at make made uid None (Some b) None p q j = absurd j.above_second
-  joined_at make made uid None None (Some c) p q j = absurd (j.least None tt tt)
-  joined_at make made uid (Some a) None (Some c) p q j =
-      let of = of_one (shape a) (shape c) (whole c) j.above_first (j.least (Some a) (shape_below_itself (shape a)) tt) in
-      let r = placed_of_two uid (shape a) (shape a) (shape c) of (whole c) p.0 p.0 in
-      let some = first_of (shape_items (shape a)) p.1 in
-      kept_of_two uid (Some a) None p q c r j.above_first tt
-      (λ i h. elim (items_of_two uid (shape a) (shape a) (shape c) of (whole c) (sound uid a p.0) (sound uid a p.0) (sound uid c r) i h) [ inl x ↦ inl x | inr x ↦ inl x ])
-      some.0 (Contains-append_left (shape_items (shape a)) [] some.0 some.1)
-  joined_at make made uid None (Some b) (Some c) p q j =
-      let of = of_one (shape b) (shape c) (whole c) j.above_second (j.least (Some b) tt (shape_below_itself (shape b))) in
-      let r = placed_of_two uid (shape b) (shape b) (shape c) of (whole c) q.0 q.0 in
-      let some = first_of (shape_items (shape b)) q.1 in
-      kept_of_two uid None (Some b) p q c r tt j.above_second
-      (λ i h. elim (items_of_two uid (shape b) (shape b) (shape c) of (whole c) (sound uid b q.0) (sound uid b q.0) (sound uid c r) i h) [ inl x ↦ inr x | inr x ↦ inr x ])
-      some.0 some.1
-  joined_at make made uid (Some a) (Some b) (Some c) p q j =
-      let least : (d : Shape) → IsWhole d → IsShapeBelow (shape a) d → IsShapeBelow (shape b) d → IsShapeBelow (shape c) d = λ d w x y. subst (IsShapeBelow (shape c)) (made d w)
-      (j.least (Some (make d w)) (subst (IsShapeBelow (shape a)) (sym (made d w)) x) (subst (IsShapeBelow (shape b)) (sym (made d w)) y)) in
-      let of = of_both (shape a) (shape b) (whole a) (whole b) (shape c) (whole c) j.above_first j.above_second least in
-      let r = placed_of_two uid (shape a) (shape b) (shape c) of (whole c) p.0 q.0 in
-      let some = first_of (shape_items (shape a)) p.1 in
-      kept_of_two uid (Some a) (Some b) p q c r j.above_first j.above_second
-      (items_of_two uid (shape a) (shape b) (shape c) of (whole c) (sound uid a p.0) (sound uid b q.0) (sound uid c r))
-      some.0 (Contains-append_left (shape_items (shape a)) (shape_items (shape b)) some.0 some.1)
+joined_at : (uid : List ℕ) (a b c : Option Shape) → IsSoundAt uid a → IsSoundAt uid b → IsJoinedAt a b c → IsSoundAt uid c × AreKept (items_at c) (items_at a ++ items_at b)
+joined_at uid None b c p q e = subst (λ (o : Option Shape). IsSoundAt uid o × AreKept (items_at o) (items_at b)) (sym e) (q, state_at uid b q)
+joined_at uid (Some a) None c p q e = subst (λ (o : Option Shape). IsSoundAt uid o × AreKept (items_at o) (shape_items a ++ [])) (sym e)
+    (p, subst (AreKept (shape_items a)) (sym (append-nil (shape_items a))) (is_state uid a p.0))
+joined_at uid (Some a) (Some b) c p q (joined, e, j) =
+    let some = first_of (shape_items a) p.1 in
+    let kept = kept_of_two uid a b joined p.0 q.0 j in
+    let there : 0 < length (shape_items joined) = kept_some (shape_items joined) (shape_items a ++ shape_items b) kept some.0 (Contains-append_left (shape_items a) (shape_items b) some.0 some.1) in
+    subst (λ (o : Option Shape). IsSoundAt uid o × AreKept (items_at o) (shape_items a ++ shape_items b)) (sym e) ((joined_sound uid a b joined p.0 q.0 j, there), kept)
 
 -- ---- maps
-module _ {V : Type 0} (series : V → Lift Best) (entries : V → List (Key × Best)) (whole : (v : V) → IsWhole (record { series = series v; entries = entries v })) where
-  abbrev pub shape : V → Shape
-  shape v = record { series = series v; entries = entries v }
+pub sound_at : (es : List (List ℕ × Shape)) → AreSound es → (uid : List ℕ) → IsSoundAt uid (at es uid)
+sound_at es p uid = by (at es uid) refl
+  where
+    by : (o : Option Shape) → at es uid ≡ o → IsSoundAt uid (at es uid)
+    by None e = subst (IsSoundAt uid) (sym e) tt
+    by (Some v) e = subst (IsSoundAt uid) (sym e) (value_from_all nat_list_cmp_total exact_bytes (λ f. IsSoundAt f.0 (Some f.1)) es p uid v e)
 
-  abbrev pub all_items : List (List ℕ × V) → List Item
-  all_items es = items_of (shapes es series entries)
+pub all_sound : (es : List (List ℕ × Shape)) → AreOrdered es → ((uid : List ℕ) → IsSoundAt uid (at es uid)) → AreSound es
+all_sound es s p = all_from_values nat_list_cmp_total exact_bytes (λ f. IsSoundAt f.0 (Some f.1)) es s (λ uid v e. subst (IsSoundAt uid) e (p uid))
 
-  abbrev pub at : List (List ℕ × V) → List ℕ → Option V
-  at es uid = value_at uid_cmp es uid
+module _ (e : List ℕ × Shape) (es : List (List ℕ × Shape)) (s : AreOrdered (e ∷ es)) (p : AreSound (e ∷ es)) (uid : List ℕ) (rest : ArePart uid (items_at (at es uid)) (items_of es)) (i : Item) where
+  of_first : Contains (shape_items e.1) i → uid_of i.key ≡ e.0
+  of_first h = about e.0 e.1 p.0.0 i h
 
-  abbrev pub AreInOrder : List (List ℕ × V) → Type 0
-  AreInOrder es = IsStrictlySortedBy uid_cmp (keys_of es)
+  here : is_eq (uid_cmp uid e.0) ≡ true → Contains (items_at (at (e ∷ es) uid)) i ↔ (Contains (items_of (e ∷ es)) i × (uid_of i.key ≡ uid))
+  here k =
+      let key : uid ≡ e.0 = one_key nat_list_cmp_total exact_bytes uid e.0 k in
+      let found : at (e ∷ es) uid ≡ Some e.1 = ap (at (e ∷ es)) key ∙ at_head nat_list_cmp_total exact_bytes e es in
+      let none : at es uid ≡ None = none_in_tail nat_list_cmp_total exact_bytes e es uid s k in (
+        λ h. let g : Contains (shape_items e.1) i = subst (λ (o : Option Shape). Contains (items_at o) i) found h in
+            (Contains-append_left (shape_items e.1) (items_of es) i g, of_first g ∙ sym key),
+        λ h. subst (λ (o : Option Shape). Contains (items_at o) i) (sym found) (elim (Contains-append_cases (shape_items e.1) (items_of es) i h.0) [
+          | inl left ↦ left
+          | inr right ↦ absurd (none_in i (subst (λ (o : Option Shape). Contains (items_at o) i) none ((rest i).1 (right, h.1))))
+        ]),
+      )
 
-  each_placed : (es : List (List ℕ × V)) → ArePlaced (shapes es series entries) → AllByRecursion (λ e. IsPlacedAt shape whole e.0 (Some e.1)) es
-  each_placed [] p = tt
-  each_placed (e ∷ es) p = (p.0, each_placed es p.1)
-
-  placed_each : (es : List (List ℕ × V)) → AllByRecursion (λ e. IsPlacedAt shape whole e.0 (Some e.1)) es → ArePlaced (shapes es series entries)
-  placed_each [] p = tt
-  placed_each (e ∷ es) p = (p.0, placed_each es p.1)
-
-  pub placed_at : (es : List (List ℕ × V)) → ArePlaced (shapes es series entries) → (uid : List ℕ) → IsPlacedAt shape whole uid (at es uid)
-  placed_at es p uid = by (at es uid) refl
+  apart : is_eq (uid_cmp uid e.0) ≡ false → Contains (items_at (at (e ∷ es) uid)) i ↔ (Contains (items_of (e ∷ es)) i × (uid_of i.key ≡ uid))
+  apart k =
+      let found : at (e ∷ es) uid ≡ at es uid = at_other nat_list_cmp_total exact_bytes e es uid k in (
+        λ h. let r = (rest i).0 (subst (λ (o : Option Shape). Contains (items_at o) i) found h) in (Contains-append_right (shape_items e.1) (items_of es) i r.0, r.1),
+        λ h. subst (λ (o : Option Shape). Contains (items_at o) i) (sym found) (elim (Contains-append_cases (shape_items e.1) (items_of es) i h.0) [
+          | inl left ↦ let same : is_eq (uid_cmp uid e.0) ≡ true = itself_by (sym h.1 ∙ of_first left) in let x : true ≡ false = sym same ∙ k in absurd (cc)
+          | inr right ↦ (rest i).1 (right, h.1)
+        ]),
+      )
     where
-      by : (o : Option V) → at es uid ≡ o → IsPlacedAt shape whole uid (at es uid)
-      by None e = subst (IsPlacedAt shape whole uid) (sym e) tt
-      by (Some v) e = subst (IsPlacedAt shape whole uid) (sym e) (value_from_all nat_list_cmp_total exact_bytes (λ f. IsPlacedAt shape whole f.0 (Some f.1)) es (each_placed es p) uid v e)
+      itself_by : uid ≡ e.0 → is_eq (uid_cmp uid e.0) ≡ true
+      itself_by same = ap (λ (u : List ℕ). is_eq (uid_cmp u e.0)) same ∙ itself nat_list_cmp_total exact_bytes e.0
 
-  pub all_placed : (es : List (List ℕ × V)) → AreInOrder es → ((uid : List ℕ) → IsPlacedAt shape whole uid (at es uid)) → ArePlaced (shapes es series entries)
-  all_placed es s p = placed_each es (all_from_values nat_list_cmp_total exact_bytes (λ f. IsPlacedAt shape whole f.0 (Some f.1)) es s (λ uid v e. subst (IsPlacedAt shape whole uid) e (p uid)))
+part_by : (es : List (List ℕ × Shape)) → AreOrdered es → AreSound es → (uid : List ℕ) → ArePart uid (items_at (at es uid)) (items_of es)
+part_by [] s p uid i = (λ h. absurd (none_in i h), λ h. h.0)
+part_by (e ∷ es) s p uid i =
+    let rest = part_by es (sorted_tail uid_cmp e.0 (keys_of es) s) p.1 uid in
+    by_bool (is_eq (uid_cmp uid e.0)) (Contains (items_at (at (e ∷ es) uid)) i ↔ (Contains (items_of (e ∷ es)) i × (uid_of i.key ≡ uid)))
+    (here e es s p uid rest i) (apart e es s p uid rest i)
 
-  module _ (e : List ℕ × V) (es : List (List ℕ × V)) (s : AreInOrder (e ∷ es)) (p : ArePlaced (shapes (e ∷ es) series entries)) (uid : List ℕ)
-      (rest : ArePart uid (items_at shape whole (at es uid)) (all_items es)) (i : Item) where
-    of_first : Contains (shape_items (shape e.1)) i → uid_of i.key ≡ e.0
-    of_first h = about e.0 (shape e.1) (record { placed = p.0.0; whole = whole e.1 }) i h
+pub part_at : (es : List (List ℕ × Shape)) → AreHeld es → (uid : List ℕ) → ArePart uid (items_at (at es uid)) (items_of es)
+part_at es held = part_by es held.ordered held.sound
 
-    here : is_eq (uid_cmp uid e.0) ≡ true → Contains (items_at shape whole (at (e ∷ es) uid)) i ↔ (Contains (all_items (e ∷ es)) i × (uid_of i.key ≡ uid))
-    here k =
-        let key : uid ≡ e.0 = one_key nat_list_cmp_total exact_bytes uid e.0 k in
-        let found : at (e ∷ es) uid ≡ Some e.1 = ap (at (e ∷ es)) key ∙ at_head nat_list_cmp_total exact_bytes e es in
-        let none : at es uid ≡ None = none_in_tail nat_list_cmp_total exact_bytes e es uid s k in (
-          λ h. let g : Contains (shape_items (shape e.1)) i = subst (λ (o : Option V). Contains (items_at shape whole o) i) found h in
-              (Contains-append_left (shape_items (shape e.1)) (all_items es) i g, of_first g ∙ sym key),
-          λ h. subst (λ (o : Option V). Contains (items_at shape whole o) i) (sym found) (elim (Contains-append_cases (shape_items (shape e.1)) (all_items es) i h.0) [
-            | inl left ↦ left
-            | inr right ↦ absurd (none_in i (subst (λ (o : Option V). Contains (items_at shape whole o) i) none ((rest i).1 (right, h.1))))
-          ]),
-        )
+module _ (xs zs : List (List ℕ × Shape)) (p : AreHeld xs) (r : AreHeld zs) where
+  both_parts : (uid : List ℕ) → ArePart uid (items_at (at xs uid) ++ items_at (at zs uid)) (items_of xs ++ items_of zs)
+  both_parts uid = part_append uid (items_at (at xs uid)) (items_at (at zs uid)) (items_of xs) (items_of zs) (part_at xs p uid) (part_at zs r uid)
 
-    apart : is_eq (uid_cmp uid e.0) ≡ false → Contains (items_at shape whole (at (e ∷ es) uid)) i ↔ (Contains (all_items (e ∷ es)) i × (uid_of i.key ≡ uid))
-    apart k =
-        let found : at (e ∷ es) uid ≡ at es uid = at_other nat_list_cmp_total exact_bytes e es uid k in (
-          λ h. let r = (rest i).0 (subst (λ (o : Option V). Contains (items_at shape whole o) i) found h) in (Contains-append_right (shape_items (shape e.1)) (all_items es) i r.0, r.1),
-          λ h. subst (λ (o : Option V). Contains (items_at shape whole o) i) (sym found) (elim (Contains-append_cases (shape_items (shape e.1)) (all_items es) i h.0) [
-            | inl left ↦ let same : is_eq (uid_cmp uid e.0) ≡ true = itself_by (sym h.1 ∙ of_first left) in let x : true ≡ false = sym same ∙ k in absurd (cc)
-            | inr right ↦ (rest i).1 (right, h.1)
-          ]),
-        )
-      where
-        itself_by : uid ≡ e.0 → is_eq (uid_cmp uid e.0) ≡ true
-        itself_by same = ap (λ (u : List ℕ). is_eq (uid_cmp u e.0)) same ∙ itself nat_list_cmp_total exact_bytes e.0
+  pub state_below : AreBelow xs zs → IsBelow (items_of xs) (items_of zs)
+  state_below le = kept_from_parts (items_of zs) (items_of xs ++ items_of zs) (λ uid. items_at (at zs uid)) (λ uid. items_at (at xs uid) ++ items_at (at zs uid))
+      (part_at zs r) both_parts (λ uid. below_kept_at uid (at xs uid) (at zs uid) (sound_at xs p.sound uid) (sound_at zs r.sound uid) (le uid))
 
-  pub part_at : (es : List (List ℕ × V)) → AreInOrder es → ArePlaced (shapes es series entries) → (uid : List ℕ) → ArePart uid (items_at shape whole (at es uid)) (all_items es)
-  part_at [] s p uid i = (λ h. absurd (none_in i h), λ h. h.0)
-  part_at (e ∷ es) s p uid i =
-      let rest = part_at es (sorted_tail uid_cmp e.0 (keys_of es) s) p.1 uid in
-      by_bool (is_eq (uid_cmp uid e.0)) (Contains (items_at shape whole (at (e ∷ es) uid)) i ↔ (Contains (all_items (e ∷ es)) i × (uid_of i.key ≡ uid)))
-      (here e es s p uid rest i) (apart e es s p uid rest i)
+  pub held_below : IsBelow (items_of xs) (items_of zs) → AreBelow xs zs
+  held_below kept uid = kept_below_at uid (at xs uid) (at zs uid) (sound_at xs p.sound uid) (sound_at zs r.sound uid)
+      (kept_to_part uid (items_of zs) (items_of xs ++ items_of zs) (items_at (at zs uid)) (items_at (at xs uid) ++ items_at (at zs uid)) (part_at zs r uid) (both_parts uid) kept)
 
-  module _ (xs zs : List (List ℕ × V)) (s : AreInOrder xs) (t : AreInOrder zs) (p : ArePlaced (shapes xs series entries)) (r : ArePlaced (shapes zs series entries)) where
-    both_parts : (uid : List ℕ) → ArePart uid (items_at shape whole (at xs uid) ++ items_at shape whole (at zs uid)) (all_items xs ++ all_items zs)
-    both_parts uid = part_append uid (items_at shape whole (at xs uid)) (items_at shape whole (at zs uid)) (all_items xs) (all_items zs) (part_at xs s p uid) (part_at zs t r uid)
+pub held_state : (es : List (List ℕ × Shape)) → AreHeld es → IsState (items_of es)
+held_state es p = kept_from_parts (items_of es) (items_of es) (λ uid. items_at (at es uid)) (λ uid. items_at (at es uid)) (part_at es p) (part_at es p)
+    (λ uid. state_at uid (at es uid) (sound_at es p.sound uid))
 
-    pub map_below_kept : IsMapBelow uid_cmp (IsHeldBelow shape whole) xs zs → AreKept (all_items zs) (all_items xs ++ all_items zs)
-    map_below_kept le = kept_from_parts (all_items zs) (all_items xs ++ all_items zs) (λ uid. items_at shape whole (at zs uid)) (λ uid. items_at shape whole (at xs uid) ++ items_at shape whole (at zs uid))
-        (part_at zs t r) both_parts (λ uid. below_kept_at shape whole uid (at xs uid) (at zs uid) (placed_at xs p uid) (placed_at zs r uid) (le uid))
+-- two that tell no more than each other have the same items
+pub same_held : (xs zs : List (List ℕ × Shape)) → AreHeld xs → AreHeld zs → AreBelow xs zs → AreBelow zs xs → SameItems (items_of xs) (items_of zs)
+same_held xs zs p r up down = below_both_ways (items_of xs) (items_of zs) (state_below xs zs p r up) (state_below zs xs r p down)
 
-    pub map_kept_below : AreKept (all_items zs) (all_items xs ++ all_items zs) → IsMapBelow uid_cmp (IsHeldBelow shape whole) xs zs
-    map_kept_below kept uid = kept_below_at shape whole uid (at xs uid) (at zs uid) (placed_at xs p uid) (placed_at zs r uid)
-        (kept_to_part uid (all_items zs) (all_items xs ++ all_items zs) (items_at shape whole (at zs uid)) (items_at shape whole (at xs uid) ++ items_at shape whole (at zs uid)) (part_at zs t r uid) (both_parts uid) kept)
+pub below_same : (xs zs : List (List ℕ × Shape)) → AreHeld xs → AreHeld zs → SameItems (items_of xs) (items_of zs) → AreBelow xs zs
+below_same xs zs p r same = held_below xs zs p r (below_from_same (items_of xs) (items_of zs) (held_state zs r) same)
 
-  pub map_state : (es : List (List ℕ × V)) → AreInOrder es → ArePlaced (shapes es series entries) → AreKept (all_items es) (all_items es)
-  map_state es s p = kept_from_parts (all_items es) (all_items es) (λ uid. items_at shape whole (at es uid)) (λ uid. items_at shape whole (at es uid)) (part_at es s p) (part_at es s p)
-      (λ uid. state_at shape whole uid (at es uid) (placed_at es p uid))
+-- what two are joined to is what is kept of both
+pub joined_held : (xs ys zs : List (List ℕ × Shape)) → AreHeld xs → AreHeld ys → AreOrdered zs → ((uid : List ℕ) → IsJoinedAt (at xs uid) (at ys uid) (at zs uid))
+    → HoldKept (items_of xs ++ items_of ys) zs
+joined_held xs ys zs p q ordered join = record {
+  held = held;
+  kept = kept_from_parts (items_of zs) (items_of xs ++ items_of ys) (λ uid. items_at (at zs uid)) (λ uid. items_at (at xs uid) ++ items_at (at ys uid))
+      (part_at zs held) (both_parts xs ys p q) (λ uid. (each uid).1);
+}
+  where
+    each : (uid : List ℕ) → IsSoundAt uid (at zs uid) × AreKept (items_at (at zs uid)) (items_at (at xs uid) ++ items_at (at ys uid))
+    each uid = joined_at uid (at xs uid) (at ys uid) (at zs uid) (sound_at xs p.sound uid) (sound_at ys q.sound uid) (join uid)
 
-  module _ (make : (sh : Shape) → IsWhole sh → V) (made : (sh : Shape) (w : IsWhole sh) → shape (make sh w) ≡ sh)
-      (xs ys zs : List (List ℕ × V)) (s : AreInOrder xs) (t : AreInOrder ys) (o : AreInOrder zs) (p : ArePlaced (shapes xs series entries)) (q : ArePlaced (shapes ys series entries))
-      (join : (uid : List ℕ) → IsJoinOf (IsBelowAt (IsHeldBelow shape whole)) (at xs uid) (at ys uid) (at zs uid)) where
-    each_joined : (uid : List ℕ) → IsPlacedAt shape whole uid (at zs uid) × AreKept (items_at shape whole (at zs uid)) (items_at shape whole (at xs uid) ++ items_at shape whole (at ys uid))
-    each_joined uid = joined_at shape whole make made uid (at xs uid) (at ys uid) (at zs uid) (placed_at xs p uid) (placed_at ys q uid) (join uid)
-
-    pub joined_placed : ArePlaced (shapes zs series entries)
-    joined_placed = all_placed zs o (λ uid. (each_joined uid).0)
-
-    pub joined_kept : AreKept (all_items zs) (all_items xs ++ all_items ys)
-    joined_kept = kept_from_parts (all_items zs) (all_items xs ++ all_items ys) (λ uid. items_at shape whole (at zs uid)) (λ uid. items_at shape whole (at xs uid) ++ items_at shape whole (at ys uid))
-        (part_at zs o joined_placed) (both_parts xs ys s t p q) (λ uid. (each_joined uid).1)
+    held : AreHeld zs
+    held = record { ordered = ordered; sound = all_sound zs ordered (λ uid. (each uid).0) }

@@ -12,15 +12,14 @@ use Rattle.itip_message.specs.declared.key.Key.{Key}
 use Rattle.itip_message.specs.declared.key.Key.TheVariants.{Series}
 use Rattle.itip_state.specs.Kept.{IsBest, IsKept, IsDead, KeepSame, Moves}
 use Rattle.itip_state.specs.Slots.{slot_cmp}
-use Rattle.itip_state.specs.Held.{Best, Shape, best, is_series, kills, shapes, items_of, shape_items, ArePlaced}
+use Rattle.itip_state.specs.Held.{Best, Shape, best, is_series, kills, items_of, shape_items, at, IsSound, AreHeld}
 use Rattle.itip_state.specs.Told.{IsTold, IsOutdone, AreNews, HoldsNoEarlier}
 use Rattle.itip_state.proofs.Members.{by_bool, none_in, cons_cases}
 use Rattle.itip_state.proofs.Later.{neither_later}
 use Rattle.itip_state.proofs.Best.{best_above, not_later_itself, later_transitive}
 use Rattle.itip_state.proofs.Keeping.{Covers, covers_itself, kept_of_parts, kept_part, best_part, series_kept}
 use Rattle.itip_state.proofs.Tests.{series_key, dead_under, can, kill}
-use Rattle.itip_state.proofs.Shapes.{IsWhole, IsSound, IsHeldAs, known_key, series_held, entry_held, entry_key, held_as, series_is, killed_is_dead}
-use Rattle.itip_state.proofs.Maps.{uid_cmp, AreInOrder}
+use Rattle.itip_state.proofs.Shapes.{IsHeldAs, known_key, series_held, entry_held, entry_key, held_as, series_is, killed_is_dead}
 use Rattle.itip_state.proofs.Reading.{held_part, held_no_part, held_sound}
 
 pub no_news : (set : List Item) → AreNews set [] []
@@ -191,47 +190,43 @@ module _ (sh : Shape) (item : Item) (b : Best) where
       by held not (inr other) = subst (λ (x : Best). ¬ IsLater item x.value) (one held b (sym other.1 ∙ there)) not
 
 -- ---- where nothing, or this, is held of a UID
-module _ {V : Type 0} (series : V → Lift Best) (entries : V → List (Key × Best)) (whole : (v : V) → IsWhole (record { series = series v; entries = entries v }))
-    (es : List (List ℕ × V)) (s : AreInOrder series entries whole es) (p : ArePlaced (shapes es series entries)) (item : Item) where
+module _ (es : List (List ℕ × Shape)) (p : AreHeld es) (item : Item) where
   abbrev all : List Item
-  all = items_of (shapes es series entries)
+  all = items_of es
 
-  pub not_outdone : value_at uid_cmp es (uid_of item.key) ≡ None → ¬ IsOutdone all item
-  not_outdone e (inl told) = none_in told.teller ((held_no_part series entries whole es s p (uid_of item.key) e told.teller).1 (told.there, ap uid_of told.same))
-  not_outdone e (inr dead) = none_in dead.series ((held_no_part series entries whole es s p (uid_of item.key) e dead.series).1 (dead.best.is_heard, ap uid_of dead.best.about))
+  pub not_outdone : at es (uid_of item.key) ≡ None → ¬ IsOutdone all item
+  not_outdone e (inl told) = none_in told.teller ((held_no_part es p (uid_of item.key) e told.teller).1 (told.there, ap uid_of told.same))
+  not_outdone e (inr dead) = none_in dead.series ((held_no_part es p (uid_of item.key) e dead.series).1 (dead.best.is_heard, ap uid_of dead.best.about))
 
-  module _ (v : V) (e : value_at uid_cmp es (uid_of item.key) ≡ Some v) where
-    abbrev sh : Shape
-    sh = record { series = series v; entries = entries v }
-
+  module _ (sh : Shape) (e : at es (uid_of item.key) ≡ Some sh) where
     sound : IsSound (uid_of item.key) sh
-    sound = held_sound series entries whole es p (uid_of item.key) v e
+    sound = held_sound es p (uid_of item.key) sh e
 
-    in_place : (held : Best) → ((is_series item.key ≡ true) × (series v ≡ Known held)) ⊎ ((is_series item.key ≡ false) × (value_at slot_cmp (entries v) item.key ≡ Some held))
+    in_place : (held : Best) → ((is_series item.key ≡ true) × (sh.series ≡ Known held)) ⊎ ((is_series item.key ≡ false) × (value_at slot_cmp sh.entries item.key ≡ Some held))
         → Contains (shape_items sh) held.value × (held.value.key ≡ item.key)
     in_place held (inl first) = (series_held (uid_of item.key) sh sound held.value first.1, known_key (uid_of item.key) sh sound held.value first.1 ∙ sym (series_key item.key first.0))
     in_place held (inr other) = (entry_held (uid_of item.key) sh sound item.key held other.1, (entry_key (uid_of item.key) sh sound item.key held other.1).in_place)
 
     from_shape : (i : Item) → Contains (shape_items sh) i → Contains all i
-    from_shape i h = ((held_part series entries whole es s p (uid_of item.key) v e i).0 h).0
+    from_shape i h = ((held_part es p (uid_of item.key) sh e i).0 h).0
 
     in_shape : (i : Item) → Contains all i → uid_of i.key ≡ uid_of item.key → Contains (shape_items sh) i
-    in_shape i h same = (held_part series entries whole es s p (uid_of item.key) v e i).1 (h, same)
+    in_shape i h same = (held_part es p (uid_of item.key) sh e i).1 (h, same)
 
     pub told_here : HoldsNoEarlier sh item → IsOutdone all item
     told_here holds =
-        let at = in_place holds.held holds.place in
-        inl (record { teller = holds.held.value; there = from_shape holds.held.value at.0; same = at.1; not_later = holds.not_later })
+        let one = in_place holds.held holds.place in
+        inl (record { teller = holds.held.value; there = from_shape holds.held.value one.0; same = one.1; not_later = holds.not_later })
 
-    pub dead_here : kills (series v) item.key item ≡ true → IsOutdone all item
+    pub dead_here : kills sh.series item.key item ≡ true → IsOutdone all item
     dead_here k = inr (killed_is_dead (uid_of item.key) sh sound all from_shape item refl k)
 
     holds_as : (w : Item) → w.key ≡ item.key → (¬ IsLater item w) → IsHeldAs sh w → HoldsNoEarlier sh item
     holds_as w same not (inl first) = record { held = best w; place = inl (ap is_series (sym same) ∙ first.1, first.0); not_later = not }
-    holds_as w same not (inr other) = record { held = best w; place = inr (ap is_series (sym same) ∙ other.1, ap (value_at slot_cmp (entries v)) (sym same) ∙ other.0); not_later = not }
+    holds_as w same not (inr other) = record { held = best w; place = inr (ap is_series (sym same) ∙ other.1, ap (value_at slot_cmp sh.entries) (sym same) ∙ other.0); not_later = not }
 
     -- where an item is outdone, one of the two is seen here
-    pub outdone_here : IsOutdone all item → (kills (series v) item.key item ≡ true) ⊎ HoldsNoEarlier sh item
+    pub outdone_here : IsOutdone all item → (kills sh.series item.key item ≡ true) ⊎ HoldsNoEarlier sh item
     outdone_here (inl told) =
         inr (holds_as told.teller told.same told.not_later (held_as (uid_of item.key) sh sound told.teller (in_shape told.teller told.there (ap uid_of told.same))))
     outdone_here (inr dead) =

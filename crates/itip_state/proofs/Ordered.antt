@@ -1,7 +1,6 @@
 -- What is held stands in the order of keys, each item once.
-use Rattle.std.proofs.Common.{◌≡◌, ℕ, ◌<◌, List, [], ◌∷◌, ◌++◌, refl, sym, ◌∙◌, ap, subst, inl, inr, true, false, get_or, length, arith}
+use Rattle.std.proofs.Common.{◌≡◌, ℕ, ◌<◌, List, [], ◌∷◌, refl, sym, ◌∙◌, ap, subst, inl, inr, true, false, get_or, length, arith}
 use Rattle.std.specs.List.{Contains, AllByRecursion, AllPairs}
-use Rattle.std.specs.List.Sorted.{IsStrictlySortedBy}
 use Rattle.std.specs.Map.{keys_of}
 use Rattle.std.specs.Ordering.{nat_cmp, ordering_then}
 use Rattle.std.specs.Cmp.{tied_itself}
@@ -20,10 +19,10 @@ use Rattle.itip_message.specs.declared.key.Key.{Key}
 use Rattle.itip_message.specs.declared.key.Key.TheVariants.{Series, Instance, Answer, Refresh}
 use Rattle.itip_state.specs.Kept.{AreSeriesOf, AreUidsOf, IsSeries, HasEachOnce, AscendKeys}
 use Rattle.itip_state.specs.Slots.{rest_cmp, key_cmp, slot_cmp, key_total}
-use Rattle.itip_state.specs.Held.{Best, Shape, is_series, series_items, entry_items, shape_items, items_of, IsEntryAt, ArePlaced}
+use Rattle.itip_state.specs.Held.{Best, Shape, is_series, series_items, entry_items, shape_items, items_of, series_list, IsEntryAt, IsSound, AreOrdered, AreSound, AreHeld}
 use Rattle.itip_state.proofs.Ascending.{pairs_ascend}
 use Rattle.itip_state.proofs.Members.{none_in, cons_cases, cons_first, cons_later, all_each, no_pairs, pairs_append}
-use Rattle.itip_state.proofs.Shapes.{AreSorted, IsSound, known_items, known_key, held_as, about, entry_there}
+use Rattle.itip_state.proofs.Shapes.{AreSorted, known_items, known_key, held_as, about, entry_there}
 
 abbrev pub IsBefore : Item → Item → Type 0
 IsBefore a b = key_cmp a.key b.key ≡ Less
@@ -75,37 +74,33 @@ shape_ascends uid sh sound = pairs_append IsBefore (series_items sh.series) (ent
     subst (λ (q : Key). key_cmp q j.key ≡ Less) (sym (known_key uid sh sound i (known_items sh.series i h))) (series_before j.key uid there.about there.other))
 
 -- ---- all UIDs
-abbrev pub AreSound : List (List ℕ × Shape) → Type 0
-AreSound es = AllByRecursion (λ e. IsSound e.0 e.1) es
-
 -- what holds of each UID that is held holds of that of each item
 of_uids : (P : List ℕ → Type 0) (es : List (List ℕ × Shape)) → AreSound es → AllByRecursion P (keys_of es) → (i : Item) → Contains (items_of es) i → P (uid_of i.key)
 of_uids P [] s a i h = absurd (none_in i h)
 of_uids P (e ∷ es) s a i h = elim (Contains-append_cases (shape_items e.1) (items_of es) i h) [
-  | inl here ↦ subst P (sym (about e.0 e.1 s.0 i here)) a.0
+  | inl here ↦ subst P (sym (about e.0 e.1 s.0.0 i here)) a.0
   | inr rest ↦ of_uids P es s.1 a.1 i rest
 ]
 
 uid_below : (a b : Key) → slice_cmp nat_cmp (uid_of a) (uid_of b) ≡ Less → key_cmp a b ≡ Less
 uid_below a b e = ap (λ o. ordering_then o (rest_cmp a b)) e
 
-pub items_ascend : (es : List (List ℕ × Shape)) → IsStrictlySortedBy (slice_cmp nat_cmp) (keys_of es) → AreSound es → AscendKeys (items_of es)
+items_ascend : (es : List (List ℕ × Shape)) → AreOrdered es → AreSound es → AscendKeys (items_of es)
 items_ascend [] s p = no_pairs IsBefore
-items_ascend (e ∷ es) s p = pairs_append IsBefore (shape_items e.1) (items_of es) (shape_ascends e.0 e.1 p.0) (items_ascend es (sorted_tail (slice_cmp nat_cmp) e.0 (keys_of es) s) p.1)
-    (λ i j h g. uid_below i.key j.key (subst (λ (u : List ℕ). slice_cmp nat_cmp u (uid_of j.key) ≡ Less) (sym (about e.0 e.1 p.0 i h))
+items_ascend (e ∷ es) s p = pairs_append IsBefore (shape_items e.1) (items_of es) (shape_ascends e.0 e.1 p.0.0) (items_ascend es (sorted_tail (slice_cmp nat_cmp) e.0 (keys_of es) s) p.1)
+    (λ i j h g. uid_below i.key j.key (subst (λ (u : List ℕ). slice_cmp nat_cmp u (uid_of j.key) ≡ Less) (sym (about e.0 e.1 p.0.0 i h))
     (of_uids (λ u. slice_cmp nat_cmp e.0 u ≡ Less) es p.1 (sorted_head (slice_cmp nat_cmp) e.0 (keys_of es) s) j g)))
 
-pub once_from_ascending : (xs : List Item) → AscendKeys xs → HasEachOnce xs
+once_from_ascending : (xs : List Item) → AscendKeys xs → HasEachOnce xs
 once_from_ascending xs a = λ i j d below inside. apart (get_or xs i d) (get_or xs j d) (a i j d below inside)
   where
     apart : (x y : Item) → key_cmp x.key y.key ≡ Less → x ≡ y → ⊥
     apart x y e same = let z : Less ≡ Equal = sym e ∙ ap (λ (k : Item). key_cmp k.key y.key) same ∙ tied_itself key_total y.key in cc
 
--- ---- series items
-abbrev pub series_list : List (List ℕ × Shape) → List Item
-series_list [] = []
-series_list (e ∷ es) = series_items e.1.series ++ series_list es
+pub held_once : (es : List (List ℕ × Shape)) → AreHeld es → HasEachOnce (items_of es)
+held_once es held = once_from_ascending (items_of es) (items_ascend es held.ordered held.sound)
 
+-- ---- series items
 abbrev IsUidBefore : Item → Item → Type 0
 IsUidBefore a b = slice_cmp nat_cmp (uid_of a.key) (uid_of b.key) ≡ Less
 
@@ -113,7 +108,7 @@ series_among : (es : List (List ℕ × Shape)) → AreSound es → (i : Item) �
 series_among [] s i h = absurd (none_in i h)
 series_among (e ∷ es) s i h = elim (Contains-append_cases (series_items e.1.series) (series_list es) i h) [
   | inl here ↦
-      let key : i.key ≡ Series e.0 = known_key e.0 e.1 s.0 i (known_items e.1.series i here) in
+      let key : i.key ≡ Series e.0 = known_key e.0 e.1 s.0.0 i (known_items e.1.series i here) in
       (Contains-append_left (shape_items e.1) (items_of es) i (Contains-append_left (series_items e.1.series) (entry_items e.1.entries) i here), key ∙ ap Series (sym (ap uid_of key)))
   | inr rest ↦ let r = series_among es s.1 i rest in (Contains-append_right (shape_items e.1) (items_of es) i r.0, r.1)
 ]
@@ -121,7 +116,7 @@ series_among (e ∷ es) s i h = elim (Contains-append_cases (series_items e.1.se
 series_all : (es : List (List ℕ × Shape)) → AreSound es → (i : Item) → Contains (items_of es) i → IsSeries i → Contains (series_list es) i
 series_all [] s i h is = absurd (none_in i h)
 series_all (e ∷ es) s i h is = elim (Contains-append_cases (shape_items e.1) (items_of es) i h) [
-  | inl here ↦ elim (held_as e.0 e.1 s.0 i here) [
+  | inl here ↦ elim (held_as e.0 e.1 s.0.0 i here) [
     | inl known ↦ Contains-append_left (series_items e.1.series) (series_list es) i (subst (λ (t : Lift Best). Contains (series_items t) i) (sym known.0) (cons_first i []))
     | inr other ↦ let x : true ≡ false = sym (ap is_series is) ∙ other.1 in absurd (cc)
   ]
@@ -132,33 +127,33 @@ one_series : (s : Lift Best) → AllPairs IsUidBefore (series_items s)
 one_series Nothing = no_pairs IsUidBefore
 one_series (Known s) = AllPairs-cons IsUidBefore s.value [] (all_each (IsUidBefore s.value) [] (λ i h. absurd (none_in i h))) (no_pairs IsUidBefore)
 
-series_ascend : (es : List (List ℕ × Shape)) → IsStrictlySortedBy (slice_cmp nat_cmp) (keys_of es) → AreSound es → AllPairs IsUidBefore (series_list es)
+series_ascend : (es : List (List ℕ × Shape)) → AreOrdered es → AreSound es → AllPairs IsUidBefore (series_list es)
 series_ascend [] s p = no_pairs IsUidBefore
 series_ascend (e ∷ es) s p = pairs_append IsUidBefore (series_items e.1.series) (series_list es) (one_series e.1.series) (series_ascend es (sorted_tail (slice_cmp nat_cmp) e.0 (keys_of es) s) p.1)
-    (λ i j h g. subst (λ (u : List ℕ). slice_cmp nat_cmp u (uid_of j.key) ≡ Less) (sym (ap uid_of (known_key e.0 e.1 p.0 i (known_items e.1.series i h))))
+    (λ i j h g. subst (λ (u : List ℕ). slice_cmp nat_cmp u (uid_of j.key) ≡ Less) (sym (ap uid_of (known_key e.0 e.1 p.0.0 i (known_items e.1.series i h))))
     (of_uids (λ u. slice_cmp nat_cmp e.0 u ≡ Less) es p.1 (sorted_head (slice_cmp nat_cmp) e.0 (keys_of es) s) j (series_among es p.1 j g).0))
 
-pub series_of : (es : List (List ℕ × Shape)) → IsStrictlySortedBy (slice_cmp nat_cmp) (keys_of es) → AreSound es → AreSeriesOf (series_list es) (items_of es)
-series_of es s p = record { ascend = series_ascend es s p; each = series_among es p; all = series_all es p }
+pub series_of : (es : List (List ℕ × Shape)) → AreHeld es → AreSeriesOf (series_list es) (items_of es)
+series_of es held = record { ascend = series_ascend es held.ordered held.sound; each = series_among es held.sound; all = series_all es held.sound }
 
 -- ---- UIDs
 some_in : (xs : List Item) → 0 < length xs → (i : Item) × Contains xs i
 some_in [] h = absurd (omega (arith, h))
 some_in (x ∷ xs) h = (x, cons_first x xs)
 
-uids_each : (es : List (List ℕ × Shape)) → AreSound es → ArePlaced es → (uid : List ℕ) → Contains (keys_of es) uid → (i : Item) × Contains (items_of es) i × (uid_of i.key ≡ uid)
-uids_each [] s p uid h = absurd (none_in uid h)
-uids_each (e ∷ es) s p uid h = elim (cons_cases e.0 (keys_of es) uid h) [
-  | inl same ↦ let one = some_in (shape_items e.1) p.0.1 in (one.0, Contains-append_left (shape_items e.1) (items_of es) one.0 one.1, about e.0 e.1 s.0 one.0 one.1 ∙ same)
-  | inr rest ↦ let one = uids_each es s.1 p.1 uid rest in (one.0, Contains-append_right (shape_items e.1) (items_of es) one.0 one.1, one.2)
+uids_each : (es : List (List ℕ × Shape)) → AreSound es → (uid : List ℕ) → Contains (keys_of es) uid → (i : Item) × Contains (items_of es) i × (uid_of i.key ≡ uid)
+uids_each [] s uid h = absurd (none_in uid h)
+uids_each (e ∷ es) s uid h = elim (cons_cases e.0 (keys_of es) uid h) [
+  | inl same ↦ let one = some_in (shape_items e.1) s.0.1 in (one.0, Contains-append_left (shape_items e.1) (items_of es) one.0 one.1, about e.0 e.1 s.0.0 one.0 one.1 ∙ same)
+  | inr rest ↦ let one = uids_each es s.1 uid rest in (one.0, Contains-append_right (shape_items e.1) (items_of es) one.0 one.1, one.2)
 ]
 
 uids_all : (es : List (List ℕ × Shape)) → AreSound es → (i : Item) → Contains (items_of es) i → Contains (keys_of es) (uid_of i.key)
 uids_all [] s i h = absurd (none_in i h)
 uids_all (e ∷ es) s i h = elim (Contains-append_cases (shape_items e.1) (items_of es) i h) [
-  | inl here ↦ subst (Contains (e.0 ∷ keys_of es)) (sym (about e.0 e.1 s.0 i here)) (cons_first e.0 (keys_of es))
+  | inl here ↦ subst (Contains (e.0 ∷ keys_of es)) (sym (about e.0 e.1 s.0.0 i here)) (cons_first e.0 (keys_of es))
   | inr rest ↦ cons_later e.0 (keys_of es) (uid_of i.key) (uids_all es s.1 i rest)
 ]
 
-pub uids_of : (es : List (List ℕ × Shape)) → IsStrictlySortedBy (slice_cmp nat_cmp) (keys_of es) → AreSound es → ArePlaced es → AreUidsOf (keys_of es) (items_of es)
-uids_of es s sound p = record { ascend = pairs_ascend (slice_cmp nat_cmp) (keys_of es) s; each = uids_each es sound p; all = uids_all es sound }
+pub uids_of : (es : List (List ℕ × Shape)) → AreHeld es → AreUidsOf (keys_of es) (items_of es)
+uids_of es held = record { ascend = pairs_ascend (slice_cmp nat_cmp) (keys_of es) held.ordered; each = uids_each es held.sound; all = uids_all es held.sound }

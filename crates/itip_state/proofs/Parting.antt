@@ -6,17 +6,12 @@ use Rattle.std.specs.Ordering.{is_eq}
 use Rattle.std.proofs.lemmas.Cmp.{nat_list_cmp_total}
 use Rattle.std.proofs.lemmas.List.Folds.{list_any-append}
 use Rattle.std.proofs.lemmas.Map.Lookups.{exact_bytes}
-use Rattle.itip_join.specs.declared.lift.Lift.{Lift}
-use Rattle.itip_join.specs.KeyByKey.{value_at}
 use Rattle.itip_message.specs.KeyParts.{uid_of}
-use Rattle.itip_message.specs.declared.item.Item.{Item}
-use Rattle.itip_message.specs.declared.key.Key.{Key}
 use Rattle.itip_state.specs.Kept.{ArePartOf}
-use Rattle.itip_state.specs.Held.{Best, shapes, items_of, ArePlaced}
+use Rattle.itip_state.specs.Held.{Shape, items_of, at, AreOrdered, AreHeld}
 use Rattle.itip_state.proofs.Members.{by_bool, none_in, cons_cases, cons_first, cons_later}
 use Rattle.itip_state.proofs.Lookups.{one_key, itself}
-use Rattle.itip_state.proofs.Shapes.{IsWhole}
-use Rattle.itip_state.proofs.Maps.{uid_cmp, shape, items_at, IsPlacedAt, AreInOrder, placed_at, all_placed, part_at}
+use Rattle.itip_state.proofs.Maps.{uid_cmp, items_at, IsSoundAt, sound_at, all_sound, part_at}
 
 abbrev pub is_listed : List (List ℕ) → List ℕ → Bool
 is_listed us q = list_any (λ u. is_eq (uid_cmp u q)) us
@@ -74,26 +69,22 @@ in_listed (u ∷ us) q h = elim (cons_cases u us q h) [
   | inr rest ↦ or_right (is_eq (uid_cmp u q)) (is_listed us q) (in_listed us q rest)
 ]
 
-module _ {V : Type 0} (series : V → Lift Best) (entries : V → List (Key × Best)) (whole : (v : V) → IsWhole (record { series = series v; entries = entries v }))
-    (es ps : List (List ℕ × V)) (s : AreInOrder series entries whole es) (t : AreInOrder series entries whole ps) (p : ArePlaced (shapes es series entries))
-    (us : List (List ℕ)) (is : (q : List ℕ) → value_at uid_cmp ps q ≡ cond (is_listed us q) (value_at uid_cmp es q) None) where
-  abbrev at_items : Option V → List Item
-  at_items = items_at (shape series entries whole) whole
-
-  pub part_placed : ArePlaced (shapes ps series entries)
-  part_placed = all_placed series entries whole ps t (λ q. subst (IsPlacedAt (shape series entries whole) whole q) (sym (is q)) (at q (is_listed us q)))
+module _ (es ps : List (List ℕ × Shape)) (p : AreHeld es) (ordered : AreOrdered ps) (us : List (List ℕ))
+    (is : (q : List ℕ) → at ps q ≡ cond (is_listed us q) (at es q) None) where
+  pub part_held : AreHeld ps
+  part_held = record { ordered = ordered; sound = all_sound ps ordered (λ q. subst (IsSoundAt q) (sym (is q)) (one q (is_listed us q))) }
     where
-      at : (q : List ℕ) (b : Bool) → IsPlacedAt (shape series entries whole) whole q (cond b (value_at uid_cmp es q) None)
-      at q true = placed_at series entries whole es p q
-      at q false = tt
+      one : (q : List ℕ) (b : Bool) → IsSoundAt q (cond b (at es q) None)
+      one q true = sound_at es p.sound q
+      one q false = tt
 
-  pub part_of : ArePartOf (items_of (shapes ps series entries)) (items_of (shapes es series entries)) us
+  pub part_of : ArePartOf (items_of ps) (items_of es) us
   part_of i =
       let u : List ℕ = uid_of i.key in
-      let mine = part_at series entries whole ps t part_placed u i in
-      let all = part_at series entries whole es s p u i in (
-        λ h. by_bool (is_listed us u) (Contains (items_of (shapes es series entries)) i × Contains us u)
-            (λ k. ((all.0 (subst (λ (o : Option V). Contains (at_items o) i) (is u ∙ ap (λ b. cond b (value_at uid_cmp es u) None) k) (mine.1 (h, refl)))).0, listed_in us u k))
-            (λ k. absurd (none_in i (subst (λ (o : Option V). Contains (at_items o) i) (is u ∙ ap (λ b. cond b (value_at uid_cmp es u) None) k) (mine.1 (h, refl))))),
-        λ h. (mine.0 (subst (λ (o : Option V). Contains (at_items o) i) (sym (is u ∙ ap (λ b. cond b (value_at uid_cmp es u) None) (in_listed us u h.1))) (all.1 (h.0, refl)))).0,
+      let mine = part_at ps part_held u i in
+      let all = part_at es p u i in (
+        λ h. by_bool (is_listed us u) (Contains (items_of es) i × Contains us u)
+            (λ k. ((all.0 (subst (λ (o : Option Shape). Contains (items_at o) i) (is u ∙ ap (λ b. cond b (at es u) None) k) (mine.1 (h, refl)))).0, listed_in us u k))
+            (λ k. absurd (none_in i (subst (λ (o : Option Shape). Contains (items_at o) i) (is u ∙ ap (λ b. cond b (at es u) None) k) (mine.1 (h, refl))))),
+        λ h. (mine.0 (subst (λ (o : Option Shape). Contains (items_at o) i) (sym (is u ∙ ap (λ b. cond b (at es u) None) (in_listed us u h.1))) (all.1 (h.0, refl)))).0,
       )

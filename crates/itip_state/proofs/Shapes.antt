@@ -1,5 +1,5 @@
 -- What is held of one UID: a state, and when it tells no more than another.
-use Rattle.std.proofs.Common.{◌≡◌, ℕ, List, [], ◌∷◌, refl, sym, ◌∙◌, ap, subst, ◌⊎◌, inl, inr, Bool, true, false, Option, Some, None}
+use Rattle.std.proofs.Common.{◌≡◌, ℕ, List, [], ◌∷◌, refl, sym, ◌∙◌, ap, subst, ◌⊎◌, inl, inr, true, false, Option, Some, None}
 use Rattle.std.specs.Prelude.{cond}
 use Rattle.std.specs.List.{Contains, AllByRecursion}
 use Rattle.std.specs.List.Sorted.{IsStrictlySortedBy}
@@ -9,7 +9,7 @@ use Rattle.std.proofs.lemmas.List.Elements.{Contains-append_cases, Contains-appe
 use Rattle.std.proofs.lemmas.Map.Keys.{sorted_tail}
 use Rattle.itip_join.specs.declared.lift.Lift.{Lift}
 use Rattle.itip_join.specs.declared.lift.Lift.TheVariants.{Nothing, Known}
-use Rattle.itip_join.specs.KeyByKey.{value_at, all_alive}
+use Rattle.itip_join.specs.KeyByKey.{value_at}
 use Rattle.itip_join.specs.Killed.{found_alive}
 use Rattle.itip_message.specs.KeyParts.{uid_of}
 use Rattle.itip_message.specs.Later.{IsLater}
@@ -19,7 +19,7 @@ use Rattle.itip_message.specs.declared.key.Key.TheVariants.{Series}
 use Rattle.itip_state.specs.Kept.{IsDead, CanDie}
 use Rattle.itip_state.specs.Order.{IsState}
 use Rattle.itip_state.specs.Slots.{slot_cmp, slot_total, slot_exact}
-use Rattle.itip_state.specs.Held.{Best, Shape, best, is_series, kills, series_items, entry_items, shape_items, IsSeriesAt, IsEntryAt, IsPlaced}
+use Rattle.itip_state.specs.Held.{Best, Shape, best, is_series, is_killed, kills, series_items, entry_items, shape_items, IsSeriesAt, IsEntryAt, IsSound}
 use Rattle.itip_state.proofs.Members.{by_bool, none_in, cons_cases, cons_first, cons_later}
 use Rattle.itip_state.proofs.Lookups.{at_head, from_tail, value_from_all}
 use Rattle.itip_state.proofs.Best.{not_later_itself}
@@ -27,19 +27,6 @@ use Rattle.itip_state.proofs.Tests.{series_key, can, dead_under, killed, kill}
 
 abbrev pub AreSorted : List (Key × Best) → Type 0
 AreSorted es = IsStrictlySortedBy slot_cmp (keys_of es)
-
--- what a series item kills of the entries
-abbrev pub is_killed : Lift Best → Key → Best → Bool
-is_killed series k v = kills series k v.value
-
--- the keys of its entries rise, and none of them is dead
-pub record IsWhole (shape : Shape) : Type 0 where
-  pub sorted : AreSorted shape.entries
-  pub alive : all_alive (is_killed shape.series) shape.entries ≡ true
-
-pub record IsSound (uid : List ℕ) (shape : Shape) : Type 0 where
-  pub placed : IsPlaced uid shape
-  pub whole : IsWhole shape
 
 -- ---- entries
 pub entry_in : (es : List (Key × Best)) (q : Key) (b : Best) → value_at slot_cmp es q ≡ Some b → Contains (entry_items es) b.value

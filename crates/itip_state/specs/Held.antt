@@ -1,15 +1,26 @@
 -- What a state holds of each UID (our own rule): the best series item, and of each other key the best item, unless it is dead.
-use Rattle.std.specs.Prelude.{◌≡◌, ◌<◌, ℕ, List, [], ◌∷◌, ◌++◌, Some, None, Bool, true, false, cond, ◌&&◌, nat_lt, length}
+use Rattle.std.specs.Prelude.{◌≡◌, ◌<◌, ℕ, List, [], ◌∷◌, ◌++◌, Option, Some, None, Bool, true, false, cond, ◌&&◌, nat_lt, length}
 use Rattle.std.specs.List.{AllByRecursion}
+use Rattle.std.specs.List.Sorted.{IsStrictlySortedBy}
+use Rattle.std.specs.Map.{keys_of}
 use Rattle.std.specs.Ordering.{nat_cmp, is_eq}
 use Rattle.std.specs.Cmp.Lexicographic.{slice_cmp}
 use Rattle.itip_message.specs.KeyParts.{uid_of}
 use Rattle.itip_message.specs.declared.item.Item.{Item}
 use Rattle.itip_message.specs.declared.key.Key.{Key}
 use Rattle.itip_message.specs.declared.key.Key.TheVariants.{Series, Instance, Answer, Refresh}
+use Rattle.std.specs.declared.cmp.Ord as ord
+use Rattle.std.specs.declared.cmp.PartialEq as eq
+use Rattle.std.specs.declared.cmp.PartialOrd as partial
 use Rattle.itip_join.specs.declared.greatest.Greatest.{Greatest}
+use Rattle.itip_join.specs.declared.guarded.Guarded.{Guarded}
+use Rattle.itip_join.specs.declared.join.Join as join
+use Rattle.itip_join.specs.declared.keyed.Keyed.{Keyed}
+use Rattle.itip_join.specs.declared.under_guard.UnderGuard as under
 use Rattle.itip_join.specs.declared.lift.Lift.{Lift}
 use Rattle.itip_join.specs.declared.lift.Lift.TheVariants.{Nothing, Known}
+use Rattle.itip_join.specs.KeyByKey.{value_at, all_alive}
+use Rattle.itip_state.specs.Slots.{slot_cmp}
 use Rattle.itip_state.specs.Kept.{AreKept}
 
 abbrev pub Best : Type 0
@@ -41,16 +52,33 @@ abbrev pub kills : Lift Best → Key → Item → Bool
 kills Nothing key item = false
 kills (Known series) key item = can_die key && nat_lt item.eff series.value.eff
 
+-- the same of what is held at a key
+abbrev pub is_killed : Lift Best → Key → Best → Bool
+is_killed series key held = kills series key held.value
+
 -- what is held of one UID
 pub record Shape : Type 0 where
   pub series : Lift Best
   -- the items of the other keys
   pub entries : List (Key × Best)
 
+-- a guard and the entries under it, seen as what they hold
+abbrev pub shape : {o : ord.Ghosts Key} {e : eq.Ghosts Key} {p : partial.Ghosts Key} {g : join.Ghosts (Lift Best)} {u : under.Ghosts (Keyed Key Best o e p) (Lift Best)}
+    {j : join.Ghosts (Keyed Key Best o e p)} → Guarded (Lift Best) (Keyed Key Best o e p) g u j → Shape
+shape held = record { series = held.guard; entries = held.entries.map }
+
 -- a map by UID, seen as what it holds
-abbrev pub shapes : {V : Type 0} → List (List ℕ × V) → (V → Lift Best) → (V → List (Key × Best)) → List (List ℕ × Shape)
-shapes [] series entries = []
-shapes (e ∷ es) series entries = (e.0, record { series = series e.1; entries = entries e.1 }) ∷ shapes es series entries
+abbrev pub shapes : {V : Type 0} → List (List ℕ × V) → (V → Shape) → List (List ℕ × Shape)
+shapes [] of = []
+shapes (e ∷ es) of = (e.0, of e.1) ∷ shapes es of
+
+-- what is held of a UID
+abbrev pub at : List (List ℕ × Shape) → List ℕ → Option Shape
+at es uid = value_at (slice_cmp nat_cmp) es uid
+
+-- the UIDs rise
+abbrev pub AreOrdered : List (List ℕ × Shape) → Type 0
+AreOrdered es = IsStrictlySortedBy (slice_cmp nat_cmp) (keys_of es)
 
 abbrev pub series_items : Lift Best → List Item
 series_items Nothing = []
@@ -68,6 +96,11 @@ abbrev pub items_of : List (List ℕ × Shape) → List Item
 items_of [] = []
 items_of (e ∷ es) = shape_items e.1 ++ items_of es
 
+-- the series items held
+abbrev pub series_list : List (List ℕ × Shape) → List Item
+series_list [] = []
+series_list (e ∷ es) = series_items e.1.series ++ series_list es
+
 -- the item is a series item of the UID
 abbrev pub IsSeriesAt : List ℕ → Lift Best → Type 0
 IsSeriesAt uid Nothing = Unit {0}
@@ -84,9 +117,23 @@ pub record IsPlaced (uid : List ℕ) (shape : Shape) : Type 0 where
   pub series : IsSeriesAt uid shape.series
   pub entries : AllByRecursion (λ e. IsEntryAt uid e.0 e.1) shape.entries
 
+-- the keys of the other items rise, and the series item makes none of them dead
+pub record IsWhole (shape : Shape) : Type 0 where
+  pub sorted : IsStrictlySortedBy slot_cmp (keys_of shape.entries)
+  pub alive : all_alive (is_killed shape.series) shape.entries ≡ true
+
+pub record IsSound (uid : List ℕ) (shape : Shape) : Type 0 where
+  pub placed : IsPlaced uid shape
+  pub whole : IsWhole shape
+
 -- the same of all UIDs; and of each UID that is held there is an item
-abbrev pub ArePlaced : List (List ℕ × Shape) → Type 0
-ArePlaced es = AllByRecursion (λ e. IsPlaced e.0 e.1 × (0 < length (shape_items e.1))) es
+abbrev pub AreSound : List (List ℕ × Shape) → Type 0
+AreSound es = AllByRecursion (λ e. IsSound e.0 e.1 × (0 < length (shape_items e.1))) es
+
+-- what a state holds
+pub record AreHeld (es : List (List ℕ × Shape)) : Type 0 where
+  pub ordered : AreOrdered es
+  pub sound : AreSound es
 
 -- one item alone
 abbrev pub alone : Item → Shape
@@ -94,5 +141,5 @@ alone item = cond (is_series item.key) (record { series = Known (best item); ent
 
 -- what is held is what is kept of what was heard
 pub record HoldKept (heard : List Item) (es : List (List ℕ × Shape)) : Type 0 where
-  pub placed : ArePlaced es
+  pub held : AreHeld es
   pub kept : AreKept (items_of es) heard

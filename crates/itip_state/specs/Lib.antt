@@ -2,7 +2,9 @@ pub mod Kept
 pub mod Order
 pub mod Slots
 pub mod Held
+pub mod Stored
 pub mod Dying
+pub mod Joined
 pub mod Told
 pub mod Changes
 pub mod Undone

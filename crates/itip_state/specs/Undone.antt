@@ -5,7 +5,7 @@ use Rattle.std.specs.Cmp.Lexicographic.{slice_cmp}
 use Rattle.itip_message.specs.KeyParts.{uid_of}
 use Rattle.itip_message.specs.declared.item.Item.{Item}
 use Rattle.itip_state.specs.Changes.{IsBackAt}
-use Rattle.itip_state.specs.Held.{Shape, is_series}
+use Rattle.itip_state.specs.Held.{Shape, shape, is_series, at, AreOrdered}
 use Rattle.itip_state.specs.declared.hear.Before.{Before}
 use Rattle.itip_state.specs.declared.hear.Before.TheVariants.{Absent, Whole, Entry}
 use Rattle.itip_state.specs.declared.hear.Change.{Change}
@@ -13,24 +13,25 @@ use Rattle.itip_state.specs.declared.hear.Change.{Change}
 -- The note is right, where `old` is held of the UID before the item is heard: of a series item all that was held, of any other what was held at its key.
 abbrev pub IsNoted : Before → Item → Option Shape → Type 0
 IsNoted Absent item old = old ≡ None
-IsNoted (Whole was) item old = (old ≡ Some (record { series = was.guard; entries = was.entries.map })) × (is_series item.key ≡ true)
+IsNoted (Whole was) item old = (old ≡ Some (shape was)) × (is_series item.key ≡ true)
 IsNoted (Entry held) item old = (w : Shape) × (old ≡ Some w) × IsBackAt item.key held w w × (is_series item.key ≡ false)
 
 -- what was noted leads from what is held of a UID now back to what was held; where something was held, something is held now, too
 abbrev pub LeadsBack : Before → Item → Option Shape → Option Shape → Type 0
 LeadsBack Absent item now old = old ≡ None
-LeadsBack (Whole was) item now old = (is_some now ≡ true) × (old ≡ Some (record { series = was.guard; entries = was.entries.map }))
+LeadsBack (Whole was) item now old = (is_some now ≡ true) × (old ≡ Some (shape was))
 LeadsBack (Entry held) item now old = (v : Shape) × (w : Shape) × (now ≡ Some v) × (old ≡ Some w) × IsBackAt item.key held v w
 
 -- taking a change back leads from `now` to `before`, at the UID of its item; all other UIDs have the same in both
-pub record IsUndone (change : Change) (now before : List ℕ → Option Shape) : Type 0 where
-  pub there : LeadsBack change.before change.item.now (now (uid_of change.item.now.key)) (before (uid_of change.item.now.key))
-  pub others : (q : List ℕ) → is_eq (slice_cmp nat_cmp (uid_of change.item.now.key) q) ≡ false → before q ≡ now q
+pub record IsUndone (change : Change) (now before : List (List ℕ × Shape)) : Type 0 where
+  pub there : LeadsBack change.before change.item.now (at now (uid_of change.item.now.key)) (at before (uid_of change.item.now.key))
+  pub others : (q : List ℕ) → is_eq (slice_cmp nat_cmp (uid_of change.item.now.key) q) ≡ false → at now q ≡ at before q
+  pub ordered : AreOrdered before
 
 -- taking all changes back, the last first, leads from `now` to `start`
-abbrev pub AreUndone : List Change → (List ℕ → Option Shape) → (List ℕ → Option Shape) → Type 0
-AreUndone [] now start = (q : List ℕ) → now q ≡ start q
-AreUndone (c ∷ cs) now start = (mid : List ℕ → Option Shape) × AreUndone cs now mid × IsUndone c mid start
+abbrev pub AreUndone : List Change → List (List ℕ × Shape) → List (List ℕ × Shape) → Type 0
+AreUndone [] now start = now ≡ start
+AreUndone (c ∷ cs) now start = (mid : List (List ℕ × Shape)) × AreUndone cs now mid × IsUndone c mid start
 
 -- the note says all that was held of the UID
 abbrev pub IsOfAll : Before → Type 0

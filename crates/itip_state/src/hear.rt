@@ -1,18 +1,19 @@
 //! How a map by UID hears items: in place, with what takes it back where memory is refused on the way.
-ghost use Rattle.std.specs.Prelude.{◌≡◌, ◌↔◌, ◌++◌, ◌∷◌, [], ℕ, List, Option, false, map, IsTrue, IfOk, OnOk, OnErr};
+ghost use Rattle.std.specs.Prelude.{◌≡◌, ◌↔◌, ◌++◌, ◌∷◌, [], ℕ, List, Some, false, map, IsTrue, IfOk, OnOk, OnErr};
 ghost use Rattle.std.specs.Ordering.{nat_cmp, is_eq};
 ghost use Rattle.std.specs.Cmp.Lexicographic.{slice_cmp};
 ghost use Rattle.itip_message.specs.KeyParts.{uid_of};
 ghost use Rattle.itip_message.specs.declared.item.Item.{Item};
-ghost use Rattle.itip_state.specs.Held.{Shape, shapes, HoldKept};
-ghost use Rattle.itip_state.specs.Changes.{at, IsHeardAt};
-ghost use Rattle.itip_state.specs.Undone.{IsNoted, LeadsBack, AreUndone, NotesAll};
+ghost use Rattle.itip_state.specs.Held.{Shape, at, alone, AreOrdered, HoldKept};
+ghost use Rattle.itip_state.specs.Joined.{IsJoinedAt};
+ghost use Rattle.itip_state.specs.Undone.{IsNoted, IsUndone, AreUndone, NotesAll};
 
 use crate::NoMemory;
+use crate::held::Held;
 use crate::revision::Best;
 use crate::series::{SeriesState, of_item, of_nothing, put_back};
 use crate::shared::SharedItem;
-use itip_join::{Join, Keyed};
+use itip_join::Join;
 use itip_message::Key;
 use itip_todo::Uid;
 use std::alloc::Global;
@@ -36,31 +37,24 @@ struct Change<'a> {
 }
 
 /// Joins in what is kept of one item, in place. A refusal, for want of memory, changes nothing.
-pub(crate) fn hear(
-    held: &mut Keyed<Uid, SeriesState>,
-    alloc: Global,
-    item: &SharedItem,
-) -> Result<(), NoMemory>
-    ensures kept { OnOk result ((heard : List Item) → HoldKept heard (shapes held.old.map (λ v. v.guard) (λ v. v.entries.map))
-        → HoldKept (heard ++ item.now ∷ []) (shapes held.new.map (λ v. v.guard) (λ v. v.entries.map))) }
-    ensures there { OnOk result (IsHeardAt item.now (at (shapes held.old.map (λ v. v.guard) (λ v. v.entries.map)) (uid_of item.now.key)) (at (shapes held.new.map (λ v. v.guard) (λ v. v.entries.map)) (uid_of item.now.key))) }
-    ensures others { (q : List ℕ) → is_eq (slice_cmp nat_cmp (uid_of item.now.key) q) ≡ false
-        → at (shapes held.old.map (λ v. v.guard) (λ v. v.entries.map)) q ≡ at (shapes held.new.map (λ v. v.guard) (λ v. v.entries.map)) q }
-    ensures err { OnErr result (held.new.map ≡ held.old.map) }
+pub(crate) fn hear(held: &mut Held, alloc: Global, item: &SharedItem) -> Result<(), NoMemory>
+    ensures kept { OnOk result ((heard : List Item) → HoldKept heard held.old → HoldKept (heard ++ item.now ∷ []) held.new) }
+    ensures joined { OnOk result (IsJoinedAt (at held.old (uid_of item.now.key)) (Some (alone item.now)) (at held.new (uid_of item.now.key))) }
+    ensures others { (q : List ℕ) → is_eq (slice_cmp nat_cmp (uid_of item.now.key) q) ≡ false → at held.new q ≡ at held.old q }
+    ensures err { OnErr result (held.new ≡ held.old) }
 {
     let one = of_item(alloc, item)?;
-    held.join_one(item.key().uid(), &one)
+    held.join_one(item.uid(), &one)
 }
 
 /// Joins in what is kept of these items, in place. Where memory is refused, what was changed is changed back. A single item needs no note: its hearing is all or nothing.
 pub(crate) fn hear_all(
-    held: &mut Keyed<Uid, SeriesState>,
+    held: &mut Held,
     alloc: Global,
     items: &[&SharedItem],
 ) -> Result<(), NoMemory>
-    ensures ok { OnOk result ((heard : List Item) → HoldKept heard (shapes held.old.map (λ v. v.guard) (λ v. v.entries.map))
-        → HoldKept (heard ++ map (λ item. item.now) items.now) (shapes held.new.map (λ v. v.guard) (λ v. v.entries.map))) }
-    ensures err { OnErr result ((q : List ℕ) → at (shapes held.new.map (λ v. v.guard) (λ v. v.entries.map)) q ≡ at (shapes held.old.map (λ v. v.guard) (λ v. v.entries.map)) q) }
+    ensures ok { OnOk result ((heard : List Item) → HoldKept heard held.old → HoldKept (heard ++ map (λ item. item.now) items.now) held.new) }
+    ensures err { OnErr result (held.new ≡ held.old) }
 {
     if let [item] = items {
         return hear(held, alloc, item);
@@ -77,17 +71,15 @@ pub(crate) fn hear_all(
 
 /// Joins in what is kept of one item, and notes what takes that back. After a refusal, too, the notes take everything back.
 fn hear_noted<'a>(
-    held: &mut Keyed<Uid, SeriesState>,
+    held: &mut Held,
     alloc: Global,
     item: &'a SharedItem,
     changes: &mut Vec<Change<'a>>,
 ) -> Result<(), NoMemory>
-    ensures kept { OnOk result ((heard : List Item) → HoldKept heard (shapes held.old.map (λ v. v.guard) (λ v. v.entries.map))
-        → HoldKept (heard ++ item.now ∷ []) (shapes held.new.map (λ v. v.guard) (λ v. v.entries.map))) }
-    ensures noted { (start : List ℕ → Option Shape) → AreUndone changes.old.items (at (shapes held.old.map (λ v. v.guard) (λ v. v.entries.map))) start
-        → AreUndone changes.new.items (at (shapes held.new.map (λ v. v.guard) (λ v. v.entries.map))) start }
+    ensures kept { OnOk result ((heard : List Item) → HoldKept heard held.old → HoldKept (heard ++ item.now ∷ []) held.new) }
+    ensures noted { (start : List (List ℕ × Shape)) → AreUndone changes.old.items held.old start → AreUndone changes.new.items held.new start }
 {
-    if notes_all(changes, item.key().uid()) {
+    if notes_all(changes, item.uid()) {
         return hear(held, alloc, item);
     }
     let before = note(held, item)?;
@@ -105,15 +97,16 @@ fn notes_all(changes: &[Change<'_>], about: &Uid) -> bool
     };
     match &last.before {
         Before::Entry(_) => false,
-        _ => last.item.key().uid().cmp(about).is_eq(),
+        _ => last.item.uid().cmp(about).is_eq(),
     }
 }
 
 /// What takes back the hearing of an item.
-fn note(held: &Keyed<Uid, SeriesState>, item: &SharedItem) -> Result<Before, NoMemory>
-    ensures { IfOk result (λ before. IsNoted before item.now (at (shapes held.now.map (λ v. v.guard) (λ v. v.entries.map)) (uid_of item.now.key))) }
+fn note(held: &Held, item: &SharedItem) -> Result<Before, NoMemory>
+    ensures noted { IfOk result (λ before. IsNoted before item.now (at held.now (uid_of item.now.key))) }
+    ensures ordered { AreOrdered held.now }
 {
-    let Some(series) = held.get(item.key().uid()) else {
+    let Some(series) = held.get(item.uid()) else {
         return Ok(Before::Absent);
     };
     if let Key::Series(_) = item.key() {
@@ -126,10 +119,9 @@ fn note(held: &Keyed<Uid, SeriesState>, item: &SharedItem) -> Result<Before, NoM
 }
 
 /// Takes changes back, the last first. It takes no memory.
-fn take_back(held: &mut Keyed<Uid, SeriesState>, alloc: Global, changes: Vec<Change<'_>>)
-    requires { (start : List ℕ → Option Shape) × AreUndone changes.items (at (shapes held.old.map (λ v. v.guard) (λ v. v.entries.map))) start }
-    ensures { (start : List ℕ → Option Shape) → AreUndone changes.entry.items (at (shapes held.old.map (λ v. v.guard) (λ v. v.entries.map))) start
-        → (q : List ℕ) → at (shapes held.new.map (λ v. v.guard) (λ v. v.entries.map)) q ≡ start q }
+fn take_back(held: &mut Held, alloc: Global, changes: Vec<Change<'_>>)
+    requires { (start : List (List ℕ × Shape)) × AreUndone changes.items held.old start }
+    ensures { (start : List (List ℕ × Shape)) → AreUndone changes.entry.items held.old start → held.new ≡ start }
 {
     let mut changes = changes;
     while let Some(change) = changes.pop() {
@@ -138,19 +130,14 @@ fn take_back(held: &mut Keyed<Uid, SeriesState>, alloc: Global, changes: Vec<Cha
 }
 
 /// Takes one change back. It takes no memory.
-fn undo(held: &mut Keyed<Uid, SeriesState>, alloc: Global, change: Change<'_>)
-    requires { (old : Option Shape) × LeadsBack change.before change.item.now (at (shapes held.old.map (λ v. v.guard) (λ v. v.entries.map)) (uid_of change.item.now.key)) old }
-    ensures there { (old : Option Shape) → LeadsBack change.entry.before change.entry.item.now (at (shapes held.old.map (λ v. v.guard) (λ v. v.entries.map)) (uid_of change.entry.item.now.key)) old
-        → at (shapes held.new.map (λ v. v.guard) (λ v. v.entries.map)) (uid_of change.entry.item.now.key) ≡ old }
-    ensures others { (q : List ℕ) → is_eq (slice_cmp nat_cmp (uid_of change.entry.item.now.key) q) ≡ false
-        → at (shapes held.new.map (λ v. v.guard) (λ v. v.entries.map)) q ≡ at (shapes held.old.map (λ v. v.guard) (λ v. v.entries.map)) q }
+fn undo(held: &mut Held, alloc: Global, change: Change<'_>)
+    requires { (old : List (List ℕ × Shape)) × IsUndone change held.old old }
+    ensures { (old : List (List ℕ × Shape)) → IsUndone change.entry held.old old → held.new ≡ old }
 {
     let Change { item, before } = change;
-    let uid = item.key().uid();
+    let uid = item.uid();
     match before {
-        Before::Absent => {
-            held.remove(uid);
-        }
+        Before::Absent => held.remove(uid),
         Before::Whole(series) => {
             held.replace(uid, series);
         }

@@ -4,21 +4,20 @@
 //! of items; merging two states gives their least upper bound.
 #![tactic(auto)]
 
-mod dead;
 mod hear;
+mod held;
 mod laws;
+mod organizers;
 mod plain;
 mod revision;
 mod series;
 mod shared;
 mod slot;
-mod sorted;
 mod state;
 
 pub use laws::{kept_of_kept, least_upper_bound, order_of_states, uid_by_uid};
 pub use plain::kept;
-pub use shared::SharedItem;
+pub use shared::{SharedItem, by_octets, uids};
 pub use slot::find;
-pub use sorted::{by_octets, uids};
 pub use state::State;
 pub use std::alloc::AllocError as NoMemory;

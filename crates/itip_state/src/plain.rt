@@ -6,7 +6,7 @@ ghost use Rattle.itip_state.specs.Kept.{AreKept};
 ghost use Rattle.itip_state.specs.Plain.{outdates as item_outdates, kills as item_kills, keeps};
 
 use crate::NoMemory;
-use crate::dead::is_below;
+use crate::series::is_below;
 use crate::slot::compare;
 use itip_message::{Item, Key};
 use std::alloc::Global;

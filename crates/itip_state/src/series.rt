@@ -1,7 +1,7 @@
 //! What a state holds of one UID.
-ghost use Rattle.std.specs.Prelude.{◌≡◌, [], cond, IfOk};
+ghost use Rattle.std.specs.Prelude.{◌≡◌, ◌++◌, [], cond, IfOk, OnOk};
 ghost use Rattle.itip_join.specs.declared.lift.Lift.TheVariants.{Nothing};
-ghost use Rattle.itip_state.specs.Held.{kills as series_kills, alone, Shape};
+ghost use Rattle.itip_state.specs.Held.{can_die as key_can_die, is_below as item_is_below, kills as series_kills, alone, Shape, shape, shape_items};
 ghost use Rattle.std.specs.Ordering.{is_eq};
 ghost use Rattle.itip_join.specs.KeyByKey.{value_at};
 ghost use Rattle.itip_message.specs.declared.key.Key.{Key};
@@ -10,7 +10,6 @@ ghost use Rattle.itip_state.specs.Changes.{IsBackAt, in_place_of};
 ghost use Rattle.itip_state.specs.Dying.{kills_below, kills_more};
 
 use crate::NoMemory;
-use crate::dead::can_die;
 use crate::revision::Best;
 use crate::shared::SharedItem;
 use crate::slot::Slot;
@@ -32,6 +31,23 @@ impl Guard<Slot, Best> for Lift<Best> {
     fn kills(&self, key: &Slot, value: &Best) -> bool {
         is_dead_below(self, key.key(), value.value.item())
     }
+}
+
+/// Whether items of this key can die.
+fn can_die(key: &Key) -> bool
+    ensures { result ≡ key_can_die key.now }
+{
+    match key {
+        Key::Instance(_, _) | Key::Answer(_, None, _) => true,
+        Key::Series(_) | Key::Answer(_, Some(_), _) | Key::Refresh(_, _, _) => false,
+    }
+}
+
+/// Whether `item` is dead where `series` is the best series item.
+pub(crate) fn is_below(series: &Item, item: &Item) -> bool
+    ensures { result ≡ item_is_below series.now item.now }
+{
+    can_die(&item.key) && series.key.uid().cmp(item.key.uid()).is_eq() && item.eff < series.eff
 }
 
 /// Whether a series item, where there is one, makes an item of this key dead.
@@ -57,8 +73,7 @@ pub(crate) fn of_nothing(alloc: Global) -> SeriesState
 
 /// What is held where this item alone was heard.
 pub(crate) fn of_item(alloc: Global, item: &SharedItem) -> Result<SeriesState, NoMemory>
-    ensures series { IfOk result (λ one. one.guard ≡ (alone item.now).series) }
-    ensures entries { IfOk result (λ one. one.entries.map ≡ (alone item.now).entries) }
+    ensures { IfOk result (λ one. shape one ≡ alone item.now) }
 {
     let best = Greatest {
         value: item.revision().copy()?,
@@ -75,11 +90,28 @@ pub(crate) fn of_item(alloc: Global, item: &SharedItem) -> Result<SeriesState, N
     })
 }
 
+/// Adds the items of one UID, the series item first.
+pub(crate) fn share(
+    alloc: Global,
+    series: &SeriesState,
+    items: &mut Vec<SharedItem>,
+) -> Result<(), NoMemory>
+    ensures { OnOk result (items.new.items ≡ items.old.items ++ shape_items (shape series.now)) }
+{
+    if let Lift::Known(best) = &series.guard {
+        items.push(SharedItem::of(alloc, &best.value)?)?;
+    }
+    for (_, best) in series.entries.map.iter() {
+        items.push(SharedItem::of(alloc, &best.value)?)?;
+    }
+    Ok(())
+}
+
 /// What is held of one UID, with what stood at a key put back.
 pub(crate) fn put_back(series: SeriesState, slot: &Slot, before: Option<Best>) -> SeriesState
-    requires { (old : Shape) × IsBackAt slot.now before (record { series = series.guard; entries = series.entries.map }) old }
-    ensures { (old : Shape) → IsBackAt slot.now before (record { series = series.guard; entries = series.entries.map }) old
-        → record { series = result.guard; entries = result.entries.map } ≡ old }
+    requires { (old : Shape) × IsBackAt slot.now before (shape series) old }
+    ensures { (old : Shape) → IsBackAt slot.now before (shape series) old
+        → shape result ≡ old }
 {
     let Guarded { guard, mut entries } = series;
     put_entry(&mut entries, slot, before);

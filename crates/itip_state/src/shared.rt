@@ -1,14 +1,17 @@
 //! Items that many can hold.
-ghost use Rattle.std.specs.Prelude.{◌≡◌, IfOk, refl};
+ghost use Rattle.std.specs.Prelude.{◌≡◌, IfOk, map, refl};
 ghost use Rattle.std.specs.Cmp.{partial_order_from_total, partial_equiv_from_equiv, eq_by_cmp_equiv};
 ghost use Rattle.std.specs.Ordering.{as_partial_cmp, eq_by_cmp};
+ghost use Rattle.itip_message.specs.KeyParts.{uid_of};
 ghost use Rattle.itip_message.specs.OctetOrder.{octets_cmp, octets_total};
+ghost use Rattle.itip_state.specs.Kept.{IsItemsOf, AreUidsOf};
 
 use crate::NoMemory;
 use crate::revision::Revision;
 use crate::slot::Slot;
 use itip_join::Exact;
 use itip_message::{Item, Key};
+use itip_todo::Uid;
 use std::alloc::Global;
 use std::cmp::Ordering;
 use std::marker::Model;
@@ -69,6 +72,13 @@ impl SharedItem {
         ensures { result.now ≡ self.now.key }
     {
         self.slot.key()
+    }
+
+    /// The UID that it is about.
+    pub(crate) fn uid(&self) -> &Uid
+        ensures { result.now ≡ uid_of self.now.key }
+    {
+        self.key().uid()
     }
 
     /// The item in the order of revisions.
@@ -144,4 +154,27 @@ impl Ord for SharedItem {
     fn cmp(&self, other: &SharedItem) -> Ordering {
         self.item().cmp(other.item())
     }
+}
+
+/// The items given, by canonical octets, each once. A refusal, for want of memory, drops them.
+pub fn by_octets(items: Vec<SharedItem>) -> Result<Vec<SharedItem>, NoMemory>
+    ensures { IfOk result (λ sorted. IsItemsOf sorted.items items.items) }
+{
+    let mut items = items;
+    items.sort()?;
+    items.dedup();
+    Ok(items)
+}
+
+/// The UIDs that items are about, by octets, each once.
+pub fn uids(alloc: Global, items: &[&SharedItem]) -> Result<Vec<Uid>, NoMemory>
+    ensures { IfOk result (λ uids. AreUidsOf uids.items (map (λ item. item.now) items.now)) }
+{
+    let mut uids = Vec::new(alloc);
+    for item in items {
+        uids.push(item.uid().clone()?)?;
+    }
+    uids.sort()?;
+    uids.dedup();
+    Ok(uids)
 }

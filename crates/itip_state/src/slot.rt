@@ -5,10 +5,12 @@ ghost use Rattle.std.specs.Cmp.{partial_order_from_total, partial_equiv_from_equ
 ghost use Rattle.std.specs.Ordering.{as_partial_cmp, eq_by_cmp};
 ghost use Rattle.std.specs.Option.{option_copied};
 ghost use Rattle.itip_message.specs.declared.item.Item.{Item};
+ghost use Rattle.itip_state.specs.Held.{entry_items};
 ghost use Rattle.itip_state.specs.Kept.{AscendKeys};
 ghost use Rattle.itip_state.specs.Slots.{rest_cmp, key_cmp, slot_cmp, slot_total};
 
-use itip_join::{Exact, NoMemory};
+use crate::revision::Best;
+use itip_join::{Exact, Keyed, NoMemory};
 use itip_message::{Item, Key};
 use std::alloc::Global;
 use std::cmp::Ordering;
@@ -83,6 +85,20 @@ pub fn find<'a>(items: &[&'a Item], key: &Key) -> Option<&'a Item>
         Ok(place) => Some(items[place]),
         Err(_) => None,
     }
+}
+
+/// The item at a key of one UID that is not its series key.
+pub(crate) fn entry_of<'a>(entries: &'a Keyed<Slot, Best>, key: &Key) -> Option<&'a Item>
+    ensures found { MatchOption (option_copied result) ((item : Item) → Contains (entry_items entries.now.map) item → item.key ≡ key.now → ⊥)
+        (λ item. Contains (entry_items entries.now.map) item × (item.key ≡ key.now)) }
+{
+    for (_, best) in entries.map.iter() {
+        let item = best.value.item();
+        if compare(&item.key, key).is_eq() {
+            return Some(item);
+        }
+    }
+    None
 }
 
 impl PartialEq for Slot {

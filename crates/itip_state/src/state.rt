@@ -1,26 +1,22 @@
 //! The state of a desk.
-ghost use Rattle.std.specs.Prelude.{◌≡◌, ◌↔◌, ℕ, List, [], ◌++◌, Some, None, cond, IsTrue, IfOk, OnOk, OnErr, IsOk, MatchOption, length, min, map};
+ghost use Rattle.std.specs.Prelude.{◌≡◌, ◌↔◌, [], ◌++◌, IsTrue, IfOk, OnOk, OnErr, IsOk, MatchOption, length, min, map};
 ghost use Rattle.std.specs.List.{Contains};
-ghost use Rattle.std.specs.Ordering.{nat_cmp, is_eq};
-ghost use Rattle.std.specs.Cmp.Lexicographic.{slice_cmp};
 ghost use Rattle.std.specs.Option.{option_copied};
 ghost use Rattle.itip_message.specs.Later.{IsLater};
 ghost use Rattle.itip_message.specs.declared.item.Item.{Item};
-ghost use Rattle.itip_join.specs.KeyByKey.{value_at};
-ghost use Rattle.std.specs.Map.{keys_of};
-ghost use Rattle.itip_state.specs.Held.{shapes, items_of, shape_items, entry_items, ArePlaced};
-ghost use Rattle.itip_state.specs.Organizers.{used_by, greater, greatest};
+ghost use Rattle.itip_state.specs.Held.{shape, items_of, shape_items, AreHeld};
 ghost use Rattle.itip_state.specs.Told.{IsOutdone, HoldsNoEarlier};
 
 use crate::NoMemory;
 use crate::hear::{hear, hear_all};
+use crate::held::Held;
+use crate::organizers::greatest;
 use crate::revision::Best;
 use crate::series::{SeriesState, is_dead_below};
-use crate::shared::SharedItem;
-use crate::slot::{Slot, compare};
-use crate::sorted::by_octets;
-use itip_join::{Join, Keyed, Lift};
-use itip_message::{Item, Key, Kind};
+use crate::shared::{SharedItem, by_octets};
+use crate::slot::entry_of;
+use itip_join::Lift;
+use itip_message::{Item, Key};
 use itip_todo::Uid;
 use std::alloc::Global;
 use std::marker::Model;
@@ -34,7 +30,7 @@ fn is_no_later(item: &Item, best: &Best) -> bool
 
 /// Whether what is held of the UID of `item` at its key is no earlier than it.
 fn holds_no_earlier(series: &SeriesState, item: &SharedItem) -> bool
-    ensures { IsTrue result ↔ HoldsNoEarlier (record { series = series.now.guard; entries = series.now.entries.map }) item.now }
+    ensures { IsTrue result ↔ HoldsNoEarlier (shape series.now) item.now }
 {
     match item.key() {
         Key::Series(_) => match &series.guard {
@@ -51,41 +47,19 @@ fn holds_no_earlier(series: &SeriesState, item: &SharedItem) -> bool
 }
 
 /// Whether hearing an item changes nothing: an item of its key is held that is no earlier, or it is dead below the series item held.
-fn outdoes(held: &Keyed<Uid, SeriesState>, item: &SharedItem) -> bool
-    ensures { ArePlaced (shapes held.now.map (λ v. v.guard) (λ v. v.entries.map))
-        → IsTrue result ↔ IsOutdone (items_of (shapes held.now.map (λ v. v.guard) (λ v. v.entries.map))) item.now }
+fn outdoes(held: &Held, item: &SharedItem) -> bool
+    ensures { AreHeld held.now → IsTrue result ↔ IsOutdone (items_of held.now) item.now }
 {
-    let Some(series) = held.get(item.key().uid()) else {
+    let Some(series) = held.get(item.uid()) else {
         return false;
     };
     holds_no_earlier(series, item) || is_dead_below(&series.guard, item.key(), item.item())
 }
 
-/// The UIDs of a map, in order.
-fn uids_of<'a>(alloc: Global, held: &'a Keyed<Uid, SeriesState>) -> Result<Vec<&'a Uid>, NoMemory>
-    ensures { IfOk result (λ uids. map (λ uid. uid.now) uids.items ≡ keys_of held.now.map) }
-{
-    let mut uids = Vec::new(alloc);
-    for (uid, _) in held.map.iter() {
-        uids.push(uid)?;
-    }
-    Ok(uids)
-}
-
-/// Puts in a copy of what another map holds of a UID.
-fn put(held: &mut Keyed<Uid, SeriesState>, uid: &Uid, series: &SeriesState) -> Result<(), NoMemory>
-    ensures { OnOk result ((q : List ℕ) → value_at (slice_cmp nat_cmp) held.new.map q
-        ≡ cond (is_eq (slice_cmp nat_cmp uid.now q)) (Some series.now) (value_at (slice_cmp nat_cmp) held.old.map q)) }
-{
-    let copy = series.copy()?;
-    held.insert(uid.clone()?, copy)?;
-    Ok(())
-}
-
 /// Shows the items of one UID, the series item first.
 fn show<'a>(series: &'a SeriesState, items: &mut Vec<&'a Item>) -> Result<(), NoMemory>
     ensures { OnOk result (map (λ item. item.now) items.new.items
-        ≡ map (λ item. item.now) items.old.items ++ shape_items (record { series = series.now.guard; entries = series.now.entries.map })) }
+        ≡ map (λ item. item.now) items.old.items ++ shape_items (shape series.now)) }
 {
     if let Lift::Known(best) = &series.guard {
         items.push(best.value.item())?;
@@ -94,75 +68,13 @@ fn show<'a>(series: &'a SeriesState, items: &mut Vec<&'a Item>) -> Result<(), No
         items.push(best.value.item())?;
     }
     Ok(())
-}
-
-/// Adds the items of one UID, the series item first.
-fn share(alloc: Global, series: &SeriesState, items: &mut Vec<SharedItem>) -> Result<(), NoMemory>
-    ensures { OnOk result (items.new.items ≡ items.old.items ++ shape_items (record { series = series.now.guard; entries = series.now.entries.map })) }
-{
-    if let Lift::Known(best) = &series.guard {
-        items.push(SharedItem::of(alloc, &best.value)?)?;
-    }
-    for (_, best) in series.entries.map.iter() {
-        items.push(SharedItem::of(alloc, &best.value)?)?;
-    }
-    Ok(())
-}
-
-/// The item at a key of one UID that is not its series key.
-fn find<'a>(entries: &'a Keyed<Slot, Best>, key: &Key) -> Option<&'a Item>
-    ensures found { MatchOption (option_copied result) ((item : Item) → Contains (entry_items entries.now.map) item → item.key ≡ key.now → ⊥)
-        (λ item. Contains (entry_items entries.now.map) item × (item.key ≡ key.now)) }
-{
-    for (_, best) in entries.map.iter() {
-        let item = best.value.item();
-        if compare(&item.key, key).is_eq() {
-            return Some(item);
-        }
-    }
-    None
-}
-
-/// The effective sequence of an item that an organizer has sent.
-fn used_by(item: &Item) -> Option<u32>
-    ensures { result ≡ used_by item.now }
-{
-    match item.kind {
-        Kind::Request | Kind::Add | Kind::Remove | Kind::Cancel => Some(item.eff),
-        Kind::Reply | Kind::Refresh => None,
-    }
-}
-
-/// The greater of two sequences, where there are any.
-fn greater(last: Option<u32>, used: Option<u32>) -> Option<u32>
-    ensures { result ≡ greater last used }
-{
-    match (last, used) {
-        (None, used) => used,
-        (last, None) => last,
-        (Some(last), Some(used)) => Some(last.max(used)),
-    }
-}
-
-/// The greatest effective sequence of the items of one UID that its organizer has sent.
-fn greatest(series: &SeriesState) -> Option<u32>
-    ensures { result ≡ greatest None (shape_items (record { series = series.now.guard; entries = series.now.entries.map })) }
-{
-    let mut last = match &series.guard {
-        Lift::Nothing => None,
-        Lift::Known(best) => used_by(best.value.item()),
-    };
-    for (_, best) in series.entries.map.iter() {
-        last = greater(last, used_by(best.value.item()));
-    }
-    last
 }
 
 /// The kept items of a set: of each key the best, the dead left out. It is seen as the list of these items, each once.
 #[derive(Debug, Drop)]
 pub struct State {
     alloc: Global,
-    held: Keyed<Uid, SeriesState>,
+    held: Held,
 }
 
 impl Model for State {
@@ -176,16 +88,16 @@ impl Model for State {
 
     ghost coded = { coded_list item.the_row.coded };
 
-    ghost use Rattle.itip_state.specs.Held.{shapes, items_of, ArePlaced};
+    ghost use Rattle.itip_state.specs.Held.{items_of, AreHeld};
 
-    ghost view = { λ s. items_of (shapes s.held.map (λ v. v.guard) (λ v. v.entries.map)) };
+    ghost view = { λ s. items_of s.held };
 
-    ghost invariant = { λ s. ArePlaced (shapes s.held.map (λ v. v.guard) (λ v. v.entries.map)) };
+    ghost invariant = { λ s. AreHeld s.held };
 }
 
 impl State {
     ghost use Rattle.itip_state.specs.Kept.{AreKept, ArePart, ArePartOf, IsItemsOf, AreSeriesOf, AreUidsOf, SameItems, HasEachOnce, AscendKeys};
-    ghost use Rattle.itip_state.specs.Order.{IsState, IsBelow};
+    ghost use Rattle.itip_state.specs.Order.{IsState, IsBelow, IsLeastUpperBound};
     ghost use Rattle.itip_state.specs.Organizers.{IsLastUsed};
     ghost use Rattle.itip_state.specs.Told.{AreNews};
 
@@ -195,7 +107,7 @@ impl State {
     {
         State {
             alloc,
-            held: Keyed::empty(alloc),
+            held: Held::empty(alloc),
         }
     }
 
@@ -203,7 +115,7 @@ impl State {
     pub fn of_items(alloc: Global, items: &[Item]) -> Result<State, NoMemory>
         ensures { IfOk result (λ state. AreKept state items.now) }
     {
-        let mut held = Keyed::empty(alloc);
+        let mut held = Held::empty(alloc);
         for item in items {
             let item = SharedItem::new(alloc, item.clone()?)?;
             hear(&mut held, alloc, &item)?;
@@ -239,6 +151,7 @@ impl State {
     /// Where the other state tells nothing new, no memory is asked for, and the answer is Ok.
     pub fn merge(&mut self, other: &State) -> Result<(), NoMemory>
         ensures ok { OnOk result (AreKept self.new (self.old ++ other.now)) }
+        ensures least { OnOk result (IsLeastUpperBound self.old other.now self.new) }
         ensures succeeds { IsBelow other.now self.old → IsOk result }
         ensures err { OnErr result (self.new ≡ self.old) }
     {
@@ -249,12 +162,12 @@ impl State {
     pub fn part(&self, uids: &[Uid]) -> Result<State, NoMemory>
         ensures { IfOk result (λ part. ArePartOf part self.now uids.now) }
     {
-        let mut held = Keyed::empty(self.alloc);
+        let mut held = Held::empty(self.alloc);
         for uid in uids {
             let Some(series) = self.held.get(uid) else {
                 continue;
             };
-            put(&mut held, uid, series)?;
+            held.put(uid, series)?;
         }
         Ok(State {
             alloc: self.alloc,
@@ -278,25 +191,14 @@ impl State {
     pub fn shared_items(&self) -> Result<Vec<SharedItem>, NoMemory>
         ensures { IfOk result (λ items. IsItemsOf items.items self.now) }
     {
-        let mut items = Vec::new(self.alloc);
-        for (_, series) in self.held.map.iter() {
-            share(self.alloc, series, &mut items)?;
-        }
-        by_octets(items)
+        by_octets(self.held.shared_items(self.alloc)?)
     }
 
     /// The kept series items, by UID.
     pub fn series(&self) -> Result<Vec<&Item>, NoMemory>
-        ensures series { IfOk result (λ series. AreSeriesOf (map (λ item. item.now) series.items) self.now) }
-        ensures state { OnOk result (IsState self.now) }
+        ensures { IfOk result (λ series. AreSeriesOf (map (λ item. item.now) series.items) self.now) }
     {
-        let mut items = Vec::new(self.alloc);
-        for (_, series) in self.held.map.iter() {
-            if let Lift::Known(newest) = &series.guard {
-                items.push(newest.value.item())?;
-            }
-        }
-        Ok(items)
+        self.held.series(self.alloc)
     }
 
     /// The UIDs of which something is kept, by octets, each once.
@@ -304,7 +206,7 @@ impl State {
         ensures uids { IfOk result (λ uids. AreUidsOf (map (λ uid. uid.now) uids.items) self.now) }
         ensures state { OnOk result (IsState self.now) }
     {
-        uids_of(self.alloc, &self.held)
+        self.held.uids(self.alloc)
     }
 
     /// The kept item of a key, or `None` where none is kept. It takes no memory.
@@ -320,7 +222,7 @@ impl State {
                 Lift::Nothing => None,
                 Lift::Known(best) => Some(best.value.item()),
             },
-            _ => find(&series.entries, key),
+            _ => entry_of(&series.entries, key),
         }
     }
 
@@ -358,15 +260,15 @@ impl State {
     pub fn entries(&self) -> usize
         ensures number { result ≡ min (length self.now) usize.MAX }
         ensures once { HasEachOnce self.now }
-        ensures state { IsState self.now }
     {
-        let mut count: usize = 0;
-        for (_, series) in self.held.map.iter() {
-            count = count.saturating_add(series.entries.map.len());
-            if let Lift::Known(_) = &series.guard {
-                count = count.saturating_add(1);
-            }
-        }
-        count
+        self.held.count()
+    }
+
+    /// What is true of every state: it keeps each of its items, and has each once. The call does nothing; a prover who makes it learns this.
+    pub fn lawful(&self)
+        ensures state { IsState self.now }
+        ensures once { HasEachOnce self.now }
+    {
+        let _ = &self.held;
     }
 }

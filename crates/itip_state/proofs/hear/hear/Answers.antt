@@ -1,29 +1,29 @@
-use Rattle.std.proofs.Common.{◌∙◌, ap, sym, refl}
+use Rattle.std.proofs.Common.{◌∙◌, ◌≡◌, List, ℕ, Some, ap, subst, false}
 use Rattle.std.specs.Ordering.{is_eq, nat_cmp}
 use Rattle.std.specs.Cmp.Lexicographic.{slice_cmp}
 use Rattle.itip_message.specs.KeyParts.{uid_of}
+use Rattle.itip_state.specs.Held.{Shape, alone, at, shape}
+use Rattle.itip_state.specs.Joined.{IsJoinedAt}
 use Rattle.itip_state.proofs.Members.{on_ok_then}
-use Rattle.itip_state.proofs.Undoing.{heard_at, heard_once, same_at}
+use Rattle.itip_state.proofs.Hearing.{heard_once}
 use Rattle.itip_state.proofs.hear.hear.Goals as goal
+use Rattle.itip_state.proofs.hear.hear.Goals.{After-join_one}
+
+joined : (c : After-join_one) → IsJoinedAt (at c.args.held.now c.uid.result.now) (Some (shape c.in_ok-one.one)) (at c.join_one.new.self c.uid.result.now)
+    → IsJoinedAt (at c.args.held.now (uid_of c.args.item.now.key)) (Some (alone c.args.item.now)) (at c.join_one.new.self (uid_of c.args.item.now.key))
+joined c j = subst (λ (u : List ℕ). IsJoinedAt (at c.args.held.now u) (Some (alone c.args.item.now)) (at c.join_one.new.self u)) c.uid.ensures
+    (subst (λ (sh : Shape). IsJoinedAt (at c.args.held.now c.uid.result.now) (Some sh) (at c.join_one.new.self c.uid.result.now)) c.in_ok-one.ensures j)
+
+others : (c : After-join_one) (q : List ℕ) → is_eq (slice_cmp nat_cmp (uid_of c.args.item.now.key) q) ≡ false → at c.join_one.new.self q ≡ at c.args.held.now q
+others c q n = c.join_one.ensures.others q (ap (λ u. is_eq (slice_cmp nat_cmp u q)) c.uid.ensures ∙ n)
 
 pub returns-clause-kept : goal.returns-clause-kept
 returns-clause-kept c =
-    on_ok_then c.join_one.result
-    (λ j. heard_once (λ v. v.guard) (λ v. v.entries.map) (λ v. record { sorted = v.entries.ordered; alive = v.no_dead_entry })
-    (λ sh w. record { guard = sh.series; entries = record { map = sh.entries; ordered = w.sorted }; no_dead_entry = w.alive }) (λ sh w. refl)
-    c.args.item.now c.in_ok-one.one c.in_ok-one.ensures.series c.in_ok-one.ensures.entries c.args.held.now.map c.join_one.new.self.map c.args.held.now.ordered c.join_one.new.self.ordered
-    c.uid.result.now (c.uid.ensures ∙ ap uid_of c.key.ensures) j c.join_one.ensures.others)
-    c.join_one.ensures.joined
+    let at_end = (goal.at.returns-clause-kept c).After-join_one in
+    on_ok_then c.join_one.result (λ j. heard_once c.args.item.now c.args.held.now c.join_one.new.self c.join_one.ensures.ordered (joined at_end j) (others at_end)) c.join_one.ensures.joined
 
-pub returns-clause-there : goal.returns-clause-there
-returns-clause-there c =
-    on_ok_then c.join_one.result
-    (λ j. heard_at (λ v. v.guard) (λ v. v.entries.map) (λ v. record { sorted = v.entries.ordered; alive = v.no_dead_entry })
-    (λ sh w. record { guard = sh.series; entries = record { map = sh.entries; ordered = w.sorted }; no_dead_entry = w.alive }) (λ sh w. refl)
-    c.args.item.now c.in_ok-one.one c.in_ok-one.ensures.series c.in_ok-one.ensures.entries c.args.held.now.map c.join_one.new.self.map c.args.held.now.ordered c.join_one.new.self.ordered
-    c.uid.result.now (c.uid.ensures ∙ ap uid_of c.key.ensures) j c.join_one.ensures.others)
-    c.join_one.ensures.joined
+pub returns-clause-joined : goal.returns-clause-joined
+returns-clause-joined c = on_ok_then c.join_one.result (joined (goal.at.returns-clause-joined c).After-join_one) c.join_one.ensures.joined
 
 pub returns-clause-others : goal.returns-clause-others
-returns-clause-others c = λ q n. same_at (λ v. v.guard) (λ v. v.entries.map) (λ v. record { sorted = v.entries.ordered; alive = v.no_dead_entry })
-    c.args.held.now.map c.join_one.new.self.map q (sym (c.join_one.ensures.others q (ap (λ k. is_eq (slice_cmp nat_cmp k q)) (c.uid.ensures ∙ ap uid_of c.key.ensures) ∙ n)))
+returns-clause-others c = others (goal.at.returns-clause-others c).After-join_one

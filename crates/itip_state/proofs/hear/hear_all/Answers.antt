@@ -1,15 +1,12 @@
 use Rattle.std.proofs.Common.{◌≡◌, List, [], ◌∷◌, ◌++◌, ◌+◌, ◌∙◌, ap, sym, subst, map, take, append_assoc}
 use Rattle.std.proofs.lemmas.List.{take_more, take_all, map-append}
 use Rattle.itip_message.specs.declared.item.Item.{Item}
-use Rattle.itip_state.specs.Changes.{at}
-use Rattle.itip_state.specs.Held.{HoldKept, shapes}
+use Rattle.itip_state.specs.Held.{HoldKept}
 use Rattle.itip_state.proofs.Members.{on_ok_then, single_is}
 use Rattle.itip_state.proofs.hear.hear_all.Goals as goal
 
 pub take_back-requires : goal.take_back-requires
-take_back-requires c =
-    let start = at (shapes c.args.held.now.map (λ v. v.guard) (λ v. v.entries.map)) in
-    (start, c.hear_noted.ensures.noted start c.loop-item.invariant.undo)
+take_back-requires c = (c.args.held.now, c.hear_noted.ensures.noted c.args.held.now c.loop-item.invariant.undo)
 
 pub loop-item-preserved : goal.loop-item-preserved
 loop-item-preserved c =
@@ -18,18 +15,18 @@ loop-item-preserved c =
     ap (map (λ item. item.now)) (take_more c.args.items.now c.loop-item.item-index c.item-item-in-loop-item.result c.loop-item-test.true
     ∙ ap (λ x. take c.loop-item.item-index c.args.items.now ++ x ∷ []) (sym c.item-item-in-loop-item.is)) ∙ map-append (λ item. item.now) (take c.loop-item.item-index c.args.items.now) (c.item-item-in-loop-item.result ∷ []) in
     record {
-      hold = λ heard h. subst (λ (xs : List Item). HoldKept xs (shapes c.hear_noted.new.held.map (λ v. v.guard) (λ v. v.entries.map)))
+      hold = λ heard h. subst (λ (xs : List Item). HoldKept xs c.hear_noted.new.held)
           (append_assoc heard before (c.item-item-in-loop-item.result.now ∷ []) ∙ ap (λ xs. heard ++ xs) (sym more))
           (c.in_default-hear_noted.ensures.kept (heard ++ before) (c.loop-item.invariant.hold heard h));
-      undo = c.hear_noted.ensures.noted (at (shapes c.args.held.now.map (λ v. v.guard) (λ v. v.entries.map))) c.loop-item.invariant.undo;
+      undo = c.hear_noted.ensures.noted c.args.held.now c.loop-item.invariant.undo;
     }
 
 pub returns-clause-ok : goal.returns-clause-ok
-returns-clause-ok c = λ heard h. subst (λ xs. HoldKept (heard ++ map (λ item. item.now) xs) (shapes c.loop-item.held.map (λ v. v.guard) (λ v. v.entries.map)))
+returns-clause-ok c = λ heard h. subst (λ xs. HoldKept (heard ++ map (λ item. item.now) xs) c.loop-item.held)
     (take_all c.loop-item.item-index c.args.items.now c.loop-item-test.false) (c.loop-item.invariant.hold heard h)
 
 pub returns-in-len1-clause-ok : goal.returns-in-len1-clause-ok
 returns-in-len1-clause-ok c = on_ok_then c.hear.result
-    (λ kept heard h. subst (λ xs. HoldKept (heard ++ map (λ item. item.now) xs) (shapes c.hear.new.held.map (λ v. v.guard) (λ v. v.entries.map)))
+    (λ kept heard h. subst (λ xs. HoldKept (heard ++ map (λ item. item.now) xs) c.hear.new.held)
     (sym (single_is c.item-item.result c.args.items.now c.in-len1.len_at_least c.in-len1.len_below c.item-item.is)) (kept heard h))
     c.hear.ensures.kept

@@ -1,45 +1,36 @@
 use Rattle.std.proofs.Common.{◌∙◌, ap, sym, Some, None}
-use Rattle.std.specs.Ordering.{nat_cmp}
-use Rattle.std.specs.Cmp.Lexicographic.{slice_cmp}
+use Rattle.itip_state.specs.Held.{Shape, at, is_series, shape}
 use Rattle.itip_join.specs.KeyByKey.{value_at}
-use Rattle.itip_message.specs.KeyParts.{uid_of}
-use Rattle.itip_state.specs.Held.{Shape, is_series}
 use Rattle.itip_state.specs.Slots.{slot_cmp}
 use Rattle.itip_state.proofs.News.{not_series}
-use Rattle.itip_state.proofs.Undoing.{put_at, noted_at}
+use Rattle.itip_state.proofs.Undoing.{noted_at}
 use Rattle.itip_state.proofs.hear.note.Goals as goal
 
-pub returns-in_default : goal.returns-in_default
-returns-in_default c = put_at (λ v. v.guard) (λ v. v.entries.map) (λ v. record { sorted = v.entries.ordered; alive = v.no_dead_entry }) c.args.held.now.map (uid_of c.args.item.now.key) None
-    (sym (ap (value_at (slice_cmp nat_cmp) c.args.held.now.map) (c.uid.ensures ∙ ap uid_of c.key.ensures)) ∙ sym c.in_default.ensures)
+pub returns-in_default-clause-noted : goal.returns-in_default-clause-noted
+returns-in_default-clause-noted c = sym (ap (at c.args.held.now) c.uid.ensures) ∙ sym c.in_default.ensures.found
 
-pub returns-in-Series : goal.returns-in-Series
-returns-in-Series c = (
-  put_at (λ v. v.guard) (λ v. v.entries.map) (λ v. record { sorted = v.entries.ordered; alive = v.no_dead_entry }) c.args.held.now.map (uid_of c.args.item.now.key) (Some c.in_ok-copy.field-0)
-      (sym (ap (value_at (slice_cmp nat_cmp) c.args.held.now.map) (c.uid.ensures ∙ ap uid_of c.key.ensures)) ∙ sym c.in-Some.ensures ∙ ap Some (sym c.in_ok-copy.ensures)),
-  ap is_series (sym c.key-2.ensures ∙ c.in-Series.is),
+pub returns-in-Series-clause-noted : goal.returns-in-Series-clause-noted
+returns-in-Series-clause-noted c = (
+  sym (ap (at c.args.held.now) c.uid.ensures) ∙ sym c.in-Some.ensures.found ∙ ap (λ v. Some (shape v)) (sym c.in_ok-copy.ensures),
+  ap is_series (sym c.key.ensures ∙ c.in-Series.is),
 )
 
-pub returns-in-None : goal.returns-in-None
-returns-in-None c =
-    let w : Shape = record { series = c.in-Some.series.now.guard; entries = c.in-Some.series.now.entries.map } in
-    let there = put_at (λ v. v.guard) (λ v. v.entries.map) (λ v. record { sorted = v.entries.ordered; alive = v.no_dead_entry }) c.args.held.now.map (uid_of c.args.item.now.key) (Some c.in-Some.series.now)
-    (sym (ap (value_at (slice_cmp nat_cmp) c.args.held.now.map) (c.uid.ensures ∙ ap uid_of c.key.ensures)) ∙ sym c.in-Some.ensures) in (
+pub returns-in-None-clause-noted : goal.returns-in-None-clause-noted
+returns-in-None-clause-noted c =
+    let w : Shape = shape c.in-Some.series.now in (
       w,
-      there,
+      sym (ap (at c.args.held.now) c.uid.ensures) ∙ sym c.in-Some.ensures.found,
       noted_at c.args.item.now.key None w (record { sorted = c.in-Some.series.now.entries.ordered; alive = c.in-Some.series.now.no_dead_entry })
           (c.in-None.ensures ∙ ap (value_at slot_cmp w.entries) c.slot.ensures),
-      not_series c.args.item.now.key (λ uid e. c.in_default-key.not-Series uid (c.key-2.ensures ∙ e)),
+      not_series c.args.item.now.key (λ uid e. c.in_default-key.not-Series uid (c.key.ensures ∙ e)),
     )
 
-pub returns-in_ok-copy-in-Some-get : goal.returns-in_ok-copy-in-Some-get
-returns-in_ok-copy-in-Some-get c =
-    let w : Shape = record { series = c.in-Some.series.now.guard; entries = c.in-Some.series.now.entries.map } in
-    let there = put_at (λ v. v.guard) (λ v. v.entries.map) (λ v. record { sorted = v.entries.ordered; alive = v.no_dead_entry }) c.args.held.now.map (uid_of c.args.item.now.key) (Some c.in-Some.series.now)
-    (sym (ap (value_at (slice_cmp nat_cmp) c.args.held.now.map) (c.uid.ensures ∙ ap uid_of c.key.ensures)) ∙ sym c.in-Some.ensures) in (
+pub returns-in_ok-copy-in-Some-get-clause-noted : goal.returns-in_ok-copy-in-Some-get-clause-noted
+returns-in_ok-copy-in-Some-get-clause-noted c =
+    let w : Shape = shape c.in-Some.series.now in (
       w,
-      there,
+      sym (ap (at c.args.held.now) c.uid.ensures) ∙ sym c.in-Some.ensures.found,
       noted_at c.args.item.now.key (Some c.in_ok-copy-in-Some-get.field-0) w (record { sorted = c.in-Some.series.now.entries.ordered; alive = c.in-Some.series.now.no_dead_entry })
           (ap Some c.in_ok-copy-in-Some-get.ensures ∙ c.in-Some-get.ensures ∙ ap (value_at slot_cmp w.entries) c.slot.ensures),
-      not_series c.args.item.now.key (λ uid e. c.in_default-key.not-Series uid (c.key-2.ensures ∙ e)),
+      not_series c.args.item.now.key (λ uid e. c.in_default-key.not-Series uid (c.key.ensures ∙ e)),
     )

@@ -4,7 +4,7 @@ use Rattle.itip_join.specs.declared.lift.Lift.TheVariants.{Nothing, Known}
 use Rattle.itip_message.specs.declared.item.Item.{Item}
 use Rattle.itip_message.specs.declared.key.Key.{Key}
 use Rattle.itip_message.specs.declared.key.Key.TheVariants.{Series, Instance, Answer, Refresh}
-use Rattle.itip_state.specs.Held.{Shape, alone, best, is_series}
+use Rattle.itip_state.specs.Held.{alone, best, is_series}
 use Rattle.itip_state.proofs.series.of_item.Goals as goal
 
 not_series : (key : Key) → ((uid : List ℕ) → key ≡ Series uid → ⊥) → is_series key ≡ false
@@ -21,7 +21,5 @@ returns c =
     ap (λ b. cond b (record { series = Known (best item); entries = [] }) (record { series = Nothing; entries = (item.key, best item) ∷ [] })) other in
     let key : c.in_ok-copy-2.field-0 ≡ item.key = c.in_ok-copy-2.ensures ∙ c.slot.ensures in
     let value : c.in_ok-copy.field-0 ≡ item = c.in_ok-copy.ensures ∙ c.revision.ensures in
-    record {
-      series = sym (ap (λ (sh : Shape). sh.series) one);
-      entries = c.in_ok-of_one.ensures ∙ (λ i. (key i, best (value i)) ∷ []) ∙ sym (ap (λ (sh : Shape). sh.entries) one);
-    }
+    let entries : c.in_ok-of_one.field-0.map ≡ (item.key, best item) ∷ [] = c.in_ok-of_one.ensures ∙ (λ i. (key i, best (value i)) ∷ []) in
+    (λ i. record { series = Nothing; entries = entries i }) ∙ sym one

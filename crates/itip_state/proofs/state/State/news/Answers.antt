@@ -4,7 +4,7 @@ use Rattle.itip_message.specs.declared.item.Item.{Item}
 use Rattle.itip_state.specs.Order.{IsState}
 use Rattle.itip_state.specs.Told.{IsOutdone, AreNews}
 use Rattle.itip_state.proofs.News.{one_more_news, nothing_new}
-use Rattle.itip_state.proofs.Reading.{held_state}
+use Rattle.itip_state.proofs.Maps.{held_state}
 use Rattle.itip_state.proofs.state.State.news.Goals as goal
 use Rattle.itip_state.proofs.state.State.news.Goals.{After-outdoes}
 
@@ -34,4 +34,4 @@ loop-item-preserved c =
     (one_more_news c.args.self.now (take c.loop-item.item-index c.args.items.now) news c.item-item.result new c.loop-item.invariant))
 
 pub returns-clause-state : goal.returns-clause-state
-returns-clause-state c = subst IsState c.self.view_is (held_state (λ v. v.guard) (λ v. v.entries.map) (λ v. record { sorted = v.entries.ordered; alive = v.no_dead_entry }) c.self.inside.held.map c.self.inside.held.ordered c.self.invariant)
+returns-clause-state c = subst IsState c.self.view_is (held_state c.self.inside.held c.self.invariant)

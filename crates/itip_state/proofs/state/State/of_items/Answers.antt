@@ -2,7 +2,7 @@ use Rattle.std.proofs.Common.{◌∙◌, sym, ap, subst, List, take, [], ◌∷�
 use Rattle.std.proofs.lemmas.List.{take_more, take_all}
 use Rattle.itip_message.specs.declared.item.Item.{Item}
 use Rattle.itip_state.specs.Kept.{AreKept}
-use Rattle.itip_state.specs.Held.{HoldKept, shapes, items_of}
+use Rattle.itip_state.specs.Held.{HoldKept, items_of}
 use Rattle.itip_state.proofs.Hearing.{hold_nothing}
 use Rattle.itip_state.proofs.state.State.of_items.Goals as goal
 
@@ -10,15 +10,14 @@ pub loop-item-init : goal.loop-item-init
 loop-item-init c = rw c.empty-held.ensures hold_nothing
 
 pub loop-item-preserved : goal.loop-item-preserved
-loop-item-preserved c = subst (λ (xs : List Item). HoldKept xs (shapes c.hear.new.held.map (λ v. v.guard) (λ v. v.entries.map)))
+loop-item-preserved c = subst (λ (xs : List Item). HoldKept xs c.hear.new.held)
     (sym (take_more c.args.items.now c.loop-item.item-index c.item-item.result c.loop-item-test.true
     ∙ ap (λ x. take c.loop-item.item-index c.args.items.now ++ x ∷ []) (sym c.item-item.is)))
-    (subst (λ (i : Item). HoldKept (take c.loop-item.item-index c.args.items.now ++ i ∷ []) (shapes c.hear.new.held.map (λ v. v.guard) (λ v. v.entries.map))) (c.in_ok-item.ensures ∙ c.in_ok-clone.ensures.cases)
+    (subst (λ (i : Item). HoldKept (take c.loop-item.item-index c.args.items.now ++ i ∷ []) c.hear.new.held) (c.in_ok-item.ensures ∙ c.in_ok-clone.ensures.cases)
     (c.in_ok-hear.ensures.kept (take c.loop-item.item-index c.args.items.now) c.loop-item.invariant))
 
 pub invariant_of-result : goal.invariant_of-result
-invariant_of-result c = c.loop-item.invariant.placed
+invariant_of-result c = c.loop-item.invariant.held
 
 pub returns : goal.returns
-returns c = subst (λ (xs : List Item). AreKept (items_of (shapes c.loop-item.held.map (λ v. v.guard) (λ v. v.entries.map))) xs)
-    (take_all c.loop-item.item-index c.args.items.now c.loop-item-test.false) c.loop-item.invariant.kept
+returns c = subst (λ (xs : List Item). AreKept (items_of c.loop-item.held) xs) (take_all c.loop-item.item-index c.args.items.now c.loop-item-test.false) c.loop-item.invariant.kept

@@ -1,33 +1,39 @@
-use Rattle.std.proofs.Common.{List, [], ◌∷◌, ◌++◌, sym, ◌∙◌, ap, ◌+◌, subst, take, None}
+use Rattle.std.proofs.Common.{◌≡◌, ℕ, List, [], ◌∷◌, ◌++◌, sym, ◌∙◌, ap, ◌+◌, subst, take, None}
 use Rattle.std.specs.Prelude.{cond}
-use Rattle.std.specs.Ordering.{nat_cmp}
-use Rattle.std.specs.Cmp.Lexicographic.{slice_cmp}
 use Rattle.std.proofs.lemmas.List.{take_more, take_all}
-use Rattle.itip_join.specs.KeyByKey.{value_at}
 use Rattle.itip_message.specs.declared.item.Item.{Item}
 use Rattle.itip_state.specs.Kept.{ArePartOf}
-use Rattle.itip_state.specs.Held.{shapes, items_of}
-use Rattle.itip_state.proofs.Parting.{is_listed, put_more, pass_more, part_placed, part_of}
+use Rattle.itip_state.specs.Held.{at, shape, items_of}
+use Rattle.itip_state.proofs.Hearing.{hold_nothing}
+use Rattle.itip_state.proofs.Parting.{is_listed, put_more, pass_more, part_held, part_of}
 use Rattle.itip_state.proofs.state.State.part.Goals as goal
+use Rattle.itip_state.proofs.state.State.part.Goals.{After-loop-uid}
+
+pub loop-uid-init : goal.loop-uid-init
+loop-uid-init c = record { values = λ q. ap (λ es. at es q) c.empty-held.ensures; ordered = rw c.empty-held.ensures hold_nothing.held.ordered }
 
 pub loop-uid-preserved : goal.loop-uid-preserved
-loop-uid-preserved c = λ q.
-    put_more (value_at (slice_cmp nat_cmp) c.self.inside.held.map) (take c.loop-uid.uid-index c.args.uids.now) (take (c.loop-uid.uid-index + 1) c.args.uids.now) c.uid-item.result
-    (take_more c.args.uids.now c.loop-uid.uid-index c.uid-item.result c.loop-uid-test.true ∙ ap (λ x. take c.loop-uid.uid-index c.args.uids.now ++ x ∷ []) (sym c.uid-item.is)) q
-    c.in-Some.series.now (value_at (slice_cmp nat_cmp) c.loop-uid.held.map q) (value_at (slice_cmp nat_cmp) c.put.new.held.map q)
-    c.in-Some.ensures (c.in_ok-put.ensures q) (c.loop-uid.invariant q)
+loop-uid-preserved c = record {
+  values = λ q. put_more (at c.self.inside.held) (take c.loop-uid.uid-index c.args.uids.now) (take (c.loop-uid.uid-index + 1) c.args.uids.now) c.uid-item.result
+      (take_more c.args.uids.now c.loop-uid.uid-index c.uid-item.result c.loop-uid-test.true ∙ ap (λ x. take c.loop-uid.uid-index c.args.uids.now ++ x ∷ []) (sym c.uid-item.is)) q
+      (shape c.in-Some.series.now) (at c.loop-uid.held q) (at c.put.new.self q) c.in-Some.ensures.found (c.in_ok-put.ensures.put q) (c.loop-uid.invariant.values q);
+  ordered = c.in_ok-put.ensures.ordered;
+}
 
 pub loop-uid-preserved-in_default : goal.loop-uid-preserved-in_default
-loop-uid-preserved-in_default c = λ q.
-    pass_more (value_at (slice_cmp nat_cmp) c.self.inside.held.map) (take c.loop-uid.uid-index c.args.uids.now) (take (c.loop-uid.uid-index + 1) c.args.uids.now) c.uid-item.result
-    (take_more c.args.uids.now c.loop-uid.uid-index c.uid-item.result c.loop-uid-test.true ∙ ap (λ x. take c.loop-uid.uid-index c.args.uids.now ++ x ∷ []) (sym c.uid-item.is)) q
-    (value_at (slice_cmp nat_cmp) c.loop-uid.held.map q) c.in_default.ensures (c.loop-uid.invariant q)
+loop-uid-preserved-in_default c = record {
+  values = λ q. pass_more (at c.self.inside.held) (take c.loop-uid.uid-index c.args.uids.now) (take (c.loop-uid.uid-index + 1) c.args.uids.now) c.uid-item.result
+      (take_more c.args.uids.now c.loop-uid.uid-index c.uid-item.result c.loop-uid-test.true ∙ ap (λ x. take c.loop-uid.uid-index c.args.uids.now ++ x ∷ []) (sym c.uid-item.is)) q
+      (at c.loop-uid.held q) c.in_default.ensures.found (c.loop-uid.invariant.values q);
+  ordered = c.loop-uid.invariant.ordered;
+}
+
+all : (c : After-loop-uid) (q : List ℕ) → at c.loop-uid.held q ≡ cond (is_listed c.args.uids.now q) (at c.self.inside.held q) None
+all c q = c.loop-uid.invariant.values q ∙ ap (λ us. cond (is_listed us q) (at c.self.inside.held q) None) (take_all c.loop-uid.uid-index c.args.uids.now c.loop-uid-test.false)
 
 pub invariant_of-result : goal.invariant_of-result
-invariant_of-result c = part_placed (λ v. v.guard) (λ v. v.entries.map) (λ v. record { sorted = v.entries.ordered; alive = v.no_dead_entry }) c.self.inside.held.map c.loop-uid.held.map c.self.inside.held.ordered c.loop-uid.held.ordered c.self.invariant c.args.uids.now
-    (λ q. c.loop-uid.invariant q ∙ ap (λ us. cond (is_listed us q) (value_at (slice_cmp nat_cmp) c.self.inside.held.map q) None) (take_all c.loop-uid.uid-index c.args.uids.now c.loop-uid-test.false))
+invariant_of-result c = part_held c.self.inside.held c.loop-uid.held c.self.invariant c.loop-uid.invariant.ordered c.args.uids.now (all (goal.at.invariant_of-result c).After-loop-uid)
 
 pub returns : goal.returns
-returns c = subst (λ (v : List Item). ArePartOf (items_of (shapes c.loop-uid.held.map (λ v. v.guard) (λ v. v.entries.map))) v c.args.uids.now) c.self.view_is
-    (part_of (λ v. v.guard) (λ v. v.entries.map) (λ v. record { sorted = v.entries.ordered; alive = v.no_dead_entry }) c.self.inside.held.map c.loop-uid.held.map c.self.inside.held.ordered c.loop-uid.held.ordered c.self.invariant c.args.uids.now
-    (λ q. c.loop-uid.invariant q ∙ ap (λ us. cond (is_listed us q) (value_at (slice_cmp nat_cmp) c.self.inside.held.map q) None) (take_all c.loop-uid.uid-index c.args.uids.now c.loop-uid-test.false)))
+returns c = subst (λ (v : List Item). ArePartOf (items_of c.loop-uid.held) v c.args.uids.now) c.self.view_is
+    (part_of c.self.inside.held c.loop-uid.held c.self.invariant c.loop-uid.invariant.ordered c.args.uids.now (all (goal.at.returns c).After-loop-uid))

@@ -4,14 +4,15 @@ use Rattle.itip_message.specs.declared.item.Item.{Item}
 use Rattle.itip_state.specs.Kept.{AreUidsOf}
 use Rattle.itip_state.specs.Order.{IsState}
 use Rattle.itip_state.proofs.Members.{if_ok_then, on_ok_always}
-use Rattle.itip_state.proofs.Reading.{held_uids, held_state}
+use Rattle.itip_state.proofs.Maps.{held_state}
+use Rattle.itip_state.proofs.Ordered.{uids_of}
 use Rattle.itip_state.proofs.state.State.uids.Goals as goal
 
 pub returns-clause-uids : goal.returns-clause-uids
-returns-clause-uids c = if_ok_then (λ uids. map (λ uid. uid.now) uids.items ≡ keys_of c.self.inside.held.map) (λ uids. AreUidsOf (map (λ uid. uid.now) uids.items) c.args.self.now) c.uids_of.result
+returns-clause-uids c = if_ok_then (λ uids. map (λ uid. uid.now) uids.items ≡ keys_of c.self.inside.held) (λ uids. AreUidsOf (map (λ uid. uid.now) uids.items) c.args.self.now) c.uids.result
     (λ uids e. subst (λ (us : List (List ℕ)). AreUidsOf us c.args.self.now) (sym e)
-    (subst (λ (v : List Item). AreUidsOf (keys_of c.self.inside.held.map) v) c.self.view_is (held_uids (λ v. v.guard) (λ v. v.entries.map) (λ v. record { sorted = v.entries.ordered; alive = v.no_dead_entry }) c.self.inside.held.map c.self.inside.held.ordered c.self.invariant)))
-    c.uids_of.ensures
+    (subst (λ (v : List Item). AreUidsOf (keys_of c.self.inside.held) v) c.self.view_is (uids_of c.self.inside.held c.self.invariant)))
+    c.uids.ensures
 
 pub returns-clause-state : goal.returns-clause-state
-returns-clause-state c = on_ok_always c.uids_of.result (subst IsState c.self.view_is (held_state (λ v. v.guard) (λ v. v.entries.map) (λ v. record { sorted = v.entries.ordered; alive = v.no_dead_entry }) c.self.inside.held.map c.self.inside.held.ordered c.self.invariant))
+returns-clause-state c = on_ok_always c.uids.result (subst IsState c.self.view_is (held_state c.self.inside.held c.self.invariant))

@@ -1,0 +1,6 @@
+use Rattle.std.proofs.Common.{◌≡◌, ◌++◌}
+use Rattle.itip_state.specs.Held.{items_of, shape, shapes}
+use Rattle.itip_state.proofs.held.Held.shared_items.Given as goal
+
+abbrev pub invariant-loop-series : goal.invariant-loop-series
+invariant-loop-series l = l.items.items ++ items_of (shapes l.series-iterator shape) ≡ items_of l.self

@@ -1,0 +1,27 @@
+use Rattle.std.proofs.Common.{refl}
+use Rattle.std.specs.Cmp.{eq_by_cmp_equiv}
+use Rattle.std.proofs.lemmas.List.Filters.{dedup_is}
+use Rattle.std.proofs.lemmas.List.Kept.{IsStrictlySortedBy-dedup, Contains-dedup, Contains-from_dedup}
+use Rattle.std.proofs.lemmas.List.Sorted.{Contains-permutation, IsPermutation-sym}
+use Rattle.std.proofs.lemmas.Map.Lookups.{exact_bytes, CmpEqualImpliesEq}
+use Rattle.std.proofs.lemmas.Map.Views.{tells_apart}
+use Rattle.itip_message.specs.OctetOrder.{octets_cmp, octets_total}
+use Rattle.itip_message.proofs.SameItem.{same_item}
+use Rattle.itip_state.proofs.Ascending.{pairs_ascend}
+use Rattle.itip_state.proofs.shared.by_octets.Goals as goal
+
+exact : CmpEqualImpliesEq octets_cmp
+exact i j tied = same_item i j (exact_bytes i.bytes j.bytes tied)
+
+pub returns : goal.returns
+returns c =
+    let is = dedup_is _ _ _ c.dedup.ensures.filtered in
+    let sort = c.in_ok-sort.ensures in
+    let moved = sort.permutation in
+    record {
+      ascend = rw is (pairs_ascend octets_cmp _ (IsStrictlySortedBy-dedup octets_total (λ x y. refl) _ sort.sorted));
+      same = λ item. (
+        (λ (h : _). Contains-permutation _ _ item (IsPermutation-sym _ _ moved) (Contains-from_dedup _ _ item (rw is at h))),
+        (λ (h : _). rw is (Contains-dedup (eq_by_cmp_equiv octets_total) (tells_apart exact) _ item (Contains-permutation _ _ item moved h))),
+      );
+    }

@@ -1,6 +1,0 @@
-use Rattle.std.proofs.Common.{◌≡◌, map, take}
-use Rattle.itip_message.specs.KeyParts.{uid_of}
-use Rattle.itip_state.proofs.sorted.uids.Given as goal
-
-abbrev pub invariant-loop-item : goal.invariant-loop-item
-invariant-loop-item l = l.uids.items ≡ map (λ item. uid_of item.now.key) (take l.item-index l.items)

@@ -1,7 +1,0 @@
-use Rattle.std.proofs.Common.{◌≡◌, None}
-use Rattle.itip_state.specs.Held.{entry_items, shape_items}
-use Rattle.itip_state.specs.Organizers.{greatest}
-use Rattle.itip_state.proofs.state.greatest.Given as goal
-
-abbrev pub invariant-loop-best : goal.invariant-loop-best
-invariant-loop-best l = greatest l.last (entry_items l.best-iterator) ≡ greatest None (shape_items (record { series = l.series.guard; entries = l.series.entries.map }))

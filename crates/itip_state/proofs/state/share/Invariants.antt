@@ -1,6 +1,0 @@
-use Rattle.std.proofs.Common.{◌≡◌, ◌++◌}
-use Rattle.itip_state.specs.Held.{entry_items, shape_items}
-use Rattle.itip_state.proofs.state.share.Given as goal
-
-abbrev pub invariant-loop-best : goal.invariant-loop-best
-invariant-loop-best l = l.items.items ++ entry_items l.best-iterator ≡ l.fn.items.items ++ shape_items (record { series = l.series.guard; entries = l.series.entries.map })

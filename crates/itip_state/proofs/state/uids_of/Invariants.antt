@@ -1,6 +1,0 @@
-use Rattle.std.proofs.Common.{◌≡◌, ◌++◌, map}
-use Rattle.std.specs.Map.{keys_of}
-use Rattle.itip_state.proofs.state.uids_of.Given as goal
-
-abbrev pub invariant-loop-uid : goal.invariant-loop-uid
-invariant-loop-uid l = map (λ uid. uid.now) l.uids.items ++ keys_of l.uid-iterator ≡ keys_of l.fn.held.map

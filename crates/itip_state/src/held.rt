@@ -1,0 +1,164 @@
+//! What a state holds of each UID.
+ghost use Rattle.std.specs.Prelude.{◌≡◌, ℕ, List, [], Some, None, false, cond, length, min, map, option_map, IsTrue, IfOk, OnOk, OnErr, IsOk, ◌↔◌};
+ghost use Rattle.std.specs.Map.{keys_of};
+ghost use Rattle.std.specs.Option.{option_copied};
+ghost use Rattle.std.specs.Ordering.{nat_cmp, is_eq};
+ghost use Rattle.std.specs.Cmp.Lexicographic.{slice_cmp};
+ghost use Rattle.itip_join.specs.Changes.{replaced};
+ghost use Rattle.itip_state.specs.Held.{shape, at, AreOrdered, items_of, series_list};
+ghost use Rattle.itip_state.specs.Joined.{IsJoinedAt, AreBelow};
+
+use crate::NoMemory;
+use crate::series::{SeriesState, share};
+use crate::shared::SharedItem;
+use itip_join::{Join, Keyed, Lift};
+use itip_message::Item;
+use itip_todo::Uid;
+use std::alloc::Global;
+use std::marker::Model;
+
+/// A map by UID. It is seen as what it holds of each UID: the series item, and the other items by their keys.
+#[derive(Debug, Drop)]
+pub(crate) struct Held {
+    map: Keyed<Uid, SeriesState>,
+}
+
+impl Model for Held {
+    ghost use Rattle.std.specs.Prelude.{List, ℕ};
+    ghost use Rattle.itip_state.specs.Held.{Shape, shape, shapes};
+
+    ghost Value = { List (List ℕ × Shape) };
+
+    ghost use Rattle.std.specs.Coded.{coded_list, coded×, coded_ℕ};
+    ghost use Rattle.itip_message.specs.contracts.item.Item as item;
+    ghost use Rattle.itip_message.specs.contracts.key.Key as key;
+    ghost use Rattle.itip_state.specs.Stored.{coded_shape};
+
+    ghost coded = { coded_list (coded× (coded_list coded_ℕ) (coded_shape key.the_row.coded item.the_row.coded)) };
+
+    ghost view = { λ h. shapes h.map.map shape };
+}
+
+impl Held {
+    /// Nothing held. It takes no memory.
+    pub(crate) fn empty(alloc: Global) -> Held
+        ensures { result ≡ [] }
+    {
+        Held {
+            map: Keyed::empty(alloc),
+        }
+    }
+
+    /// What is held of a UID.
+    pub(crate) fn get(&self, uid: &Uid) -> Option<&SeriesState>
+        ensures found { option_map shape (option_copied result) ≡ at self.now uid.now }
+        ensures ordered { AreOrdered self.now }
+    {
+        self.map.get(uid)
+    }
+
+    /// Joins `one` in at a UID, in place. A refusal, for want of memory, changes nothing.
+    pub(crate) fn join_one(&mut self, uid: &Uid, one: &SeriesState) -> Result<(), NoMemory>
+        ensures joined { OnOk result (IsJoinedAt (at self.old uid.now) (Some (shape one.now)) (at self.new uid.now)) }
+        ensures others { (q : List ℕ) → is_eq (slice_cmp nat_cmp uid.now q) ≡ false → at self.new q ≡ at self.old q }
+        ensures ordered { AreOrdered self.new }
+        ensures err { OnErr result (self.new ≡ self.old) }
+    {
+        self.map.join_one(uid, one)
+    }
+
+    /// Puts in a copy of what another map holds of a UID. A refusal, for want of memory, changes nothing.
+    pub(crate) fn put(&mut self, uid: &Uid, series: &SeriesState) -> Result<(), NoMemory>
+        ensures put { OnOk result ((q : List ℕ) → at self.new q ≡ cond (is_eq (slice_cmp nat_cmp uid.now q)) (Some (shape series.now)) (at self.old q)) }
+        ensures ordered { OnOk result (AreOrdered self.new) }
+    {
+        let copy = series.copy()?;
+        self.map.insert(uid.clone()?, copy)?;
+        Ok(())
+    }
+
+    /// Takes out what is held of a UID. It takes no memory.
+    pub(crate) fn remove(&mut self, uid: &Uid)
+        ensures without { (q : List ℕ) → at self.new q ≡ cond (is_eq (slice_cmp nat_cmp uid.now q)) None (at self.old q) }
+        ensures ordered { AreOrdered self.new }
+    {
+        self.map.remove(uid);
+    }
+
+    /// Puts `series` in the place of what is held of a UID, and gives that. Where nothing is held of it, nothing changes. It takes no memory.
+    pub(crate) fn replace(&mut self, uid: &Uid, series: SeriesState) -> Option<SeriesState>
+        ensures before { option_map shape result ≡ at self.old uid.now }
+        ensures with { (q : List ℕ) → at self.new q ≡ cond (is_eq (slice_cmp nat_cmp uid.now q)) (replaced (at self.old uid.now) (shape series)) (at self.old q) }
+        ensures ordered { AreOrdered self.new }
+    {
+        self.map.replace(uid, series)
+    }
+
+    /// Joins another map in, UID by UID. A refusal, for want of memory, changes nothing.
+    ///
+    /// Where the other map tells nothing new, no memory is asked for, and the answer is Ok.
+    pub(crate) fn join(&mut self, other: &Held) -> Result<(), NoMemory>
+        ensures joined { OnOk result ((q : List ℕ) → IsJoinedAt (at self.old q) (at other.now q) (at self.new q)) }
+        ensures ordered { AreOrdered self.new }
+        ensures succeeds { AreBelow other.now self.old → IsOk result }
+        ensures err { OnErr result (self.new ≡ self.old) }
+    {
+        self.map.join(&other.map)
+    }
+
+    /// Whether another map tells all that this one tells.
+    pub(crate) fn below(&self, other: &Held) -> bool
+        ensures { IsTrue result ↔ AreBelow self.now other.now }
+    {
+        self.map.below(&other.map)
+    }
+
+    /// The UIDs, in order.
+    pub(crate) fn uids(&self, alloc: Global) -> Result<Vec<&Uid>, NoMemory>
+        ensures { IfOk result (λ uids. map (λ uid. uid.now) uids.items ≡ keys_of self.now) }
+    {
+        let mut uids = Vec::new(alloc);
+        for (uid, _) in self.map.map.iter() {
+            uids.push(uid)?;
+        }
+        Ok(uids)
+    }
+
+    /// The series items, in the order of their UIDs.
+    pub(crate) fn series(&self, alloc: Global) -> Result<Vec<&Item>, NoMemory>
+        ensures { IfOk result (λ series. map (λ item. item.now) series.items ≡ series_list self.now) }
+    {
+        let mut items = Vec::new(alloc);
+        for (_, series) in self.map.map.iter() {
+            if let Lift::Known(newest) = &series.guard {
+                items.push(newest.value.item())?;
+            }
+        }
+        Ok(items)
+    }
+
+    /// All items, shared with this map.
+    pub(crate) fn shared_items(&self, alloc: Global) -> Result<Vec<SharedItem>, NoMemory>
+        ensures { IfOk result (λ items. items.items ≡ items_of self.now) }
+    {
+        let mut items = Vec::new(alloc);
+        for (_, series) in self.map.map.iter() {
+            share(alloc, series, &mut items)?;
+        }
+        Ok(items)
+    }
+
+    /// The number of items; `usize::MAX` where there are more. Each UID is looked at once.
+    pub(crate) fn count(&self) -> usize
+        ensures { result ≡ min (length (items_of self.now)) usize.MAX }
+    {
+        let mut count: usize = 0;
+        for (_, series) in self.map.map.iter() {
+            count = count.saturating_add(series.entries.map.len());
+            if let Lift::Known(_) = &series.guard {
+                count = count.saturating_add(1);
+            }
+        }
+        count
+    }
+}

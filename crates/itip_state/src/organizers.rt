@@ -1,0 +1,43 @@
+//! The sequences that organizers have used.
+ghost use Rattle.std.specs.Prelude.{◌≡◌, None};
+ghost use Rattle.itip_state.specs.Held.{shape, shape_items};
+ghost use Rattle.itip_state.specs.Organizers.{used_by, greater, greatest};
+
+use crate::series::SeriesState;
+use itip_join::Lift;
+use itip_message::{Item, Kind};
+
+/// The effective sequence of an item that an organizer has sent.
+fn used_by(item: &Item) -> Option<u32>
+    ensures { result ≡ used_by item.now }
+{
+    match item.kind {
+        Kind::Request | Kind::Add | Kind::Remove | Kind::Cancel => Some(item.eff),
+        Kind::Reply | Kind::Refresh => None,
+    }
+}
+
+/// The greater of two sequences, where there are any.
+fn greater(last: Option<u32>, used: Option<u32>) -> Option<u32>
+    ensures { result ≡ greater last used }
+{
+    match (last, used) {
+        (None, used) => used,
+        (last, None) => last,
+        (Some(last), Some(used)) => Some(last.max(used)),
+    }
+}
+
+/// The greatest effective sequence of the items of one UID that its organizer has sent.
+pub(crate) fn greatest(series: &SeriesState) -> Option<u32>
+    ensures { result ≡ greatest None (shape_items (shape series.now)) }
+{
+    let mut last = match &series.guard {
+        Lift::Nothing => None,
+        Lift::Known(best) => used_by(best.value.item()),
+    };
+    for (_, best) in series.entries.map.iter() {
+        last = greater(last, used_by(best.value.item()));
+    }
+    last
+}
