@@ -7,6 +7,7 @@
 mod dead;
 mod hear;
 mod laws;
+mod of_uid;
 mod plain;
 mod revision;
 mod series;
@@ -16,9 +17,9 @@ mod sorted;
 mod state;
 
 pub use laws::{kept_of_kept, least_upper_bound, order_of_states, uid_by_uid};
+pub use of_uid::ItemsOfUid;
 pub use plain::kept;
 pub use shared::SharedItem;
-pub use slot::find;
 pub use sorted::{by_octets, uids};
 pub use state::State;
 pub use std::alloc::AllocError as NoMemory;
