@@ -1,5 +1,5 @@
 -- Of items in the order of their keys, each is the best of its key.
-use Rattle.std.proofs.Common.{◌≡◌, ℕ, List, [], ◌∷◌, zero, suc, refl, sym, ◌∙◌, ap, subst, inl, inr, arith, Option, Some, None}
+use Rattle.std.proofs.Common.{◌≡◌, ◌≤◌, ℕ, List, [], ◌∷◌, length, slice_index_or, zero, suc, refl, sym, ◌∙◌, ap, subst, inl, inr, arith, Option, Some, None}
 use Rattle.std.specs.Prelude.{MatchOption}
 use Rattle.std.specs.List.{Contains, AllPairs}
 use Rattle.std.specs.Cmp.{tied_itself}
@@ -70,3 +70,8 @@ first_is_none uid x xs a about not i h same = elim (cons_cases x xs i h) [
   | inl first ↦ not uid (ap (λ (j : Item). j.key) first ∙ same)
   | inr rest ↦ not_before uid x.key about not (subst (λ (k : Key). key_cmp x.key k ≡ Less) same (head_pair IsBefore x xs a i rest))
 ]
+
+-- a list that has a first element
+pub first_of : {X : Type 0} (x : X) (xs : List X) → 1 ≤ length xs → x ≡ slice_index_or xs 0 x → (rest : List X) × (xs ≡ x ∷ rest)
+first_of x [] low e = absurd (omega (arith, low))
+first_of x (y ∷ ys) low e = (ys, ap (λ z. z ∷ ys) (sym e))

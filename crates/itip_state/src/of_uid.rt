@@ -37,7 +37,7 @@ impl<'a> ItemsOfUid<'a> {
     /// These items of a UID.
     pub(crate) fn new(uid: &'a Uid, items: Vec<&'a Item>) -> ItemsOfUid<'a>
         requires { IsUidPart (record { uid = uid.now; items = map (λ item. item.now) items.items }) }
-        ensures { result ≡ record { uid = uid.now; items = map (λ item. item.now) items.items } }
+        ensures { result ≡ record { uid = uid.now; items = map (λ item. item.now) items.entry.items } }
     {
         ItemsOfUid { uid, items }
     }
@@ -61,8 +61,9 @@ impl<'a> ItemsOfUid<'a> {
     pub fn best(&self, key: &Key) -> Option<&'a Item>
         ensures { IsBestOf self.now.items key.now (option_copied result) }
     {
-        match self.items.binary_search_by(|item| compare(&item.key, key)) {
-            Ok(place) => Some(self.items[place]),
+        let items = self.items.as_slice();
+        match items.binary_search_by(|item| compare(&item.key, key)) {
+            Ok(place) => Some(items[place]),
             Err(_) => None,
         }
     }
