@@ -2,7 +2,7 @@
 use Rattle.std.specs.Prelude.{List, Option}
 use Rattle.itip_moment.specs.declared.moment.Moment.{Moment}
 use Rattle.itip_message.specs.declared.item.Item.{Item}
-use Rattle.itip_view.specs.OfUid.{IsAnswerAt, IsOccurrence, IsRowOf, ArePlaces, AreRowsOf}
+use Rattle.itip_view.specs.OfUid.{IsWhole, IsAnswerAt, IsOccurrence, IsRowOf, ArePlaces, AreRowsOf}
 use Rattle.itip_view.specs.Rows.{NoneStandsAtStart}
 use Rattle.itip_view.specs.Standing.{Stands, NoneStands, IsLiveSeries}
 use Rattle.itip_view.specs.declared.of_uid.UidView.{UidView}
@@ -10,6 +10,10 @@ use Rattle.itip_view.specs.declared.row.Row.{Row}
 use Rattle.itip_view.specs.declared.row.RowId.{RowId}
 
 module _ (view : UidView) where
+  -- its to-do as a whole is the live series item, or none is live
+  abbrev pub HasWhole : Type 0
+  HasWhole = IsWhole view.items.now.items view.items.now.uid view.whole
+
   abbrev pub HasRows : List Row → Type 0
   HasRows rows = AreRowsOf view.items.now.items view.window view.items.now.uid rows
 

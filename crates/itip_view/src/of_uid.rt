@@ -3,8 +3,8 @@ ghost use Rattle.std.specs.Prelude.{◌≡◌, ◌∷◌, [], ◌++◌, IfOk, On
 ghost use Rattle.std.specs.Option.{option_map};
 ghost use Rattle.itip_recur.specs.ToDoShape.{IsShape};
 ghost use Rattle.itip_todo.specs.declared.property.Property.{Property};
-ghost use Rattle.itip_view.specs.OfUid.{IsWhole, AreRowsOf};
-ghost use Rattle.itip_view.specs.InUid.{HasRows, HasPlaces, HasAnswerAt, HasOccurrence, HasStanding, HasNoStanding, HasNoneAtStart, HasLiveSeries, IsRowWith};
+ghost use Rattle.itip_view.specs.OfUid.{AreRowsOf};
+ghost use Rattle.itip_view.specs.InUid.{HasWhole, HasRows, HasPlaces, HasAnswerAt, HasOccurrence, HasStanding, HasNoStanding, HasNoneAtStart, HasLiveSeries, IsRowWith};
 
 use crate::NoMemory;
 use crate::answers::Asked;
@@ -36,7 +36,6 @@ struct UidView<'v, 'a> {
     items: &'v ItemsOfUid<'a>,
     whole: Option<Whole<'a>>,
     window: Window,
-    ghost whole_is: { IsWhole items.now.items items.now.uid whole },
 }
 
 /// The rows of a UID in a window, in their order.
@@ -60,6 +59,7 @@ pub(crate) fn rows_of_uid(
 impl<'v, 'a> UidView<'v, 'a> {
     /// The rows, in their order.
     fn rows(&self) -> Result<Vec<Row>, NoMemory>
+        requires { HasWhole self.now }
         ensures { IfOk result (λ rows. HasRows self.now rows.items) }
     {
         let places = self.places()?;
@@ -75,6 +75,7 @@ impl<'v, 'a> UidView<'v, 'a> {
 
     /// The moments at which rows may stand, ascending: those at which instance items stand, and the occurrences in the window.
     fn places(&self) -> Result<Vec<Moment>, NoMemory>
+        requires { HasWhole self.now }
         ensures { IfOk result (λ places. HasPlaces self.now places.items) }
     {
         let mut places = occurrences(self.alloc, &self.whole, self.window)?;
@@ -91,6 +92,7 @@ impl<'v, 'a> UidView<'v, 'a> {
 
     /// The row of the to-do as a whole.
     fn whole_row(&self) -> Result<Option<Row>, NoMemory>
+        requires { HasWhole self.now }
         ensures { IfOk result (HasAnswerAt self.now None) }
     {
         let Some(whole) = &self.whole else {
@@ -134,7 +136,8 @@ impl<'v, 'a> UidView<'v, 'a> {
 
     /// The row at a moment: that of the item that stands there, or of the occurrence.
     fn row_at(&self, at: &Moment) -> Result<Option<Row>, NoMemory>
-        requires { HasNoStanding self.now at.now → HasOccurrence self.now at.now }
+        requires whole { HasWhole self.now }
+        requires occurs { HasNoStanding self.now at.now → HasOccurrence self.now at.now }
         ensures { IfOk result (HasAnswerAt self.now (Some at.now)) }
     {
         match standing_item(self.items, at)? {
@@ -173,6 +176,7 @@ impl<'v, 'a> UidView<'v, 'a> {
 
     /// The row of an occurrence.
     fn occurrence_row(&self, at: &Moment) -> Result<Option<Row>, NoMemory>
+        requires whole { HasWhole self.now }
         requires none { HasNoStanding self.now at.now }
         requires occurs { HasOccurrence self.now at.now }
         ensures { IfOk result (HasAnswerAt self.now (Some at.now)) }

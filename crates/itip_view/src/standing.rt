@@ -41,8 +41,12 @@ pub fn standing_item<'a>(
         (NoneStands items.now.items items.now.uid at.now)
         (Stands items.now.items items.now.uid at.now)) }
 {
-    match items.instance(at)? {
-        Some(item) if stands_beside(items.series(), item) => Ok(Some(item)),
-        _ => Ok(None),
+    let Some(item) = items.instance(at)? else {
+        return Ok(None);
+    };
+    if stands_beside(items.series(), item) {
+        Ok(Some(item))
+    } else {
+        Ok(None)
     }
 }

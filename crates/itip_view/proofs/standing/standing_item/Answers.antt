@@ -1,21 +1,17 @@
-use Rattle.std.proofs.Common.{◌≡◌, ◌∙◌, sym, List, true, false}
+use Rattle.std.proofs.Common.{◌≡◌, ◌∙◌, sym, true, false}
 use Rattle.std.specs.Option.{option_copied}
-use Rattle.itip_message.specs.declared.item.Item.{Item}
 use Rattle.itip_view.proofs.Beside.{stands_from, none_found, none_beside}
 use Rattle.itip_view.proofs.standing.standing_item.Goals as goal
-use Rattle.itip_view.proofs.standing.standing_item.Goals.{in_default-via-in-Some+else-stands_beside, in_default-via-in_default}
 
-pub returns-in-Some : goal.returns-in-Some
-returns-in-Some c =
+pub returns-in_default : goal.returns-in_default
+returns-in_default c = none_found c.args.items.now.items c.args.items.now.uid c.args.at.now (rw c.in_default.is at c.in_ok-item.ensures)
+
+pub returns-then-stands_beside : goal.returns-then-stands_beside
+returns-then-stands_beside c =
     stands_from c.args.items.now.items c.args.items.now.uid c.args.at.now (option_copied c.series.result) c.in-Some.item.now c.series.ensures
-    (rw c.in-Some.is at c.in_ok-instance.ensures) (c.stands_beside.ensures.0 c.if-stands_beside.true)
+    (rw c.in-Some.is at c.in_ok-item.ensures) (c.stands_beside.ensures.0 c.if-stands_beside.true)
 
-pub returns : goal.returns
-returns c =
-    let items : List Item = c.args.items.now.items in
-    elim c.in_default.branch [
-      | in_default-via-in-Some+else-stands_beside w ↦ none_beside items c.args.items.now.uid c.args.at.now (option_copied w.series.result) w.in-Some.item.now w.series.ensures
-          (rw w.in-Some.is at c.in_ok-instance.ensures)
-          (λ b. let x : true ≡ false = sym (w.stands_beside.ensures.1 b) ∙ w.if-stands_beside.false in cc)
-      | in_default-via-in_default w ↦ none_found items c.args.items.now.uid c.args.at.now (rw w.in_default.is at c.in_ok-instance.ensures)
-    ]
+pub returns-else-stands_beside : goal.returns-else-stands_beside
+returns-else-stands_beside c =
+    none_beside c.args.items.now.items c.args.items.now.uid c.args.at.now (option_copied c.series.result) c.in-Some.item.now c.series.ensures
+    (rw c.in-Some.is at c.in_ok-item.ensures) (λ b. let x : true ≡ false = sym (c.stands_beside.ensures.1 b) ∙ c.if-stands_beside.false in cc)

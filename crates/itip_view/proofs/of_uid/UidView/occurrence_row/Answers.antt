@@ -20,7 +20,7 @@ copied items item uid at a b d due row p q r of =
 pub returns-in-Single : goal.returns-in-Single
 returns-in-Single c = λ row at.
     let items : List Item = c.args.self.now.items.now.items in
-    let whole : IsWhole items c.args.self.now.items.now.uid (Some c.in-Some.whole) = subst (λ (w : Option Whole). IsWhole items c.args.self.now.items.now.uid w) c.in-Some.is c.args.self.now.whole_is in
+    let whole : IsWhole items c.args.self.now.items.now.uid (Some c.in-Some.whole) = subst (λ (w : Option Whole). IsWhole items c.args.self.now.items.now.uid w) c.in-Some.is c.requires.whole in
     elim c.in-Single.is [
       | inl single ↦ single_has_none items c.args.self.now.window c.args.self.now.items.now.uid c.in-Some.whole.item.now whole.0 c.args.at.now (subst (IsShape c.in-Some.whole.item.now.todo) single whole.1) c.requires.occurs
       | inr opaque ↦ opaque_has_none items c.args.self.now.window c.args.self.now.items.now.uid c.in-Some.whole.item.now whole.0 c.args.at.now (subst (IsShape c.in-Some.whole.item.now.todo) opaque whole.1) c.requires.occurs
@@ -29,7 +29,7 @@ returns-in-Single c = λ row at.
 pub returns : goal.returns
 returns c =
     let items : List Item = c.args.self.now.items.now.items in
-    let whole : IsWhole items c.args.self.now.items.now.uid (Some c.in-Some.whole) = subst (λ (w : Option Whole). IsWhole items c.args.self.now.items.now.uid w) c.in-Some.is c.args.self.now.whole_is in
+    let whole : IsWhole items c.args.self.now.items.now.uid (Some c.in-Some.whole) = subst (λ (w : Option Whole). IsWhole items c.args.self.now.items.now.uid w) c.in-Some.is c.requires.whole in
     occurrence_is items c.args.self.now.window c.args.self.now.items.now.uid c.args.at.now c.in-Some.whole.item.now c.in-Repeats.series c.in_ok-due_of.field-0 c.in_ok-row.row whole.0
     (subst (IsShape c.in-Some.whole.item.now.todo) c.in-Repeats.is whole.1) c.requires.occurs c.requires.none c.in_ok-due_of.ensures
     (copied items c.in-Some.whole.item.now c.args.self.now.items.now.uid c.args.at.now c.in_ok-clone.field-0 c.in_ok-clone-2.field-0 c.in_ok-clone-3.field-0 c.in_ok-due_of.field-0 c.in_ok-row.row

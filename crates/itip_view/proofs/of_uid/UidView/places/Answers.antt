@@ -23,7 +23,7 @@ loop-item-preserved c =
     let done : take (i + 1) items ≡ take i items ++ item ∷ [] = take_more items i item below ∙ ap (λ (x : Item). take i items ++ x ∷ []) here in
     let before : List Moment = c.in_ok-places.places.items in
     let found : List Moment = c.loop-item.places.items in
-    let series : Option Item = option_copied c.series.result in
+    let series : Option Item = option_copied c.series-series.result in
     elim c.match-item.branch [
       | in-Instance+then-stands_beside+in_ok-clone+in_ok-push w ↦
           let pushed : c.match-item.places.items ≡ found ++ w.in-Instance.at ∷ [] = ap (λ v. v.items) w.places-is ∙ w.in_ok-push.ensures.items ∙ ap (λ (m : Moment). found ++ m ∷ []) w.in_ok-clone.ensures.cases in
@@ -44,15 +44,15 @@ returns c =
     let items : List Item = map (λ item. item.now) c.as_slice-item-items.result.now in
     let kept : List Item = c.args.self.now.items.now.items in
     let uid : List ℕ = c.args.self.now.items.now.uid in
-    let series : Option Item = option_copied c.series.result in
+    let series : Option Item = option_copied c.series-series.result in
     let found : List Moment = c.loop-item.places.items in
     let before : List Moment = c.in_ok-places.places.items in
     let all : take c.loop-item.item-index items ≡ kept =
     take_all c.loop-item.item-index items (rw (length-map c.as_slice-item-items.result.now (λ item. item.now)) c.loop-item-test.false) ∙ c.as_slice-item-items.ensures.items in
     on_ok_pair c.in_order.result (λ sorted. IsStrictlySortedBy moment_cmp sorted.items) (λ sorted. (at : Moment) → Contains sorted.items at ↔ Contains found at)
     (λ places. ArePlaces kept c.args.self.now.window uid places.items)
-    (λ places ascend same. places_are kept c.args.self.now.window uid series before found places.items c.as_slice-item-items.ensures.part.ascend c.as_slice-item-items.ensures.part.about c.series.ensures
-    (c.in_ok-places.ensures kept uid c.args.self.now.whole_is) (subst (λ (xs : List Item). Places series before xs found) all c.loop-item.invariant) ascend same)
+    (λ places ascend same. places_are kept c.args.self.now.window uid series before found places.items c.as_slice-item-items.ensures.part.ascend c.as_slice-item-items.ensures.part.about c.series-series.ensures
+    (c.in_ok-places.ensures kept uid c.requires) (subst (λ (xs : List Item). Places series before xs found) all c.loop-item.invariant) ascend same)
     c.in_order.ensures.ascend c.in_order.ensures.same
   where
     on_ok_pair : {A E : Type 0} (r : Result A E) (P Q R : A → Type 0) → ((a : A) → P a → Q a → R a) → IfOk r P → IfOk r Q → IfOk r R

@@ -11,4 +11,4 @@ occurrence_row-requires-clause-none c =
 
 pub occurrence_row-requires-clause-occurs : goal.occurrence_row-requires-clause-occurs
 occurrence_row-requires-clause-occurs c =
-    c.requires (subst (λ (o : Option (Bor Item)). MatchOption (option_copied o) (HasNoStanding c.args.self.now c.args.at.now) (HasStanding c.args.self.now c.args.at.now)) c.in-None.is c.in_ok-item.ensures)
+    c.requires.occurs (subst (λ (o : Option (Bor Item)). MatchOption (option_copied o) (HasNoStanding c.args.self.now c.args.at.now) (HasStanding c.args.self.now c.args.at.now)) c.in-None.is c.in_ok-item.ensures)

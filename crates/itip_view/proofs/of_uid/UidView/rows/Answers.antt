@@ -18,8 +18,8 @@ loop-at-init c =
     let so : c.push_some.new.rows.items ≡ option_to_list c.in_ok-row.row = c.in_ok-push_some.ensures ∙ ap (λ (xs : List Row). xs ++ option_to_list c.in_ok-row.row) c.new-rows.ensures.items in
     subst (λ (rows : List Row). RowsUpTo items c.args.self.now.window c.args.self.now.items.now.uid [] rows) (sym so) (rows_begin items c.args.self.now.window c.args.self.now.items.now.uid c.in_ok-row.row c.in_ok-row.ensures)
 
-pub row_at-requires : goal.row_at-requires
-row_at-requires c =
+pub row_at-requires-clause-occurs : goal.row_at-requires-clause-occurs
+row_at-requires-clause-occurs c =
     let items : List Item = c.args.self.now.items.now.items in
     let places : ArePlaces items c.args.self.now.window c.args.self.now.items.now.uid c.in_ok-places.places.items =
     c.in_ok-places.ensures in
