@@ -23,7 +23,7 @@ returns-in-Some-2 c =
     let items : List Item = c.args.items.now.items in
     let uid : List ℕ = c.args.items.now.uid in
     subst (λ (id : Option Moment). IsGoverning items uid id (option_copied c.if_live-in-Some-2.result)) (sym c.in-Some.is)
-    (subst (IsGoverning items uid (Some c.in-Some.at)) (sym c.if_live-in-Some-2.ensures) (governs_standing items uid c.in-Some.at c.in-Some-2.item.now (rw c.in-Some-2.is at c.in_ok-standing_item.ensures)))
+    (subst (IsGoverning items uid (Some c.in-Some.at)) (sym c.if_live-in-Some-2.ensures) (governs_standing items uid c.in-Some.at c.in-Some-2.item.now (rw c.in-Some-2.is at c.in_ok-item.ensures)))
 
 pub returns-in-None : goal.returns-in-None
 returns-in-None c =
@@ -31,4 +31,4 @@ returns-in-None c =
     let uid : List ℕ = c.args.items.now.uid in
     subst (λ (id : Option Moment). IsGoverning items uid id (option_copied c.if_live-in-None.result)) (sym c.in-Some.is)
     (subst (IsGoverning items uid (Some c.in-Some.at)) (sym c.if_live-in-None.ensures)
-    (governs_beside items uid c.in-Some.at (option_copied c.series-in-None.result) c.series-in-None.ensures (rw c.in-None.is at c.in_ok-standing_item.ensures)))
+    (governs_beside items uid c.in-Some.at (option_copied c.series-in-None.result) c.series-in-None.ensures (rw c.in-None.is at c.in_ok-item.ensures)))

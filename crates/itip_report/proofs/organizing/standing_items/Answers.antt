@@ -18,7 +18,7 @@ loop-item-preserved c =
     let items : List Item = map (λ item. item.now) c.as_slice-item-items.result.now in
     let item : Item = c.item-item.result.now in
     let i : ℕ = c.loop-item.item-index in
-    let Is : Item → Type 0 = IsInstanceBeside (option_copied c.series.result) in
+    let Is : Item → Type 0 = IsInstanceBeside (option_copied c.series-series.result) in
     let ordered : AscendKeys items = subst AscendKeys (sym c.as_slice-item-items.ensures.items) c.as_slice-item-items.ensures.part.ascend in
     let below : i < length items = rw (length-map c.as_slice-item-items.result.now (λ item. item.now)) c.loop-item-test.true in
     let here : get_or items i item ≡ item = get_or-map (λ item. item.now) c.as_slice-item-items.result.now i c.item-item.result ∙ ap (λ item. item.now) (sym c.item-item.is) in
@@ -45,5 +45,5 @@ returns c =
     let part = c.as_slice-item-items.ensures.part in
     let all : take c.loop-item.item-index items ≡ kept =
     take_all c.loop-item.item-index items (rw (length-map c.as_slice-item-items.result.now (λ item. item.now)) c.loop-item-test.false) ∙ c.as_slice-item-items.ensures.items in
-    chosen_standing kept found (option_copied c.series.result) part.ascend (subst (λ (xs : List Item). Chosen (IsInstanceBeside (option_copied c.series.result)) xs found) all c.loop-item.invariant)
-    c.args.items.now.uid part.about c.series.ensures
+    chosen_standing kept found (option_copied c.series-series.result) part.ascend (subst (λ (xs : List Item). Chosen (IsInstanceBeside (option_copied c.series-series.result)) xs found) all c.loop-item.invariant)
+    c.args.items.now.uid part.about c.series-series.ensures
