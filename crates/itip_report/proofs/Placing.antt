@@ -22,7 +22,7 @@ use Rattle.itip_state.specs.Kept.{AscendKeys}
 use Rattle.itip_state.specs.Slots.{key_cmp, key_total, key_exact, then_equal}
 use Rattle.itip_state.proofs.Members.{no_pairs, cons_first, cons_later}
 use Rattle.itip_state.proofs.Ordered.{IsBefore}
-use Rattle.itip_view.proofs.OfKey.{head_pair, tail_pairs}
+use Rattle.itip_state.proofs.OfKey.{head_pair, tail_pairs}
 use Rattle.itip_report.specs.Lines.{place_cmp, AscendPlaces}
 
 pub place_total : IsTotalOrder place_cmp

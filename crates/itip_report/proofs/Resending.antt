@@ -9,9 +9,10 @@ use Rattle.itip_message.specs.declared.key.Key.{Key}
 use Rattle.itip_message.specs.declared.key.Key.TheVariants.{Instance}
 use Rattle.itip_state.specs.Kept.{AscendKeys}
 use Rattle.itip_state.specs.Slots.{key_cmp}
-use Rattle.itip_view.specs.OfUid.{AreOf, IsSeriesItem}
+use Rattle.itip_state.specs.Kept.{AreOf}
+use Rattle.itip_view.specs.OfUid.{IsSeriesItem}
 use Rattle.itip_view.proofs.Beside.{stands_from, beside_from}
-use Rattle.itip_view.proofs.OfKey.{best_in}
+use Rattle.itip_state.proofs.OfKey.{best_in}
 use Rattle.itip_report.specs.Lines.{place_cmp}
 use Rattle.itip_report.specs.Live.{IsInstanceBeside}
 use Rattle.itip_report.specs.Organizing.{AreStanding, IsResendOf}

@@ -94,10 +94,3 @@ reported_heard x item report.Cancelled (inl s) = s.best.is_heard
 reported_heard x item report.Cancelled (inr s) = s.stands.best.is_heard
 reported_heard x item report.Orphans o = o.kept.best.is_heard
 reported_heard x item report.Refresh w = w.kept.best.is_heard
-
--- the part of a state that is about one UID is a state
-pub part_state : (uid : List ℕ) (part whole : List Item) → ArePart uid part whole → IsState whole → IsState part
-part_state uid part whole are is i = (
-  λ h. let there = (are i).0 h in (kept_in_part uid part whole are i there.1).1 ((is i).0 there.0),
-  λ kept. kept.best.is_heard,
-)

@@ -15,7 +15,7 @@ use Rattle.itip_state.specs.Order.{IsState}
 use Rattle.itip_view.specs.OfUid.{IsSeriesItem, StandsBesideOf}
 use Rattle.itip_view.specs.Standing.{is_live, IsLive, IsCancelled, Stands, NoneStands, IsLiveSeries, Governs}
 use Rattle.itip_view.proofs.Beside.{stands_from, beside_from}
-use Rattle.itip_view.proofs.OfKey.{best_in}
+use Rattle.itip_state.proofs.OfKey.{best_in}
 use Rattle.itip_view.proofs.OneRow.{one_best}
 use Rattle.itip_report.specs.Live.{if_live}
 use Rattle.itip_report.specs.Reports.{IsCancellation, IsOfAttendee, IsRefresh, NoneAtInstance, IsOrphan, IsWanted}
@@ -48,7 +48,7 @@ not_both i live not = let x : true ≡ false = sym live ∙ not in cc
 
 module _ (items : List Item) (uid : List ℕ) where
   pub live_series : (series : Option Item) → IsSeriesItem items uid series → MatchOption (if_live series) ((i : Item) → ¬ IsLiveSeries items uid i) (IsLiveSeries items uid)
-  live_series None none = λ i live. none i live.best
+  live_series None none = λ i live. none i live.best.is_heard live.best.about
   live_series (Some s) best =
       elim (is_live s.kind) as (λ b. is_live s.kind ≡ b → MatchOption (if b then Some s else None) ((i : Item) → ¬ IsLiveSeries items uid i) (IsLiveSeries items uid)) [
         | true ↦ λ e. record { best = best; live = e }
@@ -88,12 +88,12 @@ module _ (items : List Item) (ascend : AscendKeys items) (state : IsState items)
   pub not_orphan : (s : Item) → IsBest items (Series uid) s → ¬ IsOrphan items item
   not_orphan s best orphan = orphan.no_series s best.is_heard (best.about ∙ ap Series (sym about))
 
-  pub orphan_where : IsOfAttendee item.key → ((i : Item) → ¬ IsBest items (Series uid) i) → (r : Bool) → (IsTrue r ↔ NoneAtInstance items uid id) → IsTrue r ↔ IsOrphan items item
+  pub orphan_where : IsOfAttendee item.key → ((i : Item) → Contains items i → i.key ≡ Series uid → ⊥) → (r : Bool) → (IsTrue r ↔ NoneAtInstance items uid id) → IsTrue r ↔ IsOrphan items item
   orphan_where of none r is = (
     λ e. record {
       kept = (state item).0 there;
       of_attendee = of;
-      no_series = λ i h same. none i (best_in items ascend (Series uid) i h (same ∙ ap Series about));
+      no_series = λ i h same. none i h (same ∙ ap Series about);
       no_instance = subst (λ (u : List ℕ). NoneAtInstance items u (instance_of item.key)) (sym about) (subst (NoneAtInstance items uid) names (is.0 e));
     },
     λ orphan. is.1 (subst (NoneAtInstance items uid) (sym names) (subst (λ (u : List ℕ). NoneAtInstance items u (instance_of item.key)) about orphan.no_instance)),

@@ -1,19 +1,16 @@
 //! What an organizer sends again, and the next sequence to use.
-ghost use Rattle.std.specs.Prelude.{◌≡◌, ◌↔◌, ◌++◌, ℕ, List, IfOk, OnOk, IsTrue, map};
+ghost use Rattle.std.specs.Prelude.{◌≡◌, ◌↔◌, ◌++◌, IfOk, OnOk, IsTrue, map};
 ghost use Rattle.std.specs.List.{flat_map};
 ghost use Rattle.std.specs.Option.{option_map, option_copied};
-ghost use Rattle.itip_message.specs.declared.item.Item.{Item};
-ghost use Rattle.itip_state.specs.Kept.{AscendKeys};
-ghost use Rattle.itip_view.specs.OfUid.{AreOf, IsSeriesItem};
 ghost use Rattle.itip_report.specs.Live.{IsInstanceBeside};
 ghost use Rattle.itip_report.specs.Organizing.{AreStanding, IsResendOf, IsNext};
 
 use crate::NoMemory;
 use crate::governing::if_live;
 use itip_message::{Item, Key};
-use itip_state::State;
+use itip_state::{ItemsOfUid, State};
 use itip_todo::Uid;
-use itip_view::{series_item, stands_beside};
+use itip_view::stands_beside;
 use std::alloc::Global;
 
 /// The messages to send again of a UID: the canonical octets of its live series item, then those of the instance items that stand, by moment; `None` where
@@ -22,20 +19,17 @@ pub fn resend(alloc: Global, state: &State, uid: &Uid) -> Result<Option<Vec<u8>>
     ensures { IfOk result (λ messages. IsResendOf state.now uid.now (option_map (λ bytes. bytes.items) messages)) }
 {
     let items = state.of_uid(uid)?;
-    resend_of(alloc, &items, uid)
+    resend_of(alloc, &items)
 }
 
-/// The messages to send again, from the kept items of the UID in the order of their keys.
-fn resend_of(alloc: Global, items: &[&Item], uid: &Uid) -> Result<Option<Vec<u8>>, NoMemory>
-    requires ordered { AscendKeys (map (λ item. item.now) items.now) }
-    requires about { AreOf uid.now (map (λ item. item.now) items.now) }
-    ensures { IfOk result (λ messages. IsResendOf (map (λ item. item.now) items.now) uid.now (option_map (λ bytes. bytes.items) messages)) }
+/// The messages to send again of what is kept of a UID.
+fn resend_of(alloc: Global, items: &ItemsOfUid<'_>) -> Result<Option<Vec<u8>>, NoMemory>
+    ensures { IfOk result (λ messages. IsResendOf items.now.items items.now.uid (option_map (λ bytes. bytes.items) messages)) }
 {
-    let series = series_item(items, uid)?;
-    let Some(live) = if_live(series) else {
+    let Some(live) = if_live(items.series()) else {
         return Ok(None);
     };
-    let instances = standing_items(alloc, items, series)?;
+    let instances = standing_items(alloc, items)?;
     let mut messages = Vec::new(alloc);
     messages.extend_from_slice(live.bytes.as_slice())?;
     put_messages(&mut messages, &instances)?;
@@ -53,18 +47,12 @@ fn put_messages(out: &mut Vec<u8>, items: &[&Item]) -> Result<(), NoMemory>
 }
 
 /// The instance items that stand, by the moments of their instances.
-fn standing_items<'a>(
-    alloc: Global,
-    items: &[&'a Item],
-    series: Option<&Item>,
-) -> Result<Vec<&'a Item>, NoMemory>
-    requires { AscendKeys (map (λ item. item.now) items.now) }
-    ensures { IfOk result (λ standing. (uid : List ℕ) → AreOf uid (map (λ item. item.now) items.now)
-        → IsSeriesItem (map (λ item. item.now) items.now) uid (option_copied series.entry)
-        → AreStanding (map (λ item. item.now) items.now) uid (map (λ item. item.now) standing.items)) }
+fn standing_items<'a>(alloc: Global, items: &ItemsOfUid<'a>) -> Result<Vec<&'a Item>, NoMemory>
+    ensures { IfOk result (λ standing. AreStanding items.now.items items.now.uid (map (λ item. item.now) standing.items)) }
 {
+    let series = items.series();
     let mut standing = Vec::new(alloc);
-    for item in items {
+    for item in items.as_slice() {
         if is_standing(series, item) {
             standing.push(*item)?;
         }

@@ -21,4 +21,6 @@ pub mod Ordered
 pub mod Reading
 pub mod Parting
 pub mod Finding
+pub mod OfKey
+pub mod UidParts
 pub mod Using

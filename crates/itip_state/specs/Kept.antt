@@ -1,5 +1,5 @@
 -- Best, dead and kept items of a finite set (our own rule). A set is given by a list of its items: order and repeats do not matter.
-use Rattle.std.specs.Prelude.{◌≡◌, ◌≢◌, List, ◌++◌, ◌<◌, ◌↔◌, Some, None, ℕ}
+use Rattle.std.specs.Prelude.{◌≡◌, ◌≢◌, List, ◌++◌, ◌<◌, ◌↔◌, Option, Some, None, ℕ, MatchOption}
 use Rattle.std.specs.List.{Contains, AllPairs}
 use Rattle.std.specs.Ordering.{nat_cmp}
 use Rattle.std.specs.Cmp.Lexicographic.{slice_cmp}
@@ -16,6 +16,10 @@ pub record IsBest (heard : List Item) (key : Key) (item : Item) : Type 0 where
   pub is_heard : Contains heard item
   pub about : item.key ≡ key
   pub none_later : (other : Item) → Contains heard other → other.key ≡ key → ¬ IsLater other item
+
+-- the best item of a key, or that no item of the key was heard
+abbrev pub IsBestOf : List Item → Key → Option Item → Type 0
+IsBestOf heard key found = MatchOption found ((item : Item) → Contains heard item → item.key ≡ key → ⊥) (IsBest heard key)
 
 -- Items of these keys can die: instances, and answers to a series as a whole. An answer to an instance never does.
 abbrev pub CanDie : Key → Type 0
@@ -48,6 +52,10 @@ SameItems xs ys = (item : Item) → Contains xs item ↔ Contains ys item
 -- the part of a set that is about one UID
 abbrev pub ArePart : List ℕ → List Item → List Item → Type 0
 ArePart uid part whole = (item : Item) → Contains part item ↔ (Contains whole item × (uid_of item.key ≡ uid))
+
+-- the items are about one UID
+abbrev pub AreOf : List ℕ → List Item → Type 0
+AreOf uid items = (item : Item) → Contains items item → uid_of item.key ≡ uid
 
 -- the items of a set that are about these UIDs
 abbrev pub ArePartOf : List Item → List Item → List (List ℕ) → Type 0

@@ -1,6 +1,7 @@
 pub mod Kept
 pub mod Order
 pub mod Slots
+pub mod OfUid
 pub mod Held
 pub mod Stored
 pub mod Dying

@@ -7,6 +7,7 @@
 mod hear;
 mod held;
 mod laws;
+mod of_uid;
 mod organizers;
 mod plain;
 mod revision;
@@ -16,8 +17,8 @@ mod slot;
 mod state;
 
 pub use laws::{kept_of_kept, least_upper_bound, order_of_states, uid_by_uid};
+pub use of_uid::ItemsOfUid;
 pub use plain::kept;
 pub use shared::{SharedItem, by_octets, uids};
-pub use slot::find;
 pub use state::State;
 pub use std::alloc::AllocError as NoMemory;

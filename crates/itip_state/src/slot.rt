@@ -1,12 +1,11 @@
 //! Where a state holds an item.
-ghost use Rattle.std.specs.Prelude.{◌≡◌, IfOk, MatchOption, map, refl};
+ghost use Rattle.std.specs.Prelude.{◌≡◌, IfOk, MatchOption, refl};
 ghost use Rattle.std.specs.List.{Contains};
 ghost use Rattle.std.specs.Cmp.{partial_order_from_total, partial_equiv_from_equiv, eq_by_cmp_equiv};
 ghost use Rattle.std.specs.Ordering.{as_partial_cmp, eq_by_cmp};
 ghost use Rattle.std.specs.Option.{option_copied};
 ghost use Rattle.itip_message.specs.declared.item.Item.{Item};
 ghost use Rattle.itip_state.specs.Held.{entry_items};
-ghost use Rattle.itip_state.specs.Kept.{AscendKeys};
 ghost use Rattle.itip_state.specs.Slots.{rest_cmp, key_cmp, slot_cmp, slot_total};
 
 use crate::revision::Best;
@@ -72,19 +71,6 @@ fn compare_rest(key: &Key, other: &Key) -> Ordering
         .cmp(&other.rank())
         .then_with(|| key.cmp_instances(other))
         .then_with(|| key.attendee().cmp(other.attendee()))
-}
-
-/// The item of a key among items in the order of their keys, or `None` where there is none. It takes no memory.
-pub fn find<'a>(items: &[&'a Item], key: &Key) -> Option<&'a Item>
-    requires { AscendKeys (map (λ item. item.now) items.now) }
-    ensures { MatchOption (option_copied result)
-        ((item : Item) → Contains (map (λ item. item.now) items.now) item → item.key ≡ key.now → ⊥)
-        (λ item. Contains (map (λ item. item.now) items.now) item × (item.key ≡ key.now)) }
-{
-    match items.binary_search_by(|item| compare(&item.key, key)) {
-        Ok(place) => Some(items[place]),
-        Err(_) => None,
-    }
 }
 
 /// The item at a key of one UID that is not its series key.

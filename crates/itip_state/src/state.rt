@@ -10,6 +10,7 @@ ghost use Rattle.itip_state.specs.Told.{IsOutdone, HoldsNoEarlier};
 use crate::NoMemory;
 use crate::hear::{hear, hear_all};
 use crate::held::Held;
+use crate::of_uid::ItemsOfUid;
 use crate::organizers::greatest;
 use crate::revision::Best;
 use crate::series::{SeriesState, is_dead_below};
@@ -96,7 +97,7 @@ impl Model for State {
 }
 
 impl State {
-    ghost use Rattle.itip_state.specs.Kept.{AreKept, ArePart, ArePartOf, IsItemsOf, AreSeriesOf, AreUidsOf, SameItems, HasEachOnce, AscendKeys};
+    ghost use Rattle.itip_state.specs.Kept.{AreKept, ArePart, ArePartOf, IsItemsOf, AreSeriesOf, AreUidsOf, SameItems, HasEachOnce};
     ghost use Rattle.itip_state.specs.Order.{IsState, IsBelow, IsLeastUpperBound};
     ghost use Rattle.itip_state.specs.Organizers.{IsLastUsed};
     ghost use Rattle.itip_state.specs.Told.{AreNews};
@@ -226,17 +227,17 @@ impl State {
         }
     }
 
-    /// The kept items of a UID: the series item, then instances by recurrence id, then answers, then refreshes, each by instance and attendee.
-    pub fn of_uid(&self, uid: &Uid) -> Result<Vec<&Item>, NoMemory>
-        ensures items { IfOk result (λ items. ArePart uid.now (map (λ item. item.now) items.items) self.now) }
-        ensures ordered { IfOk result (λ items. AscendKeys (map (λ item. item.now) items.items)) }
+    /// The kept items of a UID. No other UID is looked at.
+    pub fn of_uid<'a>(&'a self, uid: &'a Uid) -> Result<ItemsOfUid<'a>, NoMemory>
+        ensures uid { IfOk result (λ part. part.uid ≡ uid.now) }
+        ensures items { IfOk result (λ part. ArePart uid.now part.items self.now) }
     {
         let mut items = Vec::new(self.alloc);
         let Some(held) = self.held.get(uid) else {
-            return Ok(items);
+            return Ok(ItemsOfUid::new(uid, items));
         };
         show(held, &mut items)?;
-        Ok(items)
+        Ok(ItemsOfUid::new(uid, items))
     }
 
     /// The greatest effective sequence of the kept items that the organizer of a UID has sent, or `None` where there is none. It takes no memory.

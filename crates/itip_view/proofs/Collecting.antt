@@ -19,7 +19,7 @@ use Rattle.itip_view.specs.Rows.{IsRow, IsInstanceRow, IsOccurrenceRow, IsSingle
 use Rattle.itip_view.specs.Standing.{IsLiveSeries, Stands}
 use Rattle.itip_view.specs.declared.row.Row.{Row}
 use Rattle.itip_view.specs.declared.window.Window.{Window}
-use Rattle.itip_view.proofs.OfKey.{head_pair, tail_pairs}
+use Rattle.itip_state.proofs.OfKey.{head_pair, tail_pairs}
 use Rattle.itip_view.proofs.OneRow.{one_place}
 
 -- the row is without a moment, or at one of these

@@ -4,7 +4,6 @@ pub mod Sequences
 pub mod Alike
 pub mod OneList
 pub mod OneRow
-pub mod OfKey
 pub mod Beside
 pub mod Deciding
 pub mod InDays

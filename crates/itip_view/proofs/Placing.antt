@@ -11,10 +11,11 @@ use Rattle.itip_message.specs.declared.key.Key.{Key}
 use Rattle.itip_message.specs.declared.key.Key.TheVariants as key
 use Rattle.itip_state.specs.Kept.{AscendKeys}
 use Rattle.itip_state.proofs.Members.{none_in}
-use Rattle.itip_view.specs.OfUid.{AreOf, IsSeriesItem, StandsBesideOf, AreOccurrencesOf, ArePlaces}
+use Rattle.itip_state.specs.Kept.{AreOf}
+use Rattle.itip_view.specs.OfUid.{IsSeriesItem, StandsBesideOf, AreOccurrencesOf, ArePlaces}
 use Rattle.itip_view.specs.declared.window.Window.{Window}
 use Rattle.itip_view.proofs.Beside.{stands_from, beside_from}
-use Rattle.itip_view.proofs.OfKey.{best_in}
+use Rattle.itip_state.proofs.OfKey.{best_in}
 
 -- the item names an instance at the moment, and stands beside the series item
 pub record IsPlacedBy (series : Option Item) (at : Moment) (item : Item) : Type 0 where

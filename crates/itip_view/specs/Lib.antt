@@ -5,4 +5,5 @@ pub mod Answers
 pub mod Rows
 pub mod InWindow
 pub mod OfUid
+pub mod InUid
 pub mod ListText

@@ -1,5 +1,5 @@
 -- The rows of one UID (our own form): what is known of its series item, where its rows may stand, and what each place shows.
-use Rattle.std.specs.Prelude.{◌≡◌, ◌↔◌, ℕ, List, Option, Some, None, MatchOption, map}
+use Rattle.std.specs.Prelude.{◌≡◌, ◌↔◌, ℕ, List, Option, Some, None, map}
 use Rattle.std.specs.List.{Contains}
 use Rattle.std.specs.List.Sorted.{IsStrictlySortedBy}
 use Rattle.itip_moment.specs.Order.{moment_cmp}
@@ -8,11 +8,10 @@ use Rattle.itip_todo.specs.declared.property.Property.{Property}
 use Rattle.itip_recur.specs.Occurrences.{OccursIn}
 use Rattle.itip_recur.specs.ToDoShape.{IsShape, IsSeriesOf}
 use Rattle.itip_recur.specs.declared.series.Series.{Series}
-use Rattle.itip_message.specs.KeyParts.{uid_of}
 use Rattle.itip_message.specs.declared.item.Item.{Item}
 use Rattle.itip_message.specs.declared.key.Key.{Key}
 use Rattle.itip_message.specs.declared.key.Key.TheVariants as key
-use Rattle.itip_state.specs.Kept.{IsBest}
+use Rattle.itip_state.specs.Kept.{IsBestOf}
 use Rattle.itip_view.specs.Answers.{AreShown, answer_key}
 use Rattle.itip_view.specs.Rows.{HasFields, IsRow, AscendRows, moment_of}
 use Rattle.itip_view.specs.Standing.{Stands, StandsBeside, NoneStands, IsLiveSeries}
@@ -21,13 +20,9 @@ use Rattle.itip_view.specs.declared.row.RowId.{RowId}
 use Rattle.itip_view.specs.declared.whole.Whole.{Whole}
 use Rattle.itip_view.specs.declared.window.Window.{Window}
 
--- the items are about one UID
-abbrev pub AreOf : List ℕ → List Item → Type 0
-AreOf uid items = (item : Item) → Contains items item → uid_of item.key ≡ uid
-
--- the best series item of a UID, or that there is none
+-- the best series item of a UID, or that none was heard
 abbrev pub IsSeriesItem : List Item → List ℕ → Option Item → Type 0
-IsSeriesItem heard uid series = MatchOption series ((item : Item) → ¬ IsBest heard (key.Series uid) item) (IsBest heard (key.Series uid))
+IsSeriesItem heard uid = IsBestOf heard (key.Series uid)
 
 -- an instance item stands beside the series item, or there is none
 abbrev pub StandsBesideOf : Option Item → Item → Type 0

@@ -1,8 +1,6 @@
 //! Which answers count, and what a row shows of the attendees.
-ghost use Rattle.std.specs.Prelude.{◌≡◌, IfOk, MatchOption, map};
+ghost use Rattle.std.specs.Prelude.{◌≡◌, IfOk, MatchOption};
 ghost use Rattle.std.specs.Option.{option_copied};
-ghost use Rattle.itip_message.specs.declared.item.Item.{Item};
-ghost use Rattle.itip_state.specs.Kept.{AscendKeys};
 ghost use Rattle.itip_todo.specs.Table.{attendee_key};
 ghost use Rattle.itip_view.specs.Answers.{Counts, NoneCounts, Decides, AreShown, answer_key, partstat_in, shown_line};
 ghost use Rattle.itip_view.specs.OfUid.{keys_to};
@@ -12,64 +10,56 @@ use crate::row::ShownAttendee;
 use itip_lines::{ListOf, Text};
 use itip_message::{Item, Key, Kind};
 use itip_moment::Moment;
-use itip_state::find;
+use itip_state::ItemsOfUid;
 use itip_todo::{PartStat, Property, Uid, participation};
 use std::alloc::Global;
 
-/// The attendees that a row shows, in the order of the item that governs it.
-///
-/// `ids` says which answers are asked, one after the other: those to an instance, or to the to-do as a whole.
-pub(crate) fn shown_attendees(
-    alloc: Global,
-    items: &[&Item],
-    governing: &Item,
-    uid: &Uid,
-    ids: &[Option<Moment>],
-) -> Result<ListOf<ShownAttendee>, NoMemory>
-    requires { AscendKeys (map (λ item. item.now) items.now) }
-    ensures { IfOk result (AreShown (map (λ item. item.now) items.now) governing.now (keys_to uid.now ids.now) governing.now.todo.attendees) }
-{
-    let mut attendees = Vec::new(alloc);
-    for line in governing.todo.attendees.as_slice() {
-        let answer = deciding(alloc, items, governing, uid, ids, line)?;
-        if let Some(attendee) = shown_line(line, answer)? {
-            attendees.push(attendee)?;
-        }
-    }
-    Ok(ListOf::from_vec(attendees))
+/// Which answers a row asks: those beside the item that governs it, to each of these in turn, an instance or the to-do as a whole.
+#[derive(Drop)]
+pub(crate) struct Asked<'v, 'a> {
+    pub(crate) items: &'v ItemsOfUid<'a>,
+    pub(crate) governing: &'v Item,
+    pub(crate) ids: &'v [Option<Moment>],
 }
 
-/// The first answer of the attendee of a line that counts.
-fn deciding<'a>(
-    alloc: Global,
-    items: &[&'a Item],
-    governing: &Item,
-    uid: &Uid,
-    ids: &[Option<Moment>],
-    line: &Property,
-) -> Result<Option<&'a Item>, NoMemory>
-    requires { AscendKeys (map (λ item. item.now) items.now) }
-    ensures { IfOk result (λ answer. Decides (map (λ item. item.now) items.now) governing.now (keys_to uid.now ids.now line.now) (option_copied answer)) }
-{
-    for id in ids {
-        let key = answer_key(alloc, uid, id, line)?;
-        if let Some(answer) = counting(items, governing, &key) {
-            return Ok(Some(answer));
+impl<'v, 'a> Asked<'v, 'a> {
+    /// The attendees that the row shows, in the order of the item that governs it.
+    pub(crate) fn shown_attendees(&self, alloc: Global) -> Result<ListOf<ShownAttendee>, NoMemory>
+        ensures { IfOk result (AreShown self.now.items.now.items self.now.governing.now (keys_to self.now.items.now.uid self.now.ids.now) self.now.governing.now.todo.attendees) }
+    {
+        let mut attendees = Vec::new(alloc);
+        for line in self.governing.todo.attendees.as_slice() {
+            let answer = self.deciding(alloc, line)?;
+            if let Some(attendee) = shown_line(line, answer)? {
+                attendees.push(attendee)?;
+            }
         }
+        Ok(ListOf::from_vec(attendees))
     }
-    Ok(None)
-}
 
-/// The answer of a key, where it counts beside the item that governs.
-fn counting<'a>(items: &[&'a Item], governing: &Item, key: &Key) -> Option<&'a Item>
-    requires { AscendKeys (map (λ item. item.now) items.now) }
-    ensures { MatchOption (option_copied result)
-        (NoneCounts (map (λ item. item.now) items.now) governing.now key.now)
-        (Counts (map (λ item. item.now) items.now) governing.now key.now) }
-{
-    match find(items, key) {
-        Some(answer) if governing.own <= answer.own => Some(answer),
-        _ => None,
+    /// The first answer of the attendee of a line that counts.
+    fn deciding(&self, alloc: Global, line: &Property) -> Result<Option<&'a Item>, NoMemory>
+        ensures { IfOk result (λ answer. Decides self.now.items.now.items self.now.governing.now (keys_to self.now.items.now.uid self.now.ids.now line.now) (option_copied answer)) }
+    {
+        for id in self.ids {
+            let key = answer_key(alloc, self.items.uid(), id, line)?;
+            if let Some(answer) = self.counting(&key) {
+                return Ok(Some(answer));
+            }
+        }
+        Ok(None)
+    }
+
+    /// The answer of a key, where it counts beside the item that governs.
+    fn counting(&self, key: &Key) -> Option<&'a Item>
+        ensures { MatchOption (option_copied result)
+            (NoneCounts self.now.items.now.items self.now.governing.now key.now)
+            (Counts self.now.items.now.items self.now.governing.now key.now) }
+    {
+        match self.items.best(key) {
+            Some(answer) if self.governing.own <= answer.own => Some(answer),
+            _ => None,
+        }
     }
 }
 

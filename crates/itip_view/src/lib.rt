@@ -17,7 +17,7 @@ pub use error::{BadWindow, ViewError};
 pub use laws::{answers_of_kept, one_list, standing_of_kept, view_of_kept};
 pub use list::{list_text, write_list};
 pub use row::{Row, RowId, ShownAttendee};
-pub use standing::{is_live, series_item, standing_item, stands_beside};
+pub use standing::{is_live, standing_item, stands_beside};
 pub use std::alloc::AllocError as NoMemory;
 pub use view::rows;
 pub use window::Window;

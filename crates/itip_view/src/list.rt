@@ -80,9 +80,9 @@ fn put_numbers(out: &mut Vec<u8>, row: &Row) -> Result<(), AllocError>
     put(out, " STATUS ")?;
     put_status(out, row.status)?;
     put(out, " PERCENT ")?;
-    put_percent(out, row.percent)?;
+    put_shown_number(out, row.percent)?;
     put(out, " PRIORITY ")?;
-    put_percent(out, row.priority)
+    put_shown_number(out, row.priority)
 }
 
 fn put_dates(out: &mut Vec<u8>, row: &Row) -> Result<(), AllocError>
@@ -113,7 +113,7 @@ fn put_attendee(out: &mut Vec<u8>, attendee: &ShownAttendee) -> Result<(), Alloc
     put(out, " ")?;
     put(out, attendee.partstat.as_str())?;
     put(out, " ")?;
-    put_percent(out, attendee.percent)?;
+    put_shown_number(out, attendee.percent)?;
     put(out, "\n")
 }
 
@@ -146,7 +146,7 @@ fn put_status(out: &mut Vec<u8>, status: Option<Status>) -> Result<(), AllocErro
     }
 }
 
-fn put_percent(out: &mut Vec<u8>, percent: Option<u8>) -> Result<(), AllocError>
+fn put_shown_number(out: &mut Vec<u8>, percent: Option<u8>) -> Result<(), AllocError>
     ensures { OnOk result (out.new.items ≡ out.old.items ++ shown decimal percent) }
 {
     match percent {

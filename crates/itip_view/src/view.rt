@@ -23,7 +23,7 @@ pub fn rows(alloc: Global, state: &State, window: Window) -> Result<Vec<Row>, Vi
     let mut rows = Vec::new(alloc);
     for uid in &uids {
         let items = state.of_uid(uid)?;
-        let mut more = rows_of_uid(alloc, &items, uid, window)?;
+        let mut more = rows_of_uid(alloc, &items, window)?;
         if more.len() > ROW_LIMIT - rows.len() {
             return Err(ViewError::TooManyRows);
         }

@@ -1,4 +1,4 @@
-use Rattle.std.proofs.Common.{sym, subst, List, map, Option, Some, None}
+use Rattle.std.proofs.Common.{sym, subst, List, ℕ, Option, Some, None}
 use Rattle.std.specs.Prelude.{MatchOption}
 use Rattle.std.specs.Option.{option_copied}
 use Rattle.itip_moment.specs.declared.moment.Moment.{Moment}
@@ -7,23 +7,28 @@ use Rattle.itip_view.specs.Standing.{Governs}
 use Rattle.itip_report.proofs.Telling.{live_series, governs_standing, governs_beside}
 use Rattle.itip_report.proofs.governing.governing.Goals as goal
 
-pub returns-in-None : goal.returns-in-None
-returns-in-None c =
-    let items : List Item = map (λ item. item.now) c.args.items.now in
-    subst (λ (id : Option Moment). MatchOption (option_copied c.if_live.result) ((g : Item) → ¬ Governs items c.args.uid.now id g) (Governs items c.args.uid.now id)) (sym c.in-None.is)
-    (subst (λ (o : Option Item). MatchOption o ((g : Item) → ¬ Governs items c.args.uid.now None g) (Governs items c.args.uid.now None)) (sym c.if_live.ensures)
-    (live_series items c.args.uid.now (option_copied c.args.series) c.requires.series))
+-- the item that governs, or that none does
+abbrev IsGoverning : List Item → List ℕ → Option Moment → Option Item → Type 0
+IsGoverning items uid id found = MatchOption found ((g : Item) → ¬ Governs items uid id g) (Governs items uid id)
+
+pub returns-in_default : goal.returns-in_default
+returns-in_default c =
+    let items : List Item = c.args.items.now.items in
+    let uid : List ℕ = c.args.items.now.uid in
+    subst (λ (id : Option Moment). IsGoverning items uid id (option_copied c.if_live.result)) (sym c.in_default.is)
+    (subst (IsGoverning items uid None) (sym c.if_live.ensures) (live_series items uid (option_copied c.series.result) c.series.ensures))
 
 pub returns-in-Some-2 : goal.returns-in-Some-2
 returns-in-Some-2 c =
-    let items : List Item = map (λ item. item.now) c.args.items.now in
-    subst (λ (id : Option Moment). MatchOption (option_copied c.if_live-in-Some-2.result) ((g : Item) → ¬ Governs items c.args.uid.now id g) (Governs items c.args.uid.now id)) (sym c.in-Some.is)
-    (subst (λ (o : Option Item). MatchOption o ((g : Item) → ¬ Governs items c.args.uid.now (Some c.in-Some.at) g) (Governs items c.args.uid.now (Some c.in-Some.at))) (sym c.if_live-in-Some-2.ensures)
-    (governs_standing items c.args.uid.now c.in-Some.at c.in-Some-2.item.now (rw c.in-Some-2.is at c.in_ok-item-in-Some.ensures)))
+    let items : List Item = c.args.items.now.items in
+    let uid : List ℕ = c.args.items.now.uid in
+    subst (λ (id : Option Moment). IsGoverning items uid id (option_copied c.if_live-in-Some-2.result)) (sym c.in-Some.is)
+    (subst (IsGoverning items uid (Some c.in-Some.at)) (sym c.if_live-in-Some-2.ensures) (governs_standing items uid c.in-Some.at c.in-Some-2.item.now (rw c.in-Some-2.is at c.in_ok-item.ensures)))
 
-pub returns-in-None-2 : goal.returns-in-None-2
-returns-in-None-2 c =
-    let items : List Item = map (λ item. item.now) c.args.items.now in
-    subst (λ (id : Option Moment). MatchOption (option_copied c.if_live-in-None-2.result) ((g : Item) → ¬ Governs items c.args.uid.now id g) (Governs items c.args.uid.now id)) (sym c.in-Some.is)
-    (subst (λ (o : Option Item). MatchOption o ((g : Item) → ¬ Governs items c.args.uid.now (Some c.in-Some.at) g) (Governs items c.args.uid.now (Some c.in-Some.at))) (sym c.if_live-in-None-2.ensures)
-    (governs_beside items c.args.uid.now c.in-Some.at (option_copied c.args.series) c.requires.series (rw c.in-None-2.is at c.in_ok-item-in-Some.ensures)))
+pub returns-in-None : goal.returns-in-None
+returns-in-None c =
+    let items : List Item = c.args.items.now.items in
+    let uid : List ℕ = c.args.items.now.uid in
+    subst (λ (id : Option Moment). IsGoverning items uid id (option_copied c.if_live-in-None.result)) (sym c.in-Some.is)
+    (subst (IsGoverning items uid (Some c.in-Some.at)) (sym c.if_live-in-None.ensures)
+    (governs_beside items uid c.in-Some.at (option_copied c.series-in-None.result) c.series-in-None.ensures (rw c.in-None.is at c.in_ok-item.ensures)))

@@ -1,21 +1,21 @@
-use Rattle.std.proofs.Common.{◌≡◌, ◌∙◌, refl, sym, subst, List, ℕ, map}
+use Rattle.std.proofs.Common.{◌≡◌, ◌↔◌, ◌∙◌, sym, subst, refl, List, Bool, true, false, not, Option, Some, None, Bor}
+use Rattle.std.specs.Prelude.{IsTrue, is_some}
+use Rattle.std.specs.Option.{option_copied}
 use Rattle.itip_moment.specs.declared.moment.Moment.{Moment}
 use Rattle.itip_message.specs.declared.item.Item.{Item}
+use Rattle.itip_message.specs.declared.key.Key.{Key}
 use Rattle.itip_message.specs.declared.key.Key.TheVariants.{Instance}
-use Rattle.itip_report.specs.Reports.{NoneAtInstance}
+use Rattle.itip_state.specs.Kept.{IsBestOf}
+use Rattle.itip_report.specs.Reports.{NoneAt, NoneAtInstance}
 use Rattle.itip_report.proofs.governing.none_at_instance.Goals as goal
 
-same_key : (u v : List ℕ) (m n : Moment) → u ≡ v → m ≡ n → Instance u m ≡ Instance v n
-same_key u v m n p q = λ i. Instance (p i) (q i)
+none_there : (items : List Item) (key : Key) (o : Option (Bor Item)) (r : Bool) → is_some o ≡ not r → IsBestOf items key (option_copied o) → IsTrue r ↔ NoneAt items key
+none_there items key None true e h = (λ _. h, λ _. refl)
+none_there items key None false e h = absurd (cc)
+none_there items key (Some i) true e h = absurd (cc)
+none_there items key (Some i) false e h = (λ (t : false ≡ true). absurd (cc), λ none. absurd (none i.now h.is_heard h.about))
 
-pub returns-in-None : goal.returns-in-None
-returns-in-None c =
-    let items : List Item = map (λ item. item.now) c.args.items.now in
-    let key : Instance c.in_ok-clone.field-0 c.in_ok-clone-2.field-0 ≡ Instance c.args.uid.now c.in-Some.at = same_key _ _ _ _ c.in_ok-clone.ensures.cases c.in_ok-clone-2.ensures.cases in
-    (λ _. subst (NoneAtInstance items c.args.uid.now) (sym c.in-Some.is) (λ i h same. c.in-None.ensures i h (same ∙ sym key)), λ _. refl)
-
-pub returns : goal.returns
-returns c =
-    let items : List Item = map (λ item. item.now) c.args.items.now in
-    let key : Instance c.in_ok-clone.field-0 c.in_ok-clone-2.field-0 ≡ Instance c.args.uid.now c.in-Some.at = same_key _ _ _ _ c.in_ok-clone.ensures.cases c.in_ok-clone-2.ensures.cases in
-    (λ e. cc, λ none. absurd (subst (NoneAtInstance items c.args.uid.now) c.in-Some.is none c.in-Some-find.field-0.now c.in-Some-find.ensures.0 (c.in-Some-find.ensures.1 ∙ key)))
+pub returns-in_ok-instance-in-Some : goal.returns-in_ok-instance-in-Some
+returns-in_ok-instance-in-Some c =
+    subst (λ (id : Option Moment). IsTrue c.is_none.result ↔ NoneAtInstance c.args.items.now.items c.args.items.now.uid id) (sym c.in-Some.is)
+    (none_there c.args.items.now.items (Instance c.args.items.now.uid c.in-Some.at) c.in_ok-instance-in-Some.field-0 c.is_none.result c.is_none.ensures c.in_ok-instance-in-Some.ensures)

@@ -10,18 +10,18 @@ use Rattle.itip_report.proofs.organizing.resend_of.Goals as goal
 
 pub returns-in_default : goal.returns-in_default
 returns-in_default c =
-    let items : List Item = map (λ item. item.now) c.args.items.now in
-    let found : MatchOption (option_copied c.if_live.result) ((i : Item) → ¬ IsLiveSeries items c.args.uid.now i) (IsLiveSeries items c.args.uid.now) =
-    subst (λ (o : Option Item). MatchOption o ((i : Item) → ¬ IsLiveSeries items c.args.uid.now i) (IsLiveSeries items c.args.uid.now)) (sym c.if_live.ensures)
-    (live_series items c.args.uid.now (option_copied c.in_ok-series.series) c.in_ok-series.ensures) in
+    let items : List Item = c.args.items.now.items in
+    let found : MatchOption (option_copied c.if_live.result) ((i : Item) → ¬ IsLiveSeries items c.args.items.now.uid i) (IsLiveSeries items c.args.items.now.uid) =
+    subst (λ (o : Option Item). MatchOption o ((i : Item) → ¬ IsLiveSeries items c.args.items.now.uid i) (IsLiveSeries items c.args.items.now.uid)) (sym c.if_live.ensures)
+    (live_series items c.args.items.now.uid (option_copied c.series.result) c.series.ensures) in
     rw c.in_default.is at found
 
 pub returns : goal.returns
 returns c =
-    let items : List Item = map (λ item. item.now) c.args.items.now in
-    let found : MatchOption (option_copied c.if_live.result) ((i : Item) → ¬ IsLiveSeries items c.args.uid.now i) (IsLiveSeries items c.args.uid.now) =
-    subst (λ (o : Option Item). MatchOption o ((i : Item) → ¬ IsLiveSeries items c.args.uid.now i) (IsLiveSeries items c.args.uid.now)) (sym c.if_live.ensures)
-    (live_series items c.args.uid.now (option_copied c.in_ok-series.series) c.in_ok-series.ensures) in
+    let items : List Item = c.args.items.now.items in
+    let found : MatchOption (option_copied c.if_live.result) ((i : Item) → ¬ IsLiveSeries items c.args.items.now.uid i) (IsLiveSeries items c.args.items.now.uid) =
+    subst (λ (o : Option Item). MatchOption o ((i : Item) → ¬ IsLiveSeries items c.args.items.now.uid i) (IsLiveSeries items c.args.items.now.uid)) (sym c.if_live.ensures)
+    (live_series items c.args.items.now.uid (option_copied c.series.result) c.series.ensures) in
     let front : c.extend_from_slice.new.self.items ≡ c.in-Some.live.now.bytes =
     c.in_ok-extend_from_slice.ensures.items ∙ (λ i. c.new-messages.ensures.items i ++ c.as_slice.ensures i) in
     let back : flat_map (λ item. item.now.bytes) c.deref.result.now ≡ flat_map (λ (item : Item). item.bytes) (map (λ item. item.now) c.in_ok-instances.instances.items) =
@@ -30,6 +30,6 @@ returns c =
       series = c.in-Some.live.now;
       live = rw c.in-Some.is at found;
       instances = map (λ item. item.now) c.in_ok-instances.instances.items;
-      standing = c.in_ok-instances.ensures c.args.uid.now c.requires.about c.in_ok-series.ensures;
+      standing = c.in_ok-instances.ensures;
       bytes_are = c.in_ok-put_messages.ensures ∙ (λ i. front i ++ back i);
     }

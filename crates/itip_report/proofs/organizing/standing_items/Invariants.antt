@@ -5,4 +5,4 @@ use Rattle.itip_report.proofs.Choosing.{Chosen}
 use Rattle.itip_report.proofs.organizing.standing_items.Given as goal
 
 abbrev pub invariant-loop-item : goal.invariant-loop-item
-invariant-loop-item l = Chosen (IsInstanceBeside (option_copied l.series)) (take l.item-index (map (λ item. item.now) l.items)) (map (λ item. item.now) l.standing.items)
+invariant-loop-item l = Chosen (IsInstanceBeside (option_copied l.series)) (take l.item-index (map (λ item. item.now) l.item-items)) (map (λ item. item.now) l.standing.items)

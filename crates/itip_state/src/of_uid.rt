@@ -1,0 +1,92 @@
+//! What a state keeps of one UID.
+ghost use Rattle.std.specs.Prelude.{◌≡◌, IfOk, map};
+ghost use Rattle.std.specs.Option.{option_copied};
+ghost use Rattle.itip_message.specs.declared.key.Key.TheVariants as key;
+ghost use Rattle.itip_state.specs.Kept.{IsBestOf};
+ghost use Rattle.itip_state.specs.OfUid.{UidPart, IsUidPart};
+
+use crate::NoMemory;
+use crate::slot::compare;
+use itip_message::{Item, Key};
+use itip_moment::Moment;
+use itip_todo::Uid;
+use std::marker::Model;
+
+/// The kept items of one UID in the order of their keys: the series item, then instances by recurrence id, then answers, then refresh requests, each by
+/// instance and attendee.
+#[derive(Debug, Drop)]
+pub struct ItemsOfUid<'a> {
+    uid: &'a Uid,
+    items: Vec<&'a Item>,
+}
+
+impl<'a> Model for ItemsOfUid<'a> {
+    ghost use Rattle.std.specs.Prelude.{map};
+    ghost use Rattle.itip_state.specs.OfUid.{UidPart, uid_part_code, IsUidPart};
+
+    ghost Value = { UidPart };
+
+    ghost coded = { uid_part_code };
+
+    ghost view = { λ o. record { uid = o.uid.now; items = map (λ item. item.now) o.items.items } };
+
+    ghost invariant = { λ o. IsUidPart (record { uid = o.uid.now; items = map (λ item. item.now) o.items.items }) };
+}
+
+impl<'a> ItemsOfUid<'a> {
+    /// These items of a UID.
+    pub(crate) fn new(uid: &'a Uid, items: Vec<&'a Item>) -> ItemsOfUid<'a>
+        requires { IsUidPart (record { uid = uid.now; items = map (λ item. item.now) items.items }) }
+        ensures { result ≡ record { uid = uid.now; items = map (λ item. item.now) items.entry.items } }
+    {
+        ItemsOfUid { uid, items }
+    }
+
+    /// The UID.
+    pub fn uid(&self) -> &'a Uid
+        ensures { result.now ≡ self.now.uid }
+    {
+        self.uid
+    }
+
+    /// The items, in the order of their keys.
+    pub fn as_slice(&self) -> &[&'a Item]
+        ensures items { map (λ item. item.now) result.now ≡ self.now.items }
+        ensures part { IsUidPart self.now }
+    {
+        self.items.as_slice()
+    }
+
+    /// The item of a key, or `None` where none is kept. It takes no memory.
+    pub fn best(&self, key: &Key) -> Option<&'a Item>
+        ensures { IsBestOf self.now.items key.now (option_copied result) }
+    {
+        let items = self.items.as_slice();
+        match items.binary_search_by(|item| compare(&item.key, key)) {
+            Ok(place) => Some(items[place]),
+            Err(_) => None,
+        }
+    }
+
+    /// The series item, or `None` where none is kept. It takes no memory.
+    pub fn series(&self) -> Option<&'a Item>
+        ensures { IsBestOf self.now.items (key.Series self.now.uid) (option_copied result) }
+    {
+        // It stands before all others.
+        let [first, ..] = self.items.as_slice() else {
+            return None;
+        };
+        match &first.key {
+            Key::Series(_) => Some(*first),
+            _ => None,
+        }
+    }
+
+    /// The instance item of a moment, or `None` where none is kept.
+    pub fn instance(&self, at: &Moment) -> Result<Option<&'a Item>, NoMemory>
+        ensures { IfOk result (λ found. IsBestOf self.now.items (key.Instance self.now.uid at.now) (option_copied found)) }
+    {
+        let key = Key::Instance(self.uid.clone()?, at.clone()?);
+        Ok(self.best(&key))
+    }
+}

@@ -1,0 +1,20 @@
+use Rattle.std.proofs.Common.{◌≡◌, sym, subst, List, map, ℕ, Bool, Option, Some, None, Bor}
+use Rattle.std.specs.Prelude.{MatchOption}
+use Rattle.std.specs.Bool.{MatchBool}
+use Rattle.std.specs.Option.{option_copied, is_some}
+use Rattle.itip_moment.specs.declared.moment.Moment.{Moment}
+use Rattle.itip_message.specs.declared.item.Item.{Item}
+use Rattle.itip_view.specs.Rows.{NoneStandsAtStart}
+use Rattle.itip_view.specs.Standing.{Stands, NoneStands}
+use Rattle.itip_view.proofs.of_uid.UidView.is_replaced.Goals as goal
+
+replaced : (items : List Item) (uid : List ℕ) (start : Moment) (o : Option (Bor Item)) (r : Bool) → r ≡ is_some o → MatchOption (option_copied o) (NoneStands items uid start) (Stands items uid start)
+    → MatchBool r (NoneStands items uid start → ⊥) (NoneStands items uid start)
+replaced items uid start None r e h = subst (λ b. MatchBool b (NoneStands items uid start → ⊥) (NoneStands items uid start)) (sym e) h
+replaced items uid start (Some i) r e h = subst (λ b. MatchBool b (NoneStands items uid start → ⊥) (NoneStands items uid start)) (sym e) (λ none. none i.now h)
+
+pub returns-in_ok-standing_item-in-Some : goal.returns-in_ok-standing_item-in-Some
+returns-in_ok-standing_item-in-Some c =
+    let items : List Item = c.args.self.now.items.now.items in
+    subst (λ (s : Option Moment). MatchBool c.is_some.result (NoneStandsAtStart items c.args.self.now.items.now.uid s → ⊥) (NoneStandsAtStart items c.args.self.now.items.now.uid s)) (sym c.in-Some.is)
+    (replaced items c.args.self.now.items.now.uid c.in-Some.start c.in_ok-standing_item-in-Some.field-0 c.is_some.result c.is_some.ensures c.in_ok-standing_item-in-Some.ensures)

@@ -1,0 +1,29 @@
+use Rattle.std.proofs.Common.{◌≡◌, ◌∙◌, sym, ap, subst, List, map, true, false, rules}
+use Rattle.std.specs.Bool.{MatchBool}
+use Rattle.itip_message.specs.declared.item.Item.{Item}
+use Rattle.itip_view.specs.InWindow.{is_in_window}
+use Rattle.itip_view.specs.Rows.{NoneStandsAtStart, day_of}
+use Rattle.itip_view.proofs.InDays.{in_window_is, in_window_from}
+use Rattle.itip_view.proofs.PlaceRows.{single_is, no_single}
+use Rattle.itip_view.proofs.of_uid.UidView.single_row.Goals as goal
+
+pub returns-then-not-has : goal.returns-then-not-has
+returns-then-not-has c =
+    let off : c.has.result ≡ false = search rules in
+    no_single (c.args.self.now.items.now.items) c.args.self.now.window c.args.self.now.items.now.uid c.args.series.now c.requires.live c.requires.single
+    (λ none within. let x : true ≡ false = sym (in_window_from c.args.self.now.window (day_of c.args.series.now.todo.start c.args.series.now.todo.due) within) ∙ sym (ap (is_in_window c.args.self.now.window) c.day_of.ensures) ∙ sym c.has.ensures ∙ off in cc)
+
+pub returns-then-branch : goal.returns-then-branch
+returns-then-branch c =
+    let items : List Item = c.args.self.now.items.now.items in
+    no_single items c.args.self.now.window c.args.self.now.items.now.uid c.args.series.now c.requires.live c.requires.single
+    (λ none within. (subst (λ b. MatchBool b (NoneStandsAtStart items c.args.self.now.items.now.uid c.args.series.now.todo.start → ⊥) (NoneStandsAtStart items c.args.self.now.items.now.uid c.args.series.now.todo.start)) c.if-branch.true c.in_ok-is_replaced.ensures) none)
+
+pub returns : goal.returns
+returns c =
+    let items : List Item = c.args.self.now.items.now.items in
+    let there : c.has.result ≡ true = search rules in
+    single_is items c.args.self.now.window c.args.self.now.items.now.uid c.args.series.now c.in_ok-row.row c.requires.live c.requires.single
+    (subst (λ b. MatchBool b (NoneStandsAtStart items c.args.self.now.items.now.uid c.args.series.now.todo.start → ⊥) (NoneStandsAtStart items c.args.self.now.items.now.uid c.args.series.now.todo.start)) c.if-branch.false c.in_ok-is_replaced.ensures)
+    (in_window_is c.args.self.now.window (day_of c.args.series.now.todo.start c.args.series.now.todo.due) (sym (ap (is_in_window c.args.self.now.window) c.day_of.ensures) ∙ sym c.has.ensures ∙ there))
+    c.in_ok-row.ensures

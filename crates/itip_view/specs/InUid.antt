@@ -1,0 +1,45 @@
+-- The rows of one UID, by what is known of it (our own form).
+use Rattle.std.specs.Prelude.{List, Option}
+use Rattle.itip_moment.specs.declared.moment.Moment.{Moment}
+use Rattle.itip_message.specs.declared.item.Item.{Item}
+use Rattle.itip_view.specs.OfUid.{IsWhole, IsAnswerAt, IsOccurrence, IsRowOf, ArePlaces, AreRowsOf}
+use Rattle.itip_view.specs.Rows.{NoneStandsAtStart}
+use Rattle.itip_view.specs.Standing.{Stands, NoneStands, IsLiveSeries}
+use Rattle.itip_view.specs.declared.of_uid.UidView.{UidView}
+use Rattle.itip_view.specs.declared.row.Row.{Row}
+use Rattle.itip_view.specs.declared.row.RowId.{RowId}
+
+module _ (view : UidView) where
+  -- its to-do as a whole is the live series item, or none is live
+  abbrev pub HasWhole : Type 0
+  HasWhole = IsWhole view.items.now.items view.items.now.uid view.whole
+
+  abbrev pub HasRows : List Row → Type 0
+  HasRows rows = AreRowsOf view.items.now.items view.window view.items.now.uid rows
+
+  abbrev pub HasPlaces : List Moment → Type 0
+  HasPlaces moments = ArePlaces view.items.now.items view.window view.items.now.uid moments
+
+  -- what has a row there, or that nothing has
+  abbrev pub HasAnswerAt : Option Moment → Option Row → Type 0
+  HasAnswerAt at row = IsAnswerAt view.items.now.items view.window view.items.now.uid at row
+
+  abbrev pub HasOccurrence : Moment → Type 0
+  HasOccurrence at = IsOccurrence view.items.now.items view.window view.items.now.uid at
+
+  abbrev pub HasStanding : Moment → Item → Type 0
+  HasStanding at item = Stands view.items.now.items view.items.now.uid at item
+
+  abbrev pub HasNoStanding : Moment → Type 0
+  HasNoStanding at = NoneStands view.items.now.items view.items.now.uid at
+
+  abbrev pub HasLiveSeries : Item → Type 0
+  HasLiveSeries item = IsLiveSeries view.items.now.items view.items.now.uid item
+
+  -- nothing stands at DTSTART of the series item
+  abbrev pub HasNoneAtStart : Item → Type 0
+  HasNoneAtStart series = NoneStandsAtStart view.items.now.items view.items.now.uid series.todo.start
+
+  -- a row with this name and these dates, and what else it shows of the item that governs it
+  abbrev pub IsRowWith : Item → RowId → Option Moment → Option Moment → List (Option Moment) → Row → Type 0
+  IsRowWith item id start due ids row = IsRowOf view.items.now.items item view.items.now.uid id start due ids row
