@@ -6,13 +6,13 @@ ghost use Rattle.itip_office.specs.Replies.{refused_text};
 ghost use Rattle.itip_office.specs.Script.{orders_of};
 ghost use Rattle.itip_office.specs.Written.{AppendsFront, MovesOut};
 
-use crate::answer::answer_command;
+use crate::answer::SCRIPT_TOO_LONG;
 use crate::cut::Commands;
 use crate::fault::ScriptFault;
 use crate::input::read_script;
+use crate::office::Office;
 use crate::output::write_output;
-use crate::reply::{SCRIPT_TOO_LONG, append_refused};
-use itip_delta::World;
+use crate::reply::append_refused;
 use itip_view::Window;
 use std::alloc::Global;
 use std::io::{Read, Write};
@@ -49,7 +49,7 @@ fn refuse_whole<W: Write>(alloc: Global, writer: &mut W) -> Result<bool, ScriptF
     ensures fault { IfErr result (λ fault. fault ≢ ScriptFault.Read) }
 {
     let mut reply = Vec::new(alloc);
-    append_refused(alloc, &mut reply, SCRIPT_TOO_LONG)?;
+    append_refused(&mut reply, SCRIPT_TOO_LONG)?;
     write_output(writer, reply.as_slice())?;
     Ok(true)
 }
@@ -67,11 +67,13 @@ fn run_commands<W: Write>(
     ensures front { OnErr result (WritesSome window desks (W.contents writer.old) (W.contents writer.new) (orders_of script.now)) }
     ensures fault { IfErr result (λ fault. fault ≢ ScriptFault.Read) }
 {
-    let mut world = World::start(alloc, desks)?;
+    let mut office = Office::start(alloc, desks, window)?;
     let mut replies = Vec::new(alloc);
     let mut is_refused = false;
     for command in Commands::new(script) {
-        is_refused |= answer_command(alloc, &mut world, window, &command, &mut replies)?;
+        let answer = office.answer(&command)?;
+        is_refused |= answer.is_refusal();
+        answer.append(&mut replies)?;
         write_if_many(writer, &mut replies)?;
     }
     write_output(writer, replies.as_slice())?;
