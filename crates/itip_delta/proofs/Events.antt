@@ -1,6 +1,7 @@
 -- One event over a world, whatever happened before it.
-use Rattle.std.proofs.Common.{◌≡◌, ℕ, ◌<◌, List, [], ◌∷◌, ◌++◌, length, get_or, min, refl, sym, ap, subst, ◌∙◌, Some}
-use Rattle.std.specs.Prelude.{slice_get, slice_set, ◌^◌, ◌-◌}
+use Rattle.std.proofs.Common.{◌≡◌, ℕ, ◌<◌, List, [], ◌∷◌, ◌++◌, length, get_or, min, refl, sym, ap, subst, ◌∙◌, Some, Ok, Err}
+use Rattle.std.specs.Prelude.{slice_get, slice_set, ◌^◌, ◌-◌, Result, IsErrAnd, IsErrOf}
+use Rattle.itip_desk.specs.declared.error.DeskError.{DeskError}
 use Rattle.itip_message.specs.Message.{ReadsMessage, RefusesMessage}
 use Rattle.itip_message.specs.Numbers.{number_of}
 use Rattle.itip_message.specs.declared.error.Fault.{Fault}
@@ -171,3 +172,13 @@ pub entries_of : (world : ShownWorld) (desk : ℕ) (shown : Shown) (count : ℕ)
 entries_of world desk shown count there once is past world_is =
     let at = history_at past.histories world.desks desk shown world_is.desks_are there in
     record { history = at.history; there = at.there; counts = record { kept = shown.kept; once = once; are_kept = at.is.kept; count_is = is } }
+
+error_in : {T : Type 0} → DeskError → Result T DeskError → DeskError
+error_in default (Ok x) = default
+error_in default (Err e) = e
+
+-- a refusal that is handed on is the refusal
+pub same_error : {T : Type 0} (error why : DeskError) (r : Result T DeskError) → IsErrAnd r (λ e. e ≡ error) → IsErrOf r why → error ≡ why
+unfolding error_in
+same_error error why (Ok x) is is_why = absurd is
+same_error error why (Err e) is is_why = sym is ∙ ap (error_in error) is_why

@@ -5,3 +5,4 @@ pub mod Cutting
 pub mod Passing
 pub mod Delta
 pub mod Worlds
+pub mod WorldCode

@@ -26,6 +26,10 @@ impl Model for World {
 
     ghost Value = { ShownWorld };
 
+    ghost use Rattle.itip_delta.specs.WorldCode.{shown_world_code};
+
+    ghost coded = { shown_world_code };
+
     ghost view = { λ w. record { desks = w.desks.items; packets = w.packets.items; replies = w.replies.items } };
 
     ghost invariant = { λ w. HasPast (record { desks = w.desks.items; packets = w.packets.items; replies = w.replies.items }) };
