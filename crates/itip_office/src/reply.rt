@@ -14,23 +14,23 @@ use std::alloc::AllocError;
 
 impl Answer {
     /// Appends the reply. After an error, for want of memory, a part of it may stand there.
-    pub(crate) fn append(&self, output: &mut Vec<u8>) -> Result<(), AllocError>
-        ensures { OnOk result (output.new.items ≡ output.old.items ++ answer_text (answer_of self.now)) }
+    pub(crate) fn append(self, output: &mut Vec<u8>) -> Result<(), AllocError>
+        ensures { OnOk result (output.new.items ≡ output.old.items ++ answer_text (answer_of self)) }
     {
         match self {
-            Answer::Refused(number) => append_refused(output, *number),
-            Answer::Took { desk, heard } => append_taken(output, *desk, *heard),
-            Answer::Posted { packet, items } => append_posted(output, *packet, *items),
+            Answer::Refused(number) => append_refused(output, number),
+            Answer::Took { desk, heard } => append_taken(output, desk, heard),
+            Answer::Posted { packet, items } => append_posted(output, packet, items),
             Answer::Arrived {
                 packet,
                 desk,
                 heard,
-            } => append_arrived(output, *packet, *desk, *heard),
-            Answer::Listed { desk, rows } => append_listed(output, *desk, rows),
-            Answer::Counted { desk, entries } => append_counted(output, *desk, *entries),
-            Answer::Reported { desk, name, lines } => append_reported(output, *desk, *name, lines),
-            Answer::Resent { desk, messages } => append_resent(output, *desk, messages.as_deref()),
-            Answer::Next { desk, sequence } => append_next(output, *desk, *sequence),
+            } => append_arrived(output, packet, desk, heard),
+            Answer::Listed { desk, rows } => append_listed(output, desk, &rows),
+            Answer::Counted { desk, entries } => append_counted(output, desk, entries),
+            Answer::Reported { desk, name, lines } => append_reported(output, desk, name, &lines),
+            Answer::Resent { desk, messages } => append_resent(output, desk, messages.as_deref()),
+            Answer::Next { desk, sequence } => append_next(output, desk, sequence),
         }
     }
 }

@@ -41,8 +41,8 @@ pub fn run_script<R: Read, W: Write>(
     let Some(script) = read_script(alloc, reader)? else {
         return refuse_whole(alloc, writer);
     };
-    let office = Office::start(alloc, desks, window)?;
-    run_commands(office, script.as_slice(), writer)
+    let mut office = Office::start(alloc, desks, window)?;
+    run_commands(&mut office, script.as_slice(), writer)
 }
 
 fn refuse_whole<W: Write>(alloc: Global, writer: &mut W) -> Result<bool, ScriptFault>
@@ -58,14 +58,14 @@ fn refuse_whole<W: Write>(alloc: Global, writer: &mut W) -> Result<bool, ScriptF
 
 // Runs the commands of a script over desks that have heard nothing.
 fn run_commands<W: Write>(
-    mut office: Office,
+    office: &mut Office,
     script: &[u8],
     writer: &mut W,
 ) -> Result<bool, ScriptFault>
-    ensures all { IfOk result (λ refusal. (desks : ℕ) → IsWorldOf (no_past desks) office.world →
-        WritesCommands office.window desks (W.contents writer.old) (W.contents writer.new) (orders_of script.now) refusal) }
-    ensures front { OnErr result ((desks : ℕ) → IsWorldOf (no_past desks) office.world →
-        WritesSome office.window desks (W.contents writer.old) (W.contents writer.new) (orders_of script.now)) }
+    ensures all { IfOk result (λ refusal. (desks : ℕ) → IsWorldOf (no_past desks) office.old.world →
+        WritesCommands office.old.window desks (W.contents writer.old) (W.contents writer.new) (orders_of script.now) refusal) }
+    ensures front { OnErr result ((desks : ℕ) → IsWorldOf (no_past desks) office.old.world →
+        WritesSome office.old.window desks (W.contents writer.old) (W.contents writer.new) (orders_of script.now)) }
     ensures fault { IfErr result (λ fault. fault ≢ ScriptFault.Read) }
 {
     let mut replies = Vec::new(office.alloc);
