@@ -1,10 +1,9 @@
 //! Reading one message and showing its items.
-ghost use Rattle.std.specs.Prelude.{◌≡◌, ◌≤◌, length, vec_len, min, take, IfOk, IfErr, IfSome};
-ghost use Rattle.std.specs.Io.KnownBytes.{ReadConsumes};
+ghost use Rattle.std.specs.Prelude.{◌≤◌, vec_len, IfOk};
 
 use itip_desk::Batch;
 use itip_message::{Item, ReadError, read_message};
-use itip_office::{MAX_READS, ScriptFault, write_output};
+use itip_office::{MAX_READS, ScriptFault, read_some, write_output};
 use std::alloc::Global;
 use std::io::{Read, Write};
 
@@ -65,15 +64,4 @@ fn read_front<R: Read>(alloc: Global, reader: &mut R) -> Result<Vec<u8>, ScriptF
         text.extend_from_slice(&buffer[..count])?;
     }
     Err(ScriptFault::Read)
-}
-
-fn read_some<R: Read>(reader: &mut R, buffer: &mut [u8]) -> Result<usize, ScriptFault>
-    ensures bound { IfOk result (λ count. count ≤ length buffer.new) }
-    ensures bytes { ReadConsumes (R.remaining reader.old) (R.remaining reader.new) result buffer.new }
-    ensures fault { IfErr result (λ fault. fault ≡ ScriptFault.Read) }
-{
-    match reader.read(buffer) {
-        Ok(count) => Ok(count),
-        Err(_) => Err(ScriptFault::Read),
-    }
 }

@@ -1,9 +1,9 @@
 -- Desks of histories, and one more step of one of them.
-use Rattle.std.proofs.Common.{◌≡◌, ℕ, zero, suc, ◌<◌, List, [], ◌∷◌, ◌++◌, length, get_or, refl, sym, ap, subst, arith, Option, Some, None}
+use Rattle.std.proofs.Common.{◌≡◌, ℕ, zero, suc, ◌<◌, List, [], ◌∷◌, ◌++◌, length, get_or, refl, sym, ap, subst, ◌∙◌, arith, Option, Some, None}
 use Rattle.std.specs.Prelude.{slice_get, slice_set}
 use Rattle.itip_message.specs.declared.item.Item.{Item}
 use Rattle.itip_desk.specs.Desk.{Shown, IsDeskOf}
-use Rattle.itip_delta.specs.Worlds.{History, Histories, AreDesksOf, with_step, no_histories}
+use Rattle.itip_delta.specs.Worlds.{History, Histories, AreDesksOf, with_step, histories_from}
 
 -- one desk heard one more step, and the others are as before
 pub record HeardMore (histories : Histories) (desks : List Shown) (desk : ℕ) (step : List Item) (old : Shown) (new_desks : List Shown) : Type 0 where
@@ -56,15 +56,41 @@ set_itself [] desk d at = refl
 set_itself (x ∷ xs) zero d at = ap (λ (y : Shown). y ∷ xs) (sym (some_same x d at))
 set_itself (x ∷ xs) (suc desk) d at = ap (λ ys. x ∷ ys) (set_itself xs desk d at)
 
+-- writing one leaves the others
+pub get_set_other : (desks : List Shown) (desk number : ℕ) (d : Shown) → (number ≡ desk → ⊥) → slice_get (slice_set desks desk d) number ≡ slice_get desks number
+get_set_other [] desk number d not = refl
+get_set_other (x ∷ xs) zero zero d not = absurd (not refl)
+get_set_other (x ∷ xs) zero (suc number) d not = refl
+get_set_other (x ∷ xs) (suc desk) zero d not = refl
+get_set_other (x ∷ xs) (suc desk) (suc number) d not = get_set_other xs desk number d (λ e. not (ap suc e))
+
 -- one more desk that has heard nothing
-pub one_more_desk : (n : ℕ) (desks : List Shown) (d : Shown) → AreDesksOf (no_histories n) desks → IsDeskOf [] 0 d → AreDesksOf (no_histories (suc n)) (desks ++ d ∷ [])
-one_more_desk zero [] d are is = (is, tt)
-one_more_desk zero (x ∷ xs) d are is = absurd are
-one_more_desk (suc n) [] d are is = absurd are
-one_more_desk (suc n) (x ∷ xs) d are is = (are.0, one_more_desk n xs d are.1 is)
+pub one_more_desk : (n tick : ℕ) (desks : List Shown) (d : Shown) → AreDesksOf (histories_from n tick) desks → IsDeskOf [] tick d → AreDesksOf (histories_from (suc n) tick) (desks ++ d ∷ [])
+one_more_desk zero tick [] d are is = (is, tt)
+one_more_desk zero tick (x ∷ xs) d are is = absurd are
+one_more_desk (suc n) tick [] d are is = absurd are
+one_more_desk (suc n) tick (x ∷ xs) d are is = (are.0, one_more_desk n tick xs d are.1 is)
 
 -- what stands at an index within the list, as the option that reading it gives
 pub slice_get-get_or : (desks : List Shown) (desk : ℕ) (d : Shown) → desk < length desks → slice_get desks desk ≡ Some (get_or desks desk d)
 slice_get-get_or [] desk d lt = absurd (omega arith)
 slice_get-get_or (x ∷ xs) zero d lt = refl
 slice_get-get_or (x ∷ xs) (suc desk) d lt = slice_get-get_or xs desk d (omega arith)
+
+-- the history of a desk that is there
+pub record HistoryAt (histories : Histories) (desk : ℕ) (shown : Shown) : Type 0 where
+  pub history : History
+  pub there : slice_get histories desk ≡ Some history
+  pub is : IsDeskOf history.steps history.start shown
+
+pub history_at : (histories : Histories) (desks : List Shown) (desk : ℕ) (shown : Shown) → AreDesksOf histories desks → slice_get desks desk ≡ Some shown → HistoryAt histories desk shown
+history_at histories [] desk shown are at = absurd (none_there shown at)
+history_at [] (d ∷ ds) desk shown are at = absurd are
+history_at (h ∷ hs) (d ∷ ds) zero shown are at = record { history = h; there = refl; is = subst (λ (s : Shown). IsDeskOf h.steps h.start s) (some_same d shown at) are.0 }
+history_at (h ∷ hs) (d ∷ ds) (suc desk) shown are at =
+    let rest = history_at hs ds desk shown are.1 at in
+    record { history = rest.history; there = rest.there; is = rest.is }
+
+-- a desk at an index, as the option that reading it gives
+pub at_index : (desks : List Shown) (desk : ℕ) (shown : Shown) → desk < length desks → ((d : Shown) → shown ≡ get_or desks desk d) → slice_get desks desk ≡ Some shown
+at_index desks desk shown within is = slice_get-get_or desks desk shown within ∙ ap (λ (s : Shown). Some s) (sym (is shown))

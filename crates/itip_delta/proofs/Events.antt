@@ -1,92 +1,184 @@
 -- One event over a world, whatever happened before it.
-use Rattle.std.proofs.Common.{◌≡◌, ℕ, List, [], ◌∷◌, ◌++◌, length, refl, sym, ap, subst, ◌∙◌, Some, Ok, Err}
-use Rattle.itip_desk.specs.declared.error.DeskError.{DeskError}
-use Rattle.itip_desk.specs.declared.error.DeskError.TheVariants as desk_error
-use Rattle.itip_delta.specs.declared.stop.Cause.{Cause}
-use Rattle.itip_delta.specs.declared.stop.Cause.TheVariants as cause
+use Rattle.std.proofs.Common.{◌≡◌, ℕ, ◌<◌, List, [], ◌∷◌, ◌++◌, length, get_or, min, refl, sym, ap, subst, ◌∙◌, Some, Ok, Err}
 use Rattle.std.specs.Prelude.{slice_get, slice_set, ◌^◌, ◌-◌, Result, IsErrAnd, IsErrOf}
+use Rattle.itip_desk.specs.declared.error.DeskError.{DeskError}
+use Rattle.itip_message.specs.Message.{ReadsMessage, RefusesMessage}
+use Rattle.itip_message.specs.Numbers.{number_of}
+use Rattle.itip_message.specs.declared.error.Fault.{Fault}
 use Rattle.itip_message.specs.declared.item.Item.{Item}
-use Rattle.itip_state.specs.Kept.{AreKept, AreMoved, Moves}
+use Rattle.itip_state.specs.Kept.{AreKept, AreMoved, SameItems, HasEachOnce}
 use Rattle.itip_desk.specs.Desk.{Shown, IsDeskOf, IsDeltaOf}
 use Rattle.itip_desk.specs.Heard.{heard, Ticks}
 use Rattle.itip_desk.specs.Octets.{AscendOctets}
 use Rattle.itip_desk.proofs.Steps.{nothing_more, moved_of_all, moved_whole, keep_same_down}
 use Rattle.itip_delta.specs.Delta.{delta_octets}
-use Rattle.itip_delta.specs.Worlds.{Past, past_with_step, past_with_packet, IsWorldOf, ArePacketTexts, Steps, Spends, cause_of}
-use Rattle.itip_delta.specs.Worlds.EventStep.{posts, arrives}
-use Rattle.itip_delta.specs.Worlds.IsSpent.{spends_arriving}
-use Rattle.itip_delta.specs.declared.event.Event.TheVariants.{Post, Arrive}
-use Rattle.itip_delta.specs.declared.event.Reply.{Reply}
-use Rattle.itip_delta.specs.declared.event.Reply.TheVariants.{Taken, Posted}
+use Rattle.itip_delta.specs.Worlds.{Past, past_with_step, past_with_packet, with_step, ShownWorld, IsWorldOf, HasPast, AreDesksOf, ArePacketTexts, Steps, StepsWorld, OthersStay, Spends, HearsBatch, IsAtLastTick, IsEntriesOf, CountsKeptAt}
+use Rattle.itip_delta.specs.Worlds.EventStep.{delivers, posts, arrives}
+use Rattle.itip_delta.specs.Worlds.Hears.{reads, refuses}
+use Rattle.itip_delta.specs.Worlds.IsSpent.{spends, spends_arriving}
+use Rattle.itip_delta.specs.declared.event.Event.{Event}
+use Rattle.itip_delta.specs.declared.event.Event.TheVariants.{Deliver, Post, Arrive}
+use Rattle.itip_delta.specs.declared.event.Reply.TheVariants.{Taken, Posted, Refused}
 use Rattle.itip_delta.proofs.Deltas.{known_by_octets}
-use Rattle.itip_delta.proofs.Desks.{heard_more}
+use Rattle.itip_delta.proofs.Desks.{heard_more, HeardMore, desk_there, set_itself, get_set_other, history_at, slice_get-get_or}
 use Rattle.itip_delta.proofs.Packets.{posted, texts_more, texts_length, packet_at, PacketAt}
 use Rattle.itip_delta.proofs.Swaps.{AreAlike, kept_alike_whole, alike_back, keep_same_swap, desk_swap}
 
--- a post
-pub steps_post : (desks : List Shown) (packets more_packets : List (List ℕ)) (desk since : ℕ) (shown : Shown) (batch : List Item) (octets : List ℕ) (replies more_replies : List Reply)
-    → slice_get desks desk ≡ Some shown → IsDeltaOf shown since batch → octets ≡ delta_octets batch → more_packets ≡ packets ++ octets ∷ [] → more_replies ≡ replies ++ Posted (length packets) (length batch) ∷ []
-    → Steps desks packets (Post desk since) replies more_replies desks more_packets
-steps_post desks packets more_packets desk since shown batch octets replies more_replies there delta written grown replied past is =
-    let at = heard_more past.histories desks desk [] shown shown is.desks_are there (λ steps start d. nothing_more steps start shown d) in
-    let told = posted at.history shown since batch at.was delta in
+-- what comes of an event has a past where what was before it has one
+pub past_after : (old : ShownWorld) (event : Event) (new : ShownWorld) → HasPast old → Steps old event new → HasPast new
+past_after old event new before steps = let one = steps before.0 before.1 in (one.more, one.world_is)
+
+-- packets that stay
+same_packets : (past : Past) (old new : ShownWorld) → new.packets ≡ old.packets → IsWorldOf past old → ArePacketTexts past.packets new.packets
+same_packets past old new same is = subst (λ (ps : List (List ℕ)). ArePacketTexts past.packets ps) (sym same) is.packets_are
+
+-- ---- a desk hears a batch
+
+pub hears_batch : (old new : ShownWorld) (desk : ℕ) (batch : List Item) (was is : Shown) (uids : List (List ℕ)) (tick count : ℕ) → desk < length old.desks → was ≡ get_or old.desks desk was → AreMoved uids was.kept batch
+    → ((steps : List (List Item)) (start : ℕ) → IsDeskOf steps start was → IsDeskOf (steps ++ batch ∷ []) start is) → tick ≡ is.tick → count ≡ length uids
+    → new.desks ≡ slice_set old.desks desk is → new.packets ≡ old.packets → new.replies ≡ old.replies ++ Taken tick count ∷ [] → HearsBatch old desk batch new
+hears_batch old new desk batch was is uids tick count within stands moved step last counted heard unposted replied = record {
+  was = was;
+  is = is;
+  uids = uids;
+  there = slice_get-get_or old.desks desk was within ∙ ap (λ (s : Shown). Some s) (sym stands);
+  moved = moved;
+  step = step;
+  desks_are = heard;
+  packets_are = unposted;
+  replies_are = replied ∙ ap (λ (n : ℕ). old.replies ++ Taken n count ∷ []) last ∙ ap (λ (n : ℕ). old.replies ++ Taken is.tick n ∷ []) counted;
+}
+
+module _ (old new : ShownWorld) (desk : ℕ) (batch : List Item) (hears : HearsBatch old desk batch new) where
+  -- the desk with one step more, which is the batch or as good as it
+  heard_as : (past : Past) → IsWorldOf past old → (step : List Item) → ((steps : List (List Item)) (start : ℕ) → IsDeskOf steps start hears.was → IsDeskOf (steps ++ step ∷ []) start hears.is)
+      → HeardMore past.histories old.desks desk step hears.was new.desks
+  heard_as past is step steps = subst (λ (ds : List Shown). HeardMore past.histories old.desks desk step hears.was ds) (sym hears.desks_are)
+      (heard_more past.histories old.desks desk step hears.was hears.is is.desks_are hears.there steps)
+
+  pub past_heard : HasPast old → HasPast new
+  past_heard (past, is) = (
+    past_with_step past desk batch,
+    record { desks_are = (heard_as past is batch hears.step).are; packets_are = same_packets past old new hears.packets_are is },
+  )
+
+  pub others_heard : (number : ℕ) → (number ≡ desk → ⊥) → slice_get new.desks number ≡ slice_get old.desks number
+  others_heard number not = ap (λ (ds : List Shown). slice_get ds number) hears.desks_are ∙ get_set_other old.desks desk number hears.is not
+
+-- ---- a delivery
+
+pub steps_deliver : (old new : ShownWorld) (desk : ℕ) (bytes : List ℕ) (items batch : List Item) → ReadsMessage bytes items → SameItems batch items → HearsBatch old desk batch new → Steps old (Deliver desk bytes) new
+steps_deliver old new desk bytes items batch read same hears past is =
+    let more = heard_as old new desk batch hears past is batch hears.step in
     record {
-      reply = Posted (length past.packets) (length batch);
-      past = past_with_packet past told.0;
-      step = posts desk since at.history told.0 batch at.there told.1 told.2;
-      replies_are = replied ∙ ap (λ (n : ℕ). replies ++ Posted n (length batch) ∷ []) (sym (texts_length past.packets packets is.packets_are));
+      reply = Taken hears.is.tick (length hears.uids);
+      more = past_with_step past desk batch;
+      step = delivers desk bytes more.history batch (Taken hears.is.tick (length hears.uids)) more.there
+          (reads items hears.uids hears.is.tick read same (record {
+              moved = moved_of_all hears.uids hears.was.kept (heard more.history.steps) batch more.was.kept hears.moved;
+              ticks = (hears.step more.history.steps more.history.start more.was).tick;
+          }));
+      replies_are = hears.replies_are;
+      world_is = record { desks_are = more.are; packets_are = same_packets past old new hears.packets_are is };
+    }
+
+-- a text that is refused
+pub steps_refused : (old new : ShownWorld) (desk : ℕ) (bytes : List ℕ) (fault : Fault) → desk < length old.desks → RefusesMessage bytes fault → new.desks ≡ old.desks → new.packets ≡ old.packets
+    → new.replies ≡ old.replies ++ Refused (number_of fault) ∷ [] → Steps old (Deliver desk bytes) new
+steps_refused old new desk bytes fault within refused still unposted replied past is =
+    let there = desk_there old.desks desk within in
+    let more = heard_more past.histories old.desks desk [] there.0 there.0 is.desks_are there.1 (λ steps start d. nothing_more steps start there.0 d) in
+    record {
+      reply = Refused (number_of fault);
+      more = past_with_step past desk [];
+      step = delivers desk bytes more.history [] (Refused (number_of fault)) more.there (refuses fault refused refl);
+      replies_are = replied;
       world_is = record {
-        desks_are = is.desks_are;
-        packets_are = subst (λ (ts : List (List ℕ)). ArePacketTexts (past.packets ++ told.0 ∷ []) ts) (sym grown)
-            (texts_more past.packets packets told.0 octets is.packets_are (record { batch = batch; batch_is = told.2; octets_are = written }));
+        desks_are = subst (λ (ds : List Shown). AreDesksOf (with_step past.histories desk []) ds) (set_itself old.desks desk there.0 there.1 ∙ sym still) more.are;
+        packets_are = same_packets past old new unposted is;
       };
     }
 
-module _ (desks : List Shown) (packets : List (List ℕ)) (packet desk : ℕ) (old : Shown) (octets : List ℕ) (batch : List Item)
-    (posted_there : slice_get packets packet ≡ Some octets) (there : slice_get desks desk ≡ Some old) (written : octets ≡ delta_octets batch) (ascend : AscendOctets batch) where
+pub spends_deliver : (world : ShownWorld) (desk : ℕ) (bytes : List ℕ) (items batch : List Item) → ReadsMessage bytes items → SameItems batch items → IsAtLastTick world desk batch → Spends world (Deliver desk bytes)
+spends_deliver world desk bytes items batch read same end past is =
+    let at = history_at past.histories world.desks desk end.shown is.desks_are end.there in
+    spends desk bytes at.history items batch end.uid at.there read same (subst (λ (t : ℕ). Ticks [] at.history.start at.history.steps t) end.last at.is.tick)
+    (λ alike. end.moves (keep_same_down end.uid end.shown.kept (heard at.history.steps) batch at.is.kept alike))
+
+-- ---- a post
+
+pub steps_post : (old new : ShownWorld) (desk since : ℕ) (shown : Shown) (batch : List Item) (octets : List ℕ)
+    → slice_get old.desks desk ≡ Some shown → IsDeltaOf shown since batch → octets ≡ delta_octets batch → new.desks ≡ old.desks → new.packets ≡ old.packets ++ octets ∷ []
+    → new.replies ≡ old.replies ++ Posted (length old.packets) (length batch) ∷ [] → Steps old (Post desk since) new
+steps_post old new desk since shown batch octets there delta written still grown replied past is =
+    let at = history_at past.histories old.desks desk shown is.desks_are there in
+    let told = posted at.history shown since batch at.is delta in
+    record {
+      reply = Posted (length past.packets) (length batch);
+      more = past_with_packet past told.0;
+      step = posts desk since at.history told.0 batch at.there told.1 told.2;
+      replies_are = replied ∙ ap (λ (n : ℕ). old.replies ++ Posted n (length batch) ∷ []) (sym (texts_length past.packets old.packets is.packets_are));
+      world_is = record {
+        desks_are = subst (λ (ds : List Shown). AreDesksOf past.histories ds) (sym still) is.desks_are;
+        packets_are = subst (λ (ts : List (List ℕ)). ArePacketTexts (past.packets ++ told.0 ∷ []) ts) (sym grown)
+            (texts_more past.packets old.packets told.0 octets is.packets_are (record { batch = batch; batch_is = told.2; octets_are = written }));
+      };
+    }
+
+-- ---- an arrival
+
+module _ (old : ShownWorld) (packet desk : ℕ) (octets : List ℕ) (batch : List Item)
+    (posted_there : slice_get old.packets packet ≡ Some octets) (written : octets ≡ delta_octets batch) (ascend : AscendOctets batch) where
   -- what a packet tells, of which the batch is kept
   record Told (past : Past) : Type 0 where
     at : PacketAt past.packets packet octets
     kept : AreKept batch at.told
 
-  told_by : (past : Past) → IsWorldOf past desks packets → Told past
+  told_by : (past : Past) → IsWorldOf past old → Told past
   told_by past is =
-      let at = packet_at past.packets packets packet octets is.packets_are posted_there in
+      let at = packet_at past.packets old.packets packet octets is.packets_are posted_there in
       let same : at.text.batch ≡ batch = known_by_octets at.text.batch batch at.text.batch_is.ascend ascend (sym at.text.octets_are ∙ written) in
       record { at = at; kept = subst (λ (b : List Item). AreKept b at.told) same at.text.batch_is.kept }
 
-  -- an arrival
-  pub steps_arrive : (new : Shown) (uids : List (List ℕ)) (replies more_replies : List Reply)
-      → AreMoved uids old.kept batch → ((steps : List (List Item)) (start : ℕ) → IsDeskOf steps start old → IsDeskOf (steps ++ batch ∷ []) start new)
-      → more_replies ≡ replies ++ Taken new.tick (length uids) ∷ [] → Steps desks packets (Arrive packet desk) replies more_replies (slice_set desks desk new) packets
-  steps_arrive new uids replies more_replies moved step replied past is =
+  pub steps_arrive : (new : ShownWorld) → HearsBatch old desk batch new → Steps old (Arrive packet desk) new
+  steps_arrive new hears past is =
       let told = told_by past is in
       let alike : AreAlike batch told.at.told = kept_alike_whole batch told.at.told told.kept in
-      let steps : (steps : List (List Item)) (start : ℕ) → IsDeskOf steps start old → IsDeskOf (steps ++ told.at.told ∷ []) start new = λ steps start d. desk_swap steps start new batch told.at.told alike (step steps start d) in
-      let more = heard_more past.histories desks desk told.at.told old new is.desks_are there steps in
+      let steps : (steps : List (List Item)) (start : ℕ) → IsDeskOf steps start hears.was → IsDeskOf (steps ++ told.at.told ∷ []) start hears.is = λ steps start d. desk_swap steps start hears.is batch told.at.told alike (hears.step steps start d) in
+      let more = heard_as old new desk batch hears past is told.at.told steps in
       record {
-        reply = Taken new.tick (length uids);
-        past = past_with_step past desk told.at.told;
-        step = arrives packet desk told.at.told more.history uids new.tick told.at.there more.there (record {
-          moved = moved_whole uids (heard more.history.steps) batch told.at.told told.kept (moved_of_all uids old.kept (heard more.history.steps) batch more.was.kept moved);
-          ticks = (steps more.history.steps more.history.start more.was).tick;
+        reply = Taken hears.is.tick (length hears.uids);
+        more = past_with_step past desk told.at.told;
+        step = arrives packet desk told.at.told more.history hears.uids hears.is.tick told.at.there more.there (record {
+            moved = moved_whole hears.uids (heard more.history.steps) batch told.at.told told.kept (moved_of_all hears.uids hears.was.kept (heard more.history.steps) batch more.was.kept hears.moved);
+            ticks = (steps more.history.steps more.history.start more.was).tick;
         });
-        replies_are = replied;
-        world_is = record { desks_are = more.are; packets_are = is.packets_are };
+        replies_are = hears.replies_are;
+        world_is = record { desks_are = more.are; packets_are = same_packets past old new hears.packets_are is };
       }
 
-  -- an arrival that would move a UID at the last tick
-  pub spends_arrive : (uid : List ℕ) → old.tick ≡ 2 ^ 64 - 1 → Moves old.kept batch uid → Spends desks packets (Arrive packet desk)
-  spends_arrive uid last moves past is =
+  pub spends_arrive : IsAtLastTick old desk batch → Spends old (Arrive packet desk)
+  spends_arrive end past is =
       let told = told_by past is in
       let alike : AreAlike batch told.at.told = kept_alike_whole batch told.at.told told.kept in
-      let at = heard_more past.histories desks desk [] old old is.desks_are there (λ steps start d. nothing_more steps start old d) in
-      spends_arriving packet desk told.at.told at.history uid told.at.there at.there
-      (subst (λ (t : ℕ). Ticks [] at.history.start at.history.steps t) last at.was.tick)
-      (λ same. moves (keep_same_down uid old.kept (heard at.history.steps) batch at.was.kept (keep_same_swap uid (heard at.history.steps) told.at.told batch (alike_back batch told.at.told alike) same)))
+      let at = history_at past.histories old.desks desk end.shown is.desks_are end.there in
+      spends_arriving packet desk told.at.told at.history end.uid told.at.there at.there
+      (subst (λ (t : ℕ). Ticks [] at.history.start at.history.steps t) end.last at.is.tick)
+      (λ same. end.moves (keep_same_down end.uid end.shown.kept (heard at.history.steps) batch at.is.kept (keep_same_swap end.uid (heard at.history.steps) told.at.told batch (alike_back batch told.at.told alike) same)))
 
--- a world says that the ticks are spent where its desk does
-pub spent_at_desk : {T : Type 0} (error : DeskError) (r : Result T Cause) → IsErrAnd r (λ e. e ≡ cause_of error) → IsErrOf r cause.TicksSpent → error ≡ desk_error.TicksSpent
-spent_at_desk desk_error.TicksSpent r is spent = refl
-spent_at_desk desk_error.NoMemory (Ok x) is spent = absurd is
-spent_at_desk desk_error.NoMemory (Err e) is spent = absurd cc
+-- ---- the number of what a desk keeps
+
+pub entries_of : (world : ShownWorld) (desk : ℕ) (shown : Shown) (count : ℕ) → slice_get world.desks desk ≡ Some shown → HasEachOnce shown.kept → count ≡ min (length shown.kept) (2 ^ 64 - 1) → IsEntriesOf world desk count
+entries_of world desk shown count there once is past world_is =
+    let at = history_at past.histories world.desks desk shown world_is.desks_are there in
+    record { history = at.history; there = at.there; counts = record { kept = shown.kept; once = once; are_kept = at.is.kept; count_is = is } }
+
+error_in : {T : Type 0} → DeskError → Result T DeskError → DeskError
+error_in default (Ok x) = default
+error_in default (Err e) = e
+
+-- a refusal that is handed on is the refusal
+pub same_error : {T : Type 0} (error why : DeskError) (r : Result T DeskError) → IsErrAnd r (λ e. e ≡ error) → IsErrOf r why → error ≡ why
+unfolding error_in
+same_error error why (Ok x) is is_why = absurd is
+same_error error why (Err e) is is_why = sym is ∙ ap (error_in error) is_why

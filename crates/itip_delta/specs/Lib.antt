@@ -6,3 +6,4 @@ pub mod Delta
 pub mod Scanned
 pub mod Passing
 pub mod Worlds
+pub mod WorldCode

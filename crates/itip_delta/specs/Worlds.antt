@@ -1,12 +1,12 @@
 -- What desks have heard and posted after a list of events, and the replies to these (our own rule).
-use Rattle.std.specs.Prelude.{◌≡◌, ℕ, zero, suc, ◌^◌, ◌-◌, ◌<◌, List, [], ◌∷◌, ◌++◌, ◌≤◌, ◌↔◌, length, take, replicate, Some, slice_get}
+use Rattle.std.specs.Prelude.{◌≡◌, ℕ, zero, suc, ◌^◌, ◌-◌, ◌<◌, List, [], ◌∷◌, ◌++◌, ◌≤◌, ◌↔◌, length, take, min, replicate, Some, slice_get, slice_set}
 use Rattle.std.specs.List.{Contains}
 use Rattle.itip_message.specs.KeyParts.{uid_of}
 use Rattle.itip_message.specs.Message.{ReadsMessage, RefusesMessage}
 use Rattle.itip_message.specs.Numbers.{number_of}
 use Rattle.itip_message.specs.declared.error.Fault.{Fault}
 use Rattle.itip_message.specs.declared.item.Item.{Item}
-use Rattle.itip_state.specs.Kept.{AreKept, SameItems, AreMoved, Moves}
+use Rattle.itip_state.specs.Kept.{AreKept, SameItems, AreMoved, Moves, HasEachOnce}
 use Rattle.itip_desk.specs.Heard.{heard, Ticks, MovedAfter}
 use Rattle.itip_desk.specs.Desk.{Shown, IsDeskOf}
 use Rattle.itip_desk.specs.Octets.{AscendOctets}
@@ -25,9 +25,9 @@ pub record History : Type 0 where
   pub start : ℕ
   pub steps : List (List Item)
 
--- nothing heard, from tick 0
-abbrev pub no_history : History
-no_history = record { start = 0; steps = [] }
+-- nothing heard yet, from this tick
+abbrev pub history_from : ℕ → History
+history_from tick = record { start = tick; steps = [] }
 
 -- one more step heard
 abbrev pub with_one_more : History → List Item → History
@@ -37,9 +37,9 @@ with_one_more history step = record { start = history.start; steps = history.ste
 abbrev pub Histories : Type 0
 Histories = List History
 
--- no desk has heard anything
-abbrev pub no_histories : ℕ → Histories
-no_histories desks = replicate desks no_history
+-- so many desks that have heard nothing, from this tick
+abbrev pub histories_from : ℕ → ℕ → Histories
+histories_from desks tick = replicate desks (history_from tick)
 
 -- a desk hears one more step
 abbrev pub with_step : Histories → ℕ → List Item → Histories
@@ -52,9 +52,13 @@ pub record Past : Type 0 where
   pub histories : Histories
   pub packets : List (List Item)
 
--- nothing happened yet
+-- so many desks begin at this tick, and nothing has happened yet
+abbrev pub past_from : ℕ → ℕ → Past
+past_from desks tick = record { histories = histories_from desks tick; packets = [] }
+
+-- nothing happened yet, from tick 0
 abbrev pub no_past : ℕ → Past
-no_past desks = record { histories = no_histories desks; packets = [] }
+no_past desks = past_from desks 0
 
 abbrev pub past_with_step : Past → ℕ → List Item → Past
 past_with_step past desk step = record { histories = with_step past.histories desk step; packets = past.packets }
@@ -129,10 +133,45 @@ ArePacketTexts [] (octets ∷ texts) = ⊥
 ArePacketTexts (packet ∷ packets) [] = ⊥
 ArePacketTexts (packet ∷ packets) (octets ∷ texts) = IsPacketText packet octets × ArePacketTexts packets texts
 
--- These desks and packets are those after what happened.
-pub record IsWorldOf (past : Past) (desks : List Shown) (packets : List (List ℕ)) : Type 0 where
+-- What happened brings about these desks and packets.
+pub record BringsAbout (past : Past) (desks : List Shown) (packets : List (List ℕ)) : Type 0 where
   pub desks_are : AreDesksOf past.histories desks
   pub packets_are : ArePacketTexts past.packets packets
+
+-- A world as it is seen: desks and packets, each numbered from 0, and the replies so far.
+pub record ShownWorld : Type 0 where
+  pub desks : List Shown
+  pub packets : List (List ℕ)
+  pub replies : List Reply
+
+-- the world of no desk
+abbrev pub empty_world : ShownWorld
+empty_world = record { desks = []; packets = []; replies = [] }
+
+-- The world is one after what happened.
+abbrev pub IsWorldOf : Past → ShownWorld → Type 0
+IsWorldOf past world = BringsAbout past world.desks world.packets
+
+-- Something happened that brought the world about.
+abbrev pub HasPast : ShownWorld → Type 0
+HasPast world = (past : Past) × IsWorldOf past world
+
+-- The number of items kept of what was heard, or the greatest number of 64 bits where there are more.
+pub record CountsKept (all : List Item) (count : ℕ) : Type 0 where
+  pub kept : List Item
+  pub once : HasEachOnce kept
+  pub are_kept : AreKept kept all
+  pub count_is : count ≡ min (length kept) (2 ^ 64 - 1)
+
+-- The number of items that a desk keeps of all that it has heard.
+pub record CountsKeptAt (past : Past) (desk count : ℕ) : Type 0 where
+  pub history : History
+  pub there : slice_get past.histories desk ≡ Some history
+  pub counts : CountsKept (heard history.steps) count
+
+-- the same, whatever happened to bring about this world
+abbrev pub IsEntriesOf : ShownWorld → ℕ → ℕ → Type 0
+IsEntriesOf world desk count = (past : Past) → IsWorldOf past world → CountsKeptAt past desk count
 
 -- the desk that an event names
 abbrev pub desk_of : Event → ℕ
@@ -154,34 +193,63 @@ abbrev pub cause_of : DeskError → Cause
 cause_of desk.NoMemory = cause.NoMemory
 cause_of desk.TicksSpent = cause.TicksSpent
 
+-- an event brings something to this desk
+abbrev pub ComesTo : Event → ℕ → Type 0
+ComesTo (Deliver desk bytes) number = number ≡ desk
+ComesTo (Post desk since) number = ⊥
+ComesTo (Arrive packet desk) number = number ≡ desk
+
+-- Each desk to which an event brings nothing is as it was.
+abbrev pub OthersStay : ShownWorld → Event → ShownWorld → Type 0
+OthersStay old event new = (number : ℕ) → (¬ ComesTo event number) → slice_get new.desks number ≡ slice_get old.desks number
+
 -- the world after some events, which got these replies
-pub record IsWorldAfter (old : Past) (events : List Event) (replies : List Reply) (desks : List Shown) (packets : List (List ℕ)) : Type 0 where
+pub record IsWorldAfter (old : Past) (events : List Event) (world : ShownWorld) : Type 0 where
   pub past : Past
-  pub runs : Runs old events replies past
-  pub world_is : IsWorldOf past desks packets
+  pub runs : Runs old events world.replies past
+  pub world_is : IsWorldOf past world
 
 -- one event brings a world to another: one step more of what happened, and one reply more
-pub record StepsWorld (old : Past) (event : Event) (replies more_replies : List Reply) (desks : List Shown) (packets : List (List ℕ)) : Type 0 where
+pub record StepsWorld (past : Past) (event : Event) (old new : ShownWorld) : Type 0 where
   pub reply : Reply
-  pub past : Past
-  pub step : EventStep old event reply past
-  pub replies_are : more_replies ≡ replies ++ reply ∷ []
-  pub world_is : IsWorldOf past desks packets
+  pub more : Past
+  pub step : EventStep past event reply more
+  pub replies_are : new.replies ≡ old.replies ++ reply ∷ []
+  pub world_is : IsWorldOf more new
 
--- the same, whatever happened to bring about these desks and packets
-abbrev pub Steps : List Shown → List (List ℕ) → Event → List Reply → List Reply → List Shown → List (List ℕ) → Type 0
-Steps old_desks old_packets event replies more_replies desks packets =
-    (past : Past) → IsWorldOf past old_desks old_packets → StepsWorld past event replies more_replies desks packets
+-- the same, whatever happened to bring about the first
+abbrev pub Steps : ShownWorld → Event → ShownWorld → Type 0
+Steps old event new = (past : Past) → IsWorldOf past old → StepsWorld past event old new
 
--- at the last tick an event would move a UID, whatever happened to bring about these desks and packets
-abbrev pub Spends : List Shown → List (List ℕ) → Event → Type 0
-Spends desks packets event = (past : Past) → IsWorldOf past desks packets → IsSpent past event
+-- at the last tick an event would move a UID, whatever happened to bring about this world
+abbrev pub Spends : ShownWorld → Event → Type 0
+Spends world event = (past : Past) → IsWorldOf past world → IsSpent past event
+
+-- a desk hears a batch and replies
+pub record HearsBatch (old : ShownWorld) (desk : ℕ) (batch : List Item) (new : ShownWorld) : Type 0 where
+  pub was : Shown
+  pub is : Shown
+  pub uids : List (List ℕ)
+  pub there : slice_get old.desks desk ≡ Some was
+  pub moved : AreMoved uids was.kept batch
+  pub step : (steps : List (List Item)) (start : ℕ) → IsDeskOf steps start was → IsDeskOf (steps ++ batch ∷ []) start is
+  pub desks_are : new.desks ≡ slice_set old.desks desk is
+  pub packets_are : new.packets ≡ old.packets
+  pub replies_are : new.replies ≡ old.replies ++ Taken is.tick (length uids) ∷ []
+
+-- a desk is at the last tick, and a batch would move a UID there
+pub record IsAtLastTick (world : ShownWorld) (desk : ℕ) (batch : List Item) : Type 0 where
+  pub shown : Shown
+  pub there : slice_get world.desks desk ≡ Some shown
+  pub last : shown.tick ≡ 2 ^ 64 - 1
+  pub uid : List ℕ
+  pub moves : Moves shown.kept batch uid
 
 -- a run stopped: for want of memory at its start, with no desk, or at an event that was not done
-pub data StopsAfter (old : Past) (events : List Event) (done : ℕ) (replies : List Reply) (desks : List Shown) (packets : List (List ℕ)) (why : Cause) : Type 0 where
-  at_start : done ≡ 0 → replies ≡ [] → desks ≡ [] → packets ≡ [] → why ≡ cause.NoMemory → StopsAfter old events done replies desks packets why
-  at_event : (event : Event) → slice_get events done ≡ Some event → IsWorldAfter old (take done events) replies desks packets
-      → (why ≡ cause.NoDesk) ↔ (length desks ≤ desk_of event)
-      → (why ≡ cause.NoPacket) ↔ LacksOnlyPacket (length desks) (length packets) event
-      → (why ≡ cause.TicksSpent → Spends desks packets event)
-      → StopsAfter old events done replies desks packets why
+pub data StopsAfter (old : Past) (events : List Event) (done : ℕ) (world : ShownWorld) (why : Cause) : Type 0 where
+  at_start : done ≡ 0 → world ≡ empty_world → why ≡ cause.NoMemory → StopsAfter old events done world why
+  at_event : (event : Event) → slice_get events done ≡ Some event → IsWorldAfter old (take done events) world
+      → (why ≡ cause.NoDesk) ↔ (length world.desks ≤ desk_of event)
+      → (why ≡ cause.NoPacket) ↔ LacksOnlyPacket (length world.desks) (length world.packets) event
+      → (why ≡ cause.TicksSpent → Spends world event)
+      → StopsAfter old events done world why

@@ -1,4 +1,7 @@
 //! What happens to a world, and what it answers.
+ghost use Rattle.std.specs.Prelude.{◌≡◌};
+ghost use Rattle.itip_delta.specs.Worlds.{desk_of};
+
 use itip_lines::Bytes;
 
 /// What happens to a world of desks. Desks and packets are numbered from 0.
@@ -10,6 +13,19 @@ pub enum Event {
     Post { desk: usize, since: u64 },
     /// A packet comes to a desk, for the first time or again.
     Arrive { packet: usize, desk: usize },
+}
+
+impl Event {
+    /// The desk that it names.
+    pub(crate) fn desk(&self) -> usize
+        ensures { result ≡ desk_of self.now }
+    {
+        match self {
+            Event::Deliver { desk, .. } | Event::Post { desk, .. } | Event::Arrive { desk, .. } => {
+                *desk
+            }
+        }
+    }
 }
 
 /// What a world answers to an event.

@@ -1,5 +1,5 @@
 //! A run of events.
-ghost use Rattle.std.specs.Prelude.{◌≡◌, ◌≤◌, ◌<◌, [], IfOk, IfErr, length, take};
+ghost use Rattle.std.specs.Prelude.{◌≡◌, ◌≤◌, IfOk, IfErr};
 ghost use Rattle.itip_delta.specs.Worlds.{no_past, IsWorldAfter, StopsAfter};
 
 use crate::NoMemory;
@@ -16,8 +16,8 @@ use std::alloc::Global;
 pub fn run_world(alloc: Global, desks: usize, events: &[Event]) -> Result<World, Stopped>
     requires some { 1 ≤ desks }
     requires few { desks ≤ 8 }
-    ensures world { IfOk result (λ world. IsWorldAfter (no_past desks) events.now world.replies.items world.desks.items world.packets.items) }
-    ensures stopped { IfErr result (λ stopped. StopsAfter (no_past desks) events.now stopped.done stopped.world.replies.items stopped.world.desks.items stopped.world.packets.items stopped.cause) }
+    ensures world { IfOk result (λ world. IsWorldAfter (no_past desks) events.now world) }
+    ensures stopped { IfErr result (λ stopped. StopsAfter (no_past desks) events.now stopped.done stopped.world stopped.cause) }
 {
     let mut world = match World::start(alloc, desks) {
         Ok(world) => world,

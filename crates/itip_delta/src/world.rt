@@ -1,35 +1,57 @@
 //! A world of desks.
-ghost use Rattle.std.specs.Prelude.{◌≡◌, ◌↔◌, ◌≤◌, ◌<◌, ◌++◌, ◌∷◌, [], OnOk, OnErr, IfOk, IsErrOf, length};
-ghost use Rattle.itip_desk.specs.Desk.{Shown, IsDeskOf};
-ghost use Rattle.itip_delta.specs.Worlds.{no_past, no_histories, AreDesksOf, IsWorldOf, Steps, Spends, desk_of, LacksOnlyPacket};
+ghost use Rattle.std.specs.Prelude.{◌≡◌, ◌↔◌, ◌≤◌, ◌<◌, [], OnOk, OnErr, IfOk, IsErrOf, MatchOption, length};
+ghost use Rattle.itip_delta.specs.Worlds.{past_from, no_past, empty_world, IsWorldOf, HasPast, IsEntriesOf, Steps, OthersStay, Spends, HearsBatch, IsAtLastTick, desk_of, LacksOnlyPacket};
 
 use crate::NoMemory;
 use crate::event::{Event, Reply};
 use crate::packet::Packet;
 use crate::stop::Cause;
-use itip_desk::{Batch, Desk};
+use itip_desk::{Batch, Desk, DeskError};
 use itip_message::{ReadError, read_message};
 use std::alloc::Global;
+use std::marker::Model;
 
-/// Desks that exchange nothing but what events bring, what they posted, and the replies so far.
+/// Desks that exchange nothing but what events bring, what they posted, and the replies so far. Each world was brought
+/// about by events over desks that had heard nothing.
 #[derive(Debug, Drop)]
 pub struct World {
-    pub desks: Vec<Desk>,
-    /// What the desks posted, numbered from 0.
-    pub packets: Vec<Packet>,
-    pub replies: Vec<Reply>,
+    desks: Vec<Desk>,
+    packets: Vec<Packet>,
+    replies: Vec<Reply>,
     alloc: Global,
+}
+
+impl Model for World {
+    ghost use Rattle.itip_delta.specs.Worlds.{ShownWorld, HasPast};
+
+    ghost Value = { ShownWorld };
+
+    ghost use Rattle.itip_delta.specs.WorldCode.{shown_world_code};
+
+    ghost coded = { shown_world_code };
+
+    ghost view = { λ w. record { desks = w.desks.items; packets = w.packets.items; replies = w.replies.items } };
+
+    ghost invariant = { λ w. HasPast (record { desks = w.desks.items; packets = w.packets.items; replies = w.replies.items }) };
 }
 
 impl World {
     /// A world of desks that have heard nothing, at tick 0.
     pub fn start(alloc: Global, desks: usize) -> Result<World, NoMemory>
-        ensures world { IfOk result (λ world. IsWorldOf (no_past desks) world.desks.items world.packets.items) }
-        ensures replies { IfOk result (λ world. world.replies.items ≡ []) }
+        ensures world { IfOk result (λ world. IsWorldOf (no_past desks) world) }
+        ensures replies { IfOk result (λ world. world.replies ≡ []) }
+    {
+        World::start_at(alloc, desks, 0)
+    }
+
+    /// A world of desks that have heard nothing, at this tick.
+    pub fn start_at(alloc: Global, desks: usize, tick: u64) -> Result<World, NoMemory>
+        ensures world { IfOk result (λ world. IsWorldOf (past_from desks tick) world) }
+        ensures replies { IfOk result (λ world. world.replies ≡ []) }
     {
         let mut all = Vec::new(alloc);
         for _ in 0..desks {
-            all.push(Desk::empty_at(alloc, 0))?;
+            all.push(Desk::empty_at(alloc, tick))?;
         }
         Ok(World {
             desks: all,
@@ -41,9 +63,7 @@ impl World {
 
     /// A world of no desk. It takes no memory.
     pub(crate) fn empty(alloc: Global) -> World
-        ensures desks { result.desks.items ≡ [] }
-        ensures packets { result.packets.items ≡ [] }
-        ensures replies { result.replies.items ≡ [] }
+        ensures { result ≡ empty_world }
     {
         World {
             desks: Vec::new(alloc),
@@ -53,74 +73,97 @@ impl World {
         }
     }
 
+    /// The desks, numbered from 0.
+    pub fn desks(&self) -> &[Desk]
+        ensures desks { result.now ≡ self.now.desks }
+        ensures past { HasPast self.now }
+    {
+        self.desks.as_slice()
+    }
+
+    /// What the desks posted, numbered from 0.
+    pub fn packets(&self) -> &[Packet]
+        ensures { result.now ≡ self.now.packets }
+    {
+        self.packets.as_slice()
+    }
+
+    /// The replies so far, one for each event that was done.
+    pub fn replies(&self) -> &[Reply]
+        ensures { result.now ≡ self.now.replies }
+    {
+        self.replies.as_slice()
+    }
+
+    /// The number of items that a desk keeps of all that it has heard, each counted once: `usize::MAX` where there are
+    /// more, `None` where there is no desk of this number. It takes no memory, and each UID is looked at once.
+    pub fn entries(&self, desk: usize) -> Option<usize>
+        ensures { MatchOption result (length self.now.desks ≤ desk) (λ count. IsEntriesOf self.now desk count) }
+    {
+        Some(self.desks.get(desk)?.entries())
+    }
+
     /// One event: a delivery or an arrival is heard by the desk, and a post is its delta since a tick.
     ///
     /// A refused text is a reply and moves no desk. An event is refused, and leaves the world as it was, where there is
-    /// no desk of its number (50), no packet of its number (51), for want of memory (20), or where a UID would move at the last tick (21).
+    /// no desk of its number (50), no packet of its number (51), where memory is refused (20), or where a UID would move
+    /// at the last tick (21).
     pub fn step(&mut self, event: &Event) -> Result<(), Cause>
-        ensures step { OnOk result (Steps self.old.desks.items self.old.packets.items event.now self.old.replies.items self.new.replies.items self.new.desks.items self.new.packets.items) }
-        ensures no_desk { IsErrOf result Cause.NoDesk ↔ (length self.old.desks.items ≤ desk_of event.now) }
-        ensures no_packet { IsErrOf result Cause.NoPacket ↔ LacksOnlyPacket (length self.old.desks.items) (length self.old.packets.items) event.now }
-        ensures spent { IsErrOf result Cause.TicksSpent → Spends self.old.desks.items self.old.packets.items event.now }
-        ensures err_desks { OnErr result (self.new.desks.items ≡ self.old.desks.items) }
-        ensures err_packets { OnErr result (self.new.packets.items ≡ self.old.packets.items) }
-        ensures err_replies { OnErr result (self.new.replies.items ≡ self.old.replies.items) }
+        ensures past { HasPast self.old }
+        ensures step { OnOk result (Steps self.old event.now self.new) }
+        ensures others { OnOk result (OthersStay self.old event.now self.new) }
+        ensures no_desk { IsErrOf result Cause.NoDesk ↔ (length self.old.desks ≤ desk_of event.now) }
+        ensures no_packet { IsErrOf result Cause.NoPacket ↔ LacksOnlyPacket (length self.old.desks) (length self.old.packets) event.now }
+        ensures spent { IsErrOf result Cause.TicksSpent → Spends self.old event.now }
+        ensures err { OnErr result (self.new ≡ self.old) }
     {
+        if event.desk() >= self.desks.len() {
+            return Err(Cause::NoDesk);
+        }
         match event {
-            Event::Deliver { desk, bytes } => self.deliver(*desk, bytes.as_slice()),
-            Event::Post { desk, since } => self.post(*desk, *since),
-            Event::Arrive { packet, desk } => self.arrive(*packet, *desk),
+            Event::Deliver { desk, bytes } => Ok(self.deliver(*desk, bytes.as_slice())?),
+            Event::Post { desk, since } => Ok(self.post(*desk, *since)?),
+            Event::Arrive { packet, desk } => {
+                if *packet >= self.packets.len() {
+                    return Err(Cause::NoPacket);
+                }
+                Ok(self.arrive(*packet, *desk)?)
+            }
         }
     }
 
-    fn deliver(&mut self, desk: usize, bytes: &[u8]) -> Result<(), Cause>
-        ensures step { OnOk result (Steps self.old.desks.items self.old.packets.items (Event.Deliver desk bytes.now) self.old.replies.items self.new.replies.items self.new.desks.items self.new.packets.items) }
-        ensures no_desk { IsErrOf result Cause.NoDesk ↔ (length self.old.desks.items ≤ desk) }
-        ensures no_packet { IsErrOf result Cause.NoPacket → ⊥ }
-        ensures spent { IsErrOf result Cause.TicksSpent → Spends self.old.desks.items self.old.packets.items (Event.Deliver desk bytes.now) }
-        ensures err_desks { OnErr result (self.new.desks.items ≡ self.old.desks.items) }
-        ensures err_packets { OnErr result (self.new.packets.items ≡ self.old.packets.items) }
-        ensures err_replies { OnErr result (self.new.replies.items ≡ self.old.replies.items) }
+    /// A desk that is there hears the items of a text, or nothing where the text is refused.
+    fn deliver(&mut self, desk: usize, bytes: &[u8]) -> Result<(), DeskError>
+        requires { desk < length self.old.desks }
+        ensures step { OnOk result (Steps self.old (Event.Deliver desk bytes.now) self.new) }
+        ensures others { OnOk result (OthersStay self.old (Event.Deliver desk bytes.now) self.new) }
+        ensures spent { IsErrOf result DeskError.TicksSpent → Spends self.old (Event.Deliver desk bytes.now) }
+        ensures err { OnErr result (self.new ≡ self.old) }
     {
-        if desk >= self.desks.len() {
-            return Err(Cause::NoDesk);
-        }
-        self.replies.reserve(1)?;
         let items = match read_message(self.alloc, bytes) {
             Ok(items) => items,
-            Err(ReadError::NoMemory) => return Err(Cause::NoMemory),
+            Err(ReadError::NoMemory) => return Err(DeskError::NoMemory),
             Err(ReadError::Fault(fault)) => {
                 self.replies.push(Reply::Refused(fault.number()))?;
                 return Ok(());
             }
         };
         let batch = Batch::of_items(items)?;
-        let changed = self.desks[desk].take(&batch)?;
-        self.replies.push(Reply::Taken {
-            tick: changed.tick,
-            changed: changed.uids.len(),
-        })?;
-        Ok(())
+        self.hear(desk, &batch)
     }
 
-    fn post(&mut self, desk: usize, since: u64) -> Result<(), Cause>
-        ensures step { OnOk result (Steps self.old.desks.items self.old.packets.items (Event.Post desk since) self.old.replies.items self.new.replies.items self.new.desks.items self.new.packets.items) }
-        ensures no_desk { IsErrOf result Cause.NoDesk ↔ (length self.old.desks.items ≤ desk) }
-        ensures no_packet { IsErrOf result Cause.NoPacket → ⊥ }
-        ensures spent { IsErrOf result Cause.TicksSpent → ⊥ }
-        ensures err_desks { OnErr result (self.new.desks.items ≡ self.old.desks.items) }
-        ensures err_packets { OnErr result (self.new.packets.items ≡ self.old.packets.items) }
-        ensures err_replies { OnErr result (self.new.replies.items ≡ self.old.replies.items) }
+    /// A desk that is there posts what changed there after a tick.
+    fn post(&mut self, desk: usize, since: u64) -> Result<(), NoMemory>
+        requires { desk < length self.old.desks }
+        ensures step { OnOk result (Steps self.old (Event.Post desk since) self.new) }
+        ensures others { OnOk result (OthersStay self.old (Event.Post desk since) self.new) }
+        ensures err { OnErr result (self.new ≡ self.old) }
     {
-        if desk >= self.desks.len() {
-            return Err(Cause::NoDesk);
-        }
-        self.replies.reserve(1)?;
-        self.packets.reserve(1)?;
         let batch = self.desks[desk].delta_since(since)?;
         let items = batch.as_slice().len();
         let packet = Packet::of_batch(self.alloc, &batch)?;
         let number = self.packets.len();
+        self.replies.reserve(1)?;
         self.packets.push(packet)?;
         self.replies.push(Reply::Posted {
             packet: number,
@@ -129,24 +172,28 @@ impl World {
         Ok(())
     }
 
-    fn arrive(&mut self, packet: usize, desk: usize) -> Result<(), Cause>
-        ensures step { OnOk result (Steps self.old.desks.items self.old.packets.items (Event.Arrive packet desk) self.old.replies.items self.new.replies.items self.new.desks.items self.new.packets.items) }
-        ensures no_desk { IsErrOf result Cause.NoDesk ↔ (length self.old.desks.items ≤ desk) }
-        ensures no_packet { IsErrOf result Cause.NoPacket ↔ LacksOnlyPacket (length self.old.desks.items) (length self.old.packets.items) (Event.Arrive packet desk) }
-        ensures spent { IsErrOf result Cause.TicksSpent → Spends self.old.desks.items self.old.packets.items (Event.Arrive packet desk) }
-        ensures err_desks { OnErr result (self.new.desks.items ≡ self.old.desks.items) }
-        ensures err_packets { OnErr result (self.new.packets.items ≡ self.old.packets.items) }
-        ensures err_replies { OnErr result (self.new.replies.items ≡ self.old.replies.items) }
+    /// A packet that is there comes to a desk that is there.
+    fn arrive(&mut self, packet: usize, desk: usize) -> Result<(), DeskError>
+        requires packet { packet < length self.old.packets }
+        requires desk { desk < length self.old.desks }
+        ensures step { OnOk result (Steps self.old (Event.Arrive packet desk) self.new) }
+        ensures others { OnOk result (OthersStay self.old (Event.Arrive packet desk) self.new) }
+        ensures spent { IsErrOf result DeskError.TicksSpent → Spends self.old (Event.Arrive packet desk) }
+        ensures err { OnErr result (self.new ≡ self.old) }
     {
-        if desk >= self.desks.len() {
-            return Err(Cause::NoDesk);
-        }
-        if packet >= self.packets.len() {
-            return Err(Cause::NoPacket);
-        }
-        self.replies.reserve(1)?;
         let batch = self.packets[packet].batch(self.alloc)?;
-        let changed = self.desks[desk].take(&batch)?;
+        self.hear(desk, &batch)
+    }
+
+    /// A desk that is there hears a batch, and replies.
+    fn hear(&mut self, desk: usize, batch: &Batch) -> Result<(), DeskError>
+        requires { desk < length self.old.desks }
+        ensures hears { OnOk result (HearsBatch self.old desk batch.now self.new) }
+        ensures spent { IsErrOf result DeskError.TicksSpent → IsAtLastTick self.old desk batch.now }
+        ensures err { OnErr result (self.new ≡ self.old) }
+    {
+        self.replies.reserve(1)?;
+        let changed = self.desks[desk].take(batch)?;
         self.replies.push(Reply::Taken {
             tick: changed.tick,
             changed: changed.uids.len(),

@@ -4,7 +4,6 @@ use crate::error::CallError;
 use crate::events::events;
 use crate::texts::{count, number};
 use itip_delta::{Cause, Packet, Reply, Stopped, World, run_world};
-use itip_desk::Desk;
 use std::alloc::Global;
 
 pub(crate) fn answer(
@@ -15,14 +14,14 @@ pub(crate) fn answer(
     match (word, arguments) {
         ("replies", [desks, rest @ ..]) => replies(alloc, run(alloc, count(desks)?, rest)?),
         ("desks", [desks, rest @ ..]) => {
-            shown_desks(alloc, &world(run(alloc, count(desks)?, rest)?).desks)
+            shown_desks(alloc, &world(run(alloc, count(desks)?, rest)?))
         }
         ("packets", [desks, rest @ ..]) => {
-            shown_packets(alloc, &world(run(alloc, count(desks)?, rest)?).packets)
+            shown_packets(alloc, world(run(alloc, count(desks)?, rest)?).packets())
         }
         ("packet", [place, desks, rest @ ..]) => {
             let world = world(run(alloc, count(desks)?, rest)?);
-            packet(alloc, &world.packets, count(place)?)
+            packet(alloc, world.packets(), count(place)?)
         }
         ("steps", [tick, rest @ ..]) => steps(alloc, number(tick)?, rest),
         _ => Err(CallError::NoSuchCall),
@@ -53,9 +52,9 @@ fn world(ran: Result<World, Stopped>) -> World {
 /// The replies, and where the run stopped and why.
 fn replies(alloc: Global, ran: Result<World, Stopped>) -> Result<Vec<u8>, CallError> {
     match ran {
-        Ok(world) => Ok(lines(alloc, &world.replies)?.into_bytes()),
+        Ok(world) => Ok(lines(alloc, world.replies())?.into_bytes()),
         Err(stopped) => {
-            let told = lines(alloc, &stopped.world.replies)?;
+            let told = lines(alloc, stopped.world.replies())?;
             let done = stopped.done;
             let cause = stopped.cause;
             Ok(format!(in alloc; "{told}stopped after {done}: {cause:?}\n")?.into_bytes())
@@ -84,12 +83,12 @@ fn line(alloc: Global, reply: Reply) -> Result<String, CallError> {
 }
 
 /// The tick and the number of items of each desk, and whether it keeps what the first keeps.
-fn shown_desks(alloc: Global, desks: &[Desk]) -> Result<Vec<u8>, CallError> {
-    let first = desks.first().ok_or(CallError::NoSuchCall)?;
+fn shown_desks(alloc: Global, world: &World) -> Result<Vec<u8>, CallError> {
+    let first = world.desks().first().ok_or(CallError::NoSuchCall)?;
     let mut told = String::new(alloc);
-    for desk in desks {
+    for (number, desk) in world.desks().iter().enumerate() {
         let tick = desk.tick();
-        let entries = desk.entries();
+        let entries = world.entries(number).unwrap_or(0);
         let equal = desk.state().equal(first.state());
         told.push_str(format!(in alloc;
             "tick {tick} entries {entries} equal {equal}\n"
@@ -127,15 +126,14 @@ fn packet(alloc: Global, packets: &[Packet], place: usize) -> Result<Vec<u8>, Ca
 
 /// What comes of each event at one desk that has heard nothing, at this tick; the replies, and the desk.
 fn steps(alloc: Global, tick: u64, arguments: &[Vec<u8>]) -> Result<Vec<u8>, CallError> {
-    let mut world = World::start(alloc, 0)?;
-    world.desks.push(Desk::empty_at(alloc, tick))?;
+    let mut world = World::start_at(alloc, 1, tick)?;
     let mut told = String::new(alloc);
     for event in &events(alloc, arguments)? {
         told.push_str(outcome(alloc, world.step(event))?.as_str())?;
     }
-    told.push_str(lines(alloc, &world.replies)?.as_str())?;
+    told.push_str(lines(alloc, world.replies())?.as_str())?;
     let mut told = told.into_bytes();
-    told.append(&mut shown_desks(alloc, &world.desks)?)?;
+    told.append(&mut shown_desks(alloc, &world)?)?;
     Ok(told)
 }
 

@@ -1,105 +1,36 @@
 -- The answer to one command, over a world, whatever happened before.
-use Rattle.std.proofs.Common.{◌≡◌, ℕ, zero, suc, ◌-◌, ◌^◌, ◌<◌, ◌≤◌, min, Bool, List, [], ◌∷◌, ◌++◌, length, get_or, refl, sym, ap, subst, ◌∙◌, arith, Option, Some, None, Result, Ok, Err}
-use Rattle.std.specs.Prelude.{slice_get, OnOk, IfOk}
+use Rattle.std.proofs.Common.{◌≡◌, ℕ, suc, ◌-◌, ◌≤◌, List, [], ◌∷◌, ◌++◌, length, refl, sym, ap, subst, ◌∙◌, arith, Option, Some, None}
+use Rattle.std.specs.Prelude.{slice_get}
 use Rattle.std.proofs.lemmas.List.{length-append}
 use Rattle.itip_view.specs.declared.window.Window.{Window}
-use Rattle.itip_view.specs.ListText.{IsListText}
+use Rattle.itip_view.specs.declared.row.Row.{Row}
 use Rattle.itip_view.specs.Rows.{AreTooMany}
 use Rattle.itip_view.proofs.OfKept.{rows_of_kept, too_many_of_kept}
 use Rattle.itip_report.specs.Organizing.{IsResendOf, IsNext}
 use Rattle.itip_report.specs.declared.report.Report.TheVariants as report
 use Rattle.itip_report.proofs.OfKept.{lines_of_kept, resend_of_kept, next_of_kept}
 use Rattle.itip_message.specs.declared.item.Item.{Item}
-use Rattle.itip_state.specs.Kept.{AreKept, HasEachOnce}
+use Rattle.itip_state.specs.Kept.{AreKept}
 use Rattle.itip_desk.specs.Heard.{heard}
-use Rattle.itip_desk.specs.Desk.{Shown, IsDeskOf}
-use Rattle.itip_delta.specs.Worlds.{History, Histories, AreDesksOf, Past, IsWorldOf, Spends, LacksOnlyPacket, desk_of}
+use Rattle.itip_desk.specs.Desk.{Shown}
+use Rattle.itip_delta.specs.Worlds.{Histories, AreDesksOf, Past, ShownWorld, IsWorldOf, IsEntriesOf, Spends, LacksOnlyPacket, desk_of}
 use Rattle.itip_delta.specs.Worlds as worlds
 use Rattle.itip_delta.specs.declared.event.Event.{Event}
 use Rattle.itip_delta.specs.declared.event.Reply.{Reply}
-use Rattle.itip_delta.proofs.Desks.{slice_get-get_or}
+use Rattle.itip_delta.proofs.Desks.{history_at}
 use Rattle.itip_delta.proofs.Packets.{texts_length}
-use Rattle.itip_office.specs.declared.fault.ScriptFault.{ScriptFault}
 use Rattle.itip_office.specs.declared.command.ReportName.{ReportName}
 use Rattle.itip_office.specs.declared.command.ReportName.TheVariants as name
 use Rattle.itip_office.specs.Orders.{Order, lists, counts, reports, resends, asks_next, malformed}
-use Rattle.itip_office.specs.Running.{Answer, refused, listed, counted, reported, resent, next_is, answer_text, answer_to, event_of, HasTick, is_refusal, IsReportOf, Step, Answers}
+use Rattle.itip_office.specs.Running.{Answer, refused, listed, counted, reported, resent, next_is, answer_to, event_of, HasTick, AreListed, IsReportOf, Step, Answers}
 use Rattle.itip_office.specs.Running.Happens.{is_done, at_no_desk, of_no_packet, spends_ticks}
 use Rattle.itip_office.specs.Running.Step.{happens, lists_rows, lists_too_many, lists_no_desk, counts_kept, counts_no_desk, reports_lines, reports_too_many, reports_no_desk, resends_messages, resends_no_desk, tells_next, tells_no_desk, is_refused}
 
--- the step that an answer stands for
-pub record Steps (window : Window) (old : Past) (order : Order) (answer : Answer) (desks : List Shown) (packets : List (List ℕ)) : Type 0 where
-  pub past : Past
-  pub step : Step window old order answer past
-  pub world_is : IsWorldOf past desks packets
-
--- the same, whatever happened before
-abbrev pub StepsFrom : Window → List Shown → List (List ℕ) → Order → Answer → List Shown → List (List ℕ) → Type 0
-StepsFrom window old_desks old_packets order answer desks packets = (past : Past) → IsWorldOf past old_desks old_packets → Steps window past order answer desks packets
-
-pub answered : (r : Result Bool ScriptFault) (window : Window) (order : Order) (old new : List Shown) (packets more_packets : List (List ℕ)) (output more : List ℕ) (answer : Answer)
-    → OnOk r (more ≡ output ++ answer_text answer) → IfOk r (λ b. b ≡ is_refusal answer)
-    → StepsFrom window old packets order answer new more_packets → IfOk r (Answers window order old packets new more_packets output more)
-answered (Ok b) window order old new packets more_packets output more answer text refusal steps =
-    λ past is. let s = steps past is in
-    record { answer = answer; past = s.past; step = s.step; world_is = s.world_is; output_is = text; refusal_is = refusal }
-answered (Err e) window order old new packets more_packets output more answer text refusal steps = tt
-
-pub answered_anywhere : (r : Result Bool ScriptFault) (order : Order) (old new : List Shown) (packets more_packets : List (List ℕ)) (output more : List ℕ) (answer : Answer)
-    → OnOk r (more ≡ output ++ answer_text answer) → IfOk r (λ b. b ≡ is_refusal answer)
-    → ((window : Window) → StepsFrom window old packets order answer new more_packets)
-    → IfOk r (λ refusal. (window : Window) → Answers window order old packets new more_packets output more refusal)
-answered_anywhere (Ok b) order old new packets more_packets output more answer text refusal steps =
-    λ window past is. let s = steps window past is in
-    record { answer = answer; past = s.past; step = s.step; world_is = s.world_is; output_is = text; refusal_is = refusal }
-answered_anywhere (Err e) order old new packets more_packets output more answer text refusal steps = tt
-
--- the same for each command that asks for an event, where what the step wants is known once the reply is there
-pub answered_event : (r : Result Bool ScriptFault) (event : Event) (old new : List Shown) (packets more_packets : List (List ℕ)) (output more : List ℕ) (answer : Answer) (P : Type 0)
-    → OnOk r P → OnOk r (more ≡ output ++ answer_text answer) → IfOk r (λ b. b ≡ is_refusal answer)
-    → (P → (window : Window) (order : Order) → event_of order ≡ Some event → StepsFrom window old packets order answer new more_packets)
-    → IfOk r (λ refusal. (window : Window) (order : Order) → event_of order ≡ Some event → Answers window order old packets new more_packets output more refusal)
-answered_event (Ok b) event old new packets more_packets output more answer P known text refusal steps =
-    λ window order asks past is. let s = steps known window order asks past is in
-    record { answer = answer; past = s.past; step = s.step; world_is = s.world_is; output_is = text; refusal_is = refusal }
-answered_event (Err e) event old new packets more_packets output more answer P known text refusal steps = tt
-
-pub always : {T E : Type 0} (r : Result T E) → OnOk r (Unit {0})
-always (Ok x) = tt
-always (Err e) = tt
-
--- what holds at one command that asks for an event
-pub at_order : (r : Result Bool ScriptFault) (window : Window) (order : Order) (event : Event) (old new : List Shown) (packets more_packets : List (List ℕ)) (output more : List ℕ) → event_of order ≡ Some event
-    → IfOk r (λ refusal. (window : Window) (order : Order) → event_of order ≡ Some event → Answers window order old packets new more_packets output more refusal)
-    → IfOk r (Answers window order old packets new more_packets output more)
-at_order (Ok b) window order event old new packets more_packets output more asks answers = answers window order asks
-at_order (Err e) window order event old new packets more_packets output more asks answers = tt
-
-pub same_length : (histories : Histories) (desks : List Shown) → AreDesksOf histories desks → length histories ≡ length desks
+same_length : (histories : Histories) (desks : List Shown) → AreDesksOf histories desks → length histories ≡ length desks
 same_length [] [] are = refl
 same_length [] (d ∷ ds) are = absurd are
 same_length (h ∷ hs) [] are = absurd are
 same_length (h ∷ hs) (d ∷ ds) are = ap suc (same_length hs ds are.1)
-
--- the history of a desk that is there
-pub record HistoryAt (histories : Histories) (desk : ℕ) (shown : Shown) : Type 0 where
-  pub history : History
-  pub there : slice_get histories desk ≡ Some history
-  pub is : IsDeskOf history.steps history.start shown
-
-some_shown : (a b : Shown) → Some a ≡ Some b → a ≡ b
-some_shown a b e = ap (λ (o : Option Shown). elim o [ None ↦ a | Some x ↦ x ]) e
-
-pub history_at : (histories : Histories) (desks : List Shown) (desk : ℕ) (shown : Shown) → AreDesksOf histories desks → slice_get desks desk ≡ Some shown → HistoryAt histories desk shown
-history_at histories [] desk shown are at = absurd cc
-history_at [] (d ∷ ds) desk shown are at = absurd are
-history_at (h ∷ hs) (d ∷ ds) zero shown are at = record { history = h; there = refl; is = subst (λ (s : Shown). IsDeskOf h.steps h.start s) (some_shown d shown at) are.0 }
-history_at (h ∷ hs) (d ∷ ds) (suc desk) shown are at =
-    let rest = history_at hs ds desk shown are.1 at in
-    record { history = rest.history; there = rest.there; is = rest.is }
-
-pub at_index : (desks : List Shown) (desk : ℕ) (shown : Shown) → desk < length desks → ((d : Shown) → shown ≡ get_or desks desk d) → slice_get desks desk ≡ Some shown
-at_index desks desk shown within is = slice_get-get_or desks desk shown within ∙ ap (λ (s : Shown). Some s) (sym (is shown))
 
 -- a report over what is kept is the report over all that was heard
 report_of_kept : (kept all : List Item) → AreKept kept all → (window : Window) (named : ReportName) (lines : List (List ℕ)) → IsReportOf named kept window lines → IsReportOf named all window lines
@@ -113,108 +44,88 @@ report_of_kept kept all are window name.Cancelled lines is = lines_of_kept kept 
 report_of_kept kept all are window name.Orphans lines is = lines_of_kept kept all are report.Orphans lines is
 report_of_kept kept all are window name.Refresh lines is = lines_of_kept kept all are report.Refresh lines is
 
-module _ (window : Window) (desks : List Shown) (packets : List (List ℕ)) where
-  pub steps_list : (desk : ℕ) (shown : Shown) (text : List ℕ) → slice_get desks desk ≡ Some shown
-      → ((all : List Item) → AreKept shown.kept all → IsListText all window text) → StepsFrom window desks packets (lists desk) (listed desk text) desks packets
-  steps_list desk shown text at is past world =
-      let h = history_at past.histories desks desk shown world.desks_are at in
-      record { past = past; step = lists_rows desk h.history text h.there (is (heard h.history.steps) h.is.kept); world_is = world }
+module _ (window : Window) (world : ShownWorld) where
+  -- a step after which all is as it was
+  abbrev Stays : Order → Answer → Type 0
+  Stays order answer = (past : Past) → IsWorldOf past world → Step window past order answer past
 
-  pub steps_too_many : (desk : ℕ) (shown : Shown) → slice_get desks desk ≡ Some shown
-      → ((all : List Item) → AreKept shown.kept all → AreTooMany all window) → StepsFrom window desks packets (lists desk) (refused 31) desks packets
-  steps_too_many desk shown at is past world =
-      let h = history_at past.histories desks desk shown world.desks_are at in
-      record { past = past; step = lists_too_many desk h.history h.there (is (heard h.history.steps) h.is.kept); world_is = world }
+  answers : (order : Order) (answer : Answer) → Stays order answer → Answers window order world answer world
+  answers order answer stays past is = record { more = past; step = stays past is; world_is = is }
 
-  pub steps_no_list : (desk : ℕ) → length desks ≤ desk → StepsFrom window desks packets (lists desk) (refused 50) desks packets
-  steps_no_list desk missing past world = record { past = past; step = lists_no_desk desk (omega (arith, same_length past.histories desks world.desks_are)); world_is = world }
+  pub answers_refused : Answers window malformed world (refused 60) world
+  answers_refused = answers malformed (refused 60) (λ past is. is_refused)
 
-  pub steps_count : (desk : ℕ) (shown : Shown) (entries : ℕ) → slice_get desks desk ≡ Some shown → HasEachOnce shown.kept → entries ≡ min (length shown.kept) (2 ^ 64 - 1)
-      → StepsFrom window desks packets (counts desk) (counted desk entries) desks packets
-  steps_count desk shown entries at once count past world =
-      let h = history_at past.histories desks desk shown world.desks_are at in
-      record {
-        past = past;
-        step = subst (λ (n : ℕ). Step window past (counts desk) (counted desk n) past) (sym count) (counts_kept desk h.history shown.kept h.there once h.is.kept);
-        world_is = world;
-      }
+  module _ (desk : ℕ) (missing : length world.desks ≤ desk) where
+    no_history : (past : Past) → IsWorldOf past world → length past.histories ≤ desk
+    no_history past is = omega (arith, missing, same_length past.histories world.desks is.desks_are)
 
-  pub steps_no_count : (desk : ℕ) → length desks ≤ desk → StepsFrom window desks packets (counts desk) (refused 50) desks packets
-  steps_no_count desk missing past world = record { past = past; step = counts_no_desk desk (omega (arith, same_length past.histories desks world.desks_are)); world_is = world }
+    pub answers_no_list : Answers window (lists desk) world (refused 50) world
+    answers_no_list = answers (lists desk) (refused 50) (λ past is. lists_no_desk desk (no_history past is))
 
-  pub steps_report : (desk : ℕ) (named : ReportName) (shown : Shown) (lines : List (List ℕ)) → slice_get desks desk ≡ Some shown → IsReportOf named shown.kept window lines
-      → StepsFrom window desks packets (reports desk named) (reported desk named lines) desks packets
-  steps_report desk named shown lines at is past world =
-      let h = history_at past.histories desks desk shown world.desks_are at in
-      record { past = past; step = reports_lines desk named h.history lines h.there (report_of_kept shown.kept (heard h.history.steps) h.is.kept window named lines is); world_is = world }
+    pub answers_no_count : Answers window (counts desk) world (refused 50) world
+    answers_no_count = answers (counts desk) (refused 50) (λ past is. counts_no_desk desk (no_history past is))
 
-  pub steps_no_load : (desk : ℕ) (named : ReportName) (shown : Shown) → slice_get desks desk ≡ Some shown → named ≡ name.Load → AreTooMany shown.kept window
-      → StepsFrom window desks packets (reports desk named) (refused 31) desks packets
-  steps_no_load desk named shown at load many past world =
-      let h = history_at past.histories desks desk shown world.desks_are at in
-      record {
-        past = past;
-        step = subst (λ (n : ReportName). Step window past (reports desk n) (refused 31) past) (sym load)
-            (reports_too_many desk h.history h.there (too_many_of_kept shown.kept (heard h.history.steps) h.is.kept window many));
-        world_is = world;
-      }
+    pub answers_no_report : (named : ReportName) → Answers window (reports desk named) world (refused 50) world
+    answers_no_report named = answers (reports desk named) (refused 50) (λ past is. reports_no_desk desk named (no_history past is))
 
-  pub steps_no_report : (desk : ℕ) (named : ReportName) → length desks ≤ desk → StepsFrom window desks packets (reports desk named) (refused 50) desks packets
-  steps_no_report desk named missing past world =
-      record { past = past; step = reports_no_desk desk named (omega (arith, same_length past.histories desks world.desks_are)); world_is = world }
+    pub answers_no_resend : (uid : List ℕ) → Answers window (resends desk uid) world (refused 50) world
+    answers_no_resend uid = answers (resends desk uid) (refused 50) (λ past is. resends_no_desk desk uid (no_history past is))
 
-  pub steps_resend : (desk : ℕ) (uid : List ℕ) (shown : Shown) (bytes : Option (List ℕ)) → slice_get desks desk ≡ Some shown → IsResendOf shown.kept uid bytes
-      → StepsFrom window desks packets (resends desk uid) (resent desk bytes) desks packets
-  steps_resend desk uid shown bytes at is past world =
-      let h = history_at past.histories desks desk shown world.desks_are at in
-      record { past = past; step = resends_messages desk uid h.history bytes h.there (resend_of_kept shown.kept (heard h.history.steps) h.is.kept uid bytes is); world_is = world }
+    pub answers_no_next : (uid : List ℕ) → Answers window (asks_next desk uid) world (refused 50) world
+    answers_no_next uid = answers (asks_next desk uid) (refused 50) (λ past is. tells_no_desk desk uid (no_history past is))
 
-  pub steps_no_resend : (desk : ℕ) (uid : List ℕ) → length desks ≤ desk → StepsFrom window desks packets (resends desk uid) (refused 50) desks packets
-  steps_no_resend desk uid missing past world =
-      record { past = past; step = resends_no_desk desk uid (omega (arith, same_length past.histories desks world.desks_are)); world_is = world }
+  pub answers_count : (desk entries : ℕ) → IsEntriesOf world desk entries → Answers window (counts desk) world (counted desk entries) world
+  answers_count desk entries is_entries = answers (counts desk) (counted desk entries) (λ past is. let h = is_entries past is in counts_kept desk h.history entries h.there h.counts)
 
-  pub steps_next : (desk : ℕ) (uid : List ℕ) (shown : Shown) (sequence : Option ℕ) → slice_get desks desk ≡ Some shown → IsNext shown.kept uid sequence
-      → StepsFrom window desks packets (asks_next desk uid) (next_is desk sequence) desks packets
-  steps_next desk uid shown sequence at is past world =
-      let h = history_at past.histories desks desk shown world.desks_are at in
-      record { past = past; step = tells_next desk uid h.history sequence h.there (next_of_kept shown.kept (heard h.history.steps) h.is.kept uid sequence is); world_is = world }
+  module _ (desk : ℕ) (shown : Shown) (at : slice_get world.desks desk ≡ Some shown) where
+    pub answers_list : (rows : List Row) → AreListed shown.kept window rows → Answers window (lists desk) world (listed desk rows) world
+    answers_list rows are = answers (lists desk) (listed desk rows) (λ past is.
+        let h = history_at past.histories world.desks desk shown is.desks_are at in
+        lists_rows desk h.history rows h.there (record { are_rows = rows_of_kept shown.kept (heard h.history.steps) h.is.kept window rows are.are_rows; few = are.few }))
 
-  pub steps_no_next : (desk : ℕ) (uid : List ℕ) → length desks ≤ desk → StepsFrom window desks packets (asks_next desk uid) (refused 50) desks packets
-  steps_no_next desk uid missing past world =
-      record { past = past; step = tells_no_desk desk uid (omega (arith, same_length past.histories desks world.desks_are)); world_is = world }
+    pub answers_too_many : AreTooMany shown.kept window → Answers window (lists desk) world (refused 31) world
+    answers_too_many many = answers (lists desk) (refused 31) (λ past is.
+        let h = history_at past.histories world.desks desk shown is.desks_are at in
+        lists_too_many desk h.history h.there (too_many_of_kept shown.kept (heard h.history.steps) h.is.kept window many))
 
-  pub steps_refused : StepsFrom window desks packets malformed (refused 60) desks packets
-  steps_refused past world = record { past = past; step = is_refused; world_is = world }
+    pub answers_report : (named : ReportName) (lines : List (List ℕ)) → IsReportOf named shown.kept window lines → Answers window (reports desk named) world (reported desk named lines) world
+    answers_report named lines is_report = answers (reports desk named) (reported desk named lines) (λ past is.
+        let h = history_at past.histories world.desks desk shown is.desks_are at in
+        reports_lines desk named h.history lines h.there (report_of_kept shown.kept (heard h.history.steps) h.is.kept window named lines is_report))
 
--- a world that is as it was
-still : (past : Past) (old new : List Shown) (packets more_packets : List (List ℕ)) → new ≡ old → more_packets ≡ packets → IsWorldOf past old packets → IsWorldOf past new more_packets
-still past old new packets more_packets desks same world =
-    subst (λ (ds : List Shown). IsWorldOf past ds more_packets) (sym desks) (subst (λ (ps : List (List ℕ)). IsWorldOf past old ps) (sym same) world)
+    pub answers_no_load : (named : ReportName) → named ≡ name.Load → AreTooMany shown.kept window → Answers window (reports desk named) world (refused 31) world
+    answers_no_load named load many = answers (reports desk named) (refused 31) (λ past is.
+        let h = history_at past.histories world.desks desk shown is.desks_are at in
+        subst (λ (n : ReportName). Step window past (reports desk n) (refused 31) past) (sym load)
+            (reports_too_many desk h.history h.there (too_many_of_kept shown.kept (heard h.history.steps) h.is.kept window many)))
 
-module _ (old new : List Shown) (packets more_packets : List (List ℕ)) (event : Event) (unmoved : new ≡ old) (unposted : more_packets ≡ packets)
-    (window : Window) (order : Order) (asks : event_of order ≡ Some event) where
-  pub steps_no_desk : length old ≤ desk_of event → StepsFrom window old packets order (refused 50) new more_packets
-  steps_no_desk missing past world = record {
-    past = past;
-    step = happens order event (refused 50) past asks (at_no_desk (omega (arith, same_length past.histories old world.desks_are)));
-    world_is = still past old new packets more_packets unmoved unposted world;
-  }
+    pub answers_resend : (uid : List ℕ) (bytes : Option (List ℕ)) → IsResendOf shown.kept uid bytes → Answers window (resends desk uid) world (resent desk bytes) world
+    answers_resend uid bytes is_resend = answers (resends desk uid) (resent desk bytes) (λ past is.
+        let h = history_at past.histories world.desks desk shown is.desks_are at in
+        resends_messages desk uid h.history bytes h.there (resend_of_kept shown.kept (heard h.history.steps) h.is.kept uid bytes is_resend))
 
-  pub steps_no_packet : LacksOnlyPacket (length old) (length packets) event → StepsFrom window old packets order (refused 51) new more_packets
-  steps_no_packet lacks past world = record {
-    past = past;
-    step = happens order event (refused 51) past asks (of_no_packet (
-        subst (λ (n : ℕ). LacksOnlyPacket n (length past.packets) event) (sym (same_length past.histories old world.desks_are))
-        (subst (λ (n : ℕ). LacksOnlyPacket (length old) n event) (sym (texts_length past.packets packets world.packets_are)) lacks)));
-    world_is = still past old new packets more_packets unmoved unposted world;
-  }
+    pub answers_next : (uid : List ℕ) (sequence : Option ℕ) → IsNext shown.kept uid sequence → Answers window (asks_next desk uid) world (next_is desk sequence) world
+    answers_next uid sequence is_next = answers (asks_next desk uid) (next_is desk sequence) (λ past is.
+        let h = history_at past.histories world.desks desk shown is.desks_are at in
+        tells_next desk uid h.history sequence h.there (next_of_kept shown.kept (heard h.history.steps) h.is.kept uid sequence is_next))
 
-  pub steps_spent : Spends old packets event → StepsFrom window old packets order (refused 21) new more_packets
-  steps_spent spent past world = record {
-    past = past;
-    step = happens order event (refused 21) past asks (spends_ticks (spent past world));
-    world_is = still past old new packets more_packets unmoved unposted world;
-  }
+-- ---- events
+
+module _ (old new : ShownWorld) (event : Event) (still : new ≡ old) (window : Window) (order : Order) (asks : event_of order ≡ Some event) where
+  -- an event that was not done
+  not_done : (number : ℕ) → ((past : Past) → IsWorldOf past old → Step window past order (refused number) past) → Answers window order old (refused number) new
+  not_done number step past is = record { more = past; step = step past is; world_is = subst (λ (w : ShownWorld). IsWorldOf past w) (sym still) is }
+
+  pub answers_no_desk : length old.desks ≤ desk_of event → Answers window order old (refused 50) new
+  answers_no_desk missing = not_done 50 (λ past is. happens order event (refused 50) past asks (at_no_desk (omega (arith, same_length past.histories old.desks is.desks_are))))
+
+  pub answers_no_packet : LacksOnlyPacket (length old.desks) (length old.packets) event → Answers window order old (refused 51) new
+  answers_no_packet lacks = not_done 51 (λ past is. happens order event (refused 51) past asks (of_no_packet (
+      subst (λ (n : ℕ). LacksOnlyPacket n (length past.packets) event) (sym (same_length past.histories old.desks is.desks_are))
+      (subst (λ (n : ℕ). LacksOnlyPacket (length old.desks) n event) (sym (texts_length past.packets old.packets is.packets_are)) lacks))))
+
+  pub answers_spent : Spends old event → Answers window order old (refused 21) new
+  answers_spent spent = not_done 21 (λ past is. happens order event (refused 21) past asks (spends_ticks (spent past is)))
 
 get_last : (replies : List Reply) (r : Reply) → slice_get (replies ++ r ∷ []) (length replies) ≡ Some r
 get_last [] r = refl
@@ -228,15 +139,14 @@ last_of replies r s e =
     let count : length (replies ++ r ∷ []) - 1 ≡ length replies = omega (arith, length-append replies (r ∷ [])) in
     some_reply s r (e ∙ ap (slice_get (replies ++ r ∷ [])) count ∙ get_last replies r)
 
-pub steps_event : (old new : List Shown) (packets more_packets : List (List ℕ)) (event : Event) (before more : List Reply) (reply : Reply)
-    → Some reply ≡ slice_get more (length more - 1) → worlds.Steps old packets event before more new more_packets → HasTick reply
-    → (window : Window) (order : Order) → event_of order ≡ Some event → StepsFrom window old packets order (answer_to event reply) new more_packets
-steps_event old new packets more_packets event before more reply last steps tick window order asks past world =
-    let s = steps past world in
-    let is : reply ≡ s.reply = last_of before s.reply reply (subst (λ (rs : List Reply). Some reply ≡ slice_get rs (length rs - 1)) s.replies_are last) in
+pub answers_event : (old new : ShownWorld) (event : Event) (reply : Reply) (answer : Answer) → Some reply ≡ slice_get new.replies (length new.replies - 1) → worlds.Steps old event new → HasTick reply
+    → answer ≡ answer_to event reply → (window : Window) (order : Order) → event_of order ≡ Some event → Answers window order old answer new
+answers_event old new event reply answer last steps tick is_answer window order asks past world_is =
+    let s = steps past world_is in
+    let is : reply ≡ s.reply = last_of old.replies s.reply reply (subst (λ (rs : List Reply). Some reply ≡ slice_get rs (length rs - 1)) s.replies_are last) in
     record {
-      past = s.past;
-      step = subst (λ (r : Reply). Step window past order (answer_to event r) s.past) (sym is)
-          (happens order event (answer_to event s.reply) s.past asks (is_done s.reply s.past s.step (subst HasTick is tick)));
+      more = s.more;
+      step = subst (λ (a : Answer). Step window past order a s.more) (sym (is_answer ∙ ap (answer_to event) is))
+          (happens order event (answer_to event s.reply) s.more asks (is_done s.reply s.more s.step (subst HasTick is tick)));
       world_is = s.world_is;
     }

@@ -20,9 +20,9 @@ use Rattle.itip_state.proofs.OneOrder.{less_one_way, same_ascending}
 use Rattle.itip_view.specs.declared.window.Window.{Window}
 use Rattle.itip_view.specs.declared.row.Row.{Row}
 use Rattle.itip_view.specs.Rows.{AreRows, AreTooMany}
-use Rattle.itip_view.specs.ListText.{IsListText, list_text}
+use Rattle.itip_view.specs.ListText.{list_text}
 use Rattle.itip_view.proofs.OfKept.{row_of_same}
-use Rattle.itip_view.proofs.OneList.{one_view, one_list_text, text_or_too_many}
+use Rattle.itip_view.proofs.OneList.{one_view, text_or_too_many}
 use Rattle.itip_report.specs.Load.{load_lines}
 use Rattle.itip_report.specs.Organizing.{IsResendOf, IsNext}
 use Rattle.itip_report.specs.Reports.{AreReportLines}
@@ -31,7 +31,7 @@ use Rattle.itip_report.specs.declared.report.Report.TheVariants as report
 use Rattle.itip_report.proofs.OfKept.{lines_alike, resend_alike, next_alike}
 use Rattle.itip_report.proofs.OneReport.{one_lines, one_resend, one_next}
 use Rattle.itip_desk.specs.Heard.{heard, TickStep, Ticks, MovedAfter}
-use Rattle.itip_delta.specs.Worlds.{History, with_one_more, Histories, no_histories, with_step, Past, no_past, Takes, Hears, EventStep, IsSpent, IsPacketOf, IsBatchOf, desk_of, LacksOnlyPacket}
+use Rattle.itip_delta.specs.Worlds.{History, with_one_more, Histories, with_step, Past, no_past, Takes, Hears, EventStep, CountsKept, histories_from, IsSpent, IsPacketOf, IsBatchOf, desk_of, LacksOnlyPacket}
 use Rattle.itip_delta.specs.Worlds.Hears.{reads, refuses}
 use Rattle.itip_delta.specs.Worlds.EventStep.{delivers, posts, arrives}
 use Rattle.itip_delta.specs.Worlds.IsSpent.{spends, spends_arriving}
@@ -45,7 +45,7 @@ use Rattle.itip_office.specs.declared.command.ReportName.{ReportName}
 use Rattle.itip_office.specs.declared.command.ReportName.TheVariants as name
 use Rattle.itip_office.specs.Orders.{Order}
 use Rattle.itip_office.specs.Script.{orders_of}
-use Rattle.itip_office.specs.Running.{Answer, listed, counted, reported, resent, next_is, answer_text, answer_to, event_of, is_refusal, HasTick, IsLoad, IsReportOf, Happens, Step, Runs, Writes, IsOutput}
+use Rattle.itip_office.specs.Running.{Answer, listed, counted, reported, resent, next_is, answer_text, answer_to, event_of, is_refusal, HasTick, AreListed, IsLoad, IsReportOf, Happens, Step, Runs, Writes, IsOutput}
 use Rattle.itip_office.specs.Running.Happens.{is_done, at_no_desk, of_no_packet, spends_ticks}
 use Rattle.itip_office.specs.Running.Step.{happens, lists_rows, lists_too_many, lists_no_desk, counts_kept, counts_no_desk, reports_lines, reports_too_many, reports_no_desk, resends_messages, resends_no_desk, tells_next, tells_no_desk, is_refused}
 use Rattle.itip_office.proofs.Counting.{same_count}
@@ -159,7 +159,7 @@ histories_back [] (b ∷ bs) same = absurd same
 histories_back (a ∷ as') [] same = absurd same
 histories_back (a ∷ as') (b ∷ bs) same = (history_back a b same.0, histories_back as' bs same.1)
 
-pub same_start : (desks : ℕ) → SameHistories (no_histories desks) (no_histories desks)
+pub same_start : (desks : ℕ) → SameHistories (histories_from desks 0) (histories_from desks 0)
 same_start zero = tt
 same_start (suc n) = (record { start = refl; steps = tt }, same_start n)
 
@@ -236,16 +236,11 @@ rows_same a b window rows same are = record {
   all = λ row is. are.all row (row_of_same a b (kept_iff a b same) window row is);
 }
 
-pub list_one : (a b : List Item) (window : Window) (text text' : List ℕ) → SameItems a b → IsListText a window text → IsListText b window text' → text ≡ text'
-list_one a b window text text' same is is' = one_list_text a window text text' is (record {
-  rows = is'.rows;
-  are_rows = rows_same a b window is'.rows same is'.are_rows;
-  few = is'.few;
-  text_is = is'.text_is;
-})
+pub rows_one : (a b : List Item) (window : Window) (rows rows' : List Row) → SameItems a b → AreListed a window rows → AreListed b window rows' → rows ≡ rows'
+rows_one a b window rows rows' same are are' = one_view a window rows rows' are.are_rows (rows_same a b window rows' same are'.are_rows)
 
-pub list_or_too_many : (a b : List Item) (window : Window) (text : List ℕ) → SameItems a b → IsListText a window text → AreTooMany b window → ⊥
-list_or_too_many a b window text same is many = text_or_too_many a window text is (record {
+pub rows_or_too_many : (a b : List Item) (window : Window) (rows : List Row) → SameItems a b → AreListed a window rows → AreTooMany b window → ⊥
+rows_or_too_many a b window rows same are many = text_or_too_many a window (list_text rows) (record { rows = rows; are_rows = are.are_rows; few = are.few; text_is = refl }) (record {
   some = many.some;
   ascend = many.ascend;
   each = λ row h. row_of_same b a (kept_iff b a (same_back a b same)) window row (many.each row h);
@@ -273,7 +268,7 @@ report_one a b window name.Refresh lines lines' same is is' = lines_one a b repo
 
 load_or_too_many : (a b : List Item) (window : Window) (lines : List (List ℕ)) → SameItems a b → IsLoad a window lines → AreTooMany b window → ⊥
 load_or_too_many a b window lines same is many =
-    list_or_too_many a b window (list_text is.rows) same (record { rows = is.rows; are_rows = is.are_rows; few = is.few; text_is = refl }) many
+    rows_or_too_many a b window is.rows same (record { are_rows = is.are_rows; few = is.few }) many
 
 resend_one : (a b : List Item) (uid : List ℕ) (bytes bytes' : Option (List ℕ)) → SameItems a b → IsResendOf a uid bytes → IsResendOf b uid bytes' → bytes ≡ bytes'
 resend_one a b uid bytes bytes' same is is' = one_resend a uid bytes bytes' is (resend_alike b a (kept_same a b same) uid bytes' is')
@@ -316,6 +311,10 @@ packet_one h h' since p p' same is is' item = (packet_there h h' since p p' same
 
 kept_one : (a b kept kept' : List Item) → SameItems a b → AreKept kept a → AreKept kept' b → SameItems kept kept'
 kept_one a b kept kept' same are are' item = let iff = kept_iff a b same item in (λ h. (are' item).1 (iff.0 ((are item).0 h)), λ h. (are item).1 (iff.1 ((are' item).0 h)))
+
+count_one : (a b : List Item) (count count' : ℕ) → SameItems a b → CountsKept a count → CountsKept b count' → count ≡ count'
+count_one a b count count' same is is' =
+    is.count_is ∙ ap (λ (n : ℕ). min n (2 ^ 64 - 1)) (same_count is.kept is'.kept is.once is'.once (kept_one a b is.kept is'.kept same is.are_kept is'.are_kept)) ∙ sym is'.count_is
 
 batch_one : (p p' b b' : List Item) → SameItems p p' → IsBatchOf p b → IsBatchOf p' b' → b ≡ b'
 batch_one p p' b b' same is is' = one_order b b' is.ascend is'.ascend (kept_one p p' b b' same is.kept is'.kept)
@@ -468,32 +467,32 @@ none_asked event asks = let e : true ≡ false = ap (λ (o : Option Event). elim
 pub step_one : (window : Window) (old old' : Past) (order : Order) (a a' : Answer) (new new' : Past) → SamePast old old' → ((text : List ℕ) → IsReadOnce text) → Step window old order a new → Step window old' order a' new' → (a ≡ a') × SamePast new new'
 step_one window old old' order a a' new new' same once (happens _ event _ _ asks h) (happens _ event' _ _ asks' h') =
     happens_one old old' event a a' new new' same once h (subst (λ (e : Event). Happens old' e a' new') (sym (asked_once order event event' asks asks')) h')
-step_one window old old' _ a _ new _ same once (happens _ event _ _ asks h) (lists_rows desk h' text' at' is') = absurd (none_asked event asks)
+step_one window old old' _ a _ new _ same once (happens _ event _ _ asks h) (lists_rows desk h' rows' at' is') = absurd (none_asked event asks)
 step_one window old old' _ a _ new _ same once (happens _ event _ _ asks h) (lists_too_many desk h' at' many') = absurd (none_asked event asks)
 step_one window old old' _ a _ new _ same once (happens _ event _ _ asks h) (lists_no_desk desk past') = absurd (none_asked event asks)
-step_one window old old' _ a _ new _ same once (happens _ event _ _ asks h) (counts_kept desk h' kept' at' once' are') = absurd (none_asked event asks)
+step_one window old old' _ a _ new _ same once (happens _ event _ _ asks h) (counts_kept desk h' count' at' is') = absurd (none_asked event asks)
 step_one window old old' _ a _ new _ same once (happens _ event _ _ asks h) (counts_no_desk desk past') = absurd (none_asked event asks)
-step_one window old old' _ _ a' _ new' same once (lists_rows desk h text at is) (happens _ event _ _ asks h') = absurd (none_asked event asks)
-step_one window old old' _ _ _ _ _ same once (lists_rows desk h text at is) (lists_rows _ h' text' at' is') =
-    (ap (listed desk) (list_one (heard h.steps) (heard h'.steps) window text text' (same_heard h.steps h'.steps (same_at old.histories old'.histories desk h h' same.desks at at').steps) is is'), same)
-step_one window old old' _ _ _ _ _ same once (lists_rows desk h text at is) (lists_too_many _ h' at' many) =
-    absurd (list_or_too_many (heard h.steps) (heard h'.steps) window text (same_heard h.steps h'.steps (same_at old.histories old'.histories desk h h' same.desks at at').steps) is many)
-step_one window old old' _ _ _ _ _ same once (lists_rows desk h text at is) (lists_no_desk _ past) = absurd (omega (arith, within_at old.histories desk h at, desks_same old old' same))
+step_one window old old' _ _ a' _ new' same once (lists_rows desk h rows at is) (happens _ event _ _ asks h') = absurd (none_asked event asks)
+step_one window old old' _ _ _ _ _ same once (lists_rows desk h rows at is) (lists_rows _ h' rows' at' is') =
+    (ap (listed desk) (rows_one (heard h.steps) (heard h'.steps) window rows rows' (same_heard h.steps h'.steps (same_at old.histories old'.histories desk h h' same.desks at at').steps) is is'), same)
+step_one window old old' _ _ _ _ _ same once (lists_rows desk h rows at is) (lists_too_many _ h' at' many) =
+    absurd (rows_or_too_many (heard h.steps) (heard h'.steps) window rows (same_heard h.steps h'.steps (same_at old.histories old'.histories desk h h' same.desks at at').steps) is many)
+step_one window old old' _ _ _ _ _ same once (lists_rows desk h rows at is) (lists_no_desk _ past) = absurd (omega (arith, within_at old.histories desk h at, desks_same old old' same))
 step_one window old old' _ _ a' _ new' same once (lists_too_many desk h at many) (happens _ event _ _ asks h') = absurd (none_asked event asks)
-step_one window old old' _ _ _ _ _ same once (lists_too_many desk h at many) (lists_rows _ h' text' at' is') =
-    absurd (list_or_too_many (heard h'.steps) (heard h.steps) window text' (same_back (heard h.steps) (heard h'.steps) (same_heard h.steps h'.steps (same_at old.histories old'.histories desk h h' same.desks at at').steps)) is' many)
+step_one window old old' _ _ _ _ _ same once (lists_too_many desk h at many) (lists_rows _ h' rows' at' is') =
+    absurd (rows_or_too_many (heard h'.steps) (heard h.steps) window rows' (same_back (heard h.steps) (heard h'.steps) (same_heard h.steps h'.steps (same_at old.histories old'.histories desk h h' same.desks at at').steps)) is' many)
 step_one window old old' _ _ _ _ _ same once (lists_too_many desk h at many) (lists_too_many _ h' at' many') = (refl, same)
 step_one window old old' _ _ _ _ _ same once (lists_too_many desk h at many) (lists_no_desk _ past) = absurd (omega (arith, within_at old.histories desk h at, desks_same old old' same))
 step_one window old old' _ _ a' _ new' same once (lists_no_desk desk past) (happens _ event _ _ asks h') = absurd (none_asked event asks)
-step_one window old old' _ _ _ _ _ same once (lists_no_desk desk past) (lists_rows _ h' text' at' is') = absurd (omega (arith, within_at old'.histories desk h' at', desks_same old old' same))
+step_one window old old' _ _ _ _ _ same once (lists_no_desk desk past) (lists_rows _ h' rows' at' is') = absurd (omega (arith, within_at old'.histories desk h' at', desks_same old old' same))
 step_one window old old' _ _ _ _ _ same once (lists_no_desk desk past) (lists_too_many _ h' at' many') = absurd (omega (arith, within_at old'.histories desk h' at', desks_same old old' same))
 step_one window old old' _ _ _ _ _ same once (lists_no_desk desk past) (lists_no_desk _ past') = (refl, same)
-step_one window old old' _ _ a' _ new' same once (counts_kept desk h kept at each are) (happens _ event _ _ asks h') = absurd (none_asked event asks)
-step_one window old old' _ _ _ _ _ same once (counts_kept desk h kept at each are) (counts_kept _ h' kept' at' each' are') =
-    (ap (λ (n : ℕ). counted desk (min n (2 ^ 64 - 1))) (same_count kept kept' each each' (kept_one (heard h.steps) (heard h'.steps) kept kept' (same_heard h.steps h'.steps (same_at old.histories old'.histories desk h h' same.desks at at').steps) are are')), same)
-step_one window old old' _ _ _ _ _ same once (counts_kept desk h kept at each are) (counts_no_desk _ past) = absurd (omega (arith, within_at old.histories desk h at, desks_same old old' same))
+step_one window old old' _ _ a' _ new' same once (counts_kept desk h count at is) (happens _ event _ _ asks h') = absurd (none_asked event asks)
+step_one window old old' _ _ _ _ _ same once (counts_kept desk h count at is) (counts_kept _ h' count' at' is') =
+    (ap (counted desk) (count_one (heard h.steps) (heard h'.steps) count count' (same_heard h.steps h'.steps (same_at old.histories old'.histories desk h h' same.desks at at').steps) is is'), same)
+step_one window old old' _ _ _ _ _ same once (counts_kept desk h count at is) (counts_no_desk _ past) = absurd (omega (arith, within_at old.histories desk h at, desks_same old old' same))
 step_one window old old' _ _ a' _ new' same once (counts_no_desk desk past) (happens _ event _ _ asks h') = absurd (none_asked event asks)
-step_one window old old' _ _ _ _ _ same once (counts_no_desk desk past) (counts_kept _ h' kept' at' each' are') = absurd (omega (arith, within_at old'.histories desk h' at', desks_same old old' same))
+step_one window old old' _ _ _ _ _ same once (counts_no_desk desk past) (counts_kept _ h' count' at' is') = absurd (omega (arith, within_at old'.histories desk h' at', desks_same old old' same))
 step_one window old old' _ _ _ _ _ same once (counts_no_desk desk past) (counts_no_desk _ past') = (refl, same)
 step_one window old old' _ a _ new _ same once (happens _ event _ _ asks h) (reports_lines desk named h' lines' at' is') = absurd (none_asked event asks)
 step_one window old old' _ a _ new _ same once (happens _ event _ _ asks h) (reports_too_many desk h' at' many') = absurd (none_asked event asks)

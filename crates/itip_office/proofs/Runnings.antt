@@ -10,8 +10,7 @@ use Rattle.std.proofs.lemmas.List.Folds.{list_any-append}
 use Rattle.std.proofs.lemmas.Bool.{cases_lt}
 use Rattle.std.proofs.Math.Bool.{or-false}
 use Rattle.itip_view.specs.declared.window.Window.{Window}
-use Rattle.itip_desk.specs.Desk.{Shown}
-use Rattle.itip_delta.specs.Worlds.{Past, no_past, IsWorldOf}
+use Rattle.itip_delta.specs.Worlds.{Past, no_past, ShownWorld, IsWorldOf}
 use Rattle.itip_office.specs.Orders.{Order}
 use Rattle.itip_office.specs.Replies.{refused_text}
 use Rattle.itip_office.specs.Script.{orders_of}
@@ -30,9 +29,9 @@ runs_more window old (o ∷ os) [] mid order answer new at step = absurd at
 runs_more window old (o ∷ os) (a ∷ as') mid order answer new at step = (at.0, at.1, runs_more window at.0 os as' mid order answer new at.2 step)
 
 -- before the first command
-pub starts : (window : Window) (desks : ℕ) (old : Option (List ℕ)) (orders left : List Order) (shown : List Shown) (packets : List (List ℕ)) (kept : List ℕ)
-    → IsWorldOf (no_past desks) shown packets → orders ≡ left → kept ≡ [] → RunsSoFar window desks old old orders [] left shown packets kept false
-starts window desks old orders left shown packets kept are same none = record {
+pub starts : (window : Window) (desks : ℕ) (old : Option (List ℕ)) (orders left : List Order) (world : ShownWorld) (kept : List ℕ)
+    → IsWorldOf (no_past desks) world → orders ≡ left → kept ≡ [] → RunsSoFar window desks old old orders [] left world kept false
+starts window desks old orders left world kept are same none = record {
   whole = same;
   answers = [];
   past = no_past desks;
@@ -44,8 +43,8 @@ starts window desks old orders left shown packets kept are same none = record {
   appended = Appends-nil old;
 }
 
-module _ (window : Window) (desks : ℕ) (old new : Option (List ℕ)) (orders done left : List Order) (shown : List Shown) (packets : List (List ℕ)) (kept : List ℕ) (refusal : Bool)
-    (so_far : RunsSoFar window desks old new orders done left shown packets kept refusal) where
+module _ (window : Window) (desks : ℕ) (old new : Option (List ℕ)) (orders done left : List Order) (world : ShownWorld) (kept : List ℕ) (refusal : Bool)
+    (so_far : RunsSoFar window desks old new orders done left world kept refusal) where
   writes_so_far : Writes window desks done (so_far.written ++ kept) refusal
   writes_so_far = record {
     answers = so_far.answers;
@@ -87,7 +86,7 @@ module _ (window : Window) (desks : ℕ) (old new : Option (List ℕ)) (orders d
       }
 
   -- a front of what is kept was written, and the rest is kept
-  pub moved_out : (newer : Option (List ℕ)) (rest : List ℕ) → MovesOut new newer kept rest → RunsSoFar window desks old newer orders done left shown packets rest refusal
+  pub moved_out : (newer : Option (List ℕ)) (rest : List ℕ) → MovesOut new newer kept rest → RunsSoFar window desks old newer orders done left world rest refusal
   moved_out newer rest moves = record {
     whole = so_far.whole;
     answers = so_far.answers;
@@ -101,26 +100,26 @@ module _ (window : Window) (desks : ℕ) (old new : Option (List ℕ)) (orders d
   }
 
   -- one command more
-  pub one_more : (order : Order) (others : List Order) (more : List Order) (newer_desks : List Shown) (newer_packets : List (List ℕ)) (more_kept : List ℕ) (is_refused : Bool)
-      → left ≡ order ∷ others → more ≡ done ++ order ∷ [] → Answers window order shown packets newer_desks newer_packets kept more_kept is_refused
-      → RunsSoFar window desks old new orders more others newer_desks newer_packets more_kept (refusal || is_refused)
-  one_more order others more newer_desks newer_packets more_kept is_refused cut more_is answers =
+  pub one_more : (order : Order) (others : List Order) (more : List Order) (after : ShownWorld) (answer : Answer) (more_kept : List ℕ) (is_refused : Bool)
+      → left ≡ order ∷ others → more ≡ done ++ order ∷ [] → Answers window order world answer after → more_kept ≡ kept ++ answer_text answer → is_refused ≡ is_refusal answer
+      → RunsSoFar window desks old new orders more others after more_kept (refusal || is_refused)
+  one_more order others more after answer more_kept is_refused cut more_is answers text refused =
       let one = answers so_far.past so_far.world_is in
       record {
         whole = so_far.whole ∙ ap (λ (t : List Order). done ++ t) cut ∙ sym (append_assoc done (order ∷ []) others) ∙ ap (λ (t : List Order). t ++ others) (sym more_is);
-        answers = so_far.answers ++ one.answer ∷ [];
-        past = one.past;
-        runs = subst (λ (os : List Order). Runs window (no_past desks) os (so_far.answers ++ one.answer ∷ []) one.past) (sym more_is)
-            (runs_more window (no_past desks) done so_far.answers so_far.past order one.answer one.past so_far.runs one.step);
+        answers = so_far.answers ++ answer ∷ [];
+        past = one.more;
+        runs = subst (λ (os : List Order). Runs window (no_past desks) os (so_far.answers ++ answer ∷ []) one.more) (sym more_is)
+            (runs_more window (no_past desks) done so_far.answers so_far.past order answer one.more so_far.runs one.step);
         world_is = one.world_is;
-        refusal_is = ap (λ (b : Bool). b || is_refused) so_far.refusal_is ∙ ap (λ (b : Bool). list_any is_refusal so_far.answers || b) (one.refusal_is ∙ sym (or-false (is_refusal one.answer)))
-            ∙ sym (list_any-append is_refusal so_far.answers (one.answer ∷ []));
+        refusal_is = ap (λ (b : Bool). b || is_refused) so_far.refusal_is ∙ ap (λ (b : Bool). list_any is_refusal so_far.answers || b) (refused ∙ sym (or-false (is_refusal answer)))
+            ∙ sym (list_any-append is_refusal so_far.answers (answer ∷ []));
         written = so_far.written;
-        output_is = flat_map-append answer_text so_far.answers (one.answer ∷ [])
-            ∙ ap (λ (t : List ℕ). t ++ (answer_text one.answer ++ [])) so_far.output_is
-            ∙ ap (λ (t : List ℕ). (so_far.written ++ kept) ++ t) (append-nil (answer_text one.answer))
-            ∙ append_assoc so_far.written kept (answer_text one.answer)
-            ∙ ap (λ (t : List ℕ). so_far.written ++ t) (sym one.output_is);
+        output_is = flat_map-append answer_text so_far.answers (answer ∷ [])
+            ∙ ap (λ (t : List ℕ). t ++ (answer_text answer ++ [])) so_far.output_is
+            ∙ ap (λ (t : List ℕ). (so_far.written ++ kept) ++ t) (append-nil (answer_text answer))
+            ∙ append_assoc so_far.written kept (answer_text answer)
+            ∙ ap (λ (t : List ℕ). so_far.written ++ t) (sym text);
         appended = so_far.appended;
       }
 

@@ -1,8 +1,9 @@
 -- The texts of replies (our own format). Each line ends with LF.
-use Rattle.std.specs.Prelude.{ℕ, Bool, false, ◌==◌, List, [], ◌∷◌, ◌++◌, length, count_by, codes, Option, Some, None}
+use Rattle.std.specs.Prelude.{ℕ, List, [], ◌∷◌, ◌++◌, length, codes, Option, Some, None}
 use Rattle.std.specs.Fmt.{decimal}
 use Rattle.std.specs.List.{flat_map}
-use Rattle.itip_office.specs.Lines.{lines_of}
+use Rattle.itip_view.specs.ListText.{list_text}
+use Rattle.itip_view.specs.declared.row.Row.{Row}
 use Rattle.itip_office.specs.Spelling.{name_text}
 use Rattle.itip_office.specs.declared.command.ReportName.{ReportName}
 
@@ -26,17 +27,9 @@ arrived_text packet desk tick changed =
 abbrev pub counted_text : ℕ → ℕ → List ℕ
 counted_text desk entries = codes "entries " ++ decimal desk ++ codes " " ++ decimal entries ++ 10 ∷ []
 
--- a line that begins with `T`, as the first line of each row does
-abbrev pub begins_row : List ℕ → Bool
-begins_row [] = false
-begins_row (b ∷ bytes) = b == 84
-
--- how many rows a list has
-abbrev pub rows_in : List ℕ → ℕ
-rows_in text = count_by begins_row (lines_of text)
-
-abbrev pub listed_text : ℕ → List ℕ → List ℕ
-listed_text desk text = codes "list " ++ decimal desk ++ codes " rows " ++ decimal (rows_in text) ++ 10 ∷ text
+-- the text of rows stands as it is, behind a line with their number
+abbrev pub listed_text : ℕ → List Row → List ℕ
+listed_text desk rows = codes "list " ++ decimal desk ++ codes " rows " ++ decimal (length rows) ++ 10 ∷ list_text rows
 
 -- the line before those of a report, with how many they are
 abbrev pub report_head : ℕ → ReportName → ℕ → List ℕ

@@ -1,16 +1,15 @@
 -- What a script writes, as a run of a machine over its commands, whose state is what each desk has heard (our own format).
-use Rattle.std.specs.Prelude.{◌≡◌, ℕ, ◌^◌, ◌-◌, ◌<◌, ◌≤◌, ◌⊎◌, Bool, true, false, List, [], ◌∷◌, ◌++◌, length, min, Option, Some, None, slice_get}
+use Rattle.std.specs.Prelude.{◌≡◌, ℕ, ◌^◌, ◌<◌, ◌≤◌, ◌⊎◌, Bool, true, false, List, [], ◌∷◌, ◌++◌, length, map, Option, Some, None, slice_get}
 use Rattle.std.specs.List.{flat_map, list_any}
+use Rattle.std.specs.Option.{option_map}
+use Rattle.std.specs.String.{string_bytes}
 use Rattle.std.specs.Io.KnownBytes.{Appends}
 use Rattle.itip_view.specs.declared.window.Window.{Window}
 use Rattle.itip_view.specs.Rows.{AreRows, AreTooMany, row_limit}
 use Rattle.itip_view.specs.declared.row.Row.{Row}
-use Rattle.itip_view.specs.ListText.{IsListText}
-use Rattle.itip_state.specs.Kept.{AreKept, HasEachOnce}
 use Rattle.itip_desk.specs.Heard.{heard}
-use Rattle.itip_desk.specs.Desk.{Shown}
 use Rattle.itip_message.specs.declared.item.Item.{Item}
-use Rattle.itip_delta.specs.Worlds.{History, Past, no_past, EventStep, IsSpent, IsWorldOf, desk_of, LacksOnlyPacket}
+use Rattle.itip_delta.specs.Worlds.{History, Past, no_past, EventStep, IsSpent, ShownWorld, IsWorldOf, CountsKept, desk_of, LacksOnlyPacket}
 use Rattle.itip_delta.specs.declared.event.Event.{Event}
 use Rattle.itip_delta.specs.declared.event.Event.TheVariants.{Deliver, Post, Arrive}
 use Rattle.itip_delta.specs.declared.event.Reply.{Reply}
@@ -19,6 +18,8 @@ use Rattle.itip_report.specs.Load.{load_lines}
 use Rattle.itip_report.specs.Organizing.{IsResendOf, IsNext}
 use Rattle.itip_report.specs.Reports.{AreReportLines}
 use Rattle.itip_report.specs.declared.report.Report.TheVariants as report
+use Rattle.itip_office.specs.declared.answer.Answer.{Answer as Given}
+use Rattle.itip_office.specs.declared.answer.Answer.TheVariants as given
 use Rattle.itip_office.specs.declared.command.ReportName.{ReportName}
 use Rattle.itip_office.specs.declared.command.ReportName.TheVariants as name
 use Rattle.itip_office.specs.Orders.{Order, takes, lists, posts, arrives, reports, resends, asks_next, counts, malformed}
@@ -36,8 +37,8 @@ pub data Answer : Type 0 where
   posted : ℕ → ℕ → Answer
   -- a packet arrived at a desk, its tick then, and how many UIDs changed
   arrived : ℕ → ℕ → ℕ → ℕ → Answer
-  -- the list of a desk
-  listed : ℕ → List ℕ → Answer
+  -- the rows of the list of a desk
+  listed : ℕ → List Row → Answer
   -- how many items a desk keeps
   counted : ℕ → ℕ → Answer
   -- the lines of a report of a desk
@@ -52,7 +53,7 @@ answer_text (refused number) = refused_text number
 answer_text (took desk tick changed) = taken_text desk tick changed
 answer_text (posted packet items) = posted_text packet items
 answer_text (arrived packet desk tick changed) = arrived_text packet desk tick changed
-answer_text (listed desk text) = listed_text desk text
+answer_text (listed desk rows) = listed_text desk rows
 answer_text (counted desk entries) = counted_text desk entries
 answer_text (reported desk named lines) = reported_text desk named lines
 answer_text (resent desk bytes) = resent_text desk bytes
@@ -63,11 +64,23 @@ is_refusal (refused number) = true
 is_refusal (took desk tick changed) = false
 is_refusal (posted packet items) = false
 is_refusal (arrived packet desk tick changed) = false
-is_refusal (listed desk text) = false
+is_refusal (listed desk rows) = false
 is_refusal (counted desk entries) = false
 is_refusal (reported desk named lines) = false
 is_refusal (resent desk bytes) = false
 is_refusal (next_is desk sequence) = false
+
+-- an answer of the program
+abbrev pub answer_of : Given → Answer
+answer_of (given.Refused number) = refused number
+answer_of (given.Took desk heard) = took desk heard.tick heard.changed
+answer_of (given.Posted packet items) = posted packet items
+answer_of (given.Arrived packet desk heard) = arrived packet desk heard.tick heard.changed
+answer_of (given.Listed desk rows) = listed desk rows.items
+answer_of (given.Counted desk entries) = counted desk entries
+answer_of (given.Reported desk named lines) = reported desk named (map string_bytes lines.items)
+answer_of (given.Resent desk messages) = resent desk (option_map (λ bytes. bytes.items) messages)
+answer_of (given.Next desk sequence) = next_is desk sequence
 
 -- the event that a command asks of a world
 abbrev pub event_of : Order → Option Event
@@ -99,6 +112,11 @@ HasTick (Taken tick changed) = tick < 2 ^ 64
 HasTick (Posted packet items) = Unit {0}
 HasTick (Refused number) = Unit {0}
 
+-- the rows of the window, of which there are no more than the limit
+pub record AreListed (heard : List Item) (window : Window) (rows : List Row) : Type 0 where
+  pub are_rows : AreRows heard window rows
+  pub few : length rows ≤ row_limit
+
 -- The load is that of the rows of the window, of which there are no more than the limit.
 pub record IsLoad (heard : List Item) (window : Window) (lines : List (List ℕ)) : Type 0 where
   pub rows : List Row
@@ -123,14 +141,13 @@ pub data Happens (old : Past) (event : Event) : Answer → Past → Type 0 where
 -- One command: from what happened before, its answer, and what happened then.
 pub data Step (window : Window) (old : Past) : Order → Answer → Past → Type 0 where
   happens : (order : Order) (event : Event) (answer : Answer) (new : Past) → event_of order ≡ Some event → Happens old event answer new → Step window old order answer new
-  lists_rows : (desk : ℕ) (history : History) (text : List ℕ)
-      → slice_get old.histories desk ≡ Some history → IsListText (heard history.steps) window text → Step window old (lists desk) (listed desk text) old
+  lists_rows : (desk : ℕ) (history : History) (rows : List Row)
+      → slice_get old.histories desk ≡ Some history → AreListed (heard history.steps) window rows → Step window old (lists desk) (listed desk rows) old
   lists_too_many : (desk : ℕ) (history : History)
       → slice_get old.histories desk ≡ Some history → AreTooMany (heard history.steps) window → Step window old (lists desk) (refused 31) old
   lists_no_desk : (desk : ℕ) → length old.histories ≤ desk → Step window old (lists desk) (refused 50) old
-  counts_kept : (desk : ℕ) (history : History) (kept : List Item)
-      → slice_get old.histories desk ≡ Some history → HasEachOnce kept → AreKept kept (heard history.steps)
-      → Step window old (counts desk) (counted desk (min (length kept) (2 ^ 64 - 1))) old
+  counts_kept : (desk : ℕ) (history : History) (count : ℕ)
+      → slice_get old.histories desk ≡ Some history → CountsKept (heard history.steps) count → Step window old (counts desk) (counted desk count) old
   counts_no_desk : (desk : ℕ) → length old.histories ≤ desk → Step window old (counts desk) (refused 50) old
   reports_lines : (desk : ℕ) (named : ReportName) (history : History) (lines : List (List ℕ))
       → slice_get old.histories desk ≡ Some history → IsReportOf named (heard history.steps) window lines
@@ -195,31 +212,23 @@ WritesFront window desks old new script =
     ((length script ≤ 16777216) × WritesSome window desks old new (orders_of script))
     ⊎ ((16777216 < length script) × AppendsFront old new (refused_text 61))
 
--- One command, from the world before it to that after, and the output so far.
-pub record AnswersOne (window : Window) (old : Past) (order : Order) (desks : List Shown) (packets : List (List ℕ)) (output more_output : List ℕ) (refusal : Bool) : Type 0 where
-  pub answer : Answer
-  pub past : Past
-  pub step : Step window old order answer past
-  pub world_is : IsWorldOf past desks packets
-  pub output_is : more_output ≡ output ++ answer_text answer
-  pub refusal_is : refusal ≡ is_refusal answer
+-- one command, from what happened before it to the world after it
+pub record AnswersOne (window : Window) (past : Past) (order : Order) (answer : Answer) (new : ShownWorld) : Type 0 where
+  pub more : Past
+  pub step : Step window past order answer more
+  pub world_is : IsWorldOf more new
 
--- The answer to an order, whatever happened to bring about these desks and packets.
-abbrev pub Answers : Window → Order → List Shown → List (List ℕ) → List Shown → List (List ℕ) → List ℕ → List ℕ → Bool → Type 0
-Answers window order old_desks old_packets new_desks new_packets output more_output refusal =
-    (past : Past) → IsWorldOf past old_desks old_packets → AnswersOne window past order new_desks new_packets output more_output refusal
-
--- something happened that brought about these desks and packets
-abbrev pub HaveHappened : List Shown → List (List ℕ) → Type 0
-HaveHappened desks packets = (past : Past) × IsWorldOf past desks packets
+-- the answer to an order, whatever happened to bring about the world before it
+abbrev pub Answers : Window → Order → ShownWorld → Answer → ShownWorld → Type 0
+Answers window order old answer new = (past : Past) → IsWorldOf past old → AnswersOne window past order answer new
 
 -- A run over some commands: what they write is what was written and what is kept to be written.
-pub record RunsSoFar (window : Window) (desks : ℕ) (old new : Option (List ℕ)) (orders done left : List Order) (shown : List Shown) (packets : List (List ℕ)) (kept : List ℕ) (refusal : Bool) : Type 0 where
+pub record RunsSoFar (window : Window) (desks : ℕ) (old new : Option (List ℕ)) (orders done left : List Order) (world : ShownWorld) (kept : List ℕ) (refusal : Bool) : Type 0 where
   pub whole : orders ≡ done ++ left
   pub answers : List Answer
   pub past : Past
   pub runs : Runs window (no_past desks) done answers past
-  pub world_is : IsWorldOf past shown packets
+  pub world_is : IsWorldOf past world
   pub refusal_is : refusal ≡ list_any is_refusal answers
   pub written : List ℕ
   pub output_is : flat_map answer_text answers ≡ written ++ kept

@@ -40,7 +40,10 @@ pub fn read_script<R: Read>(alloc: Global, reader: &mut R) -> Result<Option<Vec<
     Err(ScriptFault::Read)
 }
 
-fn read_some<R: Read>(reader: &mut R, buffer: &mut [u8]) -> Result<usize, ScriptFault>
+/// Reads some octets to the front of a buffer, and gives their number: 0 at the end, or where the buffer is empty.
+///
+/// A failed read is [`ScriptFault::Read`].
+pub fn read_some<R: Read>(reader: &mut R, buffer: &mut [u8]) -> Result<usize, ScriptFault>
     ensures bound { IfOk result (λ count. count ≤ length buffer.new) }
     ensures bytes { ReadConsumes (R.remaining reader.old) (R.remaining reader.new) result buffer.new }
     ensures fault { IfErr result (λ fault. fault ≡ ScriptFault.Read) }

@@ -1,134 +1,97 @@
 //! The texts of replies.
-ghost use Rattle.std.specs.Prelude.{◌≡◌, ◌++◌, ◌≤◌, length, map, OnOk};
+ghost use Rattle.std.specs.Prelude.{◌≡◌, ◌++◌, map, OnOk};
 ghost use Rattle.std.specs.List.{flat_map};
 ghost use Rattle.std.specs.Option.{option_map};
 ghost use Rattle.std.specs.String.{string_bytes};
-ghost use Rattle.itip_office.specs.Replies.{refused_text, taken_text, posted_text, arrived_text, counted_text, listed_text, rows_in, begins_row, reported_text, resent_text, next_text, ended};
+ghost use Rattle.itip_office.specs.Replies.{refused_text, taken_text, posted_text, arrived_text, counted_text, listed_text, reported_text, resent_text, next_text, ended};
+ghost use Rattle.itip_office.specs.Running.{answer_of, answer_text};
 ghost use Rattle.itip_office.specs.Spelling.{name_text};
 
+use crate::answer::{Answer, Heard};
 use crate::command::ReportName;
-use crate::line::first_line;
-use std::alloc::{AllocError, Global};
+use itip_view::{Row, write_list};
+use std::alloc::AllocError;
 
-// The numbers of refusals, beside those of messages.
-pub(crate) const TICKS_SPENT: u32 = 21;
-
-pub(crate) const TOO_MANY_ROWS: u32 = 31;
-
-pub(crate) const NO_DESK: u32 = 50;
-
-pub(crate) const NO_PACKET: u32 = 51;
-
-pub(crate) const BAD_COMMAND: u32 = 60;
-
-pub(crate) const SCRIPT_TOO_LONG: u32 = 61;
+impl Answer {
+    /// Appends the reply. After an error, for want of memory, a part of it may stand there.
+    pub(crate) fn append(self, output: &mut Vec<u8>) -> Result<(), AllocError>
+        ensures { OnOk result (output.new.items ≡ output.old.items ++ answer_text (answer_of self)) }
+    {
+        match self {
+            Answer::Refused(number) => append_refused(output, number),
+            Answer::Took { desk, heard } => append_taken(output, desk, heard),
+            Answer::Posted { packet, items } => append_posted(output, packet, items),
+            Answer::Arrived {
+                packet,
+                desk,
+                heard,
+            } => append_arrived(output, packet, desk, heard),
+            Answer::Listed { desk, rows } => append_listed(output, desk, &rows),
+            Answer::Counted { desk, entries } => append_counted(output, desk, entries),
+            Answer::Reported { desk, name, lines } => append_reported(output, desk, name, &lines),
+            Answer::Resent { desk, messages } => append_resent(output, desk, messages.as_deref()),
+            Answer::Next { desk, sequence } => append_next(output, desk, sequence),
+        }
+    }
+}
 
 /// Appends `refused N`.
-pub(crate) fn append_refused(
-    alloc: Global,
-    output: &mut Vec<u8>,
-    number: u32,
-) -> Result<(), AllocError>
+pub(crate) fn append_refused(output: &mut Vec<u8>, number: u32) -> Result<(), AllocError>
     ensures { OnOk result (output.new.items ≡ output.old.items ++ refused_text number) }
 {
-    let line = format!(in alloc; "refused {number}\n")?;
+    let line = format!(in *output.allocator(); "refused {number}\n")?;
     output.extend_from_slice(line.as_bytes())
 }
 
-/// Appends what a desk says when it has taken a message.
-pub(crate) fn append_taken(
-    alloc: Global,
-    output: &mut Vec<u8>,
-    desk: usize,
-    tick: u64,
-    changed: usize,
-) -> Result<(), AllocError>
-    ensures { OnOk result (output.new.items ≡ output.old.items ++ taken_text desk tick changed) }
+fn append_taken(output: &mut Vec<u8>, desk: usize, heard: Heard) -> Result<(), AllocError>
+    ensures { OnOk result (output.new.items ≡ output.old.items ++ taken_text desk heard.tick heard.changed) }
 {
-    let line = format!(in alloc; "take {desk} tick {tick} changed {changed}\n")?;
+    let Heard { tick, changed } = heard;
+    let line = format!(in *output.allocator(); "take {desk} tick {tick} changed {changed}\n")?;
     output.extend_from_slice(line.as_bytes())
 }
 
-/// Appends what a desk says when it has posted a packet.
-pub(crate) fn append_posted(
-    alloc: Global,
-    output: &mut Vec<u8>,
-    packet: usize,
-    items: usize,
-) -> Result<(), AllocError>
+fn append_posted(output: &mut Vec<u8>, packet: usize, items: usize) -> Result<(), AllocError>
     ensures { OnOk result (output.new.items ≡ output.old.items ++ posted_text packet items) }
 {
-    let line = format!(in alloc; "post {packet} items {items}\n")?;
+    let line = format!(in *output.allocator(); "post {packet} items {items}\n")?;
     output.extend_from_slice(line.as_bytes())
 }
 
-/// Appends what a desk says when a packet has arrived.
-pub(crate) fn append_arrived(
-    alloc: Global,
+fn append_arrived(
     output: &mut Vec<u8>,
     packet: usize,
     desk: usize,
-    tick: u64,
-    changed: usize,
+    heard: Heard,
 ) -> Result<(), AllocError>
-    ensures { OnOk result (output.new.items ≡ output.old.items ++ arrived_text packet desk tick changed) }
+    ensures { OnOk result (output.new.items ≡ output.old.items ++ arrived_text packet desk heard.tick heard.changed) }
 {
-    let line = format!(in alloc; "arrive {packet} {desk} tick {tick} changed {changed}\n")?;
+    let Heard { tick, changed } = heard;
+    let line = format!(in *output.allocator();
+        "arrive {packet} {desk} tick {tick} changed {changed}\n"
+    )?;
     output.extend_from_slice(line.as_bytes())
 }
 
-/// Appends how many items a desk keeps.
-pub(crate) fn append_counted(
-    alloc: Global,
-    output: &mut Vec<u8>,
-    desk: u64,
-    entries: usize,
-) -> Result<(), AllocError>
+fn append_counted(output: &mut Vec<u8>, desk: u64, entries: usize) -> Result<(), AllocError>
     ensures { OnOk result (output.new.items ≡ output.old.items ++ counted_text desk entries) }
 {
-    let line = format!(in alloc; "entries {desk} {entries}\n")?;
+    let line = format!(in *output.allocator(); "entries {desk} {entries}\n")?;
     output.extend_from_slice(line.as_bytes())
 }
 
 /// Appends a list, behind the line that says how many rows it has.
-pub(crate) fn append_listed(
-    alloc: Global,
-    output: &mut Vec<u8>,
-    desk: u64,
-    text: &[u8],
-) -> Result<(), AllocError>
-    ensures { OnOk result (output.new.items ≡ output.old.items ++ listed_text desk text.now) }
+fn append_listed(output: &mut Vec<u8>, desk: u64, rows: &[Row]) -> Result<(), AllocError>
+    ensures { OnOk result (output.new.items ≡ output.old.items ++ listed_text desk rows.now) }
 {
-    let rows = rows_in(text);
-    let line = format!(in alloc; "list {desk} rows {rows}\n")?;
+    let count = rows.len();
+    let line = format!(in *output.allocator(); "list {desk} rows {count}\n")?;
     output.extend_from_slice(line.as_bytes())?;
-    output.extend_from_slice(text)
-}
-
-/// How many lines of a list begin with `T`, as the first line of each row does.
-fn rows_in(text: &[u8]) -> usize
-    ensures { result ≡ rows_in text.now }
-{
-    let mut rest = text;
-    let mut rows = 0;
-    while let Some((line, after)) = first_line(rest) {
-        if begins_row(line) {
-            rows += 1;
-        }
-        rest = after;
-    }
-    rows
-}
-
-fn begins_row(line: &[u8]) -> bool
-    ensures { result ≡ begins_row line.now }
-{
-    matches!(line, [b'T', ..])
+    write_list(rows, output)
 }
 
 /// Appends the lines of a report, behind the line that says how many they are.
-pub(crate) fn append_reported(
-    alloc: Global,
+fn append_reported(
     output: &mut Vec<u8>,
     desk: u64,
     name: ReportName,
@@ -138,7 +101,7 @@ pub(crate) fn append_reported(
 {
     let named = name_text(name);
     let count = lines.len();
-    let head = format!(in alloc; "report {desk} {named} {count}\n")?;
+    let head = format!(in *output.allocator(); "report {desk} {named} {count}\n")?;
     output.extend_from_slice(head.as_bytes())?;
     append_lines(output, lines)
 }
@@ -165,14 +128,14 @@ fn name_text(name: ReportName) -> &'static str
 }
 
 /// Appends the messages that a desk sends again, behind the line that says how many octets they have, or that there are none.
-pub(crate) fn append_resent(
-    alloc: Global,
+fn append_resent(
     output: &mut Vec<u8>,
     desk: u64,
     messages: Option<&[u8]>,
 ) -> Result<(), AllocError>
     ensures { OnOk result (output.new.items ≡ output.old.items ++ resent_text desk (option_map (λ bytes. bytes.now) messages.entry)) }
 {
+    let alloc = *output.allocator();
     let Some(bytes) = messages else {
         let line = format!(in alloc; "resend {desk} none\n")?;
         return output.extend_from_slice(line.as_bytes());
@@ -184,14 +147,10 @@ pub(crate) fn append_resent(
 }
 
 /// Appends the next sequence of a UID, or that none is left.
-pub(crate) fn append_next(
-    alloc: Global,
-    output: &mut Vec<u8>,
-    desk: u64,
-    next: Option<u32>,
-) -> Result<(), AllocError>
+fn append_next(output: &mut Vec<u8>, desk: u64, next: Option<u32>) -> Result<(), AllocError>
     ensures { OnOk result (output.new.items ≡ output.old.items ++ next_text desk next) }
 {
+    let alloc = *output.allocator();
     let line = match next {
         Some(sequence) => format!(in alloc; "next {desk} {sequence}\n")?,
         None => format!(in alloc; "next {desk} none\n")?,

@@ -1,47 +1,95 @@
-//! The answers to the commands that ask a desk for reports, for messages to send again and for sequences.
+//! The answers to the commands that ask a desk for its list, for reports, for messages to send again and for sequences.
 ghost use Rattle.std.specs.Prelude.{◌≡◌, IfOk, IfErr, IsErrOf, map};
 ghost use Rattle.std.specs.Option.{option_map};
 ghost use Rattle.std.specs.String.{string_bytes};
 ghost use Rattle.itip_view.specs.Rows.{AreTooMany};
-ghost use Rattle.itip_view.specs.declared.window.Window.{Window};
 ghost use Rattle.itip_report.specs.Organizing.{IsResendOf, IsNext};
-ghost use Rattle.itip_office.specs.Orders.{reports, resends, asks_next};
-ghost use Rattle.itip_office.specs.Running.{Answers, HaveHappened, IsReportOf};
+ghost use Rattle.itip_office.specs.Orders.{lists, counts, reports, resends, asks_next};
+ghost use Rattle.itip_office.specs.Running.{Answers, answer_of, IsReportOf};
 
-use crate::answer::refuse;
+use crate::answer::{Answer, NO_DESK, TOO_MANY_ROWS};
 use crate::command::ReportName;
 use crate::fault::ScriptFault;
-use crate::reply::{NO_DESK, TOO_MANY_ROWS, append_next, append_reported, append_resent};
-use itip_delta::World;
+use crate::office::Office;
+use itip_desk::Desk;
 use itip_report::{cancelled, load_by_attendee, next_seq, orphans, refresh_wanted};
 use itip_state::State;
 use itip_todo::Uid;
 use itip_view::{ViewError, Window, rows};
 use std::alloc::{AllocError, Global};
 
-/// Answers with the lines of a report of a desk.
-pub(crate) fn report(
-    alloc: Global,
-    world: &World,
-    window: Window,
-    desk: u64,
-    name: ReportName,
-    output: &mut Vec<u8>,
-) -> Result<bool, ScriptFault>
-    requires { HaveHappened world.now.desks.items world.now.packets.items }
-    ensures answers { IfOk result (Answers window (reports desk name) world.now.desks.items world.now.packets.items world.now.desks.items world.now.packets.items output.old.items output.new.items) }
-    ensures fault { IfErr result (λ fault. fault ≡ ScriptFault.Memory) }
-{
-    let Some(asked) = world.desks.get(desk as usize) else {
-        return refuse(alloc, output, NO_DESK);
-    };
-    match report_lines(alloc, asked.state(), window, name) {
-        Ok(lines) => {
-            append_reported(alloc, output, desk, name, &lines)?;
-            Ok(false)
+impl Office {
+    ghost use Rattle.std.specs.Prelude.{◌≤◌, Some, MatchOption, length, slice_get};
+    ghost use Rattle.std.specs.Option.{option_copied};
+
+    fn desk(&self, desk: u64) -> Option<&Desk>
+        ensures { MatchOption (option_copied result) (length self.now.world.desks ≤ desk) (λ shown. slice_get self.now.world.desks desk ≡ Some shown) }
+    {
+        self.world.desks().get(desk as usize)
+    }
+
+    /// Answers with the rows of the list of a desk.
+    pub(crate) fn list(&self, desk: u64) -> Result<Answer, ScriptFault>
+        ensures answers { IfOk result (λ answer. Answers self.now.window (lists desk) self.now.world (answer_of answer) self.now.world) }
+        ensures fault { IfErr result (λ fault. fault ≡ ScriptFault.Memory) }
+    {
+        let Some(listed) = self.desk(desk) else {
+            return Ok(Answer::Refused(NO_DESK));
+        };
+        match rows(self.alloc, listed.state(), self.window) {
+            Ok(rows) => Ok(Answer::Listed { desk, rows }),
+            Err(ViewError::TooManyRows) => Ok(Answer::Refused(TOO_MANY_ROWS)),
+            Err(ViewError::NoMemory) => Err(ScriptFault::Memory),
         }
-        Err(ViewError::TooManyRows) => refuse(alloc, output, TOO_MANY_ROWS),
-        Err(ViewError::NoMemory) => Err(ScriptFault::Memory),
+    }
+
+    /// Answers with the number of items that a desk keeps.
+    pub(crate) fn entries(&self, desk: u64) -> Answer
+        ensures { Answers self.now.window (counts desk) self.now.world (answer_of result) self.now.world }
+    {
+        match self.world.entries(desk as usize) {
+            Some(entries) => Answer::Counted { desk, entries },
+            None => Answer::Refused(NO_DESK),
+        }
+    }
+
+    /// Answers with the lines of a report of a desk.
+    pub(crate) fn report(&self, desk: u64, name: ReportName) -> Result<Answer, ScriptFault>
+        ensures answers { IfOk result (λ answer. Answers self.now.window (reports desk name) self.now.world (answer_of answer) self.now.world) }
+        ensures fault { IfErr result (λ fault. fault ≡ ScriptFault.Memory) }
+    {
+        let Some(asked) = self.desk(desk) else {
+            return Ok(Answer::Refused(NO_DESK));
+        };
+        match report_lines(self.alloc, asked.state(), self.window, name) {
+            Ok(lines) => Ok(Answer::Reported { desk, name, lines }),
+            Err(ViewError::TooManyRows) => Ok(Answer::Refused(TOO_MANY_ROWS)),
+            Err(ViewError::NoMemory) => Err(ScriptFault::Memory),
+        }
+    }
+
+    /// Answers with the messages that a desk sends again of a UID.
+    pub(crate) fn resend(&self, desk: u64, uid: &[u8]) -> Result<Answer, ScriptFault>
+        ensures answers { IfOk result (λ answer. Answers self.now.window (resends desk uid.now) self.now.world (answer_of answer) self.now.world) }
+        ensures fault { IfErr result (λ fault. fault ≡ ScriptFault.Memory) }
+    {
+        let Some(asked) = self.desk(desk) else {
+            return Ok(Answer::Refused(NO_DESK));
+        };
+        let messages = messages_of(self.alloc, asked.state(), uid)?;
+        Ok(Answer::Resent { desk, messages })
+    }
+
+    /// Answers with the next sequence of a UID at a desk.
+    pub(crate) fn next(&self, desk: u64, uid: &[u8]) -> Result<Answer, ScriptFault>
+        ensures answers { IfOk result (λ answer. Answers self.now.window (asks_next desk uid.now) self.now.world (answer_of answer) self.now.world) }
+        ensures fault { IfErr result (λ fault. fault ≡ ScriptFault.Memory) }
+    {
+        let Some(asked) = self.desk(desk) else {
+            return Ok(Answer::Refused(NO_DESK));
+        };
+        let sequence = sequence_of(self.alloc, asked.state(), uid)?;
+        Ok(Answer::Next { desk, sequence })
     }
 }
 
@@ -66,26 +114,6 @@ fn report_lines(
     }
 }
 
-/// Answers with the messages that a desk sends again of a UID.
-pub(crate) fn resend(
-    alloc: Global,
-    world: &World,
-    desk: u64,
-    uid: &[u8],
-    output: &mut Vec<u8>,
-) -> Result<bool, ScriptFault>
-    requires { HaveHappened world.now.desks.items world.now.packets.items }
-    ensures answers { IfOk result (λ refusal. (window : Window) → Answers window (resends desk uid.now) world.now.desks.items world.now.packets.items world.now.desks.items world.now.packets.items output.old.items output.new.items refusal) }
-    ensures fault { IfErr result (λ fault. fault ≡ ScriptFault.Memory) }
-{
-    let Some(asked) = world.desks.get(desk as usize) else {
-        return refuse(alloc, output, NO_DESK);
-    };
-    let messages = messages_of(alloc, asked.state(), uid)?;
-    append_resent(alloc, output, desk, messages.as_deref())?;
-    Ok(false)
-}
-
 // The UID of an item is a text, so octets that are none name no to-do.
 fn messages_of(alloc: Global, state: &State, uid: &[u8]) -> Result<Option<Vec<u8>>, AllocError>
     ensures { IfOk result (λ messages. IsResendOf state.now uid.now (option_map (λ bytes. bytes.items) messages)) }
@@ -94,26 +122,6 @@ fn messages_of(alloc: Global, state: &State, uid: &[u8]) -> Result<Option<Vec<u8
         Ok(text) => itip_report::resend(alloc, state, &Uid::copy(alloc, text)?),
         Err(_) => Ok(None),
     }
-}
-
-/// Answers with the next sequence of a UID at a desk.
-pub(crate) fn next(
-    alloc: Global,
-    world: &World,
-    desk: u64,
-    uid: &[u8],
-    output: &mut Vec<u8>,
-) -> Result<bool, ScriptFault>
-    requires { HaveHappened world.now.desks.items world.now.packets.items }
-    ensures answers { IfOk result (λ refusal. (window : Window) → Answers window (asks_next desk uid.now) world.now.desks.items world.now.packets.items world.now.desks.items world.now.packets.items output.old.items output.new.items refusal) }
-    ensures fault { IfErr result (λ fault. fault ≡ ScriptFault.Memory) }
-{
-    let Some(asked) = world.desks.get(desk as usize) else {
-        return refuse(alloc, output, NO_DESK);
-    };
-    let sequence = sequence_of(alloc, asked.state(), uid)?;
-    append_next(alloc, output, desk, sequence)?;
-    Ok(false)
 }
 
 // The UID of an item is a text, so octets that are none name no to-do, and nothing was used of it.

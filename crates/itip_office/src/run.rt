@@ -1,18 +1,19 @@
 //! A script from its first command to its last.
-ghost use Rattle.std.specs.Prelude.{◌≡◌, ◌≢◌, ◌≤◌, true, IfOk, IfErr, OnOk, OnErr, IsErrOf, IfSome};
+ghost use Rattle.std.specs.Prelude.{ℕ, ◌≡◌, ◌≢◌, ◌≤◌, true, IfOk, IfErr, OnOk, OnErr, IsErrOf, IfSome};
 ghost use Rattle.std.specs.Io.KnownBytes.{Keeps, Appends};
+ghost use Rattle.itip_delta.specs.Worlds.{no_past, IsWorldOf};
 ghost use Rattle.itip_office.specs.Running.{WritesAll, WritesFront, WritesCommands, WritesSome};
 ghost use Rattle.itip_office.specs.Replies.{refused_text};
 ghost use Rattle.itip_office.specs.Script.{orders_of};
 ghost use Rattle.itip_office.specs.Written.{AppendsFront, MovesOut};
 
-use crate::answer::answer_command;
+use crate::answer::SCRIPT_TOO_LONG;
 use crate::cut::Commands;
 use crate::fault::ScriptFault;
 use crate::input::read_script;
+use crate::office::Office;
 use crate::output::write_output;
-use crate::reply::{SCRIPT_TOO_LONG, append_refused};
-use itip_delta::World;
+use crate::reply::append_refused;
 use itip_view::Window;
 use std::alloc::Global;
 use std::io::{Read, Write};
@@ -37,10 +38,11 @@ pub fn run_script<R: Read, W: Write>(
     ensures front { OnErr result (IfSome (R.remaining reader.old) (λ script. WritesFront window desks (W.contents writer.old) (W.contents writer.new) script)) }
     ensures unread { IsErrOf result ScriptFault.Read → Keeps (W.contents writer.old) (W.contents writer.new) }
 {
-    match read_script(alloc, reader)? {
-        Some(script) => run_commands(alloc, script.as_slice(), writer, desks, window),
-        None => refuse_whole(alloc, writer),
-    }
+    let Some(script) = read_script(alloc, reader)? else {
+        return refuse_whole(alloc, writer);
+    };
+    let mut office = Office::start(alloc, desks, window)?;
+    run_commands(&mut office, script.as_slice(), writer)
 }
 
 fn refuse_whole<W: Write>(alloc: Global, writer: &mut W) -> Result<bool, ScriptFault>
@@ -49,29 +51,29 @@ fn refuse_whole<W: Write>(alloc: Global, writer: &mut W) -> Result<bool, ScriptF
     ensures fault { IfErr result (λ fault. fault ≢ ScriptFault.Read) }
 {
     let mut reply = Vec::new(alloc);
-    append_refused(alloc, &mut reply, SCRIPT_TOO_LONG)?;
+    append_refused(&mut reply, SCRIPT_TOO_LONG)?;
     write_output(writer, reply.as_slice())?;
     Ok(true)
 }
 
+// Runs the commands of a script over desks that have heard nothing.
 fn run_commands<W: Write>(
-    alloc: Global,
+    office: &mut Office,
     script: &[u8],
     writer: &mut W,
-    desks: usize,
-    window: Window,
 ) -> Result<bool, ScriptFault>
-    requires some { 1 ≤ desks }
-    requires few { desks ≤ 8 }
-    ensures all { IfOk result (WritesCommands window desks (W.contents writer.old) (W.contents writer.new) (orders_of script.now)) }
-    ensures front { OnErr result (WritesSome window desks (W.contents writer.old) (W.contents writer.new) (orders_of script.now)) }
+    ensures all { IfOk result (λ refusal. (desks : ℕ) → IsWorldOf (no_past desks) office.old.world →
+        WritesCommands office.old.window desks (W.contents writer.old) (W.contents writer.new) (orders_of script.now) refusal) }
+    ensures front { OnErr result ((desks : ℕ) → IsWorldOf (no_past desks) office.old.world →
+        WritesSome office.old.window desks (W.contents writer.old) (W.contents writer.new) (orders_of script.now)) }
     ensures fault { IfErr result (λ fault. fault ≢ ScriptFault.Read) }
 {
-    let mut world = World::start(alloc, desks)?;
-    let mut replies = Vec::new(alloc);
+    let mut replies = Vec::new(office.alloc);
     let mut is_refused = false;
     for command in Commands::new(script) {
-        is_refused |= answer_command(alloc, &mut world, window, &command, &mut replies)?;
+        let answer = office.answer(&command)?;
+        is_refused |= answer.is_refusal();
+        answer.append(&mut replies)?;
         write_if_many(writer, &mut replies)?;
     }
     write_output(writer, replies.as_slice())?;

@@ -4,4 +4,4 @@ use Rattle.itip_delta.proofs.run.run_world.Given as goal
 
 -- the world after the events so far
 abbrev pub invariant-loop-done : goal.invariant-loop-done
-invariant-loop-done l = IsWorldAfter (no_past l.desks) (take l.done l.events) l.world.replies.items l.world.desks.items l.world.packets.items
+invariant-loop-done l = IsWorldAfter (no_past l.desks) (take l.done l.events) l.world

@@ -1,23 +1,35 @@
-use Rattle.std.proofs.Common.{◌≡◌, ◌++◌, ◌∷◌, [], ◌<◌, length, List, sym, ap, ◌∙◌, get_or, Some, arith}
-use Rattle.std.specs.Prelude.{slice_get}
-use Rattle.itip_message.specs.declared.item.Item.{Item}
-use Rattle.itip_desk.specs.Desk.{Shown}
+use Rattle.std.proofs.Common.{◌≡◌, ◌++◌, ◌∷◌, [], ◌<◌, length, refl, sym, ap, subst, ◌∙◌, Some, arith}
+use Rattle.itip_delta.specs.Worlds.{ShownWorld, Steps}
+use Rattle.itip_delta.specs.declared.event.Event.TheVariants.{Post}
 use Rattle.itip_delta.specs.declared.event.Reply.TheVariants.{Posted}
 use Rattle.itip_delta.proofs.Desks.{slice_get-get_or}
-use Rattle.itip_delta.proofs.Events.{steps_post}
+use Rattle.itip_delta.proofs.Events.{steps_post, past_after}
 use Rattle.itip_delta.proofs.world.World.post.Goals as goal
+use Rattle.itip_delta.proofs.world.World.post.Goals.{In_ok-push-2}
+
+abbrev old : In_ok-push-2 → ShownWorld
+old c = record { desks = c.self.inside.desks.items; packets = c.self.inside.packets.items; replies = c.self.inside.replies.items }
+
+abbrev new : In_ok-push-2 → ShownWorld
+new c = record { desks = c.self.inside.desks.items; packets = c.push.new.self.items; replies = c.push-2.new.self.items }
+
+steps : (c : In_ok-push-2) → Steps (old c) (Post c.args.desk c.args.since) (new c)
+steps c =
+    let within : c.args.desk < length (old c).desks = subst (λ (w : ShownWorld). c.args.desk < length w.desks) (sym c.self.view_is) c.requires in
+    let shown = c.index.result.now in
+    let number : c.len-number.result ≡ length (old c).packets = grind arith in
+    let count : length c.as_slice-items.result.now ≡ length c.in_ok-batch.batch = ap length c.as_slice-items.ensures.items in
+    steps_post (old c) (new c) c.args.desk c.args.since shown c.in_ok-batch.batch c.in_ok-packet.packet (slice_get-get_or (old c).desks c.args.desk shown within ∙ ap Some (sym c.index.ensures))
+    c.in_ok-batch.ensures c.in_ok-packet.ensures refl c.in_ok-push.ensures.items
+    (c.in_ok-push-2.ensures.items ∙ ap (λ front. front ++ Posted c.len-number.result (length c.as_slice-items.result.now) ∷ []) c.in_ok-reserve.ensures.items
+    ∙ ap (λ n. (old c).replies ++ Posted n (length c.as_slice-items.result.now) ∷ []) number ∙ ap (λ n. (old c).replies ++ Posted (length (old c).packets) n ∷ []) count)
 
 pub returns-clause-step : goal.returns-clause-step
 returns-clause-step c =
-    let within : c.args.desk < length c.args.self.now.desks.items = grind arith in
-    let shown : Shown = c.index.result.now in
-    let stands : shown ≡ get_or c.args.self.now.desks.items c.args.desk shown = c.index.ensures in
-    let there : slice_get c.args.self.now.desks.items c.args.desk ≡ Some shown = slice_get-get_or c.args.self.now.desks.items c.args.desk shown within ∙ ap Some (sym stands) in
-    let batch : List Item = c.in_ok-batch.batch in
-    let number : c.len-number.result ≡ length c.args.self.now.packets.items = grind arith in
-    let count : length c.as_slice-items.result.now ≡ length batch = ap length c.as_slice-items.ensures.items in
-    steps_post c.args.self.now.desks.items c.args.self.now.packets.items c.push.new.self.items c.args.desk c.args.since shown batch c.in_ok-packet.packet c.args.self.now.replies.items c.push-2.new.self.items
-    there c.in_ok-batch.ensures c.in_ok-packet.ensures
-    (c.in_ok-push.ensures.items ∙ ap (λ front. front ++ c.in_ok-packet.packet ∷ []) c.in_ok-reserve-2.ensures.items)
-    (c.in_ok-push-2.ensures.items ∙ ap (λ front. front ++ Posted c.len-number.result (length c.as_slice-items.result.now) ∷ []) c.in_ok-reserve.ensures.items
-    ∙ ap (λ n. c.args.self.now.replies.items ++ Posted n (length c.as_slice-items.result.now) ∷ []) number ∙ ap (λ n. c.args.self.now.replies.items ++ Posted (length c.args.self.now.packets.items) n ∷ []) count)
+    let done = (goal.at.returns-clause-step c).In_ok-push-2 in
+    subst (λ (w : ShownWorld). Steps w (Post c.args.desk c.args.since) (new done)) c.self.view_is (steps done)
+
+pub invariant_of-self-2 : goal.invariant_of-self-2
+invariant_of-self-2 c =
+    let done = (goal.at.invariant_of-self-2 c).In_ok-push-2 in
+    past_after (old done) (Post c.args.desk c.args.since) (new done) c.self.invariant (steps done)

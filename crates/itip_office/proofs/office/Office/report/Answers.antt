@@ -1,0 +1,24 @@
+use Rattle.std.proofs.Common.{Err, List, map, subst, ap}
+use Rattle.std.specs.String.{string_bytes}
+use Rattle.itip_message.specs.declared.item.Item.{Item}
+use Rattle.itip_view.specs.Rows.{AreTooMany}
+use Rattle.itip_office.specs.Running.{IsReportOf}
+use Rattle.itip_office.proofs.Answering.{answers_report, answers_no_load, answers_no_report}
+use Rattle.itip_office.proofs.office.Office.report.Goals as goal
+
+pub returns-in_default-clause-answers : goal.returns-in_default-clause-answers
+returns-in_default-clause-answers c = answers_no_report c.args.self.now.window c.args.self.now.world c.args.desk c.in_default.ensures c.args.name
+
+pub returns-in-Ok-clause-answers : goal.returns-in-Ok-clause-answers
+returns-in-Ok-clause-answers c =
+    let office = c.args.self.now in
+    let lines = map string_bytes c.in-Ok.lines.items in
+    answers_report office.window office.world c.args.desk c.in-Some.asked.now c.in-Some.ensures c.args.name lines
+    (subst (λ (items : List Item). IsReportOf c.args.name items office.window lines) c.state.ensures c.in-Ok.ensures.lines)
+
+pub returns-in-Err-TooManyRows-clause-answers : goal.returns-in-Err-TooManyRows-clause-answers
+returns-in-Err-TooManyRows-clause-answers c =
+    let office = c.args.self.now in
+    let over = ap (λ e. Err e) c.in-Err-TooManyRows.field-0-is in
+    answers_no_load office.window office.world c.args.desk c.in-Some.asked.now c.in-Some.ensures c.args.name (c.in-Err-TooManyRows.ensures.load over)
+    (subst (λ (items : List Item). AreTooMany items office.window) c.state.ensures (c.in-Err-TooManyRows.ensures.many over))
