@@ -3,11 +3,6 @@ use Rattle.std.proofs.Common.{◌≡◌, ℕ, List, [], ◌∷◌, ◌++◌}
 use Rattle.std.proofs.Math.Logic.{∥∥₁_map}
 use Rattle.itip_message.specs.KeyParts.{uid_of}
 use Rattle.itip_message.specs.declared.item.Item.{Item}
-use Rattle.itip_state.specs.Kept.{AreKept}
-use Rattle.itip_view.specs.ListText.{IsListText}
-use Rattle.itip_view.specs.Rows.{AreTooMany}
-use Rattle.itip_view.specs.declared.window.Window.{Window}
-use Rattle.itip_desk.specs.Heard.{heard}
 use Rattle.itip_desk.specs.Desk.{Shown, IsDeskOf, IsDeltaOf}
 use Rattle.itip_live.specs.Deltas.{IsDeltaAfter}
 
@@ -16,17 +11,9 @@ pub stepped : (steps : List (List Item)) (old new : Shown) (batch : List Item) �
     → ∥ IsDeskOf steps 0 old ∥₁ → ∥ IsDeskOf (steps ++ batch ∷ []) 0 new ∥₁
 stepped steps old new batch step is = ∥∥₁_map is (step steps 0)
 
--- its list is that of everything heard
-pub listed : (steps : List (List Item)) (desk : Shown) (window : Window) (text : List ℕ) → ((all : List Item) → AreKept desk.kept all → IsListText all window text)
-    → ∥ IsDeskOf steps 0 desk ∥₁ → ∥ IsListText (heard steps) window text ∥₁
-listed steps desk window text lists is = ∥∥₁_map is (λ d. lists (heard steps) d.kept)
-
-pub too_many : (steps : List (List Item)) (desk : Shown) (window : Window) → ((all : List Item) → AreKept desk.kept all → AreTooMany all window) → ∥ IsDeskOf steps 0 desk ∥₁ → ∥ AreTooMany (heard steps) window ∥₁
-too_many steps desk window many is = ∥∥₁_map is (λ d. many (heard steps) d.kept)
-
--- its delta has what is kept of the UIDs that moved since
-delta_of : (steps : List (List Item)) (desk : Shown) (since : ℕ) (batch : List Item) → IsDeltaOf desk since batch → IsDeskOf steps 0 desk → IsDeltaAfter steps since batch
-delta_of steps desk since batch delta is = record {
+-- what a desk tells since a tick is what is kept of the UIDs that moved after it
+pub delta_after : (steps : List (List Item)) (desk : Shown) (since : ℕ) (batch : List Item) → IsDeltaOf desk since batch → IsDeskOf steps 0 desk → IsDeltaAfter steps since batch
+delta_after steps desk since batch delta is = record {
   ascend = delta.ascend;
   same = λ item.
       let s = delta.same item in
@@ -34,6 +21,3 @@ delta_of steps desk since batch delta is = record {
       let c = is.changed since (uid_of item.key) in
       (λ h. (k.0 (s.0 h).0, c.0 (s.0 h).1), λ h. s.1 (k.1 h.0, c.1 h.1));
 }
-
-pub delta_after : (steps : List (List Item)) (desk : Shown) (since : ℕ) (batch : List Item) → IsDeltaOf desk since batch → ∥ IsDeskOf steps 0 desk ∥₁ → ∥ IsDeltaAfter steps since batch ∥₁
-delta_after steps desk since batch delta is = ∥∥₁_map is (delta_of steps desk since batch delta)

@@ -2,7 +2,6 @@
 ghost use Rattle.std.specs.Prelude.{◌≡◌};
 ghost use Rattle.itip_live.specs.declared.error.LiveError.TheVariants as live;
 ghost use Rattle.itip_live.specs.declared.error.PassError.TheVariants as pass;
-ghost use Rattle.itip_live.specs.Refusals.{of_view};
 
 use itip_view::ViewError;
 use std::alloc::AllocError;
@@ -56,6 +55,8 @@ impl From<AllocError> for PassError {
 }
 
 impl From<ViewError> for PassError {
+    ghost use Rattle.itip_live.specs.Refusals.{of_view};
+
     ghost from_gives = { λ fault e. e ≡ of_view fault };
 
     fn from(fault: ViewError) -> PassError {

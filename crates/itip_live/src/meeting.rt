@@ -46,7 +46,7 @@ fn counts(alloc: Global, front: &Front, passes: &[Pass]) -> Result<Vec<u64>, Liv
 /// pass has seen more batches than were published, which no run of one pair meets (41); keeper and passes are spent then too.
 pub fn meet<R: Wait>(rt: &R, keeper: Keeper, passes: Vec<Pass>) -> Result<Met, LiveError>
     requires pair { All (λ p. pass_pair p ≡ keeper_pair keeper) passes.items }
-    ensures desk { IfOk result (λ m. ∥ IsDeskOf (published keeper) 0 m.desk ∥₁) }
+    ensures desk { IfOk result (λ m. IsDeskOf (published keeper) 0 m.desk) }
     ensures published { IfOk result (λ m. m.published ≡ length (published keeper)) }
     ensures counts { IfOk result (λ m. m.seen.items ≡ map (λ p. length (seen p)) passes.items) }
     ensures within { IfOk result (λ m. All (λ p. IsPrefix (seen p) (published keeper)) passes.items) }

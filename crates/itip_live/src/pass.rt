@@ -27,8 +27,8 @@ impl Pass {
     ///
     /// Refused where more than 100,000 rows stand there (31), for want of memory (32), or where the pair lets nobody in (45): then nothing more is seen.
     pub fn list(&mut self, window: Window) -> Result<Vec<u8>, PassError>
-        ensures text { IfOk result (λ text. ∥ IsListText (heard (seen self.new)) window text.items ∥₁) }
-        ensures many { IsErrOf result PassError.TooManyRows → ∥ AreTooMany (heard (seen self.new)) window ∥₁ }
+        ensures text { IfOk result (λ text. IsListText (heard (seen self.new)) window text.items) }
+        ensures many { IsErrOf result PassError.TooManyRows → AreTooMany (heard (seen self.new)) window }
         ensures grows { IsPrefix (seen self.old) (seen self.new) }
         ensures no_entry { IsErrOf result PassError.NoEntry → seen self.new ≡ seen self.old }
         ensures pair { pass_pair self.new ≡ pass_pair self.old }
@@ -43,7 +43,7 @@ impl Pass {
     ///
     /// Refused for want of memory (40), or where the pair lets nobody in (45): then nothing more is seen.
     pub fn delta_since(&mut self, tick: u64) -> Result<Batch, PassError>
-        ensures delta { IfOk result (λ batch. ∥ IsDeltaAfter (seen self.new) tick batch ∥₁) }
+        ensures delta { IfOk result (λ batch. IsDeltaAfter (seen self.new) tick batch) }
         ensures grows { IsPrefix (seen self.old) (seen self.new) }
         ensures no_entry { IsErrOf result PassError.NoEntry → seen self.new ≡ seen self.old }
         ensures pair { pass_pair self.new ≡ pass_pair self.old }

@@ -57,8 +57,8 @@ impl ReadEnd {
 
     /// The text of the task list in a window.
     pub(crate) fn list(self, window: Window) -> (ReadEnd, Result<Vec<u8>, PassError>)
-        ensures text { IfOk result.1 (λ text. ∥ IsListText (heard result.0.front.seen.log) window text.items ∥₁) }
-        ensures many { IsErrOf result.1 PassError.TooManyRows → ∥ AreTooMany (heard result.0.front.seen.log) window ∥₁ }
+        ensures text { IfOk result.1 (λ text. IsListText (heard result.0.front.seen.log) window text.items) }
+        ensures many { IsErrOf result.1 PassError.TooManyRows → AreTooMany (heard result.0.front.seen.log) window }
         ensures grows { IsPrefix self.front.seen.log result.0.front.seen.log }
         ensures no_entry { IsErrOf result.1 PassError.NoEntry → result.0.front.seen.log ≡ self.front.seen.log }
         ensures book { result.0.front.seen.book ≡ self.front.seen.book }
@@ -78,7 +78,7 @@ impl ReadEnd {
 
     /// The kept items of the UIDs that moved after this tick.
     pub(crate) fn delta_since(self, tick: u64) -> (ReadEnd, Result<Batch, PassError>)
-        ensures delta { IfOk result.1 (λ batch. ∥ IsDeltaAfter result.0.front.seen.log tick batch ∥₁) }
+        ensures delta { IfOk result.1 (λ batch. IsDeltaAfter result.0.front.seen.log tick batch) }
         ensures grows { IsPrefix self.front.seen.log result.0.front.seen.log }
         ensures no_entry { IsErrOf result.1 PassError.NoEntry → result.0.front.seen.log ≡ self.front.seen.log }
         ensures book { result.0.front.seen.book ≡ self.front.seen.book }
@@ -113,7 +113,7 @@ impl ReadEnd {
 impl Look {
     /// The published desk.
     fn desk(&self) -> &Desk
-        ensures { ∥ IsDeskOf self.now.front.seen.log 0 result.now ∥₁ }
+        ensures { IsDeskOf self.now.front.seen.log 0 result.now }
     {
         &self.reading.get().desk
     }
