@@ -1,9 +1,13 @@
 -- What the desk of a history shows.
-use Rattle.std.proofs.Common.{◌≡◌, ℕ, List, [], ◌∷◌, ◌++◌}
+use Rattle.std.proofs.Common.{◌≡◌, ℕ, List, [], ◌∷◌, ◌++◌, refl}
 use Rattle.std.proofs.Math.Logic.{∥∥₁_map}
 use Rattle.itip_message.specs.KeyParts.{uid_of}
 use Rattle.itip_message.specs.declared.item.Item.{Item}
+use Rattle.itip_view.specs.declared.error.ViewError.{ViewError}
+use Rattle.itip_view.specs.declared.error.ViewError.TheVariants as view
 use Rattle.itip_desk.specs.Desk.{Shown, IsDeskOf, IsDeltaOf}
+use Rattle.itip_live.specs.Refusals.{of_view}
+use Rattle.itip_live.specs.declared.error.PassError.TheVariants as pass
 use Rattle.itip_live.specs.Deltas.{IsDeltaAfter}
 
 -- a desk that takes a batch is the desk of one batch more
@@ -21,3 +25,8 @@ delta_after steps desk since batch delta is = record {
       let c = is.changed since (uid_of item.key) in
       (λ h. (k.0 (s.0 h).0, c.0 (s.0 h).1), λ h. s.1 (k.1 h.0, c.1 h.1));
 }
+
+-- a pass refuses a list for its length where the desk did
+pub too_many_rows : (fault : ViewError) → of_view fault ≡ pass.TooManyRows → fault ≡ view.TooManyRows
+too_many_rows view.TooManyRows e = refl
+too_many_rows view.NoMemory e = absurd (cc e)

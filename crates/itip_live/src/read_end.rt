@@ -8,6 +8,9 @@ ghost use Rattle.itip_view.specs.ListText.{IsListText};
 ghost use Rattle.itip_view.specs.Rows.{AreTooMany};
 ghost use Rattle.itip_live.specs.Deltas.{IsDeltaAfter};
 ghost use Rattle.itip_live.specs.Pair.{name_of};
+ghost use base.Stored.{Coded-set};
+ghost use Rattle.std.specs.Coded.{coded_list};
+ghost use Rattle.itip_message.specs.contracts.item.Item as item;
 
 use crate::error::PassError;
 use crate::front::Front;
@@ -29,7 +32,7 @@ pub(crate) struct Look {
     reading: PublishedReading,
     front: Front,
     ghost tied: { view reading.place ≡ name_of front.seen.book },
-    ghost whole: { reading.part.value.history ≡ front.seen.log },
+    ghost whole: { reading.part.value.history ≡ front.seen.log } by { Coded-set (coded_list (coded_list item.the_row.coded)) _ _ },
 }
 
 impl ReadEnd {
