@@ -26,8 +26,9 @@ pub(crate) fn beside<R: AllocGlobal + Threads + Wait + Sync>(
     let right = publish_beside(rt, &mut keeper, passes, &lists, window);
     let published = meet(rt, keeper, Vec::new(alloc))?.published;
     let right = right?;
-    Ok(format!(in alloc; "published {published}, passes that saw beginnings, and then all: {right}")?
-        .into_bytes())
+    Ok(format!(in alloc;
+        "published {published}, passes that saw beginnings, and then all: {right}"
+    )?.into_bytes())
 }
 
 /// How many passes saw what they had to.
@@ -71,9 +72,12 @@ fn publish_all<R: AllocGlobal + Wait>(
 }
 
 fn watch_all<R: Threads + Sync>(rt: &R, watches: &mut [Watch], lists: &[Vec<u8>], window: Window) {
-    thread::for_each_mut(rt, watches, PASSES, &|_, watch| {
-        watch.look_on(lists, window)
-    });
+    thread::for_each_mut(
+        rt,
+        watches,
+        PASSES,
+        &|_, watch| { watch.look_on(lists, window) },
+    );
 }
 
 fn count_right(watches: &mut [Watch], lists: &[Vec<u8>], window: Window) -> usize {

@@ -189,9 +189,9 @@ fn add_met(alloc: Global, met: &Met, told: &mut String) -> Result<(), CallError>
     let published = met.published;
     let tick = met.desk.tick();
     let entries = met.desk.entries();
-    told.push_str(
-        format!(in alloc; "published {published} tick {tick} entries {entries} seen")?.as_str(),
-    )?;
+    told.push_str(format!(in alloc;
+        "published {published} tick {tick} entries {entries} seen"
+    )?.as_str())?;
     for seen in &met.seen {
         told.push_str(format!(in alloc; " {seen}")?.as_str())?;
     }
