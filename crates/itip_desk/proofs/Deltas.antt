@@ -55,7 +55,7 @@ unmoved before tick (step ∷ more) last since uid (next, one, rest) low not = �
     here = keep_same_stable uid before (before ++ step) (λ moves. not (next, one, inl (moves, above one moves)))
 
 -- whether a UID carries a tick above another
-carries : (changed : List (List ℕ × ℕ)) (since : ℕ) (uid : List ℕ) → CarriesAfter changed since uid ⊎ (¬ CarriesAfter changed since uid)
+pub carries : (changed : List (List ℕ × ℕ)) (since : ℕ) (uid : List ℕ) → CarriesAfter changed since uid ⊎ (¬ CarriesAfter changed since uid)
 carries changed since uid = at (value_at (slice_cmp nat_cmp) changed uid) refl
   where
     some_same : (t u : ℕ) → Some t ≡ Some u → t ≡ u

@@ -15,7 +15,7 @@ use Rattle.itip_state.proofs.KeptOnes.{kept_from_test, test_from_kept}
 told_items : (i j : Item) → Told i j
 told_items i j = elim (told_bytes i.bytes j.bytes) [ inl same ↦ inl (same_item i j same) | inr other ↦ inr (λ e. other (ap (λ (k : Item). k.bytes) e)) ]
 
-told_in : (xs : List Item) (i : Item) → Contains xs i ⊎ (¬ Contains xs i)
+pub told_in : (xs : List Item) (i : Item) → Contains xs i ⊎ (¬ Contains xs i)
 told_in [] i = inr (none_in i)
 told_in (x ∷ xs) i = elim (told_items x i) [
   | inl same ↦ inl (subst (Contains (x ∷ xs)) same (cons_first x xs))

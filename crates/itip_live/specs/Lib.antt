@@ -1,0 +1,9 @@
+pub use Rattle.itip_desk.specs.Heard
+pub use Rattle.itip_desk.specs.Desk
+pub use Rattle.itip_view.specs.Rows
+pub use Rattle.itip_view.specs.ListText
+pub mod Refusals
+pub mod Deltas
+pub mod History
+pub mod Pair
+pub mod Ends

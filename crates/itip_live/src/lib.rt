@@ -1,0 +1,28 @@
+//! Running desks: one keeper merges batches into a desk while passes read it, each on a thread of its own, with no lock.
+//!
+//! A keeper submits batches and publishes them, all that are pending at once. A pass lists the desk as it was published last, and never goes back. A
+//! receipt tells a pass what was published when it was given. `meet` ends it all, once the threads have returned. There are two copies of the desk: passes
+//! read one while the keeper merges into the other, and publishing exchanges them (`left_right`). What was published, in order, is a history that exists in
+//! the proofs alone (`logbook`).
+#![tactic(auto)]
+
+mod error;
+mod front;
+mod history;
+mod keeper;
+mod law;
+mod meeting;
+mod pass;
+mod published;
+mod read_end;
+mod receipt;
+mod rule;
+mod start;
+mod write_end;
+
+pub use error::{LiveError, PassError};
+pub use keeper::Keeper;
+pub use meeting::{Met, meet};
+pub use pass::Pass;
+pub use receipt::Receipt;
+pub use start::start_desk;

@@ -1,0 +1,132 @@
+//! A reader's end of the pair, by value.
+ghost use Rattle.std.specs.Prelude.{◌≡◌, ◌⊎◌, MatchResult, IfOk, IsErrOf};
+ghost use mathlib.Core.List.{IsPrefix};
+ghost use Rattle.left_right.specs.Sides.{view};
+ghost use Rattle.itip_desk.specs.Heard.{heard};
+ghost use Rattle.itip_desk.specs.Desk.{IsDeskOf};
+ghost use Rattle.itip_view.specs.ListText.{IsListText};
+ghost use Rattle.itip_view.specs.Rows.{AreTooMany};
+ghost use Rattle.itip_live.specs.Deltas.{IsDeltaAfter};
+ghost use Rattle.itip_live.specs.Pair.{name_of};
+ghost use base.Stored.{Coded-set};
+ghost use Rattle.std.specs.Coded.{coded_list};
+ghost use Rattle.itip_message.specs.contracts.item.Item as item;
+
+use crate::error::PassError;
+use crate::front::Front;
+use crate::receipt::Receipt;
+use crate::rule::{PublishedReader, PublishedReading, Sees};
+use itip_desk::{Batch, Desk};
+use itip_view::Window;
+
+/// A reader, and what it has seen.
+#[derive(Drop)]
+pub(crate) struct ReadEnd {
+    pub(crate) reader: PublishedReader,
+    pub(crate) front: Front,
+    ghost tied: { view reader.place ≡ name_of front.seen.book },
+}
+
+/// An open read of what is published. It is not `Drop`: end it by `close`.
+pub(crate) struct Look {
+    reading: PublishedReading,
+    front: Front,
+    ghost tied: { view reading.place ≡ name_of front.seen.book },
+    ghost whole: { reading.part.value.history ≡ front.seen.log } by { Coded-set (coded_list (coded_list item.the_row.coded)) _ _ },
+}
+
+impl ReadEnd {
+    /// Looks at what is published, which begins with all that was seen.
+    fn look(self) -> Result<Look, ReadEnd>
+        ensures seen { MatchResult result (λ look. IsPrefix self.front.seen.log look.front.seen.log) (λ end. end.front.seen ≡ self.front.seen) }
+        ensures book { IfOk result (λ look. look.front.seen.book ≡ self.front.seen.book) }
+    {
+        let ReadEnd { reader, front } = self;
+        match reader.enter_as::<Sees>() {
+            Ok(reading) => {
+                let shown = reading.get().front.again();
+                if !front.begins(&shown) {
+                    let reader = reading.leave();
+                    return Err(ReadEnd { reader, front });
+                }
+                Ok(Look {
+                    reading,
+                    front: shown,
+                })
+            }
+            Err(reader) => Err(ReadEnd { reader, front }),
+        }
+    }
+
+    /// The text of the task list in a window.
+    pub(crate) fn list(self, window: Window) -> (ReadEnd, Result<Vec<u8>, PassError>)
+        ensures text { IfOk result.1 (λ text. IsListText (heard result.0.front.seen.log) window text.items) }
+        ensures many { IsErrOf result.1 PassError.TooManyRows → AreTooMany (heard result.0.front.seen.log) window }
+        ensures grows { IsPrefix self.front.seen.log result.0.front.seen.log }
+        ensures no_entry { IsErrOf result.1 PassError.NoEntry → result.0.front.seen.log ≡ self.front.seen.log }
+        ensures book { result.0.front.seen.book ≡ self.front.seen.book }
+    {
+        match self.look() {
+            Ok(look) => {
+                let text = look.desk().list(window);
+                let end = look.close();
+                match text {
+                    Ok(text) => (end, Ok(text)),
+                    Err(fault) => (end, Err(fault.into())),
+                }
+            }
+            Err(end) => (end, Err(PassError::NoEntry)),
+        }
+    }
+
+    /// The kept items of the UIDs that moved after this tick.
+    pub(crate) fn delta_since(self, tick: u64) -> (ReadEnd, Result<Batch, PassError>)
+        ensures delta { IfOk result.1 (λ batch. IsDeltaAfter result.0.front.seen.log tick batch) }
+        ensures grows { IsPrefix self.front.seen.log result.0.front.seen.log }
+        ensures no_entry { IsErrOf result.1 PassError.NoEntry → result.0.front.seen.log ≡ self.front.seen.log }
+        ensures book { result.0.front.seen.book ≡ self.front.seen.book }
+    {
+        match self.look() {
+            Ok(look) => {
+                let delta = look.desk().delta_since(tick);
+                let end = look.close();
+                match delta {
+                    Ok(delta) => (end, Ok(delta)),
+                    Err(_) => (end, Err(PassError::NoMemory)),
+                }
+            }
+            Err(end) => (end, Err(PassError::NoEntry)),
+        }
+    }
+
+    /// Takes in what was published when the receipt was given.
+    pub(crate) fn learn(&mut self, receipt: &Receipt)
+        requires book { receipt.now.front.seen.book ≡ self.old.front.seen.book }
+        ensures longer { (self.new.front.seen.log ≡ self.old.front.seen.log) ⊎ (self.new.front.seen.log ≡ receipt.now.front.seen.log) }
+        ensures own { IsPrefix self.old.front.seen.log self.new.front.seen.log }
+        ensures told { IsPrefix receipt.now.front.seen.log self.new.front.seen.log }
+        ensures book { self.new.front.seen.book ≡ self.old.front.seen.book }
+    {
+        if !receipt.front.begins(&self.front) {
+            self.front = receipt.front.again();
+        }
+    }
+}
+
+impl Look {
+    /// The published desk.
+    fn desk(&self) -> &Desk
+        ensures { IsDeskOf self.now.front.seen.log 0 result.now }
+    {
+        &self.reading.get().desk
+    }
+
+    /// Leaves, with all of it seen.
+    fn close(self) -> ReadEnd
+        ensures { result.front.seen ≡ self.front.seen }
+    {
+        let Look { reading, front } = self;
+        let reader = reading.leave();
+        ReadEnd { reader, front }
+    }
+}

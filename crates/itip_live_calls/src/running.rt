@@ -1,0 +1,200 @@
+//! A running desk with two passes, step by step on one thread.
+ghost use Rattle.std.specs.Prelude.{◌≡◌, IfSome};
+ghost use Rattle.itip_live.specs.Ends.{keeper_pair, pass_pair, receipt_pair};
+
+use crate::error::CallError;
+use crate::texts::{batch, number_of, text, window};
+use itip_live::{Keeper, Met, Pass, Receipt, meet, start_desk};
+use std::alloc::Global;
+use std::sync::Wait;
+
+/// A keeper, its two passes, and the receipt that it gave last.
+struct Running {
+    keeper: Keeper,
+    first: Pass,
+    second: Pass,
+    receipt: Option<Receipt>,
+    ghost one_pair: { (pass_pair first ≡ keeper_pair keeper) × (pass_pair second ≡ keeper_pair keeper) },
+    ghost its_own: { IfSome receipt (λ r. receipt_pair r ≡ keeper_pair keeper) },
+}
+
+/// Takes these steps, then meets, and tells what each gave.
+///
+/// A step is a message, which is submitted, or one of `pending`, `publish`, `learn P`, `list P`, `seen P` and `since P TICK`, where P is the pass 0 or 1.
+pub(crate) fn run_steps<R: AllocGlobal + Wait>(
+    rt: &R,
+    steps: &[Vec<u8>],
+) -> Result<Vec<u8>, CallError> {
+    let alloc = rt.alloc();
+    let mut running = start(rt)?;
+    let mut told = String::new(alloc);
+    let taken = take_steps(rt, &mut running, steps, &mut told);
+    let met = running.finish(rt);
+    taken?;
+    add_met(alloc, &met?, &mut told)?;
+    Ok(told.into_bytes())
+}
+
+fn start<R: AllocGlobal + Wait>(rt: &R) -> Result<Running, CallError> {
+    let (keeper, mut passes) = start_desk(rt, 2)?;
+    match (passes.pop(), passes.pop()) {
+        (Some(second), Some(first)) => Ok(Running {
+            keeper,
+            first,
+            second,
+            receipt: None,
+        }),
+        _ => {
+            let _ = meet(rt, keeper, passes);
+            Err(CallError::NoSuchCall)
+        }
+    }
+}
+
+fn take_steps<R: AllocGlobal + Wait>(
+    rt: &R,
+    running: &mut Running,
+    steps: &[Vec<u8>],
+    told: &mut String,
+) -> Result<(), CallError> {
+    for step in steps {
+        if step.starts_with(b"BEGIN") {
+            running.submit(rt.alloc(), step)?;
+        } else {
+            told.push_str(running.take_step(rt, text(step)?)?.as_str())?;
+        }
+    }
+    Ok(())
+}
+
+impl Running {
+    /// Submits a message, once more where it comes back.
+    fn submit(&mut self, alloc: Global, message: &[u8]) -> Result<(), CallError> {
+        let pending = self.keeper.pending();
+        let Err(back) = self.keeper.submit(batch(alloc, message)?) else {
+            return Ok(());
+        };
+        if self.keeper.pending() != pending {
+            return Err(CallError::Changed);
+        }
+        self.keeper.submit(back).map_err(|_| CallError::NoMemory)
+    }
+
+    fn take_step<R: AllocGlobal + Wait>(
+        &mut self,
+        rt: &R,
+        step: &str,
+    ) -> Result<String, CallError> {
+        let alloc = rt.alloc();
+        let (word, rest) = step.split_once(' ').unwrap_or((step, ""));
+        match word {
+            "pending" => {
+                let pending = self.keeper.pending();
+                Ok(format!(in alloc; "pending {pending}\n")?)
+            }
+            "publish" => {
+                self.publish(rt)?;
+                Ok(String::new(alloc))
+            }
+            "learn" => {
+                self.learn(rest)?;
+                Ok(String::new(alloc))
+            }
+            "list" => self.list(alloc, rest),
+            "seen" => {
+                let seen = self.seen(rest)?;
+                Ok(format!(in alloc; "seen {seen}\n")?)
+            }
+            "since" => {
+                let items = self.since(rest)?;
+                Ok(format!(in alloc; "items {items}\n")?)
+            }
+            _ => Err(CallError::NoSuchCall),
+        }
+    }
+
+    /// Publishes, once more where it is refused; a refusal leaves what is pending.
+    fn publish<R: Wait>(&mut self, rt: &R) -> Result<(), CallError> {
+        let pending = self.keeper.pending();
+        if let Ok(receipt) = self.keeper.publish(rt) {
+            self.receipt = Some(receipt);
+            return Ok(());
+        }
+        if self.keeper.pending() != pending {
+            return Err(CallError::Changed);
+        }
+        self.receipt = Some(self.keeper.publish(rt)?);
+        Ok(())
+    }
+
+    /// Has a pass learn the last receipt.
+    fn learn(&mut self, pass: &str) -> Result<(), CallError> {
+        let Some(receipt) = &mut self.receipt else {
+            return Err(CallError::NoSuchCall);
+        };
+        match pass {
+            "0" => self.first.learn(receipt),
+            "1" => self.second.learn(receipt),
+            _ => return Err(CallError::NoSuchCall),
+        }
+        Ok(())
+    }
+
+    fn list(&mut self, alloc: Global, pass: &str) -> Result<String, CallError> {
+        let window = window()?;
+        let list = match pass {
+            "0" => self.first.list(window)?,
+            "1" => self.second.list(window)?,
+            _ => return Err(CallError::NoSuchCall),
+        };
+        let list = text(list.as_slice())?;
+        Ok(format!(in alloc; "list\n{list}")?)
+    }
+
+    fn seen(&self, pass: &str) -> Result<u64, CallError> {
+        match pass {
+            "0" => Ok(self.first.seen()),
+            "1" => Ok(self.second.seen()),
+            _ => Err(CallError::NoSuchCall),
+        }
+    }
+
+    /// How many items the delta since a tick has.
+    fn since(&mut self, rest: &str) -> Result<usize, CallError> {
+        let (pass, tick) = rest.split_once(' ').ok_or(CallError::NoSuchCall)?;
+        let tick = number_of(tick)?;
+        let delta = match pass {
+            "0" => self.first.delta_since(tick)?,
+            "1" => self.second.delta_since(tick)?,
+            _ => return Err(CallError::NoSuchCall),
+        };
+        Ok(delta.as_slice().len())
+    }
+
+    fn finish<R: AllocGlobal + Wait>(self, rt: &R) -> Result<Met, CallError> {
+        let Running {
+            keeper,
+            first,
+            second,
+            receipt: _receipt,
+        } = self;
+        let mut passes = Vec::new(rt.alloc());
+        let _ = passes.push(first);
+        let _ = passes.push(second);
+        Ok(meet(rt, keeper, passes)?)
+    }
+}
+
+fn add_met(alloc: Global, met: &Met, told: &mut String) -> Result<(), CallError> {
+    let published = met.published;
+    let tick = met.desk.tick();
+    let entries = met.desk.entries();
+    told.push_str(format!(in alloc;
+        "published {published} tick {tick} entries {entries} seen"
+    )?.as_str())?;
+    for seen in &met.seen {
+        told.push_str(format!(in alloc; " {seen}")?.as_str())?;
+    }
+    told.push_str("\n")?;
+    Ok(())
+}
