@@ -1,7 +1,8 @@
 use Rattle.std.proofs.Common.{List, [], ◌++◌, sym, ◌∙◌, ap, subst, map}
 use Rattle.itip_message.specs.declared.item.Item.{Item}
 use Rattle.itip_state.specs.Kept.{ArePart, AscendKeys}
-use Rattle.itip_state.specs.Held.{shape, shape_items}
+use Rattle.itip_state.specs.Held.{shape_items}
+use Rattle.itip_state.specs.Seen.{shape}
 use Rattle.itip_state.proofs.Reading.{held_part, held_no_part, held_ascends}
 use Rattle.itip_state.proofs.state.State.of_uid.Goals as goal
 
