@@ -62,4 +62,11 @@ impl Batch {
     {
         self.items.as_slice()
     }
+
+    /// What is true of every batch: its items ascend by canonical octets. The call does nothing; a prover who makes it learns this.
+    pub fn lawful(&self)
+        ensures { AscendOctets self.now }
+    {
+        let _ = &self.items;
+    }
 }

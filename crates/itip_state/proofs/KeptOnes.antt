@@ -89,9 +89,6 @@ pub record Collects (heard done kept : List Item) : Type 0 where
   pub each : (i : Item) → Contains kept i ↔ (Contains done i × (keeps heard i ≡ true))
   pub once : AllPairs (λ (a b : Item). a ≡ b → ⊥) kept
 
-pub collect_none : (heard : List Item) → Collects heard [] []
-collect_none heard = record { each = λ i. (λ h. absurd (omega (arith, h.1)), λ h. absurd (omega (arith, h.0.1))); once = λ i j d below inside. absurd (omega (arith, inside)) }
-
 pub collect_one : (heard done kept : List Item) (x : Item) → Collects heard done kept → keeps heard x ≡ true → (Contains kept x → ⊥) → Collects heard (done ++ x ∷ []) (kept ++ x ∷ [])
 collect_one heard done kept x c k new = record {
   each = λ i. (

@@ -22,9 +22,6 @@ use Rattle.itip_state.proofs.Tests.{series_key, dead_under, can, kill}
 use Rattle.itip_state.proofs.Shapes.{IsHeldAs, known_key, series_held, entry_held, entry_key, held_as, series_is, killed_is_dead}
 use Rattle.itip_state.proofs.Reading.{held_part, held_no_part, held_sound}
 
-pub no_news : (set : List Item) → AreNews set [] []
-no_news set = record { among = λ i h. h; new = λ i h. absurd (none_in i h); rest = λ i h. inl h }
-
 pub one_more_news : (set items news : List Item) (j : Item) → (¬ IsOutdone set j) → AreNews set items news → AreNews set (items ++ j ∷ []) (news ++ j ∷ [])
 one_more_news set items news j new are = record {
   new = λ i h. elim (Contains-append_cases news (j ∷ []) i h) [

@@ -10,7 +10,8 @@ use Rattle.itip_join.specs.Bounds.{IsJoinOf}
 use Rattle.itip_join.specs.Changes.{replaced}
 use Rattle.itip_join.specs.KeyByKey.{value_at, IsMapBelow}
 use Rattle.itip_join.specs.Optional.{IsBelowAt}
-use Rattle.itip_state.specs.Held.{Shape, shapes, at, IsWhole, AreOrdered}
+use Rattle.itip_state.specs.Held.{Shape, at, IsWhole, AreOrdered}
+use Rattle.itip_state.specs.Seen.{shapes}
 use Rattle.itip_state.specs.Joined.{IsShapeBelow, AreBelow, IsJoinedAt}
 use Rattle.itip_state.proofs.Lookups.{joined_at}
 use Rattle.itip_state.proofs.Joining.{of_both, same_shape, shape_below_itself}

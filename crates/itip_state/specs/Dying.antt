@@ -34,10 +34,6 @@ eff_up_to i j up = by (nat_cmp i.eff j.eff) refl
         let x : true ≡ false = sym (ap (λ o. is_gt (ordering_then o (ordering_then (stamp_cmp i.stamp j.stamp) (slice_cmp nat_cmp i.bytes j.bytes)))) e) ∙ up in
         absurd (cc)
 
-second_true : (a b : Bool) → (a && b) ≡ true → b ≡ true
-second_true true b e = e
-second_true false b e = absurd (cc)
-
 with_second : (a b c : Bool) → (a && b) ≡ true → (b ≡ true → c ≡ true) → (a && c) ≡ true
 with_second true b c e f = f e
 with_second false b c e f = absurd (cc)

@@ -9,14 +9,7 @@ use Rattle.itip_message.specs.KeyParts.{uid_of}
 use Rattle.itip_message.specs.declared.item.Item.{Item}
 use Rattle.itip_message.specs.declared.key.Key.{Key}
 use Rattle.itip_message.specs.declared.key.Key.TheVariants.{Series, Instance, Answer, Refresh}
-use Rattle.std.specs.declared.cmp.Ord as ord
-use Rattle.std.specs.declared.cmp.PartialEq as eq
-use Rattle.std.specs.declared.cmp.PartialOrd as partial
 use Rattle.itip_join.specs.declared.greatest.Greatest.{Greatest}
-use Rattle.itip_join.specs.declared.guarded.Guarded.{Guarded}
-use Rattle.itip_join.specs.declared.join.Join as join
-use Rattle.itip_join.specs.declared.keyed.Keyed.{Keyed}
-use Rattle.itip_join.specs.declared.under_guard.UnderGuard as under
 use Rattle.itip_join.specs.declared.lift.Lift.{Lift}
 use Rattle.itip_join.specs.declared.lift.Lift.TheVariants.{Nothing, Known}
 use Rattle.itip_join.specs.KeyByKey.{value_at, all_alive}
@@ -62,17 +55,7 @@ pub record Shape : Type 0 where
   -- the items of the other keys
   pub entries : List (Key × Best)
 
--- a guard and the entries under it, seen as what they hold
-abbrev pub shape : {o : ord.Ghosts Key} {e : eq.Ghosts Key} {p : partial.Ghosts Key} {g : join.Ghosts (Lift Best)} {u : under.Ghosts (Keyed Key Best o e p) (Lift Best)}
-    {j : join.Ghosts (Keyed Key Best o e p)} → Guarded (Lift Best) (Keyed Key Best o e p) g u j → Shape
-shape held = record { series = held.guard; entries = held.entries.map }
-
--- a map by UID, seen as what it holds
-abbrev pub shapes : {V : Type 0} → List (List ℕ × V) → (V → Shape) → List (List ℕ × Shape)
-shapes [] of = []
-shapes (e ∷ es) of = (e.0, of e.1) ∷ shapes es of
-
--- what is held of a UID
+-- a map by UID is the list of what is held of each; this is what is held of one
 abbrev pub at : List (List ℕ × Shape) → List ℕ → Option Shape
 at es uid = value_at (slice_cmp nat_cmp) es uid
 
@@ -122,6 +105,7 @@ pub record IsWhole (shape : Shape) : Type 0 where
   pub sorted : IsStrictlySortedBy slot_cmp (keys_of shape.entries)
   pub alive : all_alive (is_killed shape.series) shape.entries ≡ true
 
+-- what is held of a UID, with both
 pub record IsSound (uid : List ℕ) (shape : Shape) : Type 0 where
   pub placed : IsPlaced uid shape
   pub whole : IsWhole shape

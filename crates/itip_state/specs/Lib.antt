@@ -3,7 +3,7 @@ pub mod Order
 pub mod Slots
 pub mod OfUid
 pub mod Held
-pub mod Stored
+pub mod Seen
 pub mod Dying
 pub mod Joined
 pub mod Told

@@ -5,7 +5,8 @@ use Rattle.std.specs.Cmp.Lexicographic.{slice_cmp}
 use Rattle.itip_message.specs.KeyParts.{uid_of}
 use Rattle.itip_message.specs.declared.item.Item.{Item}
 use Rattle.itip_state.specs.Changes.{IsBackAt}
-use Rattle.itip_state.specs.Held.{Shape, shape, is_series, at, AreOrdered}
+use Rattle.itip_state.specs.Held.{Shape, is_series, at, AreOrdered}
+use Rattle.itip_state.specs.Seen.{shape}
 use Rattle.itip_state.specs.declared.hear.Before.{Before}
 use Rattle.itip_state.specs.declared.hear.Before.TheVariants.{Absent, Whole, Entry}
 use Rattle.itip_state.specs.declared.hear.Change.{Change}

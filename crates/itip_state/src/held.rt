@@ -5,7 +5,8 @@ ghost use Rattle.std.specs.Option.{option_copied};
 ghost use Rattle.std.specs.Ordering.{nat_cmp, is_eq};
 ghost use Rattle.std.specs.Cmp.Lexicographic.{slice_cmp};
 ghost use Rattle.itip_join.specs.Changes.{replaced};
-ghost use Rattle.itip_state.specs.Held.{shape, at, AreOrdered, items_of, series_list};
+ghost use Rattle.itip_state.specs.Held.{at, AreOrdered, items_of, series_list};
+ghost use Rattle.itip_state.specs.Seen.{shape};
 ghost use Rattle.itip_state.specs.Joined.{IsJoinedAt, AreBelow};
 
 use crate::NoMemory;
@@ -25,16 +26,16 @@ pub(crate) struct Held {
 
 impl Model for Held {
     ghost use Rattle.std.specs.Prelude.{List, ℕ};
-    ghost use Rattle.itip_state.specs.Held.{Shape, shape, shapes};
+    ghost use Rattle.itip_state.specs.Held.{Shape};
+    ghost use Rattle.itip_state.specs.Seen.{shape, shapes};
 
     ghost Value = { List (List ℕ × Shape) };
 
-    ghost use Rattle.std.specs.Coded.{coded_list, coded×, coded_ℕ};
+    ghost use Rattle.std.specs.Coded.{codes};
     ghost use Rattle.itip_message.specs.contracts.item.Item as item;
     ghost use Rattle.itip_message.specs.contracts.key.Key as key;
-    ghost use Rattle.itip_state.specs.Stored.{coded_shape};
 
-    ghost coded = { coded_list (coded× (coded_list coded_ℕ) (coded_shape key.the_row.coded item.the_row.coded)) };
+    ghost coded = { Prim.hlevel (codes, item.the_row.coded, key.the_row.coded) };
 
     ghost view = { λ h. shapes h.map.map shape };
 }

@@ -1,6 +1,7 @@
 //! The sequences that organizers have used.
 ghost use Rattle.std.specs.Prelude.{◌≡◌, None};
-ghost use Rattle.itip_state.specs.Held.{shape, shape_items};
+ghost use Rattle.itip_state.specs.Held.{shape_items};
+ghost use Rattle.itip_state.specs.Seen.{shape};
 ghost use Rattle.itip_state.specs.Organizers.{used_by, greater, greatest};
 
 use crate::series::SeriesState;

@@ -1,7 +1,8 @@
 //! What a state holds of one UID.
 ghost use Rattle.std.specs.Prelude.{◌≡◌, ◌++◌, [], cond, IfOk, OnOk};
 ghost use Rattle.itip_join.specs.declared.lift.Lift.TheVariants.{Nothing};
-ghost use Rattle.itip_state.specs.Held.{can_die as key_can_die, is_below as item_is_below, kills as series_kills, alone, Shape, shape, shape_items};
+ghost use Rattle.itip_state.specs.Held.{can_die as key_can_die, is_below as item_is_below, kills as series_kills, alone, Shape, shape_items};
+ghost use Rattle.itip_state.specs.Seen.{shape};
 ghost use Rattle.std.specs.Ordering.{is_eq};
 ghost use Rattle.itip_join.specs.KeyByKey.{value_at};
 ghost use Rattle.itip_message.specs.declared.key.Key.{Key};

@@ -4,7 +4,8 @@ ghost use Rattle.std.specs.List.{Contains};
 ghost use Rattle.std.specs.Option.{option_copied};
 ghost use Rattle.itip_message.specs.Later.{IsLater};
 ghost use Rattle.itip_message.specs.declared.item.Item.{Item};
-ghost use Rattle.itip_state.specs.Held.{shape, items_of, shape_items, AreHeld};
+ghost use Rattle.itip_state.specs.Held.{items_of, shape_items, AreHeld};
+ghost use Rattle.itip_state.specs.Seen.{shape};
 ghost use Rattle.itip_state.specs.Told.{IsOutdone, HoldsNoEarlier};
 
 use crate::NoMemory;

@@ -1,5 +1,6 @@
 use Rattle.std.proofs.Common.{◌∙◌, ap, sym, Some, None}
-use Rattle.itip_state.specs.Held.{Shape, at, is_series, shape}
+use Rattle.itip_state.specs.Held.{Shape, at, is_series}
+use Rattle.itip_state.specs.Seen.{shape}
 use Rattle.itip_join.specs.KeyByKey.{value_at}
 use Rattle.itip_state.specs.Slots.{slot_cmp}
 use Rattle.itip_state.proofs.News.{not_series}

@@ -4,7 +4,8 @@ use Rattle.itip_join.specs.Changes.{replaced}
 use Rattle.itip_message.specs.KeyParts.{uid_of}
 use Rattle.itip_message.specs.declared.key.Key.{Key}
 use Rattle.itip_state.specs.Changes.{IsBackAt}
-use Rattle.itip_state.specs.Held.{Shape, at, shape}
+use Rattle.itip_state.specs.Held.{Shape, at}
+use Rattle.itip_state.specs.Seen.{shape}
 use Rattle.itip_state.specs.Undone.{LeadsBack}
 use Rattle.itip_state.specs.declared.hear.Before.{Before}
 use Rattle.itip_state.proofs.Undoing.{undone_put, put_at, put_apart, replaced_some, entry_leads, not_absent}

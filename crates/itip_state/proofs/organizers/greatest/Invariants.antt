@@ -1,5 +1,6 @@
 use Rattle.std.proofs.Common.{◌≡◌, None}
-use Rattle.itip_state.specs.Held.{entry_items, shape, shape_items}
+use Rattle.itip_state.specs.Held.{entry_items, shape_items}
+use Rattle.itip_state.specs.Seen.{shape}
 use Rattle.itip_state.specs.Organizers.{greatest}
 use Rattle.itip_state.proofs.organizers.greatest.Given as goal
 

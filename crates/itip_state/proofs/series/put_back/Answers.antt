@@ -1,6 +1,7 @@
 use Rattle.std.proofs.Common.{◌≡◌, subst, sym, refl, true}
 use Rattle.itip_join.specs.KeyByKey.{all_alive}
-use Rattle.itip_state.specs.Held.{Shape, is_killed, shape}
+use Rattle.itip_state.specs.Held.{Shape, is_killed}
+use Rattle.itip_state.specs.Seen.{shape}
 use Rattle.itip_state.proofs.Undoing.{back_is}
 use Rattle.itip_state.proofs.series.put_back.Goals as goal
 

@@ -3,7 +3,8 @@ use Rattle.itip_join.specs.KeyByKey.{value_at}
 use Rattle.itip_message.specs.Later.{IsLater}
 use Rattle.itip_message.specs.declared.item.Item.{Item}
 use Rattle.itip_state.specs.Slots.{slot_cmp}
-use Rattle.itip_state.specs.Held.{is_series, shape}
+use Rattle.itip_state.specs.Held.{is_series}
+use Rattle.itip_state.specs.Seen.{shape}
 use Rattle.itip_state.proofs.News.{not_series, known_holds, entry_holds}
 use Rattle.itip_state.proofs.state.holds_no_earlier.Goals as goal
 

@@ -1,5 +1,6 @@
 use Rattle.std.proofs.Common.{◌≡◌, sym, ◌∙◌, ap, inl, inr, true, false}
-use Rattle.itip_state.specs.Held.{at, kills, shape}
+use Rattle.itip_state.specs.Held.{at, kills}
+use Rattle.itip_state.specs.Seen.{shape}
 use Rattle.itip_state.proofs.News.{not_outdone, told_here, dead_here, outdone_here}
 use Rattle.itip_state.proofs.state.outdoes.Goals as goal
 

@@ -1,5 +1,6 @@
 use Rattle.std.proofs.Common.{◌≡◌, ◌++◌, map}
-use Rattle.itip_state.specs.Held.{entry_items, shape, shape_items}
+use Rattle.itip_state.specs.Held.{entry_items, shape_items}
+use Rattle.itip_state.specs.Seen.{shape}
 use Rattle.itip_state.proofs.state.show.Given as goal
 
 abbrev pub invariant-loop-best : goal.invariant-loop-best

@@ -1,5 +1,6 @@
 use Rattle.std.proofs.Common.{List, ℕ, sym, subst}
-use Rattle.itip_state.specs.Held.{Shape, shape, shapes}
+use Rattle.itip_state.specs.Held.{Shape}
+use Rattle.itip_state.specs.Seen.{shape, shapes}
 use Rattle.itip_state.specs.Joined.{AreBelow}
 use Rattle.itip_state.proofs.Seeing.{below_seen, seen_below}
 use Rattle.itip_state.proofs.held.Held.below.Goals as goal

@@ -1,6 +1,7 @@
 use Rattle.std.proofs.Common.{ap, ◌∙◌, subst}
 use Rattle.std.specs.Prelude.{option_map}
-use Rattle.itip_state.specs.Held.{at, shape, AreOrdered}
+use Rattle.itip_state.specs.Held.{at, AreOrdered}
+use Rattle.itip_state.specs.Seen.{shape}
 use Rattle.itip_state.proofs.Seeing.{seen_at, in_order}
 use Rattle.itip_state.proofs.held.Held.get.Goals as goal
 

@@ -1,5 +1,6 @@
 use Rattle.std.proofs.Common.{List, ℕ, ap, ◌∙◌, sym, subst, refl}
-use Rattle.itip_state.specs.Held.{Shape, at, shape, shapes}
+use Rattle.itip_state.specs.Held.{Shape, at}
+use Rattle.itip_state.specs.Seen.{shape, shapes}
 use Rattle.itip_state.specs.Joined.{AreBelow, IsJoinedAt}
 use Rattle.itip_join.proofs.Equal.{on_err_then}
 use Rattle.itip_state.proofs.Members.{on_ok_then}

@@ -1,6 +1,7 @@
 use Rattle.std.proofs.Common.{List, ℕ, Some, ap, ◌∙◌, subst, refl}
 use Rattle.itip_join.proofs.Equal.{on_err_then}
-use Rattle.itip_state.specs.Held.{Shape, at, shape, shapes}
+use Rattle.itip_state.specs.Held.{Shape, at}
+use Rattle.itip_state.specs.Seen.{shape, shapes}
 use Rattle.itip_state.specs.Joined.{IsJoinedAt}
 use Rattle.itip_state.proofs.Members.{on_ok_then}
 use Rattle.itip_state.proofs.Seeing.{same_seen, in_order, joined_seen}

@@ -2,7 +2,8 @@ use Rattle.std.proofs.Common.{Some, ◌∙◌}
 use Rattle.std.specs.Prelude.{cond}
 use Rattle.std.specs.Ordering.{nat_cmp, is_eq}
 use Rattle.std.specs.Cmp.Lexicographic.{slice_cmp}
-use Rattle.itip_state.specs.Held.{at, shape}
+use Rattle.itip_state.specs.Held.{at}
+use Rattle.itip_state.specs.Seen.{shape}
 use Rattle.itip_state.proofs.Seeing.{put_seen, in_order}
 use Rattle.itip_state.proofs.held.Held.put.Goals as goal
 

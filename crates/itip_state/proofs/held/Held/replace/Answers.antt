@@ -3,7 +3,8 @@ use Rattle.std.specs.Prelude.{cond, option_map}
 use Rattle.std.specs.Ordering.{nat_cmp, is_eq}
 use Rattle.std.specs.Cmp.Lexicographic.{slice_cmp}
 use Rattle.itip_join.specs.Changes.{replaced}
-use Rattle.itip_state.specs.Held.{at, shape}
+use Rattle.itip_state.specs.Held.{at}
+use Rattle.itip_state.specs.Seen.{shape}
 use Rattle.itip_state.proofs.Seeing.{seen_at, replaced_seen, in_order}
 use Rattle.itip_state.proofs.held.Held.replace.Goals as goal
 

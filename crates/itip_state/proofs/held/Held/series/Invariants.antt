@@ -1,5 +1,6 @@
 use Rattle.std.proofs.Common.{◌≡◌, ◌++◌, map}
-use Rattle.itip_state.specs.Held.{series_list, shape, shapes}
+use Rattle.itip_state.specs.Held.{series_list}
+use Rattle.itip_state.specs.Seen.{shape, shapes}
 use Rattle.itip_state.proofs.held.Held.series.Given as goal
 
 abbrev pub invariant-loop-series : goal.invariant-loop-series

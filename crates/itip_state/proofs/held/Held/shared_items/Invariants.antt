@@ -1,5 +1,6 @@
 use Rattle.std.proofs.Common.{◌≡◌, ◌++◌}
-use Rattle.itip_state.specs.Held.{items_of, shape, shapes}
+use Rattle.itip_state.specs.Held.{items_of}
+use Rattle.itip_state.specs.Seen.{shape, shapes}
 use Rattle.itip_state.proofs.held.Held.shared_items.Given as goal
 
 abbrev pub invariant-loop-series : goal.invariant-loop-series

@@ -1,6 +1,6 @@
 use Rattle.std.proofs.Common.{◌≡◌, ◌++◌, ◌∙◌, sym, ap, map, rules}
 use Rattle.std.specs.Map.{keys_of}
-use Rattle.itip_state.specs.Held.{shape}
+use Rattle.itip_state.specs.Seen.{shape}
 use Rattle.itip_state.proofs.Seeing.{keys_seen}
 use Rattle.itip_state.proofs.held.Held.uids.Goals as goal
 

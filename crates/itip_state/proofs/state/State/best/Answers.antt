@@ -3,7 +3,8 @@ use Rattle.std.specs.Prelude.{MatchOption}
 use Rattle.std.specs.List.{Contains}
 use Rattle.std.specs.Option.{option_copied}
 use Rattle.itip_message.specs.declared.item.Item.{Item}
-use Rattle.itip_state.specs.Held.{at, shape, items_of}
+use Rattle.itip_state.specs.Held.{at, items_of}
+use Rattle.itip_state.specs.Seen.{shape}
 use Rattle.itip_state.proofs.Reading.{no_item_about, no_series, the_series, the_other}
 use Rattle.itip_state.proofs.state.State.best.Goals as goal
 

@@ -1,6 +1,7 @@
 use Rattle.std.proofs.Common.{List, [], None, sym, subst}
 use Rattle.itip_message.specs.declared.item.Item.{Item}
-use Rattle.itip_state.specs.Held.{shape, shape_items}
+use Rattle.itip_state.specs.Held.{shape_items}
+use Rattle.itip_state.specs.Seen.{shape}
 use Rattle.itip_state.specs.Organizers.{IsLastUsed}
 use Rattle.itip_state.proofs.Maps.{held_state}
 use Rattle.itip_state.proofs.Reading.{held_part, held_no_part}

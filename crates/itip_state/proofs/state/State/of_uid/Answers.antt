@@ -3,7 +3,8 @@ use Rattle.itip_message.specs.declared.item.Item.{Item}
 use Rattle.itip_state.specs.Kept.{ArePart}
 use Rattle.itip_state.specs.OfUid.{IsUidPart}
 use Rattle.itip_state.specs.Order.{IsState}
-use Rattle.itip_state.specs.Held.{shape, shape_items}
+use Rattle.itip_state.specs.Held.{shape_items}
+use Rattle.itip_state.specs.Seen.{shape}
 use Rattle.itip_state.proofs.Maps.{held_state}
 use Rattle.itip_state.proofs.Reading.{held_part, held_no_part, held_ascends}
 use Rattle.itip_state.proofs.UidParts.{uid_part}

@@ -3,7 +3,8 @@ use Rattle.std.specs.Prelude.{cond}
 use Rattle.std.proofs.lemmas.List.{take_more, take_all}
 use Rattle.itip_message.specs.declared.item.Item.{Item}
 use Rattle.itip_state.specs.Kept.{ArePartOf}
-use Rattle.itip_state.specs.Held.{at, shape, items_of}
+use Rattle.itip_state.specs.Held.{at, items_of}
+use Rattle.itip_state.specs.Seen.{shape}
 use Rattle.itip_state.proofs.Hearing.{hold_nothing}
 use Rattle.itip_state.proofs.Parting.{is_listed, put_more, pass_more, part_held, part_of}
 use Rattle.itip_state.proofs.state.State.part.Goals as goal
