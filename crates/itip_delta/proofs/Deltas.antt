@@ -18,6 +18,9 @@ use Rattle.itip_message.specs.Needs.{is_property}
 use Rattle.itip_message.specs.declared.item.Item.{Item}
 use Rattle.itip_message.specs.declared.kind.Kind.{Kind}
 use Rattle.itip_message.specs.declared.error.Fault.{Fault}
+use Rattle.itip_message.specs.declared.error.ReadError.{ReadError}
+use Rattle.itip_message.specs.declared.error.ReadError.TheVariants as error
+use Rattle.itip_message.specs.Faults.{IfFault}
 use Rattle.itip_message.proofs.Contents.{canonical_lawful}
 use Rattle.itip_message.proofs.OneMessage.{one_message, one_cause, message_apart}
 use Rattle.itip_message.proofs.ReadAgain.{reads_again}
@@ -203,12 +206,17 @@ reads_more bytes rest message after items more so_far cut reads = record {
   refused = λ fault first. so_far.refused fault (subst (λ (ts : List (List ℕ)). FirstRefused ts fault) (sym cut.messages) (inr ((more, reads), first)));
 }
 
-pub refuses_here : (bytes rest message after : List ℕ) (items : List Item) (fault : Fault) → Continues bytes rest items → CutsMessage rest message after → RefusesMessage message fault → RefusesDelta bytes fault
+refuses_here : (bytes rest message after : List ℕ) (items : List Item) (fault : Fault) → Continues bytes rest items → CutsMessage rest message after → RefusesMessage message fault → RefusesDelta bytes fault
 refuses_here bytes rest message after items fault so_far cut refuses = record {
   messages = messages_of bytes;
   cut = cut_by_scan bytes;
   first = so_far.refused fault (subst (λ (ts : List (List ℕ)). FirstRefused ts fault) (sym cut.messages) (inl refuses));
 }
+
+-- where a message is refused for a fault, so are the octets
+pub refuses_if : (e : ReadError) (bytes rest message after : List ℕ) (items : List Item) → Continues bytes rest items → CutsMessage rest message after → IfFault e (RefusesMessage message) → IfFault e (RefusesDelta bytes)
+refuses_if error.NoMemory bytes rest message after items so_far cut refuses = tt
+refuses_if (error.Fault fault) bytes rest message after items so_far cut refuses = refuses_here bytes rest message after items fault so_far cut refuses
 
 pub ends_reading : (bytes rest : List ℕ) (items batch : List Item) → Continues bytes rest items → messages_of rest ≡ [] → IsItemsOf batch items → ReadsDelta bytes batch
 ends_reading bytes rest items batch so_far none is =
