@@ -75,8 +75,8 @@ steps_deliver old new desk bytes items batch read same hears past is =
       more = past_with_step past desk batch;
       step = delivers desk bytes more.history batch (Taken hears.is.tick (length hears.uids)) more.there
           (reads items hears.uids hears.is.tick read same (record {
-              moved = moved_of_all hears.uids hears.was.kept (heard more.history.steps) batch more.was.kept hears.moved;
-              ticks = (hears.step more.history.steps more.history.start more.was).tick;
+            moved = moved_of_all hears.uids hears.was.kept (heard more.history.steps) batch more.was.kept hears.moved;
+            ticks = (hears.step more.history.steps more.history.start more.was).tick;
           }));
       replies_are = hears.replies_are;
       world_is = record { desks_are = more.are; packets_are = same_packets past old new hears.packets_are is };
@@ -150,8 +150,8 @@ module _ (old : ShownWorld) (packet desk : ℕ) (octets : List ℕ) (batch : Lis
         reply = Taken hears.is.tick (length hears.uids);
         more = past_with_step past desk told.at.told;
         step = arrives packet desk told.at.told more.history hears.uids hears.is.tick told.at.there more.there (record {
-            moved = moved_whole hears.uids (heard more.history.steps) batch told.at.told told.kept (moved_of_all hears.uids hears.was.kept (heard more.history.steps) batch more.was.kept hears.moved);
-            ticks = (steps more.history.steps more.history.start more.was).tick;
+          moved = moved_whole hears.uids (heard more.history.steps) batch told.at.told told.kept (moved_of_all hears.uids hears.was.kept (heard more.history.steps) batch more.was.kept hears.moved);
+          ticks = (steps more.history.steps more.history.start more.was).tick;
         });
         replies_are = hears.replies_are;
         world_is = record { desks_are = more.are; packets_are = same_packets past old new hears.packets_are is };

@@ -97,7 +97,7 @@ module _ (window : Window) (world : ShownWorld) where
     answers_no_load named load many = answers (reports desk named) (refused 31) (λ past is.
         let h = history_at past.histories world.desks desk shown is.desks_are at in
         subst (λ (n : ReportName). Step window past (reports desk n) (refused 31) past) (sym load)
-            (reports_too_many desk h.history h.there (too_many_of_kept shown.kept (heard h.history.steps) h.is.kept window many)))
+        (reports_too_many desk h.history h.there (too_many_of_kept shown.kept (heard h.history.steps) h.is.kept window many)))
 
     pub answers_resend : (uid : List ℕ) (bytes : Option (List ℕ)) → IsResendOf shown.kept uid bytes → Answers window (resends desk uid) world (resent desk bytes) world
     answers_resend uid bytes is_resend = answers (resends desk uid) (resent desk bytes) (λ past is.

@@ -31,9 +31,15 @@ pub(crate) enum Answer {
     /// The number of the cause.
     Refused(u32),
     /// A desk took a message.
-    Took { desk: usize, heard: Heard },
+    Took {
+        desk: usize,
+        heard: Heard,
+    },
     /// A packet was posted, of so many items.
-    Posted { packet: usize, items: usize },
+    Posted {
+        packet: usize,
+        items: usize,
+    },
     /// A packet arrived at a desk.
     Arrived {
         packet: usize,
@@ -41,9 +47,15 @@ pub(crate) enum Answer {
         heard: Heard,
     },
     /// The rows of the list of a desk.
-    Listed { desk: u64, rows: Vec<Row> },
+    Listed {
+        desk: u64,
+        rows: Vec<Row>,
+    },
     /// How many items a desk keeps.
-    Counted { desk: u64, entries: usize },
+    Counted {
+        desk: u64,
+        entries: usize,
+    },
     /// The lines of a report of a desk.
     Reported {
         desk: u64,
@@ -56,7 +68,10 @@ pub(crate) enum Answer {
         messages: Option<Vec<u8>>,
     },
     /// The next sequence of a UID at a desk, or `None` where none is left.
-    Next { desk: u64, sequence: Option<u32> },
+    Next {
+        desk: u64,
+        sequence: Option<u32>,
+    },
 }
 
 impl Answer {

@@ -107,7 +107,10 @@ fn heard_at(event: &Event, heard: Heard) -> Answer
     ensures { answer_of result ≡ heard_at event.now heard.tick heard.changed }
 {
     match event {
-        Event::Deliver { desk, .. } | Event::Post { desk, .. } => Answer::Took { desk: *desk, heard },
+        Event::Deliver { desk, .. } | Event::Post { desk, .. } => Answer::Took {
+            desk: *desk,
+            heard,
+        },
         Event::Arrive { packet, desk } => Answer::Arrived {
             packet: *packet,
             desk: *desk,

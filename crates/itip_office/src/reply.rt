@@ -128,11 +128,7 @@ fn name_text(name: ReportName) -> &'static str
 }
 
 /// Appends the messages that a desk sends again, behind the line that says how many octets they have, or that there are none.
-fn append_resent(
-    output: &mut Vec<u8>,
-    desk: u64,
-    messages: Option<&[u8]>,
-) -> Result<(), AllocError>
+fn append_resent(output: &mut Vec<u8>, desk: u64, messages: Option<&[u8]>) -> Result<(), AllocError>
     ensures { OnOk result (output.new.items ≡ output.old.items ++ resent_text desk (option_map (λ bytes. bytes.now) messages.entry)) }
 {
     let alloc = *output.allocator();

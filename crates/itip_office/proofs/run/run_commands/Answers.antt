@@ -53,7 +53,7 @@ pub returns-in_err-write_output-clause-front : goal.returns-in_err-write_output-
 returns-in_err-write_output-clause-front g c =
     on_err c.from_residual-in_err-write_output.result
     (λ desks start. front_written _ _ _ _ _ _ _ _ _ _ (c.loop-command.invariant.0 desks start) _
-        (subst (λ (t : List ℕ). AppendsFront (g.W.Write.contents c.loop-command.writer) (g.W.Write.contents c.write_output.new.writer) t) c.as_slice.ensures.value c.in_err-write_output.ensures.front))
+    (subst (λ (t : List ℕ). AppendsFront (g.W.Write.contents c.loop-command.writer) (g.W.Write.contents c.write_output.new.writer) t) c.as_slice.ensures.value c.in_err-write_output.ensures.front))
 
 pub returns-clause-all : goal.returns-clause-all
 returns-clause-all g c = λ desks start.
