@@ -1,5 +1,6 @@
 //! A running desk with two passes, step by step on one thread.
-ghost use Rattle.std.specs.Prelude.{◌≡◌, IfSome};
+ghost use Rattle.std.specs.Prelude.{◌≡◌};
+ghost use Rattle.std.specs.Option.{ForSome};
 ghost use Rattle.itip_live.specs.Ends.{keeper_pair, pass_pair, receipt_pair};
 
 use crate::error::CallError;
@@ -15,7 +16,7 @@ struct Running {
     second: Pass,
     receipt: Option<Receipt>,
     ghost one_pair: { (pass_pair first ≡ keeper_pair keeper) × (pass_pair second ≡ keeper_pair keeper) },
-    ghost its_own: { IfSome receipt (λ r. receipt_pair r ≡ keeper_pair keeper) },
+    ghost its_own: { ForSome receipt (λ r. receipt_pair r ≡ keeper_pair keeper) },
 }
 
 /// Takes these steps, then meets, and tells what each gave.
