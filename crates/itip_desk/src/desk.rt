@@ -7,7 +7,7 @@ use crate::error::DeskError;
 use crate::moves::MovedUids;
 use itip_state::{State, uids};
 use itip_todo::Uid;
-use itip_view::{ViewError, Window, rows, write_list};
+use itip_view::{ViewError, Window, list_text, rows};
 use std::alloc::{AllocError, Global};
 use std::marker::Model;
 
@@ -136,8 +136,6 @@ impl Desk {
         ensures many { IsErrOf result ViewError.TooManyRows → (heard : List Item) → AreKept self.now.kept heard → AreTooMany heard window }
     {
         let rows = rows(self.alloc, &self.state, window)?;
-        let mut text = Vec::new(self.alloc);
-        write_list(&rows, &mut text)?;
-        Ok(text)
+        Ok(list_text(self.alloc, &rows)?)
     }
 }

@@ -23,10 +23,11 @@ returns-in_err-rows-clause-many c = λ spent heard are.
 pub returns-clause-text : goal.returns-clause-text
 returns-clause-text c = λ heard are.
     let kept : c.self.inside.state ≡ c.args.self.now.kept = ap (λ (d : Shown). d.kept) c.self.view_is in
-    let text : IsListText c.self.inside.state c.args.window c.write_list.new.out.items = record {
+    let made = c.in_ok-list_text.field-0.items in
+    let text : IsListText c.self.inside.state c.args.window made = record {
       rows = c.in_ok-rows.rows.items;
       are_rows = c.in_ok-rows.ensures.rows;
       few = c.in_ok-rows.ensures.few;
-      text_is = c.in_ok-write_list.ensures.ok ∙ ap (λ front. front ++ list_text c.deref.result.now) c.new-text.ensures.items ∙ ap list_text c.deref.ensures.value;
+      text_is = c.in_ok-list_text.ensures ∙ ap list_text c.deref.ensures.value;
     } in
-    text_of_kept c.args.self.now.kept heard are c.args.window c.write_list.new.out.items (subst (λ (k : List Item). IsListText k c.args.window c.write_list.new.out.items) kept text)
+    text_of_kept c.args.self.now.kept heard are c.args.window made (subst (λ (k : List Item). IsListText k c.args.window made) kept text)
