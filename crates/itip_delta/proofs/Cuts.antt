@@ -50,6 +50,7 @@ first_is x y xs ys e = cc
 lacks_blank : (t : List ℕ) → begins_blank t ≡ false → LacksBlank t
 lacks_blank [] h = lacks_nothing
 lacks_blank (b ∷ t) h = λ c more e. subst (λ (x : ℕ). is_blank x ≡ false) (first_is b c t more e) h
+
 -- what an octet says that is in no break
 octet_said : (b : ℕ) (t : List ℕ) → (b == 10) ≡ false → is_return b t ≡ false → said (b ∷ t) ≡ b ∷ said t
 octet_said b t feed ret =
@@ -137,6 +138,7 @@ return_before t first = put first.raw first.whole first.lines first.some first.e
             | inr o ↦ inr (λ line. pass line raw ∙ o.0 line ∙ ap (λ s. (line ++ s) ∷ []) (sym says), o.1)
           ];
         }
+
 -- a break that ends the line
 feed_only : (t : List ℕ) → begins_blank t ≡ false → HasFirst (10 ∷ t)
 feed_only t plain = record {
@@ -260,6 +262,7 @@ not_none (p ∷ ps) r e = cc
 lacks_also : (raw after t : List ℕ) → 0 < length raw → LacksBlank (raw ++ after) → LacksBlank (raw ++ t)
 lacks_also [] after t some lacks = absurd (omega arith)
 lacks_also (b ∷ raw) after t some lacks = λ c more e. subst (λ (x : ℕ). is_blank x ≡ false) (first_is b c (raw ++ t) more e) (lacks b (raw ++ after) refl)
+
 module _ (bytes rest : List ℕ) (passed : List (List ℕ)) (so_far : Scans bytes rest passed) (first : HasFirst rest) where
   passed_whole : bytes ≡ concat (passed ++ first.raw ∷ []) ++ first.after
   passed_whole =
@@ -289,6 +292,7 @@ module _ (bytes rest : List ℕ) (passed : List (List ℕ)) (so_far : Scans byte
     closed = λ t h. elim h [ inl none ↦ absurd (not_none passed first.raw none) | inr lacks ↦ more_closed c t lacks ];
     apart = inr c.apart;
   }
+
   -- the unfolded lines of all, where the line is the last and has no break
   open_lines : IsOpen first.raw → first.after ≡ [] → lines_onto [] bytes ≡ map said passed ++ said first.raw ∷ []
   open_lines o last =
@@ -393,7 +397,7 @@ unfolding messages_of
 all_passed bytes passed so_far =
     let text : concat passed ≡ bytes = sym (append-nil (concat passed)) ∙ sym so_far.whole in
     let lines : lines_onto [] bytes ≡ map said passed ++ [] ∷ [] =
-        ap (lines_onto []) so_far.whole ∙ so_far.closed [] (inr lacks_nothing) ∙ ap (λ ls. map said passed ++ ls) (no_octets []) in
+    ap (lines_onto []) so_far.whole ∙ so_far.closed [] (inr lacks_nothing) ∙ ap (λ ls. map said passed ++ ls) (no_octets []) in
     left_of bytes passed ([] ∷ []) (map said passed) [] lines refl lines (none_said passed so_far.none_ends)
     (ap (λ ls. texts_of (groups_of ls)) (so_far.lines ∙ append-nil passed) ∙ none_texts passed so_far.none_ends ∙ ap (λ x. cond (list_all is_empty passed) [] (x ∷ [])) text)
 
@@ -427,7 +431,7 @@ module _ (bytes rest : List ℕ) (passed : List (List ℕ)) (so_far : Scans byte
       let message : List ℕ = concat (passed ++ first.raw ∷ []) in
       let feed : message ≡ (concat passed ++ c.before) ++ 10 ∷ [] = concat_push passed first.raw ∙ ap (λ x. concat passed ++ x) c.feed ∙ sym (append_assoc (concat passed) c.before (10 ∷ [])) in
       let lines : lines_onto [] (message ++ []) ≡ (map said passed ++ said first.raw ∷ []) ++ lines_onto [] [] =
-          more_closed bytes rest passed so_far first c [] lacks_nothing ∙ ap (λ ls. ls ++ lines_onto [] []) (map-append said passed (first.raw ∷ [])) in
+      more_closed bytes rest passed so_far first c [] lacks_nothing ∙ ap (λ ls. ls ++ lines_onto [] []) (map-append said passed (first.raw ∷ [])) in
       let whole : bytes ≡ message ++ first.after = passed_whole bytes rest passed so_far first in
       let long : length bytes ≡ length message + length first.after = ap length whole ∙ length-append message first.after in
       let front : length message ≡ length (concat passed) + length first.raw = ap length (concat_push passed first.raw) ∙ length-append (concat passed) first.raw in

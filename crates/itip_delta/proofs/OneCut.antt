@@ -59,7 +59,7 @@ not_longer p [] is longer lacks = refl
 not_longer p (b ∷ x) is longer lacks =
     let behind : LacksBlank ((b ∷ x) ++ 32 ∷ []) = λ c more e. lacks c x (same_first b c x (x ++ 32 ∷ []) more e) in
     let two : longer.front ++ longer.line ∷ [] ≡ is.front ++ is.line ∷ lines_onto [] ((b ∷ x) ++ 32 ∷ []) =
-        sym (lines_and_blank (p ++ b ∷ x) longer) ∙ ap (lines_onto []) (append_assoc p (b ∷ x) (32 ∷ [])) ∙ lines_on p ((b ∷ x) ++ 32 ∷ []) is behind in
+    sym (lines_and_blank (p ++ b ∷ x) longer) ∙ ap (lines_onto []) (append_assoc p (b ∷ x) (32 ∷ [])) ∙ lines_on p ((b ∷ x) ++ 32 ∷ []) is behind in
     absurd (lines_some ((b ∷ x) ++ 32 ∷ []) (only_last longer.front is.front (lines_onto [] ((b ∷ x) ++ 32 ∷ [])) longer.line is.line longer.none_before is.ends two))
   where
     same_first : (b c : ℕ) (x y more : List ℕ) → b ∷ y ≡ c ∷ more → b ∷ x ≡ c ∷ x
@@ -81,7 +81,7 @@ module _ (p t m a : List ℕ) (is : IsCalendar p) (other : IsCalendar m) (lacks 
 rest_apart : (rest m a : List ℕ) → IsRest rest → IsCalendar m → LacksBlank a → rest ≡ m ++ a → ⊥
 rest_apart rest m a is calendar lacks e =
     let two : is.front ++ is.line ∷ [] ≡ calendar.front ++ calendar.line ∷ lines_onto [] a =
-        sym is.lines ∙ lines_of_cutting rest is.pieces is.last is.cut ∙ ap (lines_onto []) e ∙ lines_on m a calendar lacks in
+    sym is.lines ∙ lines_of_cutting rest is.pieces is.last is.cut ∙ ap (lines_onto []) e ∙ lines_on m a calendar lacks in
     lines_some a (only_last is.front calendar.front (lines_onto [] a) is.line calendar.line is.none_before calendar.ends two)
 
 all_same : (ps qs : List (List ℕ)) (r s : List ℕ) → AllByRecursion IsCalendar ps → AllByRecursion IsCalendar qs → AreApart ps r → AreApart qs s → IsRest r → IsRest s → concat ps ++ r ≡ concat qs ++ s → (ps ≡ qs) × (r ≡ s)

@@ -33,10 +33,7 @@ pub fn stands_beside(series: Option<&Item>, item: &Item) -> bool
 }
 
 /// The item that stands at an instance of a UID.
-pub fn standing_item<'a>(
-    items: &ItemsOfUid<'a>,
-    at: &Moment,
-) -> Result<Option<&'a Item>, NoMemory>
+pub fn standing_item<'a>(items: &ItemsOfUid<'a>, at: &Moment) -> Result<Option<&'a Item>, NoMemory>
     ensures { IfOk result (λ standing. MatchOption (option_copied standing)
         (NoneStands items.now.items items.now.uid at.now)
         (Stands items.now.items items.now.uid at.now)) }
