@@ -96,7 +96,7 @@ fn told(alloc: Global, name: &str, state: &State) -> Result<Vec<u8>, CallError> 
 
 /// How many items a UID has, its last sequence, and the effective sequence of its series item.
 fn told_of_uid(alloc: Global, uid: Uid, state: &State) -> Result<String, CallError> {
-    let items = state.of_uid(&uid)?.len();
+    let items = state.of_uid(&uid)?.as_slice().len();
     let last = shown(alloc, state.last_used(&uid))?;
     let series = state.best(&Key::Series(uid)).map(|item| item.eff);
     let series = shown(alloc, series)?;
