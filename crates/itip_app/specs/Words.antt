@@ -8,13 +8,13 @@ use Rattle.itip_view.specs.declared.window.Window.{Window}
 -- there can be so many desks
 pub record AreDesks (desks : ℕ) : Type 0 where
   pub some : 1 ≤ desks
-  pub few : desks ≤ 8
+  pub few : desks ≤ 16
 
 -- the same as a test
 abbrev pub are_desks : ℕ → Bool
-are_desks desks = nat_le 1 desks && nat_le desks 8
+are_desks desks = nat_le 1 desks && nat_le desks 16
 
--- Decimal digits whose value is from 1 to 8.
+-- Decimal digits whose value is from 1 to 16.
 abbrev pub desks_of : List ℕ → Option ℕ
 desks_of text = option_and_then (λ desks. if are_desks desks then Some desks else None) (number_of text)
 

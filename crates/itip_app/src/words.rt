@@ -13,7 +13,7 @@ use itip_view::Window;
 use std::alloc::{AllocError, Global};
 
 /// The most desks of a run.
-const MAX_DESKS: u64 = 8;
+const MAX_DESKS: u64 = 16;
 
 /// What a script is, and what is written.
 const RUN_HELP: &str =
@@ -24,7 +24,7 @@ const RUN_HELP: &str =
   !post D T       desk D posts what changed after its tick T, as a packet
   !arrive K D     packet K reaches desk D
   !entries D      how many items desk D keeps
-  !report D NAME  a report of desk D: load, cancelled, orphans or refresh
+  !report D NAME  a report of desk D: load, progress, cancelled, orphans or refresh
   !resend D UID   the messages of a to-do to send again
   !next D UID     the next SEQUENCE to use for a to-do
 
@@ -98,7 +98,7 @@ fn command<'a>(alloc: Global) -> Result<Command<'a>, AllocError> {
         .long("desks")
         .value_name("D")
         .default_value("1")
-        .help("How many desks there are: 1 to 8");
+        .help("How many desks there are: 1 to 16");
     let from = Arg::new(alloc, "from")
         .long("from")
         .value_name("YYYYMMDD")
@@ -157,7 +157,7 @@ fn window_of(from: &str, to: &str) -> Option<Window>
     Window::new(from.number, to.number).ok()
 }
 
-/// A decimal number from 1 to 8.
+/// A decimal number from 1 to 16.
 fn desks_of(text: &str) -> Option<u64>
     ensures { result ≡ desks_of text.now }
 {

@@ -1,6 +1,7 @@
 //! Why nothing more was measured.
 
 use itip_desk::DeskError;
+use itip_live::LiveError;
 use itip_message::ReadError;
 use itip_recur::RecurError;
 use itip_view::{BadWindow, ViewError};
@@ -15,6 +16,8 @@ pub(crate) enum BenchError {
     Words,
     #[error("no memory")]
     Memory,
+    #[error("a list was refused")]
+    Refused,
     #[error("{0}")]
     Io(#[from] io::Error),
     #[error("{0}")]
@@ -27,6 +30,8 @@ pub(crate) enum BenchError {
     View(#[from] ViewError),
     #[error("{0}")]
     Recur(#[from] RecurError),
+    #[error("{0}")]
+    Live(#[from] LiveError),
 }
 
 impl From<AllocError> for BenchError {

@@ -12,6 +12,9 @@ use std::rt::Clock;
 /// So many daily series have nearly as many rows in 3,660 days as a list may have.
 const SERIES: u64 = 27;
 
+/// The revisions of the rest of each series.
+const RANGES: u64 = 100;
+
 const ASKED: &str =
     "DTSTART;VALUE=DATE:20260105\r\nSUMMARY:Sweep\r\nATTENDEE:mailto:a@example.com\r\nATTENDEE:mailto:b@example.com\r\n";
 
@@ -19,13 +22,15 @@ const ACCEPTED: &str = "ATTENDEE;PARTSTAT=ACCEPTED:mailto:a@example.com\r\n";
 
 const DAILY: &str = "DTSTART;VALUE=DATE:20260101\r\nRRULE:FREQ=DAILY\r\nSUMMARY:Sweep\r\n";
 
-/// Lists so many to-dos of two attendees each, of whom one has answered, and 27 daily series over 3,660 days.
+/// Lists so many to-dos of two attendees each, of whom one has answered; 27 daily series over 3,660 days; and these under
+/// 100 revisions each of an instance and all after it.
 pub(crate) fn measure_lists<R: AllocGlobal + Clock + Print>(
     rt: &R,
     to_dos: u64,
 ) -> Result<(), BenchError> {
     list(rt, &answered(rt.alloc(), to_dos)?, "single to-dos")?;
-    list(rt, &daily(rt.alloc())?, "daily series")
+    list(rt, &daily(rt.alloc())?, "daily series")?;
+    list(rt, &ranged(rt.alloc())?, "daily series under ranges")
 }
 
 /// A desk that has heard of so many to-dos, and of one answer to each.
@@ -47,6 +52,30 @@ fn daily(alloc: Global) -> Result<Desk, BenchError> {
         hear(&mut desk, alloc, "REQUEST", uid.as_str(), DAILY)?;
     }
     Ok(desk)
+}
+
+/// A desk that has heard of the daily series, and then of each the revisions of its rest.
+fn ranged(alloc: Global) -> Result<Desk, BenchError> {
+    let mut desk = daily(alloc)?;
+    for number in 0..SERIES {
+        let uid = about(alloc, number)?;
+        for range in 0..RANGES {
+            let lines = range_lines(alloc, range)?;
+            hear(&mut desk, alloc, "REQUEST", uid.as_str(), lines.as_str())?;
+        }
+    }
+    Ok(desk)
+}
+
+/// A revision of all days from the first of a month on.
+fn range_lines(alloc: Global, range: u64) -> Result<String, BenchError> {
+    let year = (range / 12).saturating_add(2026);
+    let day = year
+        .saturating_mul(10_000)
+        .saturating_add((range % 12 + 1) * 100 + 1);
+    Ok(format!(in alloc;
+        "RECURRENCE-ID;VALUE=DATE;RANGE=THISANDFUTURE:{day}\r\nDTSTART;VALUE=DATE:{day}\r\nSUMMARY:Sweep twice\r\n"
+    )?)
 }
 
 fn about(alloc: Global, number: u64) -> Result<String, BenchError> {

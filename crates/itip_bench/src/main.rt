@@ -5,6 +5,7 @@
 #![tactic(auto)]
 
 mod attendees;
+mod beside;
 mod desks;
 mod error;
 mod joins;
@@ -13,6 +14,8 @@ mod load;
 mod messages;
 mod recurrence;
 mod reports;
+mod revisions;
+mod running;
 mod scripts;
 mod threads;
 mod watch;
@@ -25,11 +28,13 @@ use crate::lists::measure_lists;
 use crate::messages::measure_messages;
 use crate::recurrence::measure_recurrence;
 use crate::reports::measure_reports;
+use crate::running::measure_running;
 use crate::scripts::{print_exchange, print_takes};
 use crate::threads::measure_threads;
 use std::env;
 use std::process::ExitCode;
 use std::rt::{Clock, Env};
+use std::sync::Wait;
 use std::thread::Threads;
 
 fn main(rt: HostRuntime) -> ExitCode {
@@ -42,7 +47,9 @@ fn main(rt: HostRuntime) -> ExitCode {
     }
 }
 
-fn run<R: AllocGlobal + Clock + Env + Print + Threads + Sync>(rt: &R) -> Result<(), BenchError> {
+fn run<R: AllocGlobal + Clock + Env + Print + Threads + Wait + Sync>(
+    rt: &R,
+) -> Result<(), BenchError> {
     let mut words = env::args(rt).map_err(|_| BenchError::Words)?.skip(1);
     let Some(topic) = words.next() else {
         return Ok(());
@@ -60,6 +67,7 @@ fn run<R: AllocGlobal + Clock + Env + Print + Threads + Sync>(rt: &R) -> Result<
         "desks" => measure_desks(rt, size),
         "lists" => measure_lists(rt, size),
         "reports" => measure_reports(rt, size),
+        "running" => measure_running(rt, size),
         "takes" => print_takes(rt, size),
         "exchange" => print_exchange(rt, size),
         _ => Err(BenchError::Words),

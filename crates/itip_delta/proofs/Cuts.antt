@@ -1,17 +1,17 @@
 -- What the scan finds is what the octets are cut into.
 use Rattle.std.proofs.Common.{◌≡◌, ◌≢◌, ◌∙◌, sym, ap, refl, ℕ, zero, suc, ◌<◌, ◌+◌, Bool, true, false, cond, not, List, [], ◌∷◌, ◌++◌, length, arith, subst, inl, inr, append_assoc, append-nil}
-use Rattle.std.specs.Prelude.{◌⊎◌, ◌==◌, ◌&&◌, ◌||◌, map, codes}
+use Rattle.std.specs.Prelude.{◌⊎◌, ◌==◌, ◌&&◌, ◌||◌, map}
 use Rattle.std.specs.Char.{to_ascii_uppercase}
 use Rattle.std.specs.List.{concat, list_all, onto_first, AllByRecursion}
 use Rattle.std.proofs.lemmas.Bool.{and_parts}
 use Rattle.std.proofs.lemmas.Bool.Decides.{eqb_tells}
 use Rattle.std.proofs.lemmas.List.{append_cancel_right, length-append, map-append}
 use Rattle.std.proofs.lemmas.List.Elements.{All-head, All-tail}
-use Rattle.itip_lines.specs.Cutting.{Piece, IsCutting, HasNoLf, break_bytes, joined, stretches, unfolded, without_empty, lines_of, is_blank}
+use Rattle.itip_lines.specs.Cutting.{Piece, IsCutting, HasNoLf, break_bytes, joined, unfolded, without_empty, lines_of, is_blank}
 use Rattle.itip_lines.specs.Scan.{LacksBlank, lines_onto}
 use Rattle.itip_lines.proofs.Cuttings.{HasCutting, cutting_of, lines_of_cut}
 use Rattle.itip_message.specs.Frame.{same_text}
-use Rattle.itip_delta.specs.Cutting.{is_calendar_end, EndNoCalendar, IsCalendar, AreApart, IsRest, unless_empty, IsCutInto}
+use Rattle.itip_delta.specs.Cutting.{is_calendar_end, EndNoCalendar, IsCalendar, IsRest, unless_empty, IsCutInto}
 use Rattle.itip_delta.specs.Scanned as scan
 use Rattle.itip_delta.specs.Scanned.{begins_blank, is_return, said, said_behind, is_empty, ends_calendar, groups_of, texts_of, messages_of}
 use Rattle.itip_delta.proofs.Unfolding.{feed_ends, feed_folds, return_past, octet_goes_on, no_octets, lines_of_cutting, lines_then}

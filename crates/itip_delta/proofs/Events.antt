@@ -1,6 +1,6 @@
 -- One event over a world, whatever happened before it.
-use Rattle.std.proofs.Common.{◌≡◌, ℕ, ◌<◌, List, [], ◌∷◌, ◌++◌, length, get_or, min, refl, sym, ap, subst, ◌∙◌, Some, Ok, Err}
-use Rattle.std.specs.Prelude.{slice_get, slice_set, ◌^◌, ◌-◌, Result, IsErrAnd, IsErrOf}
+use Rattle.std.proofs.Common.{◌≡◌, ℕ, ◌<◌, List, [], ◌∷◌, ◌++◌, length, get_or, refl, sym, ap, subst, ◌∙◌, Some, Ok, Err}
+use Rattle.std.specs.Prelude.{slice_get, slice_set, Result, IsErrAnd, IsErrOf}
 use Rattle.itip_desk.specs.declared.error.DeskError.{DeskError}
 use Rattle.itip_message.specs.Message.{ReadsMessage, RefusesMessage}
 use Rattle.itip_message.specs.Numbers.{number_of}
@@ -10,9 +10,9 @@ use Rattle.itip_state.specs.Kept.{AreKept, AreMoved, SameItems, HasEachOnce}
 use Rattle.itip_desk.specs.Desk.{Shown, IsDeskOf, IsDeltaOf}
 use Rattle.itip_desk.specs.Heard.{heard, Ticks}
 use Rattle.itip_desk.specs.Octets.{AscendOctets}
-use Rattle.itip_desk.proofs.Steps.{nothing_more, moved_of_all, moved_whole, keep_same_down}
+use Rattle.itip_desk.proofs.Steps.{moved_of_all, moved_whole, keep_same_down}
 use Rattle.itip_delta.specs.Delta.{delta_octets}
-use Rattle.itip_delta.specs.Worlds.{Past, past_with_step, past_with_packet, with_step, ShownWorld, IsWorldOf, HasPast, AreDesksOf, ArePacketTexts, Steps, StepsWorld, OthersStay, Spends, HearsBatch, IsAtLastTick, IsEntriesOf, CountsKeptAt}
+use Rattle.itip_delta.specs.Worlds.{Past, past_with_step, past_with_packet, with_one_more, with_step, ShownWorld, IsWorldOf, HasPast, AreDesksOf, ArePacketTexts, Steps, Spends, HearsBatch, IsAtLastTick, IsEntriesOf, CountsKept, entries_shown}
 use Rattle.itip_delta.specs.Worlds.EventStep.{delivers, posts, arrives}
 use Rattle.itip_delta.specs.Worlds.Hears.{reads, refuses}
 use Rattle.itip_delta.specs.Worlds.IsSpent.{spends, spends_arriving}
@@ -20,7 +20,7 @@ use Rattle.itip_delta.specs.declared.event.Event.{Event}
 use Rattle.itip_delta.specs.declared.event.Event.TheVariants.{Deliver, Post, Arrive}
 use Rattle.itip_delta.specs.declared.event.Reply.TheVariants.{Taken, Posted, Refused}
 use Rattle.itip_delta.proofs.Deltas.{known_by_octets}
-use Rattle.itip_delta.proofs.Desks.{heard_more, HeardMore, desk_there, set_itself, get_set_other, history_at, slice_get-get_or}
+use Rattle.itip_delta.proofs.Desks.{counted, after_nothing, heard_more, HeardMore, desk_there, set_itself, get_set_other, history_at, slice_get-get_or}
 use Rattle.itip_delta.proofs.Packets.{posted, texts_more, texts_length, packet_at, PacketAt}
 use Rattle.itip_delta.proofs.Swaps.{AreAlike, kept_alike_whole, alike_back, keep_same_swap, desk_swap}
 
@@ -34,15 +34,16 @@ same_packets past old new same is = subst (λ (ps : List (List ℕ)). ArePacketT
 
 -- ---- a desk hears a batch
 
-pub hears_batch : (old new : ShownWorld) (desk : ℕ) (batch : List Item) (was is : Shown) (uids : List (List ℕ)) (tick count : ℕ) → desk < length old.desks → was ≡ get_or old.desks desk was → AreMoved uids was.kept batch
+pub hears_batch : (old new : ShownWorld) (desk : ℕ) (batch : List Item) (was is : Shown) (uids : List (List ℕ)) (tick count : ℕ) → desk < length old.desks → was ≡ get_or old.desks desk was → AreMoved uids was.kept batch → HasEachOnce is.kept
     → ((steps : List (List Item)) (start : ℕ) → IsDeskOf steps start was → IsDeskOf (steps ++ batch ∷ []) start is) → tick ≡ is.tick → count ≡ length uids
     → new.desks ≡ slice_set old.desks desk is → new.packets ≡ old.packets → new.replies ≡ old.replies ++ Taken tick count ∷ [] → HearsBatch old desk batch new
-hears_batch old new desk batch was is uids tick count within stands moved step last counted heard unposted replied = record {
+hears_batch old new desk batch was is uids tick count within stands moved once step last counted heard unposted replied = record {
   was = was;
   is = is;
   uids = uids;
   there = slice_get-get_or old.desks desk was within ∙ ap (λ (s : Shown). Some s) (sym stands);
   moved = moved;
+  once = once;
   step = step;
   desks_are = heard;
   packets_are = unposted;
@@ -54,7 +55,8 @@ module _ (old new : ShownWorld) (desk : ℕ) (batch : List Item) (hears : HearsB
   heard_as : (past : Past) → IsWorldOf past old → (step : List Item) → ((steps : List (List Item)) (start : ℕ) → IsDeskOf steps start hears.was → IsDeskOf (steps ++ step ∷ []) start hears.is)
       → HeardMore past.histories old.desks desk step hears.was new.desks
   heard_as past is step steps = subst (λ (ds : List Shown). HeardMore past.histories old.desks desk step hears.was ds) (sym hears.desks_are)
-      (heard_more past.histories old.desks desk step hears.was hears.is is.desks_are hears.there steps)
+      (heard_more past.histories old.desks desk step hears.was hears.is is.desks_are hears.there
+      (λ history was. counted (with_one_more history step) hears.is (steps history.steps history.start was.is) hears.once))
 
   pub past_heard : HasPast old → HasPast new
   past_heard (past, is) = (
@@ -87,7 +89,7 @@ pub steps_refused : (old new : ShownWorld) (desk : ℕ) (bytes : List ℕ) (faul
     → new.replies ≡ old.replies ++ Refused (number_of fault) ∷ [] → Steps old (Deliver desk bytes) new
 steps_refused old new desk bytes fault within refused still unposted replied past is =
     let there = desk_there old.desks desk within in
-    let more = heard_more past.histories old.desks desk [] there.0 there.0 is.desks_are there.1 (λ steps start d. nothing_more steps start there.0 d) in
+    let more = heard_more past.histories old.desks desk [] there.0 there.0 is.desks_are there.1 (λ history after. after_nothing history there.0 after) in
     record {
       reply = Refused (number_of fault);
       more = past_with_step past desk [];
@@ -168,10 +170,10 @@ module _ (old : ShownWorld) (packet desk : ℕ) (octets : List ℕ) (batch : Lis
 
 -- ---- the number of what a desk keeps
 
-pub entries_of : (world : ShownWorld) (desk : ℕ) (shown : Shown) (count : ℕ) → slice_get world.desks desk ≡ Some shown → HasEachOnce shown.kept → count ≡ min (length shown.kept) (2 ^ 64 - 1) → IsEntriesOf world desk count
-entries_of world desk shown count there once is past world_is =
+pub entries_of : (world : ShownWorld) (desk : ℕ) (shown : Shown) (count : ℕ) → slice_get world.desks desk ≡ Some shown → count ≡ entries_shown shown → IsEntriesOf world desk count
+entries_of world desk shown count there is past world_is =
     let at = history_at past.histories world.desks desk shown world_is.desks_are there in
-    record { history = at.history; there = at.there; counts = record { kept = shown.kept; once = once; are_kept = at.is.kept; count_is = is } }
+    record { history = at.history; there = at.there; counts = subst (CountsKept (heard at.history.steps)) (sym is) at.entries }
 
 error_in : {T : Type 0} → DeskError → Result T DeskError → DeskError
 error_in default (Ok x) = default

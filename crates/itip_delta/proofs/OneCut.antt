@@ -2,7 +2,7 @@
 use Rattle.std.proofs.Common.{◌≡◌, ◌∙◌, sym, ap, refl, ℕ, ◌<◌, Bool, true, false, List, [], ◌∷◌, ◌++◌, length, arith, subst, inl, inr, append_assoc, append-nil}
 use Rattle.std.specs.Prelude.{◌⊎◌, IsTrue, map}
 use Rattle.std.specs.List.{concat, AllByRecursion}
-use Rattle.itip_lines.specs.Cutting.{Piece, IsCutting, joined, stretches, unfolded, without_empty, lines_of, is_blank}
+use Rattle.itip_lines.specs.Cutting.{Piece, unfolded, without_empty, lines_of}
 use Rattle.itip_lines.specs.Scan.{LacksBlank, lines_onto}
 use Rattle.itip_lines.proofs.Cuttings.{lines_of_cut}
 use Rattle.itip_delta.specs.Cutting.{is_calendar_end, EndNoCalendar, IsCalendar, AreApart, IsRest, unless_empty, IsCutInto}

@@ -1,21 +1,14 @@
 -- Octets are read as a batch, or they are refused.
-use Rattle.std.proofs.Common.{◌≡◌, ℕ, ◌<◌, List, [], ◌∷◌, length, arith, inl, inr, ◌⊎◌, get_or}
-use Rattle.std.specs.Cmp.Lexicographic.{slice_cmp}
-use Rattle.std.specs.List.{AllPairs, Contains}
-use Rattle.std.specs.List.Sorted.{IsStrictlySortedBy}
-use Rattle.std.specs.Ordering.{nat_cmp}
-use Rattle.std.specs.declared.cmp.Ordering.TheVariants.{Less}
+use Rattle.std.proofs.Common.{ℕ, List, [], ◌∷◌, inl, inr, ◌⊎◌}
 use Rattle.std.proofs.lemmas.Map.Keys.{Less-from_sorted}
 use Rattle.std.proofs.lemmas.Map.Lookups.{CmpEqualImpliesEq, exact_bytes}
 use Rattle.itip_todo.proofs.InOrder.{IsInOrder, in_order, in_contained, contained_in}
 use Rattle.itip_message.specs.OctetOrder.{octets_cmp, octets_total}
-use Rattle.itip_message.specs.Message.{ReadsMessage, RefusesMessage}
 use Rattle.itip_message.specs.declared.error.Fault.{Fault}
 use Rattle.itip_message.specs.declared.item.Item.{Item}
 use Rattle.itip_message.proofs.SameItem.{same_item}
 use Rattle.itip_message.proofs.SomeMessage.{some_message}
 use Rattle.itip_state.specs.Kept.{IsItemsOf}
-use Rattle.itip_desk.specs.Octets.{AscendOctets}
 use Rattle.itip_delta.specs.Delta.{AreMessages, FirstRefused, all_of, ReadsDelta, RefusesDelta}
 use Rattle.itip_delta.specs.Scanned.{messages_of}
 use Rattle.itip_delta.proofs.Cuts.{cut_by_scan}

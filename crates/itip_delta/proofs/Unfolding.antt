@@ -1,13 +1,13 @@
 -- The unfolded lines of a text, octet by octet and piece by piece.
-use Rattle.std.proofs.Common.{◌≡◌, ◌≢◌, ◌∙◌, sym, ap, refl, ℕ, ◌<◌, Bool, true, false, cond, List, [], ◌∷◌, ◌++◌, map, length, arith, subst, inl, inr, append_assoc, append-nil}
-use Rattle.std.specs.Prelude.{◌==◌, ◌&&◌}
+use Rattle.std.proofs.Common.{◌≡◌, ◌≢◌, ◌∙◌, sym, ap, refl, ℕ, ◌<◌, true, false, cond, List, [], ◌∷◌, ◌++◌, map, length, arith, subst, inl, inr, append_assoc, append-nil}
+use Rattle.std.specs.Prelude.{◌==◌}
 use Rattle.std.specs.List.{slice_split, onto_first, AllByRecursion}
 use Rattle.std.proofs.lemmas.Bool.Decides.{eqb_tells}
 use Rattle.std.proofs.lemmas.List.Elements.{All-append, All-cons, All-nil}
 use Rattle.std.proofs.lemmas.List.Splits.{slice_split-cons_no}
 use Rattle.itip_lines.specs.Cutting.{Break, Piece, IsPiece, IsCutting, HasNoLf, break_bytes, joined, stretches, unfolded, unfolded_onto, is_blank}
 use Rattle.itip_lines.specs.Cutting.Break.{lf, crlf}
-use Rattle.itip_lines.specs.Scan.{LacksBlank, without_cr, without_crs, stretches_of, onto_stretches, lines_onto}
+use Rattle.itip_lines.specs.Scan.{LacksBlank, without_crs, stretches_of, onto_stretches, lines_onto}
 use Rattle.itip_lines.proofs.Stretches.{stretches_of_last, stretches_of_break, stretches_of_cons, stretches_of_some, lines_onto_fold, lines_onto_break}
 use Rattle.itip_lines.proofs.Cuttings.{stretches_of_cut}
 use Rattle.itip_delta.specs.Scanned.{is_return}

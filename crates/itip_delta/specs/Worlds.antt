@@ -1,13 +1,11 @@
 -- What desks have heard and posted after a list of events, and the replies to these (our own rule).
 use Rattle.std.specs.Prelude.{◌≡◌, ℕ, zero, suc, ◌^◌, ◌-◌, ◌<◌, List, [], ◌∷◌, ◌++◌, ◌≤◌, ◌↔◌, length, take, min, replicate, Some, slice_get, slice_set}
-use Rattle.std.specs.List.{Contains}
-use Rattle.itip_message.specs.KeyParts.{uid_of}
 use Rattle.itip_message.specs.Message.{ReadsMessage, RefusesMessage}
 use Rattle.itip_message.specs.Numbers.{number_of}
 use Rattle.itip_message.specs.declared.error.Fault.{Fault}
 use Rattle.itip_message.specs.declared.item.Item.{Item}
 use Rattle.itip_state.specs.Kept.{AreKept, SameItems, AreMoved, Moves, HasEachOnce}
-use Rattle.itip_desk.specs.Heard.{heard, Ticks, MovedAfter}
+use Rattle.itip_desk.specs.Heard.{heard, Ticks, TellsAfter}
 use Rattle.itip_desk.specs.Desk.{Shown, IsDeskOf}
 use Rattle.itip_desk.specs.Octets.{AscendOctets}
 use Rattle.itip_desk.specs.declared.error.DeskError.{DeskError}
@@ -79,7 +77,7 @@ pub data Hears (history : History) (bytes : List ℕ) (step : List Item) : Reply
 
 -- A packet tells everything that a desk has heard of the UIDs that moved after this tick.
 abbrev pub IsPacketOf : History → ℕ → List Item → Type 0
-IsPacketOf history since packet = (item : Item) → Contains packet item ↔ (Contains (heard history.steps) item × MovedAfter [] history.start history.steps since (uid_of item.key))
+IsPacketOf history since packet = TellsAfter history.start history.steps since packet
 
 -- what is kept of a packet, by canonical octets, each once
 pub record IsBatchOf (packet batch : List Item) : Type 0 where
@@ -114,12 +112,28 @@ Runs old (event ∷ events) (reply ∷ replies) new = (mid : Past) × EventStep 
 Runs old [] (reply ∷ replies) new = ⊥
 Runs old (event ∷ events) [] new = ⊥
 
+-- The number of items kept of what was heard, or the greatest number of 64 bits where there are more.
+pub record CountsKept (all : List Item) (count : ℕ) : Type 0 where
+  pub kept : List Item
+  pub once : HasEachOnce kept
+  pub are_kept : AreKept kept all
+  pub count_is : count ≡ min (length kept) (2 ^ 64 - 1)
+
+-- the entries of a desk: how many items it shows
+abbrev pub entries_shown : Shown → ℕ
+entries_shown desk = min (length desk.kept) (2 ^ 64 - 1)
+
+-- The desk is that of its history, and its entries are the number of items kept of all that it has heard.
+pub record IsDeskAfter (history : History) (desk : Shown) : Type 0 where
+  pub is : IsDeskOf history.steps history.start desk
+  pub entries : CountsKept (heard history.steps) (entries_shown desk)
+
 -- each desk is that of its history
 abbrev pub AreDesksOf : Histories → List Shown → Type 0
 AreDesksOf [] [] = Unit {0}
 AreDesksOf [] (desk ∷ desks) = ⊥
 AreDesksOf (history ∷ histories) [] = ⊥
-AreDesksOf (history ∷ histories) (desk ∷ desks) = IsDeskOf history.steps history.start desk × AreDesksOf histories desks
+AreDesksOf (history ∷ histories) (desk ∷ desks) = IsDeskAfter history desk × AreDesksOf histories desks
 
 -- The octets of a packet are those of what is kept of all that it tells.
 pub record IsPacketText (packet : List Item) (octets : List ℕ) : Type 0 where
@@ -155,13 +169,6 @@ IsWorldOf past world = BringsAbout past world.desks world.packets
 -- Something happened that brought the world about.
 abbrev pub HasPast : ShownWorld → Type 0
 HasPast world = (past : Past) × IsWorldOf past world
-
--- The number of items kept of what was heard, or the greatest number of 64 bits where there are more.
-pub record CountsKept (all : List Item) (count : ℕ) : Type 0 where
-  pub kept : List Item
-  pub once : HasEachOnce kept
-  pub are_kept : AreKept kept all
-  pub count_is : count ≡ min (length kept) (2 ^ 64 - 1)
 
 -- The number of items that a desk keeps of all that it has heard.
 pub record CountsKeptAt (past : Past) (desk count : ℕ) : Type 0 where
@@ -232,6 +239,7 @@ pub record HearsBatch (old : ShownWorld) (desk : ℕ) (batch : List Item) (new :
   pub uids : List (List ℕ)
   pub there : slice_get old.desks desk ≡ Some was
   pub moved : AreMoved uids was.kept batch
+  pub once : HasEachOnce is.kept
   pub step : (steps : List (List Item)) (start : ℕ) → IsDeskOf steps start was → IsDeskOf (steps ++ batch ∷ []) start is
   pub desks_are : new.desks ≡ slice_set old.desks desk is
   pub packets_are : new.packets ≡ old.packets
@@ -245,7 +253,7 @@ pub record IsAtLastTick (world : ShownWorld) (desk : ℕ) (batch : List Item) : 
   pub uid : List ℕ
   pub moves : Moves shown.kept batch uid
 
--- a run stopped: for want of memory at its start, with no desk, or at an event that was not done
+-- a run stopped: out of memory at its start, with no desk, or at an event that was not done
 pub data StopsAfter (old : Past) (events : List Event) (done : ℕ) (world : ShownWorld) (why : Cause) : Type 0 where
   at_start : done ≡ 0 → world ≡ empty_world → why ≡ cause.NoMemory → StopsAfter old events done world why
   at_event : (event : Event) → slice_get events done ≡ Some event → IsWorldAfter old (take done events) world

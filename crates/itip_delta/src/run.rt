@@ -15,7 +15,7 @@ use std::alloc::Global;
 /// cause. Where no memory is there for the start, no event is done and the world has no desk.
 pub fn run_world(alloc: Global, desks: usize, events: &[Event]) -> Result<World, Stopped>
     requires some { 1 ≤ desks }
-    requires few { desks ≤ 8 }
+    requires few { desks ≤ 16 }
     ensures world { IfOk result (λ world. IsWorldAfter (no_past desks) events.now world) }
     ensures stopped { IfErr result (λ stopped. StopsAfter (no_past desks) events.now stopped.done stopped.world stopped.cause) }
 {

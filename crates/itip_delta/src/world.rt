@@ -193,7 +193,10 @@ impl World {
         ensures err { OnErr result (self.new ≡ self.old) }
     {
         self.replies.reserve(1)?;
-        let changed = self.desks[desk].take(batch)?;
+        let heard = &mut self.desks[desk];
+        let changed = heard.take(batch)?;
+        // No code: it tells the proof that the desk has each kept item once.
+        heard.state().lawful();
         self.replies.push(Reply::Taken {
             tick: changed.tick,
             changed: changed.uids.len(),

@@ -10,9 +10,9 @@ use Rattle.itip_message.specs.KeyParts.{uid_of}
 use Rattle.itip_message.specs.declared.item.Item.{Item}
 use Rattle.itip_state.specs.Kept.{AreKept, IsKept, KeepSame, Moves}
 use Rattle.itip_state.proofs.Members.{by_bool}
-use Rattle.itip_state.proofs.Keeping.{kept_again, kept_of_kept_lem, kept_iff, same_absorbed}
+use Rattle.itip_state.proofs.Keeping.{Covers, covers_kept, covers_itself, kept_again, kept_of_parts, kept_iff, same_absorbed}
 use Rattle.itip_desk.specs.Desk.{Shown, IsDeskOf, IsDeltaOf, CarriesAfter}
-use Rattle.itip_desk.specs.Heard.{heard, TickStep, Ticks, MovedAfter}
+use Rattle.itip_desk.specs.Heard.{heard, TickStep, Ticks, MovedAfter, TellsAfter}
 use Rattle.itip_desk.proofs.Steps.{tick_once, step_rises}
 use Rattle.itip_desk.proofs.Told.{keep_same_stable, kept_alike}
 
@@ -73,41 +73,55 @@ carries changed since uid = at (value_at (slice_cmp nat_cmp) changed uid) refl
         (λ k. inl (t, e, above t k))
         (λ k. inr (λ c. not_above t c.0 (some_same t c.0 (sym e ∙ c.1)) k c.2))
 
+-- all of a set that has what is kept, of the UIDs that moved, brings an older state up to date
+module _ (steps more : List (List Item)) (start : ℕ) (older newer : Shown) (whole part : List Item) (old : IsDeskOf steps start older) (new : IsDeskOf (steps ++ more) start newer)
+    (covers : Covers whole (heard steps ++ heard more)) (same : (j : Item) → Contains part j ↔ (Contains whole j × CarriesAfter newer.changed older.tick (uid_of j.key))) (i : Item) where
+  kept_all : AreKept newer.kept (heard steps ++ heard more)
+  kept_all = subst (λ (all : List Item). AreKept newer.kept all) (heard_both steps more) new.kept
+
+  -- what is kept of the older state and the whole is what the newer keeps
+  both : IsKept (older.kept ++ whole) i ↔ IsKept (heard steps ++ heard more) i
+  both =
+      let two = kept_of_parts (heard steps) (heard steps ++ heard more) older.kept whole (covers_kept older.kept (heard steps) old.kept) covers i in
+      let once = kept_iff (heard steps ++ (heard steps ++ heard more)) (heard steps ++ heard more) (same_absorbed (heard steps) (heard steps ++ heard more) (Contains-append_left (heard steps) (heard more))) i in
+      (λ k. once.0 (two.0 k), λ k. two.1 (once.1 k))
+
+  with_part : CarriesAfter newer.changed older.tick (uid_of i.key) → Contains newer.kept i ↔ IsKept (older.kept ++ part) i
+  with_part c =
+      let alike = kept_alike (uid_of i.key) (older.kept ++ whole) (older.kept ++ part) (λ j about. (
+        λ h. elim (Contains-append_cases older.kept whole j h) [
+          | inl left ↦ Contains-append_left older.kept part j left
+          | inr right ↦ Contains-append_right older.kept part j ((same j).1 (right, subst (CarriesAfter newer.changed older.tick) (sym about) c))
+        ],
+        λ h. elim (Contains-append_cases older.kept part j h) [ inl left ↦ Contains-append_left older.kept whole j left | inr right ↦ Contains-append_right older.kept whole j ((same j).0 right).0 ],
+      )) i refl in
+      (λ h. alike.0 (both.1 ((kept_all i).0 h)), λ k. (kept_all i).1 (both.0 (alike.1 k)))
+
+  without : (¬ CarriesAfter newer.changed older.tick (uid_of i.key)) → Contains newer.kept i ↔ IsKept (older.kept ++ part) i
+  without n =
+      let alike = kept_alike (uid_of i.key) older.kept (older.kept ++ part) (λ j about. (
+        λ h. Contains-append_left older.kept part j h,
+        λ h. elim (Contains-append_cases older.kept part j h) [ inl left ↦ left | inr right ↦ absurd (n (subst (CarriesAfter newer.changed older.tick) about ((same j).0 right).1)) ],
+      )) i refl in
+      let again = kept_again older.kept (heard steps) old.kept i in
+      let keep = unmoved (heard steps) older.tick more newer.tick older.tick (uid_of i.key) (ticks_later [] start steps more older.tick newer.tick old.tick new.tick) (omega arith)
+      (λ moved. n ((new.changed older.tick (uid_of i.key)).1 (moved_later [] start steps more older.tick older.tick (uid_of i.key) old.tick moved))) i refl in
+      (λ h. alike.0 (again.1 (keep.1 ((kept_all i).0 h))), λ k. (kept_all i).1 (keep.0 (again.0 (alike.1 k))))
+
+  brought_up : Contains newer.kept i ↔ IsKept (older.kept ++ part) i
+  brought_up = elim (carries newer.changed older.tick (uid_of i.key)) [ inl c ↦ with_part c | inr n ↦ without n ]
+
 pub up_to_date : (steps more : List (List Item)) (start : ℕ) (older newer : Shown) (delta : List Item) → IsDeskOf steps start older → IsDeskOf (steps ++ more) start newer → IsDeltaOf newer older.tick delta
     → AreKept newer.kept (older.kept ++ delta)
-up_to_date steps more start older newer delta old new is i = elim (carries newer.changed older.tick uid) [ inl c ↦ with_delta c | inr n ↦ without n ]
-  where
-    uid : List ℕ
-    uid = uid_of i.key
+up_to_date steps more start older newer delta old new is =
+    let covers : Covers newer.kept (heard steps ++ heard more) = subst (Covers newer.kept) (heard_both steps more) (covers_kept newer.kept (heard (steps ++ more)) new.kept) in
+    brought_up steps more start older newer newer.kept delta old new covers is.same
 
-    kept_all : AreKept newer.kept (heard steps ++ heard more)
-    kept_all = subst (λ (all : List Item). AreKept newer.kept all) (heard_both steps more) new.kept
-
-    -- what is kept of the older state and the newer is what the newer keeps
-    both : IsKept (older.kept ++ newer.kept) i ↔ IsKept (heard steps ++ heard more) i
-    both =
-        let two = kept_of_kept_lem (heard steps) (heard steps ++ heard more) older.kept newer.kept old.kept kept_all i in
-        let once = kept_iff (heard steps ++ (heard steps ++ heard more)) (heard steps ++ heard more) (same_absorbed (heard steps) (heard steps ++ heard more) (Contains-append_left (heard steps) (heard more))) i in
-        (λ k. once.0 (two.0 k), λ k. two.1 (once.1 k))
-
-    with_delta : CarriesAfter newer.changed older.tick uid → Contains newer.kept i ↔ IsKept (older.kept ++ delta) i
-    with_delta c =
-        let alike = kept_alike uid (older.kept ++ newer.kept) (older.kept ++ delta) (λ j about. (
-          λ h. elim (Contains-append_cases older.kept newer.kept j h) [
-            | inl left ↦ Contains-append_left older.kept delta j left
-            | inr right ↦ Contains-append_right older.kept delta j ((is.same j).1 (right, subst (CarriesAfter newer.changed older.tick) (sym about) c))
-          ],
-          λ h. elim (Contains-append_cases older.kept delta j h) [ inl left ↦ Contains-append_left older.kept newer.kept j left | inr right ↦ Contains-append_right older.kept newer.kept j ((is.same j).0 right).0 ],
-        )) i refl in
-        (λ h. alike.0 (both.1 ((kept_all i).0 h)), λ k. (kept_all i).1 (both.0 (alike.1 k)))
-
-    without : (¬ CarriesAfter newer.changed older.tick uid) → Contains newer.kept i ↔ IsKept (older.kept ++ delta) i
-    without n =
-        let alike = kept_alike uid older.kept (older.kept ++ delta) (λ j about. (
-          λ h. Contains-append_left older.kept delta j h,
-          λ h. elim (Contains-append_cases older.kept delta j h) [ inl left ↦ left | inr right ↦ absurd (n (subst (CarriesAfter newer.changed older.tick) about ((is.same j).0 right).1)) ],
-        )) i refl in
-        let again = kept_again older.kept (heard steps) old.kept i in
-        let keep = unmoved (heard steps) older.tick more newer.tick older.tick uid (ticks_later [] start steps more older.tick newer.tick old.tick new.tick) (omega arith)
-        (λ moved. n ((new.changed older.tick uid).1 (moved_later [] start steps more older.tick older.tick uid old.tick moved))) i refl in
-        (λ h. alike.0 (again.1 (keep.1 ((kept_all i).0 h))), λ k. (kept_all i).1 (keep.0 (again.0 (alike.1 k))))
+pub told_up_to_date : (steps more : List (List Item)) (start : ℕ) (older newer : Shown) (told : List Item) → IsDeskOf steps start older → IsDeskOf (steps ++ more) start newer
+    → TellsAfter start (steps ++ more) older.tick told → AreKept newer.kept (older.kept ++ told)
+told_up_to_date steps more start older newer told old new tells =
+    let all = heard (steps ++ more) in
+    let covers : Covers all (heard steps ++ heard more) = subst (Covers all) (heard_both steps more) (covers_itself all) in
+    brought_up steps more start older newer all told old new covers (λ j.
+    let moved = new.changed older.tick (uid_of j.key) in
+    (λ h. let here = (tells j).0 h in (here.0, moved.1 here.1), λ (h, c). (tells j).1 (h, moved.0 c)))

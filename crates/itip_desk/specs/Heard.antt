@@ -1,5 +1,7 @@
 -- What a desk has heard after a list of steps, each a set of items, and when its UIDs moved (our own rule).
-use Rattle.std.specs.Prelude.{◌≡◌, ℕ, ◌+◌, ◌<◌, List, [], ◌∷◌, ◌++◌, ◌⊎◌}
+use Rattle.std.specs.Prelude.{◌≡◌, ◌↔◌, ℕ, ◌+◌, ◌<◌, List, [], ◌∷◌, ◌++◌, ◌⊎◌}
+use Rattle.std.specs.List.{Contains}
+use Rattle.itip_message.specs.KeyParts.{uid_of}
 use Rattle.itip_message.specs.declared.item.Item.{Item}
 use Rattle.itip_state.specs.Kept.{KeepSame, Moves}
 
@@ -22,3 +24,7 @@ abbrev pub MovedAfter : List Item → ℕ → List (List Item) → ℕ → List 
 MovedAfter before tick [] since uid = ⊥
 MovedAfter before tick (step ∷ steps) since uid =
     (next : ℕ) × TickStep before step tick next × ((Moves before step uid × (since < next)) ⊎ MovedAfter (before ++ step) next steps since uid)
+
+-- These are all items heard in these steps from a starting tick that are of UIDs which moved after a tick, kept or not.
+abbrev pub TellsAfter : ℕ → List (List Item) → ℕ → List Item → Type 0
+TellsAfter start steps since told = (item : Item) → Contains told item ↔ (Contains (heard steps) item × MovedAfter [] start steps since (uid_of item.key))

@@ -34,7 +34,7 @@ impl Batch {
     ghost use Rattle.itip_state.specs.Kept.{IsItemsOf};
     ghost use Rattle.itip_desk.specs.Octets.{AscendOctets};
 
-    /// The items given, by canonical octets, each once. A refusal, for want of memory, drops the items.
+    /// The items given, by canonical octets, each once. A refusal (out of memory) drops the items.
     pub fn of_items(items: Vec<Item>) -> Result<Batch, AllocError>
         ensures { IfOk result (λ batch. IsItemsOf batch items.items) }
     {

@@ -83,7 +83,7 @@ impl Desk {
 
     /// Hears a batch. Where UIDs move the tick rises by one, and they carry it.
     ///
-    /// Refused for want of memory, or where a UID would move at the last tick; a refusal changes nothing.
+    /// Refused when out of memory, or where a UID would move at the last tick; a refusal changes nothing.
     pub fn take(&mut self, batch: &Batch) -> Result<Changed, DeskError>
         ensures kept { OnOk result (AreKept self.new.kept (self.old.kept ++ batch.now)) }
         ensures uids { IfOk result (λ changed. AreMoved changed.uids.items self.old.kept batch.now) }
@@ -130,7 +130,7 @@ impl Desk {
 
     /// The text of the task list in a window.
     ///
-    /// Refused where more than 100,000 rows stand there (31), or for want of memory (32).
+    /// Refused where more than 100,000 rows stand there (31), or when out of memory (32).
     pub fn list(&self, window: Window) -> Result<Vec<u8>, ViewError>
         ensures text { IfOk result (λ text. (heard : List Item) → AreKept self.now.kept heard → IsListText heard window text.items) }
         ensures many { IsErrOf result ViewError.TooManyRows → (heard : List Item) → AreKept self.now.kept heard → AreTooMany heard window }

@@ -2,7 +2,7 @@
 ghost use Rattle.std.specs.Prelude.{List, ◌++◌, ℕ};
 ghost use Rattle.itip_message.specs.declared.item.Item.{Item};
 ghost use Rattle.itip_state.specs.Kept.{AreKept, SameItems};
-ghost use Rattle.itip_desk.specs.Heard.{heard};
+ghost use Rattle.itip_desk.specs.Heard.{heard, TellsAfter};
 ghost use Rattle.itip_desk.specs.Desk.{Shown, IsDeskOf, IsDeltaOf};
 
 /// Desks that have heard the same items keep the same items, however these came: late, repeated or in another order (our own rule).
@@ -12,9 +12,13 @@ pub fn desks_converge()
         SameItems (heard steps) (heard others) → SameItems desk.kept other.kept }
 {}
 
-/// An older state of a desk, joined with what the desk gives as its delta since then, is what the desk keeps now (our own rule).
+/// An older state of a desk, joined with what the desk gives as its delta since then, is what the desk keeps now; so it is joined with all that the desk
+/// has heard of the UIDs that moved since then (our own rule).
 pub fn delta_brings_up_to_date()
-    ensures { (steps more : List (List Item)) (start : ℕ) (older newer : Shown) (delta : List Item) →
+    ensures kept { (steps more : List (List Item)) (start : ℕ) (older newer : Shown) (delta : List Item) →
         IsDeskOf steps start older → IsDeskOf (steps ++ more) start newer → IsDeltaOf newer older.tick delta →
         AreKept newer.kept (older.kept ++ delta) }
+    ensures told { (steps more : List (List Item)) (start : ℕ) (older newer : Shown) (told : List Item) →
+        IsDeskOf steps start older → IsDeskOf (steps ++ more) start newer → TellsAfter start (steps ++ more) older.tick told →
+        AreKept newer.kept (older.kept ++ told) }
 {}

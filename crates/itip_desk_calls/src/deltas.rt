@@ -3,6 +3,7 @@
 use crate::error::CallError;
 use crate::texts::{batch, truth};
 use itip_delta::{read_delta, write_delta};
+use itip_desk::Batch;
 use std::alloc::Global;
 
 pub(crate) fn answer(
@@ -19,14 +20,18 @@ pub(crate) fn answer(
 
 /// How many items a delta has.
 fn items(alloc: Global, octets: &[u8]) -> Result<Vec<u8>, CallError> {
-    let count = read_delta(alloc, octets)?.as_slice().len();
+    let count = read(alloc, octets)?.as_slice().len();
     Ok(format!(in alloc; "{count}")?.into_bytes())
 }
 
 /// Whether the batch of a message is read from the delta that it is written as.
 fn read_again(alloc: Global, text: &[u8]) -> Result<Vec<u8>, CallError> {
     let batch = batch(alloc, text)?;
-    let octets = write_delta(alloc, &batch)?;
-    let again = read_delta(alloc, &octets)?;
+    let again = read(alloc, &write_delta(alloc, &batch)?)?;
     truth(alloc, again.as_slice() == batch.as_slice())
+}
+
+/// The batch of a delta. It is read in one place: what is known of its octets is much.
+fn read(alloc: Global, octets: &[u8]) -> Result<Batch, CallError> {
+    Ok(read_delta(alloc, octets)?)
 }

@@ -3,7 +3,9 @@
 use crate::error::CallError;
 use crate::texts::{shown, state, text};
 use crate::views::{rows_of, window};
-use itip_report::{cancelled, load_by_attendee, next_seq, orphans, refresh_wanted, resend};
+use itip_report::{
+    cancelled, load_by_attendee, next_seq, orphans, progress, refresh_wanted, resend,
+};
 use itip_todo::Uid;
 use std::alloc::Global;
 
@@ -18,6 +20,10 @@ pub(crate) fn answer(alloc: Global, arguments: &[Vec<u8>]) -> Result<Vec<u8>, Ca
         ("load", [from, to, texts @ ..]) => {
             let rows = rows_of(alloc, window(from, to)?, texts)?;
             lines(alloc, &load_by_attendee(alloc, &rows)?)
+        }
+        ("progress", [from, to, texts @ ..]) => {
+            let rows = rows_of(alloc, window(from, to)?, texts)?;
+            lines(alloc, &progress(alloc, &rows)?)
         }
         ("resend", [uid, texts @ ..]) => sent(alloc, uid, texts),
         ("next", [uid, texts @ ..]) => next(alloc, uid, texts),

@@ -116,7 +116,7 @@ fn run(
     mut writer: Narrow,
     desks: usize,
 ) -> Result<Vec<u8>, CallError> {
-    if desks < 1 || desks > 8 {
+    if desks < 1 || desks > 16 {
         return Err(CallError::NoSuchCall);
     }
     let window = Window::new(20_454, 20_819)?;

@@ -35,7 +35,7 @@ fn run(
     arguments: &[Vec<u8>],
 ) -> Result<Result<World, Stopped>, CallError> {
     let events = events(alloc, arguments)?;
-    if desks < 1 || desks > 8 {
+    if desks < 1 || desks > 16 {
         return Err(CallError::NoSuchCall);
     }
     Ok(run_world(alloc, desks, &events))

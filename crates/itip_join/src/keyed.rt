@@ -82,7 +82,7 @@ impl<K: Ord, V> Keyed<K, V> {
 impl<K: Exact, V: Join> Keyed<K, V> {
     /// Joins `theirs` in at `key`, in place: this copies nothing of what stands there. Where nothing stands there, copies of both are put in.
     ///
-    /// A refusal, for want of memory, changes nothing.
+    /// A refusal (out of memory) changes nothing.
     pub fn join_one(&mut self, key: &K, theirs: &V) -> Result<(), NoMemory>
         ensures joined { OnOk result (IsJoinOf (IsBelowAt V.le) (value_at K.cmp self.old.map key.now) (Some theirs.now) (value_at K.cmp self.new.map key.now)) }
         ensures others { (q : K) → is_eq (K.cmp key.now q) ≡ false → value_at K.cmp self.new.map q ≡ value_at K.cmp self.old.map q }

@@ -1,4 +1,4 @@
--- Why a pass has no list (our own numbers).
+-- Why a pass has no list, from why its desk has none (our own rule).
 use Rattle.itip_view.specs.declared.error.ViewError.{ViewError}
 use Rattle.itip_view.specs.declared.error.ViewError.TheVariants as view
 use Rattle.itip_live.specs.declared.error.PassError.{PassError}

@@ -19,7 +19,7 @@ pub struct Keeper {
 impl Keeper {
     ghost use Rattle.itip_live.specs.Ends.{published, pending, keeper_pair, told, receipt_pair};
 
-    /// Puts a batch behind those that are pending. No pass sees it before it is published. It comes back where memory is refused, and nothing has changed then.
+    /// Puts a batch behind those that are pending. It comes back where memory is refused, and nothing has changed then.
     pub fn submit(&mut self, batch: Batch) -> Result<(), Batch>
         ensures published { published self.new ≡ published self.old }
         ensures pending { MatchResult result (λ _. pending self.new ≡ pending self.old ++ batch ∷ []) (λ back. (back ≡ batch) × (pending self.new ≡ pending self.old)) }
@@ -43,7 +43,7 @@ impl Keeper {
 
     /// Publishes all that is pending, at once, and gives a receipt of all that is published then. It waits for passes that read.
     ///
-    /// Refused for want of memory (40), and exactly where the number of published batches would pass `u64::MAX` (21). A refusal publishes nothing and leaves
+    /// Refused where memory was refused (40), and exactly where the number of published batches would pass `u64::MAX` (21). A refusal publishes nothing and leaves
     /// what is pending. 41 where the history has more batches than the keeper submitted, which no run meets.
     pub fn publish<R: Wait>(&mut self, rt: &R) -> Result<Receipt, LiveError>
         ensures whole { OnOk result ((published self.new ≡ published self.old ++ pending self.old) × (pending self.new ≡ [])) }

@@ -1,5 +1,5 @@
 //! The end of a pair.
-ghost use Rattle.std.specs.Prelude.{◌≡◌, length, map, Some, IfOk, All};
+ghost use Rattle.std.specs.Prelude.{◌≡◌, ◌⊎◌, length, map, Some, IfOk, IfErr, All};
 ghost use mathlib.Core.List.{IsPrefix};
 ghost use Rattle.itip_desk.specs.Desk.{IsDeskOf};
 ghost use Rattle.itip_live.specs.Ends.{published, keeper_pair, seen, pass_pair};
@@ -27,6 +27,7 @@ fn counts(alloc: Global, front: &Front, passes: &[Pass]) -> Result<Vec<u64>, Liv
     requires pair { All (λ p. pass_pair p ≡ Some front.now.seen.book) passes.now }
     ensures counts { IfOk result (λ v. v.items ≡ map (λ p. length (seen p)) passes.now) }
     ensures within { IfOk result (λ v. All (λ p. IsPrefix (seen p) front.now.seen.log) passes.now) }
+    ensures causes { IfErr result (λ e. (e ≡ LiveError.NoMemory) ⊎ (e ≡ LiveError.NoPlace)) }
 {
     let mut all = Vec::new(alloc);
     for pass in passes {
@@ -42,7 +43,7 @@ fn counts(alloc: Global, front: &Front, passes: &[Pass]) -> Result<Vec<u64>, Liv
 
 /// Takes a pair apart, once the threads have returned: a keeper, and any of its passes, perhaps none. What was still pending is dropped.
 ///
-/// The desk is that of all published batches, from tick 0, and what each pass had seen is a beginning of these. Refused for want of memory (40), or where a
+/// The desk is that of all published batches, from tick 0, and what each pass had seen is a beginning of these. Refused where memory was refused (40), or where a
 /// pass has seen more batches than were published, which no run of one pair meets (41); keeper and passes are spent then too.
 pub fn meet<R: Wait>(rt: &R, keeper: Keeper, passes: Vec<Pass>) -> Result<Met, LiveError>
     requires pair { All (λ p. pass_pair p ≡ keeper_pair keeper) passes.items }
@@ -50,6 +51,7 @@ pub fn meet<R: Wait>(rt: &R, keeper: Keeper, passes: Vec<Pass>) -> Result<Met, L
     ensures published { IfOk result (λ m. m.published ≡ length (published keeper)) }
     ensures counts { IfOk result (λ m. m.seen.items ≡ map (λ p. length (seen p)) passes.items) }
     ensures within { IfOk result (λ m. All (λ p. IsPrefix (seen p) (published keeper)) passes.items) }
+    ensures causes { IfErr result (λ e. (e ≡ LiveError.NoMemory) ⊎ (e ≡ LiveError.NoPlace)) }
 {
     let alloc = *passes.allocator();
     let Keeper { end } = keeper;

@@ -1,5 +1,5 @@
 //! A pass, which reads beside the keeper.
-ghost use Rattle.std.specs.Prelude.{◌≡◌, ◌⊎◌, length, Some, IsSome, IfOk, IsTrue, IsErrOf};
+ghost use Rattle.std.specs.Prelude.{◌≡◌, ◌⊎◌, length, Some, IsSome, IfOk, IfErr, IsTrue, IsErrOf};
 ghost use mathlib.Core.List.{IsPrefix};
 
 use crate::error::PassError;
@@ -25,10 +25,12 @@ impl Pass {
 
     /// The text of the task list in a window, of a list of published batches that begins with all that this pass had seen; it has seen these then.
     ///
-    /// Refused where more than 100,000 rows stand there (31), for want of memory (32), or where the pair lets nobody in (45): then nothing more is seen.
+    /// Refused where more than 100,000 rows stand there (31), where memory was refused (32), or where the pair lets nobody in or shows less than was seen (45):
+    /// then nothing more is seen.
     pub fn list(&mut self, window: Window) -> Result<Vec<u8>, PassError>
         ensures text { IfOk result (λ text. IsListText (heard (seen self.new)) window text.items) }
         ensures many { IsErrOf result PassError.TooManyRows → AreTooMany (heard (seen self.new)) window }
+        ensures causes { IsErrOf result PassError.NoMemory → ⊥ }
         ensures grows { IsPrefix (seen self.old) (seen self.new) }
         ensures no_entry { IsErrOf result PassError.NoEntry → seen self.new ≡ seen self.old }
         ensures pair { pass_pair self.new ≡ pass_pair self.old }
@@ -41,9 +43,10 @@ impl Pass {
 
     /// The kept items of the UIDs that moved after this tick of the desk, of a list of published batches as in `list`; the desk began at tick 0.
     ///
-    /// Refused for want of memory (40), or where the pair lets nobody in (45): then nothing more is seen.
+    /// Refused where memory was refused (40), or where the pair lets nobody in or shows less than was seen (45): then nothing more is seen.
     pub fn delta_since(&mut self, tick: u64) -> Result<Batch, PassError>
         ensures delta { IfOk result (λ batch. IsDeltaAfter (seen self.new) tick batch) }
+        ensures causes { IfErr result (λ e. (e ≡ PassError.NoMemory) ⊎ (e ≡ PassError.NoEntry)) }
         ensures grows { IsPrefix (seen self.old) (seen self.new) }
         ensures no_entry { IsErrOf result PassError.NoEntry → seen self.new ≡ seen self.old }
         ensures pair { pass_pair self.new ≡ pass_pair self.old }

@@ -1,5 +1,5 @@
 //! A reader's end of the pair, by value.
-ghost use Rattle.std.specs.Prelude.{◌≡◌, ◌⊎◌, MatchResult, IfOk, IsErrOf};
+ghost use Rattle.std.specs.Prelude.{◌≡◌, ◌⊎◌, MatchResult, IfOk, IfErr, IsErrOf};
 ghost use mathlib.Core.List.{IsPrefix};
 ghost use Rattle.left_right.specs.Sides.{view};
 ghost use Rattle.itip_desk.specs.Heard.{heard};
@@ -62,6 +62,7 @@ impl ReadEnd {
     pub(crate) fn list(self, window: Window) -> (ReadEnd, Result<Vec<u8>, PassError>)
         ensures text { IfOk result.1 (λ text. IsListText (heard result.0.front.seen.log) window text.items) }
         ensures many { IsErrOf result.1 PassError.TooManyRows → AreTooMany (heard result.0.front.seen.log) window }
+        ensures causes { IsErrOf result.1 PassError.NoMemory → ⊥ }
         ensures grows { IsPrefix self.front.seen.log result.0.front.seen.log }
         ensures no_entry { IsErrOf result.1 PassError.NoEntry → result.0.front.seen.log ≡ self.front.seen.log }
         ensures book { result.0.front.seen.book ≡ self.front.seen.book }
@@ -82,6 +83,7 @@ impl ReadEnd {
     /// The kept items of the UIDs that moved after this tick.
     pub(crate) fn delta_since(self, tick: u64) -> (ReadEnd, Result<Batch, PassError>)
         ensures delta { IfOk result.1 (λ batch. IsDeltaAfter result.0.front.seen.log tick batch) }
+        ensures causes { IfErr result.1 (λ e. (e ≡ PassError.NoMemory) ⊎ (e ≡ PassError.NoEntry)) }
         ensures grows { IsPrefix self.front.seen.log result.0.front.seen.log }
         ensures no_entry { IsErrOf result.1 PassError.NoEntry → result.0.front.seen.log ≡ self.front.seen.log }
         ensures book { result.0.front.seen.book ≡ self.front.seen.book }

@@ -1,5 +1,5 @@
 //! Making a pair.
-ghost use Rattle.std.specs.Prelude.{◌≡◌, ◌≤◌, [], length, Some, IfOk, All};
+ghost use Rattle.std.specs.Prelude.{◌≡◌, ◌⊎◌, ◌≤◌, [], length, Some, IfOk, IfErr, All};
 ghost use Rattle.left_right.specs.Sides.{view};
 ghost use Rattle.itip_live.specs.Pair.{name_of};
 ghost use Rattle.itip_live.specs.Ends.{published, pending, keeper_pair, seen, pass_pair};
@@ -22,6 +22,7 @@ fn seat(writer: &mut PublishedWriter, last: &Front) -> Result<Pass, LiveError>
     ensures writer { (writer.new.desk.shown ≡ writer.old.desk.shown) × (writer.new.log ≡ writer.old.log) × (writer.new.behind ≡ writer.old.behind) }
     ensures known { view writer.new.desk.place ≡ view writer.old.desk.place }
     ensures pass { IfOk result (λ p. (seen p ≡ last.now.seen.log) × (pass_pair p ≡ Some last.now.seen.book)) }
+    ensures cause { IfErr result (λ e. e ≡ LiveError.NoPlace) }
 {
     let mut reader = match writer.factory().reader() {
         Ok(reader) => reader,
@@ -45,6 +46,7 @@ fn seats(
     ensures writer { (writer.new.desk.shown ≡ writer.old.desk.shown) × (writer.new.log ≡ writer.old.log) × (writer.new.behind ≡ writer.old.behind) }
     ensures count { IfOk result (λ ps. length ps.items ≡ passes) }
     ensures each { IfOk result (λ ps. All (λ p. (seen p ≡ last.now.seen.log) × (pass_pair p ≡ Some last.now.seen.book)) ps.items) }
+    ensures causes { IfErr result (λ e. (e ≡ LiveError.NoMemory) ⊎ (e ≡ LiveError.NoPlace)) }
 {
     let mut all = Vec::new(alloc);
     for _ in 0..passes {
@@ -58,7 +60,7 @@ fn seats(
 
 /// A desk that has heard nothing, at tick 0: its keeper, and its passes, which have seen nothing. There are one to eight passes.
 ///
-/// Refused for want of memory (40), or where the pair gives no place to a reader (41). A pair that was made is taken apart before a refusal.
+/// Refused where memory was refused (40), or where the pair gives no place to a reader (41). A pair that was made is taken apart before a refusal.
 pub fn start_desk<R: AllocGlobal + Wait>(
     rt: &R,
     passes: usize,
@@ -67,6 +69,7 @@ pub fn start_desk<R: AllocGlobal + Wait>(
     ensures keeper { IfOk result (λ r. (published r.0 ≡ []) × (pending r.0 ≡ [])) }
     ensures count { IfOk result (λ r. length r.1.items ≡ passes) }
     ensures each { IfOk result (λ r. All (λ p. (seen p ≡ []) × (pass_pair p ≡ keeper_pair r.0)) r.1.items) }
+    ensures causes { IfErr result (λ e. (e ≡ LiveError.NoMemory) ⊎ (e ≡ LiveError.NoPlace)) }
 {
     let alloc = rt.alloc();
     let (head, last) = open();

@@ -8,8 +8,10 @@ use Rattle.itip_moment.specs.declared.moment.Moment.{Moment}
 use Rattle.itip_todo.specs.Parts.{Parts}
 use Rattle.itip_todo.specs.declared.property.Property.{Property}
 use Rattle.itip_todo.specs.declared.status.Status.{Status}
-use Rattle.itip_message.specs.Needs.{Suits, method_fault}
-use Rattle.itip_message.specs.Items.{drafts, drafts_of, task_draft, add_drafts, series_draft, instance_draft, attendee_draft, with_base, only_of, canonical_base, raised, instance_sequence, is_series, is_task, kind_of, cancel_kind, method_of, Sends, IsCanonical}
+use Rattle.itip_message.specs.Needs.{Suits, method_fault, has_some, removes, when}
+use Rattle.itip_message.specs.Items.{drafts, drafts_of, task_draft, add_drafts, series_draft, instance_draft, instance_key, attendee_draft, with_base, only_of, canonical_base, raised, instance_sequence, is_series, is_task, kind_of, method_of, Sends, IsCanonical}
+use Rattle.itip_message.specs.declared.error.Fault.TheVariants as fault
+use Rattle.itip_message.specs.declared.key.Key.TheVariants as key
 use Rattle.itip_message.specs.declared.kind.Kind.{Kind}
 use Rattle.itip_message.specs.declared.kind.Kind.TheVariants as kind
 use Rattle.itip_message.specs.declared.kind.Method.{Method}
@@ -17,15 +19,14 @@ use Rattle.itip_message.specs.declared.kind.Method.TheVariants as method
 
 -- the method of the kind that a method gives is that method
 
-cancel_kept : (s : Option Status) (attendees : List Property) → method_of (cancel_kind s attendees) ≡ method.Cancel
-cancel_kept None [] = refl
-cancel_kept None (a ∷ attendees) = refl
-cancel_kept (Some s) attendees = refl
+cancel_kept : (b : Bool) → method_of (cond b kind.Remove kind.Cancel) ≡ method.Cancel
+cancel_kept true = refl
+cancel_kept false = refl
 
 method_kept : (m : Method) (p : Parts) → method_of (kind_of m p) ≡ m
 method_kept method.Request p = refl
 method_kept method.Add p = refl
-method_kept method.Cancel p = cancel_kept p.status p.attendees
+method_kept method.Cancel p = cancel_kept (removes p)
 method_kept method.Reply p = refl
 method_kept method.Refresh p = refl
 
@@ -102,14 +103,14 @@ no_series m q id e = ap (λ r. is_none r && is_task (kind_of m q)) e
 raised_above : (p : Parts) (above : ℕ) → p.seq ≤ raised p above
 raised_above p above = omega arith
 
-pub instance_canonical : (k : Kind) (p : Parts) (id : Moment) (above : ℕ) → Sends k p → is_task k ≡ true → p.rid ≡ Some id → IsCanonical (instance_draft k (raised p above) id p)
+pub instance_canonical : (k : Kind) (p : Parts) (id : Moment) (above : ℕ) → Sends k p → is_task k ≡ true → p.rid ≡ Some id → IsCanonical (instance_draft k (raised p above) (instance_key p.range p.uid id) p)
 instance_canonical k p id above h task some =
     let eff : ℕ = raised p above in
     let q : Parts = with_base p (canonical_base p.seq eff) in
     let e : ℕ = instance_sequence (method_of k) (q ∷ []) q in
     let same : e ≡ eff = alone_sequence (method_of k) p eff (raised_above p above) (no_series (method_of k) q id some) in record {
       alone = drafts_alone k q (kind_based (method_of k) p (canonical_base p.seq eff) ∙ h.kind_is) ∙ task_drafts k e q task
-          ∙ ap (λ (r : Option Moment). task_draft k e r q ∷ []) some ∙ ap (λ (n : ℕ). instance_draft k n id q ∷ []) same;
+          ∙ ap (λ (r : Option Moment). task_draft k e r q ∷ []) some ∙ ap (λ (n : ℕ). instance_draft k n (instance_key p.range p.uid id) q ∷ []) same;
       suits = suits_based (method_of k) p (canonical_base p.seq eff) h.suits;
     }
 
@@ -117,19 +118,19 @@ and_false : (b : Bool) → (b && false) ≡ false
 and_false true = refl
 and_false false = refl
 
-pub add_canonical : (p : Parts) (id : Moment) (above : ℕ) → Suits method.Add p → p.start ≡ Some id → IsCanonical (instance_draft kind.Add (raised p above) id p)
+pub add_canonical : (p : Parts) (id : Moment) (above : ℕ) → Suits method.Add p → p.start ≡ Some id → IsCanonical (instance_draft kind.Add (raised p above) (key.Instance p.uid id) p)
 add_canonical p id above h some =
     let eff : ℕ = raised p above in
     let q : Parts = with_base p (canonical_base p.seq eff) in
     let e : ℕ = instance_sequence method.Add (q ∷ []) q in
     let same : e ≡ eff = alone_sequence method.Add p eff (raised_above p above) (and_false (is_none p.rid)) in record {
-      alone = drafts_alone kind.Add q refl ∙ ap (λ (s : Option Moment). add_drafts e s q) some ∙ ap (λ (n : ℕ). instance_draft kind.Add n id q ∷ []) same;
+      alone = drafts_alone kind.Add q refl ∙ ap (λ (s : Option Moment). add_drafts e s q) some ∙ ap (λ (n : ℕ). instance_draft kind.Add n (key.Instance p.uid id) q ∷ []) same;
       suits = suits_based method.Add p (canonical_base p.seq eff) h;
     }
 
 -- one attendee
 
-no_status : (s : Option Status) (attendees : List Property) → cancel_kind s attendees ≡ kind.Remove → s ≡ None
+no_status : (s : Option Status) (attendees : List Property) → cond (is_none s && has_some attendees) kind.Remove kind.Cancel ≡ kind.Remove → s ≡ None
 no_status None attendees e = refl
 no_status (Some s) attendees e = absurd (cc)
 
@@ -138,8 +139,8 @@ attendee_canonical kind.Request p a h task other = absurd (cc)
 attendee_canonical kind.Cancel p a h task other = absurd (cc)
 attendee_canonical kind.Add p a h task other = absurd (other refl)
 attendee_canonical kind.Remove p a h task other = record {
-  alone = drafts_alone kind.Remove (only_of a p) (ap (λ (s : Option Status). cancel_kind s (a ∷ [])) (no_status p.status p.attendees h.kind_is));
-  suits = record { fits = refl; others = refl };
+  alone = drafts_alone kind.Remove (only_of a p) (ap (λ (s : Option Status). cond (is_none s && true) kind.Remove kind.Cancel) (no_status p.status p.attendees h.kind_is));
+  suits = record { fits = ap (λ (b : Bool). when b fault.Range) (and_false (removes (only_of a p))); others = refl };
 }
 attendee_canonical kind.Reply p a h task other = record { alone = refl; suits = record { fits = refl; others = refl } }
 attendee_canonical kind.Refresh p a h task other = record { alone = refl; suits = record { fits = refl; others = refl } }

@@ -1,13 +1,13 @@
 -- Whether two keys are one can be told.
 use Rattle.std.proofs.Common.{◌≡◌, ℕ, List, arith, refl, sym, ◌∙◌, ap, ◌⊎◌, inl, inr}
-use Rattle.std.specs.Prelude.{Option, Some, None, unwrap_or}
+use Rattle.std.specs.Prelude.{Option, Some, None, unwrap_or, cond, nat_eq}
 use Rattle.std.specs.Cmp.{IsTotalOrder}
 use Rattle.std.specs.declared.cmp.Ordering.{Ordering}
 use Rattle.std.specs.declared.cmp.Ordering.TheVariants.{Less, Equal, Greater}
 use Rattle.std.proofs.lemmas.Cmp.{nat_cmp_total, nat_list_cmp_total, tied_itself}
 use Rattle.std.proofs.lemmas.Map.Lookups.{CmpEqualImpliesEq, exact_unsigned, exact_bytes}
 use Rattle.itip_message.specs.declared.key.Key.{Key}
-use Rattle.itip_message.specs.declared.key.Key.TheVariants.{Series, Instance, Answer, Refresh}
+use Rattle.itip_message.specs.declared.key.Key.TheVariants.{Series, Instance, Range, Answer, Refresh}
 use Rattle.itip_message.specs.KeyParts.{uid_of, rank_of, instance_of, attendee_of}
 use Rattle.itip_moment.specs.declared.moment.Moment.{Moment}
 use Rattle.itip_moment.specs.OrderLaws.{moment_total}
@@ -41,24 +41,29 @@ told_options told (Some a) (Some b) =
       | inr other ↦ inr (λ same. other (ap (λ o. unwrap_or o a) same))
     ]
 
+of_moment : Option Moment → (Moment → Key) → List ℕ → Key
+of_moment None key uid = Series uid
+of_moment (Some id) key uid = key id
+
+-- the key that has these parts
+of_parts : ℕ → List ℕ → Option Moment → List ℕ → Key
+of_parts rank uid id attendee =
+    cond (nat_eq rank 0) (Series uid)
+    (cond (nat_eq rank 1) (of_moment id (Instance uid) uid)
+    (cond (nat_eq rank 2) (of_moment id (Range uid) uid)
+    (cond (nat_eq rank 3) (Answer uid id attendee) (Refresh uid id attendee))))
+
+parts_back : (a : Key) → of_parts (rank_of a) (uid_of a) (instance_of a) (attendee_of a) ≡ a
+unfolding of_parts of_moment
+parts_back (Series u) = refl
+parts_back (Instance u i) = refl
+parts_back (Range u i) = refl
+parts_back (Answer u i a) = refl
+parts_back (Refresh u i a) = refl
+
 -- keys whose parts are equal are one key
 pub from_parts : (a b : Key) → uid_of a ≡ uid_of b → rank_of a ≡ rank_of b → instance_of a ≡ instance_of b → attendee_of a ≡ attendee_of b → a ≡ b
-from_parts (Series u) (Series v) p r m t = ap Series p
-from_parts (Instance u i) (Instance v j) p r m t = λ x. Instance (p x) (unwrap_or (m x) i)
-from_parts (Answer u i a) (Answer v j b) p r m t = λ x. Answer (p x) (m x) (t x)
-from_parts (Refresh u i a) (Refresh v j b) p r m t = λ x. Refresh (p x) (m x) (t x)
-from_parts (Series u) (Instance v j) p r m t = absurd (omega (arith, r))
-from_parts (Series u) (Answer v j b) p r m t = absurd (omega (arith, r))
-from_parts (Series u) (Refresh v j b) p r m t = absurd (omega (arith, r))
-from_parts (Instance u i) (Series v) p r m t = absurd (omega (arith, r))
-from_parts (Instance u i) (Answer v j b) p r m t = absurd (omega (arith, r))
-from_parts (Instance u i) (Refresh v j b) p r m t = absurd (omega (arith, r))
-from_parts (Answer u i a) (Series v) p r m t = absurd (omega (arith, r))
-from_parts (Answer u i a) (Instance v j) p r m t = absurd (omega (arith, r))
-from_parts (Answer u i a) (Refresh v j b) p r m t = absurd (omega (arith, r))
-from_parts (Refresh u i a) (Series v) p r m t = absurd (omega (arith, r))
-from_parts (Refresh u i a) (Instance v j) p r m t = absurd (omega (arith, r))
-from_parts (Refresh u i a) (Answer v j b) p r m t = absurd (omega (arith, r))
+from_parts a b p r m t = sym (parts_back a) ∙ (λ x. of_parts (r x) (p x) (m x) (t x)) ∙ parts_back b
 
 pub told_keys : (a b : Key) → Told a b
 told_keys a b =

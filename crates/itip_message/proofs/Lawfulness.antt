@@ -1,15 +1,21 @@
 -- Parts in canonical form are lawful where the to-do is.
-use Rattle.std.proofs.Common.{◌≡◌, refl, ℕ, ◌≤◌, Bool, true, false, List, [], ◌∷◌, ◌++◌, map, arith, Option, Some, None}
+use Rattle.std.proofs.Common.{◌≡◌, refl, ℕ, ◌≤◌, Bool, true, false, List, [], ◌∷◌, ◌++◌, map, length, length-append, append-nil, sym, subst, arith, Option, Some, None}
 use Rattle.std.specs.Prelude.{max, cond, nat_lt, nat_eq, unwrap_or, codes, ◌&&◌}
 use Rattle.std.specs.Cmp.Lexicographic.{pointwise}
 use Rattle.std.specs.Fmt.{decimal}
 use Rattle.std.specs.List.{AllByRecursion, IsDistinct}
 use Rattle.std.specs.List.Sorted.{IsStrictlySortedBy}
 use Rattle.std.specs.declared.cmp.Ordering.{Ordering}
+use Rattle.itip_lines.specs.Lawful as line
+use Rattle.itip_lines.specs.Lawful.{IsLawfulParam, param_text, params_text}
+use Rattle.itip_lines.specs.declared.line.Param.{Param}
+use Rattle.itip_moment.specs.Written.{moment_text}
+use Rattle.itip_moment.specs.declared.moment.Moment.{Moment}
+use Rattle.itip_todo.specs.Table.{name_text}
 use Rattle.itip_todo.specs.Lawful.{IsLawful, IsLawfulContent, HasValue}
 use Rattle.itip_todo.specs.Parts.{Parts}
 use Rattle.itip_todo.specs.PartsOf.{parts_of}
-use Rattle.itip_todo.specs.Written.{Content, property_line, plain, optional}
+use Rattle.itip_todo.specs.Written.{Content, property_line, rid_line, moment_params, range_params, plain, optional}
 use Rattle.itip_todo.specs.declared.property.Property.{Property}
 use Rattle.itip_todo.specs.declared.property_name.PropertyName.TheVariants as name
 use Rattle.itip_todo.specs.declared.todo.Todo.{Todo}
@@ -47,6 +53,7 @@ base_lawful p b h small = record {
   uid = h.uid;
   seq = h.seq;
   base = small;
+  range = h.range;
   percent = h.percent;
   priority = h.priority;
   organizer = h.organizer;
@@ -88,10 +95,40 @@ behind p h =
     let organizer : AreLawful (from_organizer p) = back (summary_of p) (from_organizer p) summary in
     record { rid = rid; status = status; percent = percent; organizer = organizer }
 
-only_lines : (p : Parts) (a : Property) → IsLawful p → IsLawfulContent (property_line name.Attendee a) → AreLawful (rid_of p ++ (status_of p ++ (percent_of p ++ (organizer_of p ++ (property_line name.Attendee a ∷ [])))))
+-- RECURRENCE-ID without its range
+fewer : (ps qs : List Param) → length (params_text ps) ≤ length (params_text (ps ++ qs))
+fewer [] qs = omega arith
+fewer (p ∷ ps) qs = omega (arith, fewer ps qs, length-append (param_text p) (params_text ps), length-append (param_text p) (params_text (ps ++ qs)))
+
+each_front : (ps qs : List Param) → AllByRecursion IsLawfulParam (ps ++ qs) → AllByRecursion IsLawfulParam ps
+each_front [] qs h = tt
+each_front (p ∷ ps) qs h = (h.0, each_front ps qs h.1)
+
+fewer_lawful : (name : List ℕ) (ps qs : List Param) (value : List ℕ) → line.IsLawful name (ps ++ qs) value → line.IsLawful name (ps ++ []) value
+fewer_lawful name ps qs value h = subst (λ (rs : List Param). line.IsLawful name rs value) (sym (append-nil ps)) (record {
+  named = h.named;
+  each_param = each_front ps qs h.each_param;
+  octets = h.octets;
+  utf8 = h.utf8;
+  short = omega (
+    arith,
+    h.short,
+    fewer ps qs,
+    length-append name (params_text ps ++ 58 ∷ value),
+    length-append (params_text ps) (58 ∷ value),
+    length-append name (params_text (ps ++ qs) ++ 58 ∷ value),
+    length-append (params_text (ps ++ qs)) (58 ∷ value),
+  );
+})
+
+without_range : (v : Option Moment) (b : Bool) → AreLawful (optional (rid_line b) v) → AreLawful (optional (rid_line false) v)
+without_range None b h = tt
+without_range (Some m) b h = (fewer_lawful (name_text name.RecurrenceId) (moment_params m) (range_params b) (moment_text m) h.0, tt)
+
+only_lines : (p : Parts) (a : Property) → IsLawful p → IsLawfulContent (property_line name.Attendee a) → AreLawful (optional (rid_line false) p.rid ++ (status_of p ++ (percent_of p ++ (organizer_of p ++ (property_line name.Attendee a ∷ [])))))
 only_lines p a h line =
     let b : Behind p = behind p h in
-    both (rid_of p) _ (front (rid_of p) (from_start p) b.rid)
+    both (optional (rid_line false) p.rid) _ (without_range p.rid p.range (front (rid_of p) (from_start p) b.rid))
     (both (status_of p) _ (front (status_of p) (from_percent p) b.status)
     (both (percent_of p) _ (front (percent_of p) (from_priority p) b.percent)
     (both (organizer_of p) (property_line name.Attendee a ∷ []) (front (organizer_of p) (from_attendees p) b.organizer) (line, tt))))
@@ -104,6 +141,7 @@ only_lawful p a h value line = record {
   uid = h.uid;
   seq = h.seq;
   base = none_small 2147483647;
+  range = λ on. absurd (cc);
   percent = h.percent;
   priority = none_small 9;
   organizer = h.organizer;

@@ -3,14 +3,14 @@ use Rattle.std.proofs.Common.{List, ◌++◌, map}
 use Rattle.std.specs.Fmt.{decimal}
 use Rattle.itip_todo.specs.Parts.{Parts}
 use Rattle.itip_todo.specs.StatusText.{status_text}
-use Rattle.itip_todo.specs.Written.{Content, content_of, property_line, moment_line, plain, optional}
+use Rattle.itip_todo.specs.Written.{Content, content_of, property_line, moment_line, rid_line, plain, optional}
 use Rattle.itip_todo.specs.declared.property_name.PropertyName.TheVariants as name
 
 abbrev pub base_of : Parts → List Content
 base_of p = optional (λ n. plain name.DeskBase (decimal n)) p.base
 
 abbrev pub rid_of : Parts → List Content
-rid_of p = optional (moment_line name.RecurrenceId) p.rid
+rid_of p = optional (rid_line p.range) p.rid
 
 abbrev pub start_of : Parts → List Content
 start_of p = optional (moment_line name.DtStart) p.start

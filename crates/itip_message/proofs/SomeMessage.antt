@@ -1,7 +1,7 @@
 -- A text is a message, or it is refused.
-use Rattle.std.proofs.Common.{◌≡◌, refl, ℕ, zero, suc, ◌<◌, ◌≤◌, List, [], ◌∷◌, ◌++◌, length, map, get_or, arith, subst, inl, inr, ◌⊎◌, true, Option, Some, None, Ok, Err}
+use Rattle.std.proofs.Common.{◌≡◌, refl, ℕ, suc, ◌≤◌, List, [], ◌∷◌, ◌++◌, length, map, arith, inl, inr, ◌⊎◌, true, Option, Some, None, Ok, Err}
 use Rattle.std.specs.Prelude.{Result}
-use Rattle.std.specs.List.{AllByRecursion, Any, flat_map}
+use Rattle.std.specs.List.{AllByRecursion, Any}
 use Rattle.std.proofs.lemmas.Bool.Decides.{leb_tells}
 use Rattle.itip_lines.specs.Reading as lines
 use Rattle.itip_lines.specs.declared.line.Line.{Line}

@@ -7,7 +7,7 @@ use Rattle.itip_todo.specs.PartsOf.{parts_of}
 use Rattle.itip_todo.specs.Table.{attendee_key}
 use Rattle.itip_todo.specs.declared.property.Property.{Property}
 use Rattle.itip_message.specs.KeyParts.{uid_of}
-use Rattle.itip_message.specs.Items.{Draft, drafts_of, task_draft, add_drafts, attendee_draft, refreshes, instance_sequence, kind_of, method_of}
+use Rattle.itip_message.specs.Items.{Draft, drafts_of, task_draft, add_drafts, attendee_draft, instance_key, refreshes, instance_sequence, kind_of, method_of}
 use Rattle.itip_message.specs.declared.item.Item.{Item}
 use Rattle.itip_message.specs.declared.key.Key.TheVariants as key
 use Rattle.itip_message.specs.declared.kind.Kind.{Kind}
@@ -18,9 +18,13 @@ use Rattle.itip_message.proofs.SameItem.{draft, alone}
 abbrev IsAbout : List ℕ → Draft → Type 0
 IsAbout uid draft = uid_of draft.key ≡ uid
 
+instance_about : (b : Bool) (uid : List ℕ) (id : Moment) → uid_of (instance_key b uid id) ≡ uid
+instance_about true uid id = refl
+instance_about false uid id = refl
+
 task_about : (k : Kind) (eff : ℕ) (rid : Option Moment) (parts : Parts) → IsAbout parts.uid (task_draft k eff rid parts)
 task_about k eff None parts = refl
-task_about k eff (Some id) parts = refl
+task_about k eff (Some id) parts = instance_about parts.range parts.uid id
 
 add_about : (eff : ℕ) (start : Option Moment) (parts : Parts) → AllByRecursion (IsAbout parts.uid) (add_drafts eff start parts)
 add_about eff None parts = tt

@@ -2,7 +2,6 @@
 use Rattle.std.specs.Prelude.{◌≡◌, ℕ, ◌≤◌, nat_lt, nat_eq, max, Bool, true, false, cond, ◌&&◌, List, [], ◌∷◌, ◌++◌, length, map, codes, Option, Some, None, unwrap_or}
 use Rattle.std.specs.Option.{is_none}
 use Rattle.itip_moment.specs.declared.moment.Moment.{Moment}
-use Rattle.itip_todo.specs.declared.status.Status.{Status}
 use Rattle.std.specs.List.{flat_map}
 use Rattle.std.specs.Cmp.Lexicographic.{pointwise}
 use Rattle.itip_moment.specs.declared.stamp.Stamp.{Stamp}
@@ -12,7 +11,7 @@ use Rattle.itip_todo.specs.Written.{Content, contents_octets, parts_contents}
 use Rattle.itip_todo.specs.PartsOf.{parts_of}
 use Rattle.itip_todo.specs.declared.property.Property.{Property}
 use Rattle.itip_todo.specs.declared.todo.Todo.{Todo}
-use Rattle.itip_message.specs.Needs.{Suits}
+use Rattle.itip_message.specs.Needs.{Suits, removes}
 use Rattle.itip_message.specs.declared.key.Key.{Key}
 use Rattle.itip_message.specs.declared.key.Key.TheVariants as key
 use Rattle.itip_message.specs.declared.kind.Kind.{Kind}
@@ -67,20 +66,14 @@ pub record Draft : Type 0 where
   pub eff : ℕ
   pub parts : Parts
 
--- a CANCEL without STATUS that names attendees removes them
-abbrev pub cancel_kind : Option Status → List Property → Kind
-cancel_kind None (attendee ∷ attendees) = kind.Remove
-cancel_kind None [] = kind.Cancel
-cancel_kind (Some status) attendees = kind.Cancel
-
 abbrev pub kind_of : Method → Parts → Kind
 kind_of method.Request parts = kind.Request
 kind_of method.Add parts = kind.Add
-kind_of method.Cancel parts = cancel_kind parts.status parts.attendees
+kind_of method.Cancel parts = cond (removes parts) kind.Remove kind.Cancel
 kind_of method.Reply parts = kind.Reply
 kind_of method.Refresh parts = kind.Refresh
 
--- the kinds that speak of the to-do or an instance as a whole, named by RECURRENCE-ID
+-- the kinds that speak of the to-do as a whole, of an instance, or of it and all after it, named by RECURRENCE-ID
 abbrev pub is_task : Kind → Bool
 is_task kind.Request = true
 is_task kind.Add = false
@@ -102,7 +95,7 @@ series_sequence m uid (parts ∷ all) = max (cond (is_series m parts && pointwis
 abbrev pub raised : Parts → ℕ → ℕ
 raised parts above = max parts.seq (max (unwrap_or parts.base 0) above)
 
--- the effective sequence of an instance item (our own rule): the greatest of its own SEQUENCE, its X-DESK-BASE and those of the series components of its UID beside it
+-- the effective sequence of an instance or range item (our own rule): the greatest of its own SEQUENCE, its X-DESK-BASE and those of the series components of its UID beside it
 abbrev pub instance_sequence : Method → List Parts → Parts → ℕ
 instance_sequence m all parts = raised parts (series_sequence m parts.uid all)
 
@@ -116,8 +109,14 @@ with_base parts base = record parts { base = base }
 abbrev pub series_draft : Kind → Parts → Draft
 series_draft k parts = record { key = key.Series parts.uid; kind = k; eff = parts.seq; parts = with_base parts None }
 
-abbrev pub instance_draft : Kind → ℕ → Moment → Parts → Draft
-instance_draft k eff id parts = record { key = key.Instance parts.uid id; kind = k; eff = eff; parts = with_base parts (canonical_base parts.seq eff) }
+-- of this key, which is of an instance, or of it and all after it
+abbrev pub instance_draft : Kind → ℕ → Key → Parts → Draft
+instance_draft k eff key parts = record { key = key; kind = k; eff = eff; parts = with_base parts (canonical_base parts.seq eff) }
+
+-- an instance, or it and all after it
+abbrev pub instance_key : Bool → List ℕ → Moment → Key
+instance_key true uid id = key.Range uid id
+instance_key false uid id = key.Instance uid id
 
 -- what an answer or a refresh keeps of its to-do: the one attendee that it is of, and few properties (our own rule)
 abbrev pub only_of : Property → Parts → Parts
@@ -127,6 +126,7 @@ only_of attendee parts = record {
   seq = parts.seq;
   base = None;
   rid = parts.rid;
+  range = false;
   start = None;
   due = None;
   status = parts.status;
@@ -157,15 +157,15 @@ attendee_key_of k parts attendee = cond (refreshes k) (key.Refresh parts.uid par
 abbrev pub attendee_draft : Kind → Parts → Property → Draft
 attendee_draft k parts attendee = record { key = attendee_key_of k parts attendee; kind = k; eff = parts.seq; parts = only_of attendee parts }
 
--- of the series, or of the instance that RECURRENCE-ID names
+-- of the series, or of the instance that RECURRENCE-ID names, or of it and all after it
 abbrev pub task_draft : Kind → ℕ → Option Moment → Parts → Draft
 task_draft k eff None parts = series_draft k parts
-task_draft k eff (Some id) parts = instance_draft k eff id parts
+task_draft k eff (Some id) parts = instance_draft k eff (instance_key parts.range parts.uid id) parts
 
 -- of the instance that DTSTART names
 abbrev pub add_drafts : ℕ → Option Moment → Parts → List Draft
 add_drafts eff None parts = []
-add_drafts eff (Some id) parts = instance_draft kind.Add eff id parts ∷ []
+add_drafts eff (Some id) parts = instance_draft kind.Add eff (key.Instance parts.uid id) parts ∷ []
 
 -- what a to-do of a kind gives, where its effective sequence as an instance is eff
 abbrev pub drafts_of : Kind → ℕ → Parts → List Draft

@@ -1,6 +1,6 @@
 -- What a method needs of a to-do beside UID and DTSTAMP (our own rule).
-use Rattle.std.specs.Prelude.{◌≡◌, Bool, true, false, ◌||◌, not, IsTrue, List, [], ◌∷◌, Option, Some, None}
-use Rattle.std.specs.Option.{is_some}
+use Rattle.std.specs.Prelude.{◌≡◌, Bool, true, false, ◌||◌, ◌&&◌, not, IsTrue, List, [], ◌∷◌, Option, Some, None}
+use Rattle.std.specs.Option.{is_some, is_none}
 use Rattle.std.specs.List.{list_all}
 use Rattle.itip_lines.specs.declared.line.Line.{Line}
 use Rattle.itip_todo.specs.Parts.{Parts}
@@ -38,11 +38,15 @@ abbrev pub wants_some : List Property → Option Fault
 wants_some [] = Some (fault.Missing name.Attendee)
 wants_some (attendee ∷ attendees) = None
 
+-- a CANCEL without STATUS that names attendees removes them
+abbrev pub removes : Parts → Bool
+removes parts = is_none parts.status && has_some parts.attendees
+
 -- the fault of a to-do that is not what its method needs beside UID and DTSTAMP (our own rule)
 abbrev pub method_fault : Method → Parts → Option Fault
 method_fault method.Request parts = None
 method_fault method.Add parts = missing_in parts.start (fault.Missing name.DtStart) (when (recurs parts) fault.AddForm)
-method_fault method.Cancel parts = None
+method_fault method.Cancel parts = when (removes parts && parts.range) fault.Range
 method_fault method.Reply parts = wants_some parts.attendees
 method_fault method.Refresh parts = wants_one parts.attendees
 

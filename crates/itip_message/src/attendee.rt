@@ -24,6 +24,7 @@ pub(crate) fn only_of(alloc: Global, attendee: &Property, todo: &Todo) -> Result
         seq: todo.seq,
         base: None,
         rid: copy_moment(&todo.rid)?,
+        range: false,
         start: None,
         due: None,
         status: todo.status,

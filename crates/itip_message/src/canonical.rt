@@ -85,7 +85,7 @@ fn one_if(present: bool) -> usize
     ensures count { result ≡ one_if present }
     ensures small { result ≤ 1 }
 {
-    if present { 1 } else { 0 }
+    usize::from(present)
 }
 
 /// The canonical octets of an item: a message of this to-do alone.

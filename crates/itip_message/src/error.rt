@@ -44,8 +44,8 @@ pub enum Fault {
     /// The value is not one that the property may have.
     #[error("{0} has a bad value")]
     BadValue(PropertyName),
-    /// RECURRENCE-ID has a RANGE parameter.
-    #[error("RECURRENCE-ID has a RANGE parameter")]
+    /// RECURRENCE-ID has a RANGE other than THISANDFUTURE, or attendees are removed from an instance and all after it.
+    #[error("RECURRENCE-ID has a RANGE that is not read")]
     Range,
     /// An ADD has RECURRENCE-ID, RRULE or RDATE.
     #[error("an added instance recurs")]

@@ -136,10 +136,7 @@ fn end(inside: &mut Vec<Text>, name: &Text) -> bool
     ensures { (inner : List ℕ) (outer : List (List ℕ)) → inside.old.items ≡ outer ++ inner ∷ []
         → (result ≡ same_text name.now inner) × (inside.new.items ≡ outer) }
 {
-    let Some(inner) = inside.pop() else {
-        return false;
-    };
-    *name == inner
+    inside.pop().is_some_and(|inner| *name == inner)
 }
 
 /// What a property inside these components adds.

@@ -6,7 +6,7 @@ ghost use Rattle.itip_todo.specs.Lawful.{IsLawful};
 ghost use Rattle.itip_todo.specs.PartsOf.{parts_of};
 ghost use Rattle.itip_message.specs.Faults.{IfFault};
 ghost use Rattle.itip_message.specs.Needs.{Suits};
-ghost use Rattle.itip_message.specs.Items.{drafts, drafts_of, kind_of, raised, task_draft, instance_draft, attendee_draft, canonical_base, is_task, Sends, IsCanonical};
+ghost use Rattle.itip_message.specs.Items.{drafts, drafts_of, kind_of, raised, task_draft, instance_draft, instance_key, attendee_draft, canonical_base, is_task, Sends, IsCanonical};
 ghost use Rattle.itip_message.specs.Message.{GivesItems, IsOver, Adds, Gives};
 ghost use Rattle.itip_message.specs.declared.kind.Kind.TheVariants as kinds;
 
@@ -17,8 +17,9 @@ use crate::item::Item;
 use crate::key::Key;
 use crate::kind::{Kind, Method};
 use crate::sequences::{kind_of, sequence_in, series_sequences};
+use itip_lines::NoMemory;
 use itip_moment::Moment;
-use itip_todo::{Property, Todo};
+use itip_todo::{Property, Todo, Uid};
 use std::alloc::Global;
 
 /// The items of the to-dos of a message, by to-do and then by ATTENDEE line.
@@ -59,8 +60,8 @@ fn add_items(
         }
         Kind::Add => {
             if let Some(start) = &todo.start {
-                let id = start.clone()?;
-                items.push(instance_item(alloc, kind, id, above, todo)?)?;
+                let key = instance_key(false, &todo.uid, start)?;
+                items.push(instance_item(alloc, kind, key, above, todo)?)?;
             }
         }
         Kind::Remove | Kind::Reply | Kind::Refresh => {
@@ -70,15 +71,15 @@ fn add_items(
     Ok(())
 }
 
-/// The item of the series, or of the instance that RECURRENCE-ID names.
+/// The item of the series, or of the instance that RECURRENCE-ID names, or of it and all after it.
 fn task_item(alloc: Global, kind: Kind, above: u32, todo: Todo) -> Result<Item, ReadError>
     requires { Sends kind (parts_of todo) × (is_task kind ≡ true) × (above ≤ 2147483647) }
     ensures found { IfOk result (Gives (task_draft kind (raised (parts_of todo) above) todo.rid (parts_of todo))) }
     ensures fault { IfErr result (λ e. IfFault e (IsOver (task_draft kind (raised (parts_of todo) above) todo.rid (parts_of todo) ∷ []))) }
 {
     if let Some(id) = &todo.rid {
-        let id = id.clone()?;
-        return instance_item(alloc, kind, id, above, todo);
+        let key = instance_key(todo.range, &todo.uid, id)?;
+        return instance_item(alloc, kind, key, above, todo);
     }
     let mut todo = todo;
     todo.base = None;
@@ -86,22 +87,34 @@ fn task_item(alloc: Global, kind: Kind, above: u32, todo: Todo) -> Result<Item, 
     finish_item(alloc, kind, key, todo.seq, todo)
 }
 
-/// The item of an instance. X-DESK-BASE gets its canonical form.
+/// The key of an instance, or of it and all after it.
+fn instance_key(range: bool, uid: &Uid, id: &Moment) -> Result<Key, NoMemory>
+    ensures { IfOk result (λ key. key ≡ instance_key range uid.now id.now) }
+{
+    let uid = uid.clone()?;
+    let id = id.clone()?;
+    if range {
+        Ok(Key::Range(uid, id))
+    } else {
+        Ok(Key::Instance(uid, id))
+    }
+}
+
+/// The item of an instance, or of it and all after it. X-DESK-BASE gets its canonical form.
 fn instance_item(
     alloc: Global,
     kind: Kind,
-    id: Moment,
+    key: Key,
     above: u32,
     todo: Todo,
 ) -> Result<Item, ReadError>
-    requires { IsCanonical (instance_draft kind (raised (parts_of todo) above) id (parts_of todo)) × (above ≤ 2147483647) }
-    ensures found { IfOk result (Gives (instance_draft kind (raised (parts_of todo) above) id (parts_of todo))) }
-    ensures fault { IfErr result (λ e. IfFault e (IsOver (instance_draft kind (raised (parts_of todo) above) id (parts_of todo) ∷ []))) }
+    requires { IsCanonical (instance_draft kind (raised (parts_of todo) above) key (parts_of todo)) × (above ≤ 2147483647) }
+    ensures found { IfOk result (Gives (instance_draft kind (raised (parts_of todo) above) key (parts_of todo))) }
+    ensures fault { IfErr result (λ e. IfFault e (IsOver (instance_draft kind (raised (parts_of todo) above) key (parts_of todo) ∷ []))) }
 {
     let eff = raised(&todo, above);
     let mut todo = todo;
     todo.base = canonical_base(todo.seq, eff);
-    let key = Key::Instance(todo.uid.clone()?, id);
     finish_item(alloc, kind, key, eff, todo)
 }
 
@@ -116,7 +129,7 @@ fn raised(todo: &Todo, above: u32) -> u32
 fn canonical_base(own: u32, eff: u32) -> Option<u32>
     ensures { result ≡ canonical_base own eff }
 {
-    if own < eff { Some(eff) } else { None }
+    (own < eff).then_some(eff)
 }
 
 /// Adds one item for each ATTENDEE line.

@@ -12,6 +12,8 @@ pub enum Key {
     Series(Uid),
     /// The instance of a UID at a recurrence id.
     Instance(Uid, Moment),
+    /// The instance of a UID at a recurrence id and all after it (RANGE=THISANDFUTURE).
+    Range(Uid, Moment),
     /// What an attendee of a UID, or of its instance at a recurrence id, answers.
     Answer(Uid, Option<Moment>, Text),
     /// That an attendee of a UID, or of its instance at a recurrence id, wants the newest revision.
@@ -31,20 +33,23 @@ impl Key {
         match self {
             Key::Series(uid)
             | Key::Instance(uid, _)
+            | Key::Range(uid, _)
             | Key::Answer(uid, _, _)
             | Key::Refresh(uid, _, _) => uid,
         }
     }
 
-    /// The place of the kind of the key: 0 for a to-do, 1 for an instance, 2 for an answer, 3 for a refresh request.
+    /// The place of the kind of the key: 0 for a to-do, 1 for an instance, 2 for a range, 3 for an answer, 4 for a
+    /// refresh request.
     pub fn rank(&self) -> u8
         ensures { result ≡ rank_of self.now }
     {
         match self {
             Key::Series(_) => 0,
             Key::Instance(_, _) => 1,
-            Key::Answer(_, _, _) => 2,
-            Key::Refresh(_, _, _) => 3,
+            Key::Range(_, _) => 2,
+            Key::Answer(_, _, _) => 3,
+            Key::Refresh(_, _, _) => 4,
         }
     }
 
@@ -54,7 +59,7 @@ impl Key {
     {
         match self {
             Key::Series(_) => None,
-            Key::Instance(_, id) => Some(id),
+            Key::Instance(_, id) | Key::Range(_, id) => Some(id),
             Key::Answer(_, id, _) | Key::Refresh(_, id, _) => id.as_ref(),
         }
     }
@@ -63,12 +68,7 @@ impl Key {
     pub fn cmp_instances(&self, other: &Key) -> Ordering
         ensures { result ≡ option_cmp moment_cmp (instance_of self.now) (instance_of other.now) }
     {
-        match (self.instance(), other.instance()) {
-            (None, None) => Ordering::Equal,
-            (None, Some(_)) => Ordering::Less,
-            (Some(_), None) => Ordering::Greater,
-            (Some(id), Some(other_id)) => id.cmp(other_id),
-        }
+        self.instance().cmp(&other.instance())
     }
 
     /// The attendee that the key is about; the empty text where it is about none.
@@ -76,7 +76,7 @@ impl Key {
         ensures { result.now ≡ attendee_of self.now }
     {
         match self {
-            Key::Series(_) | Key::Instance(_, _) => "",
+            Key::Series(_) | Key::Instance(_, _) | Key::Range(_, _) => "",
             Key::Answer(_, _, attendee) | Key::Refresh(_, _, attendee) => attendee.as_str(),
         }
     }
@@ -91,6 +91,7 @@ impl Clone for Key {
         match self {
             Key::Series(uid) => Ok(Key::Series(uid.clone()?)),
             Key::Instance(uid, at) => Ok(Key::Instance(uid.clone()?, at.clone()?)),
+            Key::Range(uid, at) => Ok(Key::Range(uid.clone()?, at.clone()?)),
             Key::Answer(uid, at, attendee) => {
                 Ok(Key::Answer(uid.clone()?, at.clone()?, attendee.clone()?))
             }

@@ -11,13 +11,13 @@ pub enum Method {
 /// What an item does.
 #[derive(Clone, Copy, Debug, PartialEq, Eq)]
 pub enum Kind {
-    /// The to-do, or one instance of it, is assigned (REQUEST).
+    /// The to-do, one instance of it, or an instance and all after it, is assigned (REQUEST).
     Request,
     /// One instance is added (ADD).
     Add,
     /// One attendee is no longer asked (CANCEL without STATUS that names attendees).
     Remove,
-    /// The to-do, or one instance of it, is cancelled (any other CANCEL).
+    /// The to-do, one instance of it, or an instance and all after it, is cancelled (any other CANCEL).
     Cancel,
     /// An attendee answers (REPLY).
     Reply,

@@ -1,7 +1,7 @@
 //! What a method needs of a to-do beside UID and DTSTAMP.
 ghost use Rattle.std.specs.Prelude.{◌≡◌};
 ghost use Rattle.itip_todo.specs.PartsOf.{parts_of};
-ghost use Rattle.itip_message.specs.Needs.{method_fault, recurs, has_some, wants_some, wants_one};
+ghost use Rattle.itip_message.specs.Needs.{method_fault, recurs, removes, has_some, wants_some, wants_one};
 
 use crate::error::Fault;
 use crate::kind::Method;
@@ -13,7 +13,7 @@ pub(crate) fn method_fault(method: Method, todo: &Todo) -> Option<Fault>
     ensures { result ≡ method_fault method (parts_of todo.now) }
 {
     match method {
-        Method::Request | Method::Cancel => None,
+        Method::Request => None,
         Method::Add => {
             if todo.start.is_none() {
                 Some(Fault::Missing(PropertyName::DtStart))
@@ -23,6 +23,7 @@ pub(crate) fn method_fault(method: Method, todo: &Todo) -> Option<Fault>
                 None
             }
         }
+        Method::Cancel => (removes(todo) && todo.range).then_some(Fault::Range),
         Method::Reply => wants_some(todo.attendees.as_slice()),
         Method::Refresh => wants_one(todo.attendees.as_slice()),
     }
@@ -36,6 +37,13 @@ fn recurs(todo: &Todo) -> bool
         || has_some(&todo.rule)
         || has_some(&todo.rdates)
         || has_period(todo.others.as_slice())
+}
+
+/// Whether a to-do removes attendees in a CANCEL: it has no STATUS and names some.
+pub(crate) fn removes(todo: &Todo) -> bool
+    ensures { result ≡ removes (parts_of todo.now) }
+{
+    todo.status.is_none() && has_some(&todo.attendees)
 }
 
 fn has_some<T>(list: &ListOf<T>) -> bool

@@ -7,6 +7,7 @@ ghost use Rattle.itip_todo.specs.PartsOf.{parts_of};
 ghost use Rattle.itip_message.specs.Items.{kind_of, is_task, is_series, series_sequence};
 
 use crate::kind::{Kind, Method};
+use crate::needs::removes;
 use itip_lines::NoMemory;
 use itip_todo::{Todo, Uid};
 use std::alloc::Global;
@@ -43,10 +44,7 @@ fn raise(greatest: &mut BTreeMap<Uid, u32>, todo: &Todo) -> Result<(), NoMemory>
 pub(crate) fn sequence_in(greatest: &BTreeMap<Uid, u32>, uid: &Uid) -> u32
     ensures { result ≡ unwrap_or (get (slice_cmp nat_cmp) greatest.now uid.now) 0 }
 {
-    match greatest.get(uid) {
-        Some(seq) => *seq,
-        None => 0,
-    }
+    greatest.get(uid).copied().unwrap_or(0)
 }
 
 /// Whether a to-do is the series: without RECURRENCE-ID in a REQUEST, or in a CANCEL that removes no attendee.
@@ -71,7 +69,7 @@ pub(crate) fn kind_of(method: Method, todo: &Todo) -> Kind
         Method::Request => Kind::Request,
         Method::Add => Kind::Add,
         Method::Cancel => {
-            if todo.status.is_none() && todo.attendees.len() > 0 {
+            if removes(todo) {
                 Kind::Remove
             } else {
                 Kind::Cancel

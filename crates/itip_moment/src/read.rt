@@ -31,7 +31,7 @@ pub fn read_stamp(text: &str) -> Option<Stamp>
 /// The moment that a text spells beside a TZID: a date, or a date-time with or without a last `Z`.
 ///
 /// The text decides the form: TZID names the zone of a date-time without `Z` alone, which is floating
-/// where TZID is absent or empty. `None` of any other text. An error only for want of memory for the
+/// where TZID is absent or empty. `None` of any other text. An error only when out of memory for the
 /// zone's name.
 pub fn read_moment(
     alloc: Global,

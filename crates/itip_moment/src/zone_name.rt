@@ -33,7 +33,7 @@ impl Model for ZoneName {
 impl ZoneName {
     /// The name with this text, or `None` where the text is empty, which takes no memory.
     ///
-    /// An error only for want of memory.
+    /// An error only when out of memory.
     pub fn new(alloc: Global, text: &str) -> Result<Option<ZoneName>, AllocError>
         ensures ok { IfOk result (λ name.
             MatchOption name (text.now ≡ []) (λ z. z.bytes ≡ text.now)) }

@@ -6,6 +6,8 @@ use Rattle.itip_view.specs.declared.window.Window.{Window}
 use Rattle.itip_view.specs.declared.row.Row.{Row}
 use Rattle.itip_view.specs.Rows.{AreTooMany}
 use Rattle.itip_view.proofs.OfKept.{rows_of_kept, too_many_of_kept}
+use Rattle.itip_report.specs.Load.{load_lines}
+use Rattle.itip_report.specs.Progress.{progress_lines}
 use Rattle.itip_report.specs.Organizing.{IsResendOf, IsNext}
 use Rattle.itip_report.specs.declared.report.Report.TheVariants as report
 use Rattle.itip_report.proofs.OfKept.{lines_of_kept, resend_of_kept, next_of_kept}
@@ -22,7 +24,7 @@ use Rattle.itip_delta.proofs.Packets.{texts_length}
 use Rattle.itip_office.specs.declared.command.ReportName.{ReportName}
 use Rattle.itip_office.specs.declared.command.ReportName.TheVariants as name
 use Rattle.itip_office.specs.Orders.{Order, lists, counts, reports, resends, asks_next, malformed}
-use Rattle.itip_office.specs.Running.{Answer, refused, listed, counted, reported, resent, next_is, answer_to, event_of, HasTick, AreListed, IsReportOf, Step, Answers}
+use Rattle.itip_office.specs.Running.{Answer, refused, listed, counted, reported, resent, next_is, answer_to, event_of, HasTick, AreListed, TellOfRows, IsReportOf, IsOfRows, Step, Answers}
 use Rattle.itip_office.specs.Running.Happens.{is_done, at_no_desk, of_no_packet, spends_ticks}
 use Rattle.itip_office.specs.Running.Step.{happens, lists_rows, lists_too_many, lists_no_desk, counts_kept, counts_no_desk, reports_lines, reports_too_many, reports_no_desk, resends_messages, resends_no_desk, tells_next, tells_no_desk, is_refused}
 
@@ -32,14 +34,19 @@ same_length [] (d ∷ ds) are = absurd are
 same_length (h ∷ hs) [] are = absurd are
 same_length (h ∷ hs) (d ∷ ds) are = ap suc (same_length hs ds are.1)
 
--- a report over what is kept is the report over all that was heard
-report_of_kept : (kept all : List Item) → AreKept kept all → (window : Window) (named : ReportName) (lines : List (List ℕ)) → IsReportOf named kept window lines → IsReportOf named all window lines
-report_of_kept kept all are window name.Load lines is = record {
+-- what is told of the rows of what is kept is told of the rows of all that was heard
+told_of_kept : (tell : List Row → List (List ℕ)) (kept all : List Item) → AreKept kept all → (window : Window) (lines : List (List ℕ)) → TellOfRows tell kept window lines → TellOfRows tell all window lines
+told_of_kept tell kept all are window lines is = record {
   rows = is.rows;
   are_rows = rows_of_kept kept all are window is.rows is.are_rows;
   few = is.few;
   lines_are = is.lines_are;
 }
+
+-- a report over what is kept is the report over all that was heard
+report_of_kept : (kept all : List Item) → AreKept kept all → (window : Window) (named : ReportName) (lines : List (List ℕ)) → IsReportOf named kept window lines → IsReportOf named all window lines
+report_of_kept kept all are window name.Load lines is = told_of_kept load_lines kept all are window lines is
+report_of_kept kept all are window name.Progress lines is = told_of_kept progress_lines kept all are window lines is
 report_of_kept kept all are window name.Cancelled lines is = lines_of_kept kept all are report.Cancelled lines is
 report_of_kept kept all are window name.Orphans lines is = lines_of_kept kept all are report.Orphans lines is
 report_of_kept kept all are window name.Refresh lines is = lines_of_kept kept all are report.Refresh lines is
@@ -93,11 +100,10 @@ module _ (window : Window) (world : ShownWorld) where
         let h = history_at past.histories world.desks desk shown is.desks_are at in
         reports_lines desk named h.history lines h.there (report_of_kept shown.kept (heard h.history.steps) h.is.kept window named lines is_report))
 
-    pub answers_no_load : (named : ReportName) → named ≡ name.Load → AreTooMany shown.kept window → Answers window (reports desk named) world (refused 31) world
-    answers_no_load named load many = answers (reports desk named) (refused 31) (λ past is.
+    pub answers_no_rows : (named : ReportName) → IsOfRows named → AreTooMany shown.kept window → Answers window (reports desk named) world (refused 31) world
+    answers_no_rows named of_rows many = answers (reports desk named) (refused 31) (λ past is.
         let h = history_at past.histories world.desks desk shown is.desks_are at in
-        subst (λ (n : ReportName). Step window past (reports desk n) (refused 31) past) (sym load)
-        (reports_too_many desk h.history h.there (too_many_of_kept shown.kept (heard h.history.steps) h.is.kept window many)))
+        reports_too_many desk named h.history of_rows h.there (too_many_of_kept shown.kept (heard h.history.steps) h.is.kept window many))
 
     pub answers_resend : (uid : List ℕ) (bytes : Option (List ℕ)) → IsResendOf shown.kept uid bytes → Answers window (resends desk uid) world (resent desk bytes) world
     answers_resend uid bytes is_resend = answers (resends desk uid) (resent desk bytes) (λ past is.

@@ -24,6 +24,7 @@ use Rattle.itip_view.specs.ListText.{list_text}
 use Rattle.itip_view.proofs.OfKept.{row_of_same}
 use Rattle.itip_view.proofs.OneList.{one_view, text_or_too_many}
 use Rattle.itip_report.specs.Load.{load_lines}
+use Rattle.itip_report.specs.Progress.{progress_lines}
 use Rattle.itip_report.specs.Organizing.{IsResendOf, IsNext}
 use Rattle.itip_report.specs.Reports.{AreReportLines}
 use Rattle.itip_report.specs.declared.report.Report.{Report}
@@ -45,7 +46,7 @@ use Rattle.itip_office.specs.declared.command.ReportName.{ReportName}
 use Rattle.itip_office.specs.declared.command.ReportName.TheVariants as name
 use Rattle.itip_office.specs.Orders.{Order}
 use Rattle.itip_office.specs.Script.{orders_of}
-use Rattle.itip_office.specs.Running.{Answer, listed, counted, reported, resent, next_is, answer_text, answer_to, event_of, is_refusal, HasTick, AreListed, IsLoad, IsReportOf, Happens, Step, Runs, Writes, IsOutput}
+use Rattle.itip_office.specs.Running.{Answer, listed, counted, reported, resent, next_is, answer_text, answer_to, event_of, is_refusal, HasTick, AreListed, TellOfRows, IsReportOf, IsOfRows, Happens, Step, Runs, Writes, IsOutput}
 use Rattle.itip_office.specs.Running.Happens.{is_done, at_no_desk, of_no_packet, spends_ticks}
 use Rattle.itip_office.specs.Running.Step.{happens, lists_rows, lists_too_many, lists_no_desk, counts_kept, counts_no_desk, reports_lines, reports_too_many, reports_no_desk, resends_messages, resends_no_desk, tells_next, tells_no_desk, is_refused}
 use Rattle.itip_office.proofs.Counting.{same_count}
@@ -253,22 +254,31 @@ rows_or_too_many a b window rows same are many = text_or_too_many a window (list
 kept_same : (a b : List Item) → SameItems a b → (item : Item) → IsKept b item ↔ IsKept a item
 kept_same a b same = kept_iff b a (same_back a b same)
 
-load_one : (a b : List Item) (window : Window) (lines lines' : List (List ℕ)) → SameItems a b → IsLoad a window lines → IsLoad b window lines' → lines ≡ lines'
-load_one a b window lines lines' same is is' =
-    is.lines_are ∙ ap load_lines (one_view a window is.rows is'.rows is.are_rows (rows_same a b window is'.rows same is'.are_rows)) ∙ sym is'.lines_are
+told_one : (tell : List Row → List (List ℕ)) (a b : List Item) (window : Window) (lines lines' : List (List ℕ)) → SameItems a b → TellOfRows tell a window lines → TellOfRows tell b window lines'
+    → lines ≡ lines'
+told_one tell a b window lines lines' same is is' =
+    is.lines_are ∙ ap tell (one_view a window is.rows is'.rows is.are_rows (rows_same a b window is'.rows same is'.are_rows)) ∙ sym is'.lines_are
 
 lines_one : (a b : List Item) (asked : Report) (lines lines' : List (List ℕ)) → SameItems a b → AreReportLines asked a lines → AreReportLines asked b lines' → lines ≡ lines'
 lines_one a b asked lines lines' same are are' = one_lines a asked lines lines' are (lines_alike b a (kept_same a b same) asked lines' are')
 
 report_one : (a b : List Item) (window : Window) (named : ReportName) (lines lines' : List (List ℕ)) → SameItems a b → IsReportOf named a window lines → IsReportOf named b window lines' → lines ≡ lines'
-report_one a b window name.Load lines lines' same is is' = load_one a b window lines lines' same is is'
+report_one a b window name.Load lines lines' same is is' = told_one load_lines a b window lines lines' same is is'
+report_one a b window name.Progress lines lines' same is is' = told_one progress_lines a b window lines lines' same is is'
 report_one a b window name.Cancelled lines lines' same is is' = lines_one a b report.Cancelled lines lines' same is is'
 report_one a b window name.Orphans lines lines' same is is' = lines_one a b report.Orphans lines lines' same is is'
 report_one a b window name.Refresh lines lines' same is is' = lines_one a b report.Refresh lines lines' same is is'
 
-load_or_too_many : (a b : List Item) (window : Window) (lines : List (List ℕ)) → SameItems a b → IsLoad a window lines → AreTooMany b window → ⊥
-load_or_too_many a b window lines same is many =
+told_or_too_many : (tell : List Row → List (List ℕ)) (a b : List Item) (window : Window) (lines : List (List ℕ)) → SameItems a b → TellOfRows tell a window lines → AreTooMany b window → ⊥
+told_or_too_many tell a b window lines same is many =
     rows_or_too_many a b window is.rows same (record { are_rows = is.are_rows; few = is.few }) many
+
+report_or_too_many : (named : ReportName) → IsOfRows named → (a b : List Item) (window : Window) (lines : List (List ℕ)) → SameItems a b → IsReportOf named a window lines → AreTooMany b window → ⊥
+report_or_too_many name.Load of_rows = told_or_too_many load_lines
+report_or_too_many name.Progress of_rows = told_or_too_many progress_lines
+report_or_too_many name.Cancelled of_rows = absurd of_rows
+report_or_too_many name.Orphans of_rows = absurd of_rows
+report_or_too_many name.Refresh of_rows = absurd of_rows
 
 resend_one : (a b : List Item) (uid : List ℕ) (bytes bytes' : Option (List ℕ)) → SameItems a b → IsResendOf a uid bytes → IsResendOf b uid bytes' → bytes ≡ bytes'
 resend_one a b uid bytes bytes' same is is' = one_resend a uid bytes bytes' is (resend_alike b a (kept_same a b same) uid bytes' is')
@@ -495,7 +505,7 @@ step_one window old old' _ _ a' _ new' same once (counts_no_desk desk past) (hap
 step_one window old old' _ _ _ _ _ same once (counts_no_desk desk past) (counts_kept _ h' count' at' is') = absurd (omega (arith, within_at old'.histories desk h' at', desks_same old old' same))
 step_one window old old' _ _ _ _ _ same once (counts_no_desk desk past) (counts_no_desk _ past') = (refl, same)
 step_one window old old' _ a _ new _ same once (happens _ event _ _ asks h) (reports_lines desk named h' lines' at' is') = absurd (none_asked event asks)
-step_one window old old' _ a _ new _ same once (happens _ event _ _ asks h) (reports_too_many desk h' at' many') = absurd (none_asked event asks)
+step_one window old old' _ a _ new _ same once (happens _ event _ _ asks h) (reports_too_many desk named h' of_rows' at' many') = absurd (none_asked event asks)
 step_one window old old' _ a _ new _ same once (happens _ event _ _ asks h) (reports_no_desk desk named past') = absurd (none_asked event asks)
 step_one window old old' _ a _ new _ same once (happens _ event _ _ asks h) (resends_messages desk uid h' bytes' at' is') = absurd (none_asked event asks)
 step_one window old old' _ a _ new _ same once (happens _ event _ _ asks h) (resends_no_desk desk uid past') = absurd (none_asked event asks)
@@ -505,17 +515,17 @@ step_one window old old' _ a _ new _ same once (happens _ event _ _ asks h) (is_
 step_one window old old' _ _ a' _ new' same once (reports_lines desk named h lines at is) (happens _ event _ _ asks h') = absurd (none_asked event asks)
 step_one window old old' _ _ _ _ _ same once (reports_lines desk named h lines at is) (reports_lines _ _ h' lines' at' is') =
     (ap (reported desk named) (report_one (heard h.steps) (heard h'.steps) window named lines lines' (same_heard h.steps h'.steps (same_at old.histories old'.histories desk h h' same.desks at at').steps) is is'), same)
-step_one window old old' _ _ _ _ _ same once (reports_lines desk _ h lines at is) (reports_too_many _ h' at' many') =
-    absurd (load_or_too_many (heard h.steps) (heard h'.steps) window lines (same_heard h.steps h'.steps (same_at old.histories old'.histories desk h h' same.desks at at').steps) is many')
+step_one window old old' _ _ _ _ _ same once (reports_lines desk named h lines at is) (reports_too_many _ _ h' of_rows' at' many') =
+    absurd (report_or_too_many named of_rows' (heard h.steps) (heard h'.steps) window lines (same_heard h.steps h'.steps (same_at old.histories old'.histories desk h h' same.desks at at').steps) is many')
 step_one window old old' _ _ _ _ _ same once (reports_lines desk named h lines at is) (reports_no_desk _ _ past') = absurd (omega (arith, within_at old.histories desk h at, desks_same old old' same))
-step_one window old old' _ _ a' _ new' same once (reports_too_many desk h at many) (happens _ event _ _ asks h') = absurd (none_asked event asks)
-step_one window old old' _ _ _ _ _ same once (reports_too_many desk h at many) (reports_lines _ _ h' lines' at' is') =
-    absurd (load_or_too_many (heard h'.steps) (heard h.steps) window lines' (same_back (heard h.steps) (heard h'.steps) (same_heard h.steps h'.steps (same_at old.histories old'.histories desk h h' same.desks at at').steps)) is' many)
-step_one window old old' _ _ _ _ _ same once (reports_too_many desk h at many) (reports_too_many _ h' at' many') = (refl, same)
-step_one window old old' _ _ _ _ _ same once (reports_too_many desk h at many) (reports_no_desk _ _ past') = absurd (omega (arith, within_at old.histories desk h at, desks_same old old' same))
+step_one window old old' _ _ a' _ new' same once (reports_too_many desk named h of_rows at many) (happens _ event _ _ asks h') = absurd (none_asked event asks)
+step_one window old old' _ _ _ _ _ same once (reports_too_many desk named h of_rows at many) (reports_lines _ _ h' lines' at' is') =
+    absurd (report_or_too_many named of_rows (heard h'.steps) (heard h.steps) window lines' (same_back (heard h.steps) (heard h'.steps) (same_heard h.steps h'.steps (same_at old.histories old'.histories desk h h' same.desks at at').steps)) is' many)
+step_one window old old' _ _ _ _ _ same once (reports_too_many desk named h of_rows at many) (reports_too_many _ _ h' of_rows' at' many') = (refl, same)
+step_one window old old' _ _ _ _ _ same once (reports_too_many desk named h of_rows at many) (reports_no_desk _ _ past') = absurd (omega (arith, within_at old.histories desk h at, desks_same old old' same))
 step_one window old old' _ _ a' _ new' same once (reports_no_desk desk named past) (happens _ event _ _ asks h') = absurd (none_asked event asks)
 step_one window old old' _ _ _ _ _ same once (reports_no_desk desk named past) (reports_lines _ _ h' lines' at' is') = absurd (omega (arith, within_at old'.histories desk h' at', desks_same old old' same))
-step_one window old old' _ _ _ _ _ same once (reports_no_desk desk _ past) (reports_too_many _ h' at' many') = absurd (omega (arith, within_at old'.histories desk h' at', desks_same old old' same))
+step_one window old old' _ _ _ _ _ same once (reports_no_desk desk named past) (reports_too_many _ _ h' of_rows' at' many') = absurd (omega (arith, within_at old'.histories desk h' at', desks_same old old' same))
 step_one window old old' _ _ _ _ _ same once (reports_no_desk desk named past) (reports_no_desk _ _ past') = (refl, same)
 step_one window old old' _ _ a' _ new' same once (resends_messages desk uid h bytes at is) (happens _ event _ _ asks h') = absurd (none_asked event asks)
 step_one window old old' _ _ _ _ _ same once (resends_messages desk uid h bytes at is) (resends_messages _ _ h' bytes' at' is') =

@@ -113,9 +113,10 @@ verb_word word found =
 report_word : (word : List ℕ) (found : ReportName) → report_of word ≡ Some found → word ≡ name_text found
 report_word word found =
     word_step name_text word name.Load found _
+    (word_step name_text word name.Progress found _
     (word_step name_text word name.Cancelled found _
     (word_step name_text word name.Orphans found _
-    (word_step name_text word name.Refresh found None (λ e. absurd cc))))
+    (word_step name_text word name.Refresh found None (λ e. absurd cc)))))
 
 uid_some : (bytes uid : List ℕ) → uid_of bytes ≡ Some uid → (bytes ≡ uid) × (0 < length bytes)
 uid_some bytes uid e =
@@ -170,6 +171,7 @@ uid_reads (b ∷ uid) some = ap (λ (t : Bool). cond t None (Some (b ∷ uid))) 
 
 report_reads : (named : ReportName) → report_of (name_text named) ≡ Some named
 report_reads name.Load = refl
+report_reads name.Progress = refl
 report_reads name.Cancelled = refl
 report_reads name.Orphans = refl
 report_reads name.Refresh = refl
@@ -236,6 +238,7 @@ find_behind line v order read give known nonempty e =
 
 name_some : (named : ReportName) → 0 < length (name_text named)
 name_some name.Load = omega arith
+name_some name.Progress = omega arith
 name_some name.Cancelled = omega arith
 name_some name.Orphans = omega arith
 name_some name.Refresh = omega arith

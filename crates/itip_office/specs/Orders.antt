@@ -75,6 +75,7 @@ uid_of bytes = if length bytes == 0 then None else Some bytes
 abbrev pub report_of : List ℕ → Option ReportName
 report_of word =
     if bytes_eq word (codes "load") then Some name.Load else
+    if bytes_eq word (codes "progress") then Some name.Progress else
     if bytes_eq word (codes "cancelled") then Some name.Cancelled else
     if bytes_eq word (codes "orphans") then Some name.Orphans else
     if bytes_eq word (codes "refresh") then Some name.Refresh else None

@@ -15,6 +15,7 @@ use Rattle.itip_delta.specs.declared.event.Event.TheVariants.{Deliver, Post, Arr
 use Rattle.itip_delta.specs.declared.event.Reply.{Reply}
 use Rattle.itip_delta.specs.declared.event.Reply.TheVariants.{Taken, Posted, Refused}
 use Rattle.itip_report.specs.Load.{load_lines}
+use Rattle.itip_report.specs.Progress.{progress_lines}
 use Rattle.itip_report.specs.Organizing.{IsResendOf, IsNext}
 use Rattle.itip_report.specs.Reports.{AreReportLines}
 use Rattle.itip_report.specs.declared.report.Report.TheVariants as report
@@ -117,19 +118,28 @@ pub record AreListed (heard : List Item) (window : Window) (rows : List Row) : T
   pub are_rows : AreRows heard window rows
   pub few : length rows ≤ row_limit
 
--- The load is that of the rows of the window, of which there are no more than the limit.
-pub record IsLoad (heard : List Item) (window : Window) (lines : List (List ℕ)) : Type 0 where
+-- The lines tell of the rows of the window, of which there are no more than the limit.
+pub record TellOfRows (tell : List Row → List (List ℕ)) (heard : List Item) (window : Window) (lines : List (List ℕ)) : Type 0 where
   pub rows : List Row
   pub are_rows : AreRows heard window rows
   pub few : length rows ≤ row_limit
-  pub lines_are : lines ≡ load_lines rows
+  pub lines_are : lines ≡ tell rows
 
 -- the lines of a report over what was heard
 abbrev pub IsReportOf : ReportName → List Item → Window → List (List ℕ) → Type 0
-IsReportOf name.Load all window lines = IsLoad all window lines
+IsReportOf name.Load all window lines = TellOfRows load_lines all window lines
+IsReportOf name.Progress all window lines = TellOfRows progress_lines all window lines
 IsReportOf name.Cancelled all window lines = AreReportLines report.Cancelled all lines
 IsReportOf name.Orphans all window lines = AreReportLines report.Orphans all lines
 IsReportOf name.Refresh all window lines = AreReportLines report.Refresh all lines
+
+-- the reports that tell of the rows of the window
+abbrev pub IsOfRows : ReportName → Type 0
+IsOfRows name.Load = Unit {0}
+IsOfRows name.Progress = Unit {0}
+IsOfRows name.Cancelled = ⊥
+IsOfRows name.Orphans = ⊥
+IsOfRows name.Refresh = ⊥
 
 -- What is answered where an event is asked of a world, and what happened then.
 pub data Happens (old : Past) (event : Event) : Answer → Past → Type 0 where
@@ -152,8 +162,8 @@ pub data Step (window : Window) (old : Past) : Order → Answer → Past → Typ
   reports_lines : (desk : ℕ) (named : ReportName) (history : History) (lines : List (List ℕ))
       → slice_get old.histories desk ≡ Some history → IsReportOf named (heard history.steps) window lines
       → Step window old (reports desk named) (reported desk named lines) old
-  reports_too_many : (desk : ℕ) (history : History)
-      → slice_get old.histories desk ≡ Some history → AreTooMany (heard history.steps) window → Step window old (reports desk name.Load) (refused 31) old
+  reports_too_many : (desk : ℕ) (named : ReportName) (history : History)
+      → IsOfRows named → slice_get old.histories desk ≡ Some history → AreTooMany (heard history.steps) window → Step window old (reports desk named) (refused 31) old
   reports_no_desk : (desk : ℕ) (named : ReportName) → length old.histories ≤ desk → Step window old (reports desk named) (refused 50) old
   resends_messages : (desk : ℕ) (uid : List ℕ) (history : History) (bytes : Option (List ℕ))
       → slice_get old.histories desk ≡ Some history → IsResendOf (heard history.steps) uid bytes → Step window old (resends desk uid) (resent desk bytes) old

@@ -28,6 +28,7 @@ pub record SpellsUid (line : List ℕ) (verb : List ℕ) (number : ℕ) (uid : L
 
 abbrev pub name_text : ReportName → List ℕ
 name_text name.Load = codes "load"
+name_text name.Progress = codes "progress"
 name_text name.Cancelled = codes "cancelled"
 name_text name.Orphans = codes "orphans"
 name_text name.Refresh = codes "refresh"

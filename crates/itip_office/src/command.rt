@@ -10,7 +10,9 @@ use crate::word::{is_word, read_number, split_word};
 pub enum ReportName {
     /// How many rows show each attendee.
     Load,
-    /// Cancelled series and instances.
+    /// How far rows are.
+    Progress,
+    /// Cancelled series, instances and ranges.
     Cancelled,
     /// Answers and refresh requests that belong to nothing.
     Orphans,
@@ -139,6 +141,8 @@ fn report_of(word: &[u8]) -> Option<ReportName>
 {
     if is_word(word, b"load") {
         Some(ReportName::Load)
+    } else if is_word(word, b"progress") {
+        Some(ReportName::Progress)
     } else if is_word(word, b"cancelled") {
         Some(ReportName::Cancelled)
     } else if is_word(word, b"orphans") {

@@ -34,7 +34,7 @@ impl Office {
         })
     }
 
-    /// Does a command. An error is want of memory.
+    /// Does a command. An error means out of memory.
     pub(crate) fn answer(&mut self, command: &Command<'_>) -> Result<Answer, ScriptFault>
         ensures answers { IfOk result (λ answer. Answers self.old.window (order_of command.now) self.old.world (answer_of answer) self.new.world) }
         ensures window { self.new.window ≡ self.old.window }

@@ -9,11 +9,11 @@ ghost use Rattle.itip_office.specs.Spelling.{name_text};
 
 use crate::answer::{Answer, Heard};
 use crate::command::ReportName;
-use itip_view::{Row, write_list};
+use itip_view::{Row, append_list};
 use std::alloc::AllocError;
 
 impl Answer {
-    /// Appends the reply. After an error, for want of memory, a part of it may stand there.
+    /// Appends the reply. After an error (out of memory) a part of it may stand there.
     pub(crate) fn append(self, output: &mut Vec<u8>) -> Result<(), AllocError>
         ensures { OnOk result (output.new.items ≡ output.old.items ++ answer_text (answer_of self)) }
     {
@@ -87,7 +87,7 @@ fn append_listed(output: &mut Vec<u8>, desk: u64, rows: &[Row]) -> Result<(), Al
     let count = rows.len();
     let line = format!(in *output.allocator(); "list {desk} rows {count}\n")?;
     output.extend_from_slice(line.as_bytes())?;
-    write_list(rows, output)
+    append_list(rows, output)
 }
 
 /// Appends the lines of a report, behind the line that says how many they are.
@@ -121,6 +121,7 @@ fn name_text(name: ReportName) -> &'static str
 {
     match name {
         ReportName::Load => "load",
+        ReportName::Progress => "progress",
         ReportName::Cancelled => "cancelled",
         ReportName::Orphans => "orphans",
         ReportName::Refresh => "refresh",

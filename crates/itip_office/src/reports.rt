@@ -5,14 +5,14 @@ ghost use Rattle.std.specs.String.{string_bytes};
 ghost use Rattle.itip_view.specs.Rows.{AreTooMany};
 ghost use Rattle.itip_report.specs.Organizing.{IsResendOf, IsNext};
 ghost use Rattle.itip_office.specs.Orders.{lists, counts, reports, resends, asks_next};
-ghost use Rattle.itip_office.specs.Running.{Answers, answer_of, IsReportOf};
+ghost use Rattle.itip_office.specs.Running.{Answers, answer_of, IsReportOf, IsOfRows};
 
 use crate::answer::{Answer, NO_DESK, TOO_MANY_ROWS};
 use crate::command::ReportName;
 use crate::fault::ScriptFault;
 use crate::office::Office;
 use itip_desk::Desk;
-use itip_report::{cancelled, load_by_attendee, next_seq, orphans, refresh_wanted};
+use itip_report::{cancelled, load_by_attendee, next_seq, orphans, progress, refresh_wanted};
 use itip_state::State;
 use itip_todo::Uid;
 use itip_view::{ViewError, Window, rows};
@@ -100,13 +100,17 @@ fn report_lines(
     name: ReportName,
 ) -> Result<Vec<String>, ViewError>
     ensures lines { IfOk result (λ lines. IsReportOf name state.now window (map string_bytes lines.items)) }
-    ensures load { IsErrOf result ViewError.TooManyRows → name ≡ ReportName.Load }
+    ensures of_rows { IsErrOf result ViewError.TooManyRows → IsOfRows name }
     ensures many { IsErrOf result ViewError.TooManyRows → AreTooMany state.now window }
 {
     match name {
         ReportName::Load => {
             let rows = rows(alloc, state, window)?;
             Ok(load_by_attendee(alloc, &rows)?)
+        }
+        ReportName::Progress => {
+            let rows = rows(alloc, state, window)?;
+            Ok(progress(alloc, &rows)?)
         }
         ReportName::Cancelled => Ok(cancelled(alloc, state)?),
         ReportName::Orphans => Ok(orphans(alloc, state)?),

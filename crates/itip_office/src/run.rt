@@ -33,7 +33,7 @@ pub fn run_script<R: Read, W: Write>(
     window: Window,
 ) -> Result<bool, ScriptFault>
     requires some { 1 ≤ desks }
-    requires few { desks ≤ 8 }
+    requires few { desks ≤ 16 }
     ensures output { IfOk result (λ refusal. IfSome (R.remaining reader.old) (λ script. WritesAll window desks (W.contents writer.old) (W.contents writer.new) script refusal)) }
     ensures front { OnErr result (IfSome (R.remaining reader.old) (λ script. WritesFront window desks (W.contents writer.old) (W.contents writer.new) script)) }
     ensures unread { IsErrOf result ScriptFault.Read → Keeps (W.contents writer.old) (W.contents writer.new) }

@@ -1,14 +1,61 @@
 //! The values of a rule's parts: numbers, weekdays, places, and lists of these.
 ghost use Rattle.std.specs.Prelude.{◌≡◌, ℕ, List, map, IfOk, MatchOption};
+ghost use Rattle.std.specs.List.{AllZip};
 ghost use Rattle.jiff_core.specs.declared.civil.weekday.Weekday.{Weekday};
 ghost use Rattle.itip_recur.specs.declared.rule.Place.{Place};
 ghost use Rattle.itip_recur.specs.declared.rule.MonthWeekday.{MonthWeekday};
-ghost use Rattle.itip_recur.specs.RuleText.{IsNumberText, IsPlaceText, IsWeekdayText, IsMonthWeekdayText, AreWeekdays, AreMonthWeekdays, AreMonthDays, AreMonths, elements};
+ghost use Rattle.itip_recur.specs.RuleText.{IsNumberText, IsPlaceText, IsWeekdayText, IsMonthWeekdayText, elements};
 
 use crate::rule::{MonthWeekday, Place};
 use crate::{NoMemory, Weekday};
 use itip_lines::ListOf;
 use std::alloc::Global;
+
+/// A value that an element of a list may spell.
+pub(crate) trait Element: Drop {
+    /// The text spells the value.
+    ghost spells: { List ℕ → Self → Type 0 };
+
+    /// The value that a text spells, where it spells one.
+    fn read(text: &[u8]) -> Option<Self>
+        ensures { MatchOption result ((value : Self) → spells text.now value → ⊥) (spells text.now) };
+}
+
+/// An element of BYDAY in a weekly rule.
+impl Element for Weekday {
+    ghost spells = { IsWeekdayText };
+
+    fn read(text: &[u8]) -> Option<Weekday> {
+        read_weekday(text)
+    }
+}
+
+/// An element of BYDAY in a monthly rule.
+impl Element for MonthWeekday {
+    ghost spells = { IsMonthWeekdayText };
+
+    fn read(text: &[u8]) -> Option<MonthWeekday> {
+        read_month_weekday(text)
+    }
+}
+
+/// An element of BYMONTHDAY.
+impl Element for Place {
+    ghost spells = { IsPlaceText 31 };
+
+    fn read(text: &[u8]) -> Option<Place> {
+        read_place(text, 31)
+    }
+}
+
+/// An element of BYMONTH.
+impl Element for u8 {
+    ghost spells = { IsNumberText 12 };
+
+    fn read(text: &[u8]) -> Option<u8> {
+        read_small(text, 12)
+    }
+}
 
 /// One or more digits, of a number from 1 to the limit.
 pub(crate) fn read_number(text: &[u8], limit: u32) -> Option<u32>
@@ -80,61 +127,20 @@ fn split_elements<'a>(alloc: Global, value: &'a str) -> Result<Vec<&'a str>, NoM
     value.split(',').collect(alloc)
 }
 
-pub(crate) fn read_weekdays(alloc: Global, value: &str) -> Result<Option<ListOf<Weekday>>, NoMemory>
-    ensures { IfOk result (λ r. MatchOption r ((list : List Weekday) → AreWeekdays value.now list → ⊥) (AreWeekdays value.now)) }
-{
-    let elements = split_elements(alloc, value)?;
-    let mut list = Vec::new(alloc);
-    for element in elements.as_slice() {
-        let Some(weekday) = read_weekday(element.as_bytes()) else {
-            return Ok(None);
-        };
-        list.push(weekday)?;
-    }
-    Ok(Some(ListOf::from_vec(list)))
-}
-
-pub(crate) fn read_month_weekdays(
+/// The values of a list's elements; none where an element spells none.
+pub(crate) fn read_list<T: Element>(
     alloc: Global,
     value: &str,
-) -> Result<Option<ListOf<MonthWeekday>>, NoMemory>
-    ensures { IfOk result (λ r. MatchOption r ((list : List MonthWeekday) → AreMonthWeekdays value.now list → ⊥) (AreMonthWeekdays value.now)) }
+) -> Result<Option<ListOf<T>>, NoMemory>
+    ensures { IfOk result (λ r. MatchOption r ((list : List T) → AllZip T.spells (elements value.now) list → ⊥) (AllZip T.spells (elements value.now))) }
 {
     let elements = split_elements(alloc, value)?;
     let mut list = Vec::new(alloc);
     for element in elements.as_slice() {
-        let Some(weekday) = read_month_weekday(element.as_bytes()) else {
+        let Some(one) = T::read(element.as_bytes()) else {
             return Ok(None);
         };
-        list.push(weekday)?;
-    }
-    Ok(Some(ListOf::from_vec(list)))
-}
-
-pub(crate) fn read_places(alloc: Global, value: &str) -> Result<Option<ListOf<Place>>, NoMemory>
-    ensures { IfOk result (λ r. MatchOption r ((list : List Place) → AreMonthDays value.now list → ⊥) (AreMonthDays value.now)) }
-{
-    let elements = split_elements(alloc, value)?;
-    let mut list = Vec::new(alloc);
-    for element in elements.as_slice() {
-        let Some(place) = read_place(element.as_bytes(), 31) else {
-            return Ok(None);
-        };
-        list.push(place)?;
-    }
-    Ok(Some(ListOf::from_vec(list)))
-}
-
-pub(crate) fn read_months(alloc: Global, value: &str) -> Result<Option<ListOf<u8>>, NoMemory>
-    ensures { IfOk result (λ r. MatchOption r ((list : List ℕ) → AreMonths value.now list → ⊥) (AreMonths value.now)) }
-{
-    let elements = split_elements(alloc, value)?;
-    let mut list = Vec::new(alloc);
-    for element in elements.as_slice() {
-        let Some(month) = read_small(element.as_bytes(), 12) else {
-            return Ok(None);
-        };
-        list.push(month)?;
+        list.push(one)?;
     }
     Ok(Some(ListOf::from_vec(list)))
 }

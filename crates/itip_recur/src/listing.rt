@@ -26,7 +26,7 @@ const OCCURRENCE_LIMIT: usize = 100_000;
 /// The moments of a series whose day lies in a window, ascending, each once, at most 100,000.
 ///
 /// Days are numbered from 1970-01-01, and the day `to` is not in the window. `TooMany` as soon as more
-/// than 100,000 are found, and `NoMemory` for want of memory.
+/// than 100,000 are found, and `NoMemory` when out of memory.
 pub fn occurrences(
     alloc: Global,
     series: &Series,
@@ -42,7 +42,7 @@ pub fn occurrences(
 
 /// All moments of a series whose day lies in a window, as [`occurrences`] lists them, without its limit.
 ///
-/// For a caller that leaves some of them out and has a limit of its own. An error only for want of memory.
+/// For a caller that leaves some of them out and has a limit of its own. An error only when out of memory.
 pub fn all_occurrences(
     alloc: Global,
     series: &Series,

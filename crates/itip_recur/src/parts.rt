@@ -64,10 +64,7 @@ fn stands_once(name: &str, parts: &[&str]) -> bool
 pub(crate) fn value_of<'a>(name: &str, parts: &[&'a str]) -> Option<&'a str>
     ensures { option_copied result ≡ value_of name.now (map (λ p. p.now) parts.now) }
 {
-    match part_of(name, parts) {
-        Some(part) => part_value(part),
-        None => None,
-    }
+    part_value(part_of(name, parts)?)
 }
 
 fn part_of<'a>(name: &str, parts: &[&'a str]) -> Option<&'a str>
@@ -84,10 +81,8 @@ fn part_of<'a>(name: &str, parts: &[&'a str]) -> Option<&'a str>
 fn part_value<'a>(part: &'a str) -> Option<&'a str>
     ensures { option_copied result ≡ part_value part.now }
 {
-    match part.split_once('=') {
-        Some((_, value)) => Some(value),
-        None => None,
-    }
+    let (_, value) = part.split_once('=')?;
+    Some(value)
 }
 
 // Whether what stands before the first '=' is the name, in letters of either case.

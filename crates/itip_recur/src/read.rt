@@ -10,9 +10,7 @@ ghost use Rattle.itip_recur.specs.declared.rule.YearDays.{YearDays};
 ghost use Rattle.itip_recur.specs.RuleText.{IsInterval, IsWeekStart, IsEndOf, IsWeekPart, AreMonthParts, AreYearParts, IsFrequencyOf, IsRuleOfParts};
 ghost use Rattle.itip_recur.specs.Reads.{IsReading};
 
-use crate::elements::{
-    read_month_weekdays, read_months, read_number, read_places, read_weekday, read_weekdays,
-};
+use crate::elements::{read_list, read_number, read_weekday};
 use crate::parts::{are_parts, split_parts, value_of};
 use crate::rule::{End, Frequency, MonthDays, Rule, WeekDays, YearDays};
 use crate::{NoMemory, Weekday};
@@ -32,7 +30,7 @@ pub enum Reading {
 ///
 /// The profile: FREQ of DAILY; WEEKLY with BYDAY; MONTHLY with BYMONTHDAY or BYDAY, where ordinals may
 /// stand; YEARLY with BYMONTH and BYMONTHDAY together; and INTERVAL up to 10,000, COUNT or UNTIL, and
-/// WKST. Letters of either case are read but in UNTIL. An error only for want of memory.
+/// WKST. Letters of either case are read but in UNTIL. An error only when out of memory.
 pub fn read_rule(alloc: Global, text: &str) -> Result<Reading, NoMemory>
     ensures { IfOk result (IsReading text.now) }
 {
@@ -98,14 +96,8 @@ fn read_end(
 {
     match (count, until) {
         (None, None) => Ok(Some(End::Never)),
-        (Some(count), None) => match read_number(count.as_bytes(), u32::MAX) {
-            Some(count) => Ok(Some(End::Count(count))),
-            None => Ok(None),
-        },
-        (None, Some(until)) => match read_moment(alloc, until, None)? {
-            Some(last) => Ok(Some(End::Until(last))),
-            None => Ok(None),
-        },
+        (Some(count), None) => Ok(read_number(count.as_bytes(), u32::MAX).map(End::Count)),
+        (None, Some(until)) => Ok(read_moment(alloc, until, None)?.map(End::Until)),
         (Some(_), Some(_)) => Ok(None),
     }
 }
@@ -154,10 +146,7 @@ fn read_weekly(alloc: Global, by_day: Option<&str>) -> Result<Option<WeekDays>, 
     let Some(value) = by_day else {
         return Ok(Some(WeekDays::OfStart));
     };
-    match read_weekdays(alloc, value)? {
-        Some(days) => Ok(Some(WeekDays::Listed(days))),
-        None => Ok(None),
-    }
+    Ok(read_list(alloc, value)?.map(WeekDays::Listed))
 }
 
 fn read_monthly(
@@ -169,14 +158,8 @@ fn read_monthly(
 {
     match (by_month_day, by_day) {
         (None, None) => Ok(Some(MonthDays::OfStart)),
-        (Some(value), None) => match read_places(alloc, value)? {
-            Some(days) => Ok(Some(MonthDays::Listed(days))),
-            None => Ok(None),
-        },
-        (None, Some(value)) => match read_month_weekdays(alloc, value)? {
-            Some(days) => Ok(Some(MonthDays::Weekdays(days))),
-            None => Ok(None),
-        },
+        (Some(value), None) => Ok(read_list(alloc, value)?.map(MonthDays::Listed)),
+        (None, Some(value)) => Ok(read_list(alloc, value)?.map(MonthDays::Weekdays)),
         (Some(_), Some(_)) => Ok(None),
     }
 }
@@ -191,10 +174,10 @@ fn read_yearly(
     match (by_month, by_month_day) {
         (None, None) => Ok(Some(YearDays::OfStart)),
         (Some(months), Some(days)) => {
-            let Some(months) = read_months(alloc, months)? else {
+            let Some(months) = read_list(alloc, months)? else {
                 return Ok(None);
             };
-            let Some(days) = read_places(alloc, days)? else {
+            let Some(days) = read_list(alloc, days)? else {
                 return Ok(None);
             };
             Ok(Some(YearDays::Listed { months, days }))

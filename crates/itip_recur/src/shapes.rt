@@ -19,7 +19,7 @@ use std::alloc::Global;
 ///
 /// It is single without RRULE, RDATE and EXDATE. With one of these it is opaque where it has no DTSTART,
 /// more than one RRULE, a rule outside the profile, an UNTIL of another form than DTSTART or beside a
-/// DTSTART in a named zone, or an RDATE with a `/`. Otherwise it repeats. An error only for want of memory.
+/// DTSTART in a named zone, or an RDATE with a `/`. Otherwise it repeats. An error only when out of memory.
 pub fn shape(alloc: Global, todo: &Todo) -> Result<Shape, NoMemory>
     ensures { IfOk result (IsShape todo.now) }
 {

@@ -1,12 +1,15 @@
--- The items of one UID that are reported, in the order of their keys.
-use Rattle.std.proofs.Common.{List, [], ◌∷◌, ◌++◌, sym, subst, inl, inr, get_or}
+-- The items of one UID that are looked for, in the order of their keys.
+use Rattle.std.proofs.Common.{◌≡◌, ◌+◌, ◌<◌, ℕ, List, [], ◌∷◌, ◌++◌, map, take, length, sym, ◌∙◌, ap, subst, inl, inr, get_or, Bor}
 use Rattle.std.specs.List.{Contains}
+use Rattle.std.proofs.Math.ListN.{get_or-map}
+use Rattle.std.proofs.lemmas.List.{length-map, take_more}
 use Rattle.std.proofs.lemmas.List.Elements.{Contains-get_or, Contains-append_left, Contains-push, Contains-push_cases}
 use Rattle.std.proofs.lemmas.List.Quantifiers.{all_pairs_push}
 use Rattle.itip_message.specs.declared.item.Item.{Item}
 use Rattle.itip_state.specs.Kept.{AscendKeys, SameItems}
 use Rattle.itip_state.proofs.Members.{none_in, no_pairs}
 use Rattle.itip_state.proofs.Ordered.{IsBefore}
+use Rattle.itip_view.proofs.Collecting.{earlier_before}
 use Rattle.itip_report.specs.Lines.{AscendPlaces, AreReported}
 
 -- of the items that were looked at, those that are wanted
@@ -50,3 +53,22 @@ module _ (Is : Item → Type 0) where
     each = λ i h. (so.each i ((same i).0 h)).1;
     all = λ i is. (same i).1 (so.all i (heard i is) is);
   }
+
+-- one more of the items is looked at
+module _ (Is : Item → Type 0) (refs : List (Bor Item)) (ordered : AscendKeys (map (λ item. item.now) refs)) (i : ℕ) (ref : Bor Item) (below : i < length refs) (here : ref ≡ get_or refs i ref)
+    (found : List Item) (so : Chosen Is (take i (map (λ item. item.now) refs)) found) where
+  inside : i < length (map (λ (item : Bor Item). item.now) refs)
+  inside = rw (length-map refs (λ (item : Bor Item). item.now)) below
+
+  at_i : get_or (map (λ item. item.now) refs) i ref.now ≡ ref.now
+  at_i = get_or-map (λ item. item.now) refs i ref ∙ ap (λ (item : Bor Item). item.now) (sym here)
+
+  done : take (i + 1) (map (λ item. item.now) refs) ≡ take i (map (λ item. item.now) refs) ++ ref.now ∷ []
+  done = take_more (map (λ item. item.now) refs) i ref.now inside ∙ ap (λ (x : Item). take i (map (λ item. item.now) refs) ++ x ∷ []) at_i
+
+  pub looked_pass : (Is ref.now → ⊥) → Chosen Is (take (i + 1) (map (λ item. item.now) refs)) found
+  looked_pass not = subst (λ (xs : List Item). Chosen Is xs found) (sym done) (chosen_pass Is (take i (map (λ item. item.now) refs)) found so ref.now not)
+
+  pub looked_more : Is ref.now → Chosen Is (take (i + 1) (map (λ item. item.now) refs)) (found ++ ref.now ∷ [])
+  looked_more is = subst (λ (xs : List Item). Chosen Is xs (found ++ ref.now ∷ [])) (sym done)
+      (chosen_more Is (take i (map (λ item. item.now) refs)) found so ref.now (earlier_before IsBefore (map (λ item. item.now) refs) i ref.now ordered inside (sym at_i)) is)

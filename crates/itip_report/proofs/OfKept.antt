@@ -9,10 +9,9 @@ use Rattle.itip_state.specs.Kept.{IsBest, IsDead, IsKept, AreKept}
 use Rattle.itip_state.specs.Organizers.{IsOrganizers, IsLastUsed}
 use Rattle.itip_state.proofs.Best.{best_above}
 use Rattle.itip_state.proofs.Keeping.{kept_again, series_kept}
-use Rattle.itip_view.specs.Standing.{Stands}
-use Rattle.itip_view.proofs.Alike.{KeepAlike, alike_back, series_alike, stands_alike, live_series_alike, governs_alike}
+use Rattle.itip_view.proofs.Alike.{KeepAlike, alike_back, series_alike, stands_alike, stands_from_alike, live_series_alike, governs_alike}
 use Rattle.itip_report.specs.Organizing.{AreStanding, IsResendOf, IsNext, last_sequence}
-use Rattle.itip_report.specs.Reports.{IsCancellation, NoneAt, NoneAtInstance, IsOrphan, IsWanted, IsReported, AreReportLines}
+use Rattle.itip_report.specs.Reports.{IsStanding, IsCancellation, NoneAt, NoneAtInstance, IsOrphan, IsWanted, IsReported, AreReportLines}
 use Rattle.itip_report.specs.declared.report.Report.{Report}
 use Rattle.itip_report.specs.declared.report.Report.TheVariants as report
 
@@ -36,10 +35,16 @@ module _ (x y : List Item) (same : KeepAlike x y) where
       let kept : IsKept y found.0 = record { best = subst (λ (k : Key). IsBest y k found.0) (sym best.about) best; alive = alive } in
       none found.0 ((same found.0).1 kept).best.is_heard best.about
 
+  standing_alike : (uid : List ℕ) (item : Item) → IsStanding x uid item → IsStanding y uid item
+  standing_alike uid item is = record {
+    id = is.id;
+    stands = elim is.stands [ inl at ↦ inl (stands_alike x y same uid is.id item at) | inr on ↦ inr (stands_from_alike x y same uid is.id item on) ];
+  }
+
   cancellation_alike : (item : Item) → IsCancellation x item → IsCancellation y item
   cancellation_alike item (inl is) = inl (record { best = series_alike x y same (uid_of item.key) item is.best; cancelled = is.cancelled })
   cancellation_alike item (inr is) =
-      inr (record { id = is.id; stands = stands_alike x y same (uid_of item.key) is.id item is.stands; cancelled = is.cancelled })
+      inr (record { standing = standing_alike (uid_of item.key) item is.standing; cancelled = is.cancelled })
 
   orphan_alike : (item : Item) → IsOrphan x item → IsOrphan y item
   orphan_alike item is = record {
@@ -63,11 +68,11 @@ module _ (x y : List Item) (same : KeepAlike x y) where
   reported_alike report.Orphans item is = orphan_alike item is
   reported_alike report.Refresh item is = wanted_alike item is
 
-  standing_alike : (uid : List ℕ) (items : List Item) → ((id : Moment) (item : Item) → Stands y uid id item → Stands x uid id item) → AreStanding x uid items → AreStanding y uid items
-  standing_alike uid items back are = record {
+  all_standing_alike : (uid : List ℕ) (items : List Item) → ((item : Item) → IsStanding y uid item → IsStanding x uid item) → AreStanding x uid items → AreStanding y uid items
+  all_standing_alike uid items back are = record {
     ascend = are.ascend;
-    each = λ item h. let of = are.each item h in (of.0, stands_alike x y same uid of.0 item of.1);
-    all = λ id item stands. are.all id item (back id item stands);
+    each = λ item h. standing_alike uid item (are.each item h);
+    all = λ item stands. are.all item (back item stands);
   }
 
   organizers_alike : (uid : List ℕ) (item : Item) → IsOrganizers x uid item → IsOrganizers y uid item
@@ -90,7 +95,7 @@ resend_alike x y same uid (Some bytes) is = record {
   series = is.series;
   live = live_series_alike x y same uid is.series is.live;
   instances = is.instances;
-  standing = standing_alike x y same uid is.instances (stands_alike y x (alike_back x y same) uid) is.standing;
+  standing = all_standing_alike x y same uid is.instances (standing_alike y x (alike_back x y same) uid) is.standing;
   bytes_are = is.bytes_are;
 }
 

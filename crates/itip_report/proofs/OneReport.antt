@@ -31,7 +31,7 @@ two_resends : (heard : List Item) (uid bytes others : List ℕ) → IsResend hea
 two_resends heard uid bytes others mine theirs =
     let one : mine.series ≡ theirs.series = one_best heard (Series uid) mine.series theirs.series mine.live.best theirs.live.best in
     let same : mine.instances ≡ theirs.instances = same_places mine.instances theirs.instances mine.standing.ascend theirs.standing.ascend
-    (λ item h. let of = mine.standing.each item h in theirs.standing.all of.0 item of.1) (λ item h. let of = theirs.standing.each item h in mine.standing.all of.0 item of.1) in
+    (λ item h. theirs.standing.all item (mine.standing.each item h)) (λ item h. mine.standing.all item (theirs.standing.each item h)) in
     mine.bytes_are ∙ (λ i. flat_map (λ (item : Item). item.bytes) (one i ∷ same i)) ∙ sym theirs.bytes_are
 
 pub one_resend : (heard : List Item) (uid : List ℕ) (bytes others : Option (List ℕ)) → IsResendOf heard uid bytes → IsResendOf heard uid others → bytes ≡ others

@@ -1,6 +1,8 @@
 pub mod Lines
 pub mod Reports
 pub mod Load
+pub mod Progress
 pub mod Organizing
 pub mod Live
+pub mod Sought
 pub mod Tally

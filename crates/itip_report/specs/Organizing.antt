@@ -1,19 +1,17 @@
 -- The messages that an organizer sends again, and the next sequence to use (our own rules; SEQUENCE: RFC 5545 3.8.7.4).
 use Rattle.std.specs.Prelude.{◌≡◌, ◌<◌, ℕ, zero, suc, List, ◌∷◌, Option, Some, None}
-use Rattle.std.specs.List.{Contains, flat_map}
-use Rattle.itip_moment.specs.declared.moment.Moment.{Moment}
+use Rattle.std.specs.List.{flat_map}
 use Rattle.itip_message.specs.declared.item.Item.{Item}
 use Rattle.itip_state.specs.Organizers.{IsLastUsed}
-use Rattle.itip_view.specs.Standing.{Stands, IsLiveSeries}
-use Rattle.itip_report.specs.Lines.{AscendPlaces}
+use Rattle.itip_view.specs.Standing.{IsLiveSeries}
+use Rattle.itip_report.specs.Lines.{AreReported}
+use Rattle.itip_report.specs.Reports.{IsStanding}
 
--- the instance items of a UID that stand, by the moments of their instances
-pub record AreStanding (heard : List Item) (uid : List ℕ) (items : List Item) : Type 0 where
-  pub ascend : AscendPlaces items
-  pub each : (item : Item) → Contains items item → (id : Moment) × Stands heard uid id item
-  pub all : (id : Moment) (item : Item) → Stands heard uid id item → Contains items item
+-- the instance and range items of a UID that stand, by moment, an instance before a range
+abbrev pub AreStanding : List Item → List ℕ → List Item → Type 0
+AreStanding heard uid items = AreReported (IsStanding heard uid) items
 
--- the canonical messages of the live series item, and then of the instance items that stand
+-- the canonical messages of the live series item, and then of the instance and range items that stand
 pub record IsResend (heard : List Item) (uid : List ℕ) (bytes : List ℕ) : Type 0 where
   pub series : Item
   pub live : IsLiveSeries heard uid series

@@ -7,10 +7,10 @@ use Rattle.itip_moment.specs.declared.moment.Moment.{Moment}
 use Rattle.itip_message.specs.KeyParts.{uid_of, instance_of, attendee_of}
 use Rattle.itip_message.specs.declared.item.Item.{Item}
 use Rattle.itip_message.specs.declared.key.Key.{Key}
-use Rattle.itip_message.specs.declared.key.Key.TheVariants.{Series, Instance, Answer, Refresh}
+use Rattle.itip_message.specs.declared.key.Key.TheVariants.{Series, Instance, Range, Answer, Refresh}
 use Rattle.itip_state.specs.Kept.{IsBest, IsKept}
 use Rattle.itip_view.specs.ListText.{shown, shown_moment}
-use Rattle.itip_view.specs.Standing.{IsCancelled, Stands, Governs}
+use Rattle.itip_view.specs.Standing.{IsCancelled, Stands, StandsFrom, Governs}
 use Rattle.itip_report.specs.Lines.{AreLinesOf}
 use Rattle.itip_report.specs.declared.report.Report.{Report}
 use Rattle.itip_report.specs.declared.report.Report.TheVariants as report
@@ -20,10 +20,14 @@ pub record IsCancelledSeries (heard : List Item) (item : Item) : Type 0 where
   pub best : IsBest heard (Series (uid_of item.key)) item
   pub cancelled : IsCancelled item
 
--- a cancelled instance item that stands
-pub record IsCancelledInstance (heard : List Item) (item : Item) : Type 0 where
+-- an instance item that stands at its instance, or a range item that stands from one on
+pub record IsStanding (heard : List Item) (uid : List ℕ) (item : Item) : Type 0 where
   pub id : Moment
-  pub stands : Stands heard (uid_of item.key) id item
+  pub stands : Stands heard uid id item ⊎ StandsFrom heard uid id item
+
+-- a cancelled instance or range item that stands
+pub record IsCancelledInstance (heard : List Item) (item : Item) : Type 0 where
+  pub standing : IsStanding heard (uid_of item.key) item
   pub cancelled : IsCancelled item
 
 abbrev pub IsCancellation : List Item → Item → Type 0
@@ -42,6 +46,7 @@ NoneAtInstance heard uid (Some id) = NoneAt heard (Instance uid id)
 abbrev pub IsOfAttendee : Key → Type 0
 IsOfAttendee (Series uid) = ⊥
 IsOfAttendee (Instance uid id) = ⊥
+IsOfAttendee (Range uid id) = ⊥
 IsOfAttendee (Answer uid id attendee) = Unit {0}
 IsOfAttendee (Refresh uid id attendee) = Unit {0}
 
@@ -55,6 +60,7 @@ pub record IsOrphan (heard : List Item) (item : Item) : Type 0 where
 abbrev pub IsRefresh : Key → Type 0
 IsRefresh (Series uid) = ⊥
 IsRefresh (Instance uid id) = ⊥
+IsRefresh (Range uid id) = ⊥
 IsRefresh (Answer uid id attendee) = ⊥
 IsRefresh (Refresh uid id attendee) = Unit {0}
 
@@ -74,8 +80,17 @@ named item = uid_of item.key ++ (codes " " ++ shown shown_moment (instance_of it
 abbrev pub word_of : Key → List ℕ
 word_of (Series uid) = codes ""
 word_of (Instance uid id) = codes ""
+word_of (Range uid id) = codes ""
 word_of (Answer uid id attendee) = codes " answer "
 word_of (Refresh uid id attendee) = codes " refresh "
+
+-- what stands behind the moment of a range
+abbrev pub mark_of : Key → List ℕ
+mark_of (Series uid) = codes ""
+mark_of (Instance uid id) = codes ""
+mark_of (Range uid id) = codes "+"
+mark_of (Answer uid id attendee) = codes ""
+mark_of (Refresh uid id attendee) = codes ""
 
 -- what a report is about
 abbrev pub IsReported : Report → List Item → Item → Type 0
@@ -84,7 +99,7 @@ IsReported report.Orphans heard item = IsOrphan heard item
 IsReported report.Refresh heard item = IsWanted heard item
 
 abbrev pub line_of : Report → Item → List ℕ
-line_of report.Cancelled item = named item
+line_of report.Cancelled item = named item ++ mark_of item.key
 line_of report.Orphans item = named item ++ (word_of item.key ++ attendee_of item.key)
 line_of report.Refresh item = named item ++ (codes " " ++ attendee_of item.key)
 

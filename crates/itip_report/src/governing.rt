@@ -2,15 +2,15 @@
 ghost use Rattle.std.specs.Prelude.{◌≡◌, ◌↔◌, IfOk, IsTrue, MatchOption};
 ghost use Rattle.std.specs.Option.{option_copied};
 ghost use Rattle.itip_message.specs.declared.item.Item.{Item};
-ghost use Rattle.itip_view.specs.Standing.{Governs};
-ghost use Rattle.itip_report.specs.Reports.{NoneAtInstance};
-ghost use Rattle.itip_report.specs.Live.{if_live};
+ghost use Rattle.itip_view.specs.Standing.{Governs, GovernsBetween};
+ghost use Rattle.itip_report.specs.Reports.{IsStanding, NoneAtInstance};
+ghost use Rattle.itip_report.specs.Live.{IsAmong, if_live};
 
 use crate::NoMemory;
-use itip_message::Item;
+use itip_message::{Item, Key};
 use itip_moment::Moment;
 use itip_state::ItemsOfUid;
-use itip_view::{is_live, standing_item};
+use itip_view::{Ranges, is_live, standing_item, stands_beside};
 
 /// An item, where it is live.
 pub(crate) fn if_live<'a>(item: Option<&'a Item>) -> Option<&'a Item>
@@ -25,8 +25,10 @@ pub(crate) fn if_live<'a>(item: Option<&'a Item>) -> Option<&'a Item>
 /// The item that governs a UID, or an instance of it.
 pub(crate) fn governing<'a>(
     items: &ItemsOfUid<'a>,
+    ranges: &Ranges<'_, 'a>,
     id: &Option<Moment>,
 ) -> Result<Option<&'a Item>, NoMemory>
+    requires { ranges.now ≡ items.now }
     ensures { IfOk result (λ governing. MatchOption (option_copied governing)
         ((item : Item) → ¬ Governs items.now.items items.now.uid id.now item)
         (Governs items.now.items items.now.uid id.now)) }
@@ -36,7 +38,24 @@ pub(crate) fn governing<'a>(
     };
     match standing_item(items, at)? {
         Some(item) => Ok(if_live(Some(item))),
-        None => Ok(if_live(items.series())),
+        None => Ok(governing_between(items, ranges, at)),
+    }
+}
+
+/// The item that governs a moment at which no instance item stands.
+fn governing_between<'a>(
+    items: &ItemsOfUid<'a>,
+    ranges: &Ranges<'_, 'a>,
+    at: &Moment,
+) -> Option<&'a Item>
+    requires { ranges.now ≡ items.now }
+    ensures { MatchOption (option_copied result)
+        ((item : Item) → ¬ GovernsBetween items.now.items items.now.uid at.now item)
+        (GovernsBetween items.now.items items.now.uid at.now) }
+{
+    match ranges.ruling(at) {
+        Some(item) => if_live(Some(item)),
+        None => if_live(items.series()),
     }
 }
 
@@ -50,5 +69,16 @@ pub(crate) fn none_at_instance(
     match id {
         Some(at) => Ok(items.instance(at)?.is_none()),
         None => Ok(true),
+    }
+}
+
+/// Whether one of the kept items of a UID is of an instance, or of it and all after it, and stands.
+pub(crate) fn is_standing(items: &ItemsOfUid<'_>, item: &Item) -> bool
+    requires { IsAmong items.now item.now }
+    ensures { IsTrue result ↔ IsStanding items.now.items items.now.uid item.now }
+{
+    match &item.key {
+        Key::Instance(_, _) | Key::Range(_, _) => stands_beside(items.series(), item),
+        Key::Series(_) | Key::Answer(_, _, _) | Key::Refresh(_, _, _) => false,
     }
 }

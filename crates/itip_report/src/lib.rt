@@ -1,4 +1,4 @@
-//! What an office asks of a desk beside its list: who carries how much, what is cancelled, which answers belong to nothing, who waits for a newer
+//! What an office asks of a desk beside its list: who carries how much, how far it is, what is cancelled, which answers belong to nothing, who waits for a newer
 //! revision, what to send again, and the next sequence to use.
 #![tactic(auto)]
 
@@ -11,10 +11,13 @@ mod organizing;
 mod places;
 mod report;
 mod reported;
+mod row_progress;
+mod sought;
 
 pub use laws::{one_report, reports_of_kept, resend_is_read};
 pub use lines::{cancelled, orphans, refresh_wanted};
 pub use load::load_by_attendee;
 pub use organizing::{next_seq, resend};
 pub use report::Report;
+pub use row_progress::progress;
 pub use std::alloc::AllocError as NoMemory;

@@ -5,7 +5,7 @@ ghost use Rattle.std.specs.String.{string_bytes};
 ghost use Rattle.itip_moment.specs.Written.{moment_text};
 ghost use Rattle.itip_message.specs.KeyParts.{attendee_of};
 ghost use Rattle.itip_view.specs.ListText.{shown, shown_moment};
-ghost use Rattle.itip_report.specs.Reports.{named, word_of, line_of};
+ghost use Rattle.itip_report.specs.Reports.{named, word_of, mark_of, line_of};
 
 use crate::NoMemory;
 use crate::report::Report;
@@ -20,7 +20,10 @@ pub(crate) fn line_of(alloc: Global, report: Report, item: &Item) -> Result<Stri
     let mut line = String::new(alloc);
     put_name(alloc, &mut line, item)?;
     match report {
-        Report::Cancelled => Ok(line),
+        Report::Cancelled => {
+            line.push_str(mark(&item.key))?;
+            Ok(line)
+        }
         Report::Orphans => {
             put_attendee(&mut line, word(&item.key), &item.key)?;
             Ok(line)
@@ -46,13 +49,20 @@ fn put_name(alloc: Global, line: &mut String, item: &Item) -> Result<(), NoMemor
 {
     line.push_str(item.key.uid().as_str())?;
     line.push_str(" ")?;
-    match item.key.instance() {
+    put_instance(alloc, line, item.key.instance())
+}
+
+/// The moment of an instance, or `-` for the to-do as a whole.
+fn put_instance(alloc: Global, line: &mut String, id: Option<&Moment>) -> Result<(), NoMemory>
+    ensures { OnOk result (string_bytes line.new ≡ string_bytes line.old ++ shown shown_moment (option_copied id.entry)) }
+{
+    match id {
         None => line.push_str("-"),
         Some(id) => put_moment(alloc, line, id),
     }
 }
 
-fn put_moment(alloc: Global, line: &mut String, moment: &Moment) -> Result<(), NoMemory>
+pub(crate) fn put_moment(alloc: Global, line: &mut String, moment: &Moment) -> Result<(), NoMemory>
     ensures { OnOk result (string_bytes line.new ≡ string_bytes line.old ++ shown_moment moment.now) }
 {
     if let Moment::Zoned(zone, _) = moment {
@@ -78,8 +88,18 @@ fn word(key: &Key) -> &'static str
     ensures { result.now ≡ word_of key.now }
 {
     match key {
-        Key::Series(_) | Key::Instance(_, _) => "",
+        Key::Series(_) | Key::Instance(_, _) | Key::Range(_, _) => "",
         Key::Answer(_, _, _) => " answer ",
         Key::Refresh(_, _, _) => " refresh ",
+    }
+}
+
+/// What stands behind the moment of a range.
+fn mark(key: &Key) -> &'static str
+    ensures { result.now ≡ mark_of key.now }
+{
+    match key {
+        Key::Range(_, _) => "+",
+        Key::Series(_) | Key::Instance(_, _) | Key::Answer(_, _, _) | Key::Refresh(_, _, _) => "",
     }
 }

@@ -11,6 +11,7 @@ ghost use Rattle.itip_report.specs.Tally.{IsTally, rows_before};
 use crate::NoMemory;
 use indexmap::IndexMap;
 use itip_lines::Text;
+use itip_todo::attendee_key;
 use itip_view::Row;
 use std::alloc::Global;
 
@@ -69,7 +70,7 @@ fn count_row(
     ensures { OnOk result ((done : List Row) → length done ≡ place → IsTally done [] tally.old.entries → IsTally (done ++ row.now ∷ []) [] tally.new.entries) }
 {
     for attendee in row.attendees.as_slice() {
-        let key = Text::new(attendee.address.as_str().to_ascii_lowercase(alloc)?);
+        let key = attendee_key(alloc, attendee.address.as_str())?;
         count(tally, key, place)?;
     }
     Ok(())

@@ -1,20 +1,19 @@
 //! What an organizer sends again, and the next sequence to use.
-ghost use Rattle.std.specs.Prelude.{◌≡◌, ◌↔◌, ◌++◌, IfOk, OnOk, IsTrue, map};
+ghost use Rattle.std.specs.Prelude.{◌≡◌, ◌++◌, IfOk, OnOk};
 ghost use Rattle.std.specs.List.{flat_map};
-ghost use Rattle.std.specs.Option.{option_map, option_copied};
-ghost use Rattle.itip_report.specs.Live.{IsInstanceBeside};
-ghost use Rattle.itip_report.specs.Organizing.{AreStanding, IsResendOf, IsNext};
+ghost use Rattle.std.specs.Option.{option_map};
+ghost use Rattle.itip_report.specs.Organizing.{IsResendOf, IsNext};
 
 use crate::NoMemory;
 use crate::governing::if_live;
-use itip_message::{Item, Key};
+use crate::sought::{Sought, sought_items};
+use itip_message::Item;
 use itip_state::{ItemsOfUid, State};
 use itip_todo::Uid;
-use itip_view::stands_beside;
 use std::alloc::Global;
 
-/// The messages to send again of a UID: the canonical octets of its live series item, then those of the instance items that stand, by moment; `None` where
-/// no series item of the UID is live.
+/// The messages to send again of a UID: the canonical octets of its live series item, then those of the instance and range items that stand, by
+/// moment, an instance before a range; `None` where no series item of the UID is live.
 pub fn resend(alloc: Global, state: &State, uid: &Uid) -> Result<Option<Vec<u8>>, NoMemory>
     ensures { IfOk result (λ messages. IsResendOf state.now uid.now (option_map (λ bytes. bytes.items) messages)) }
 {
@@ -29,7 +28,7 @@ fn resend_of(alloc: Global, items: &ItemsOfUid<'_>) -> Result<Option<Vec<u8>>, N
     let Some(live) = if_live(items.series()) else {
         return Ok(None);
     };
-    let instances = standing_items(alloc, items)?;
+    let instances = sought_items(alloc, items, &Sought::Standing)?;
     let mut messages = Vec::new(alloc);
     messages.extend_from_slice(live.bytes.as_slice())?;
     put_messages(&mut messages, &instances)?;
@@ -44,30 +43,6 @@ fn put_messages(out: &mut Vec<u8>, items: &[&Item]) -> Result<(), NoMemory>
         out.extend_from_slice(item.bytes.as_slice())?;
     }
     Ok(())
-}
-
-/// The instance items that stand, by the moments of their instances.
-fn standing_items<'a>(alloc: Global, items: &ItemsOfUid<'a>) -> Result<Vec<&'a Item>, NoMemory>
-    ensures { IfOk result (λ standing. AreStanding items.now.items items.now.uid (map (λ item. item.now) standing.items)) }
-{
-    let series = items.series();
-    let mut standing = Vec::new(alloc);
-    for item in items.as_slice() {
-        if is_standing(series, item) {
-            standing.push(*item)?;
-        }
-    }
-    Ok(standing)
-}
-
-/// Whether an item is of an instance, and stands beside the series item of its UID.
-fn is_standing(series: Option<&Item>, item: &Item) -> bool
-    ensures { IsTrue result ↔ IsInstanceBeside (option_copied series.entry) item.now }
-{
-    match &item.key {
-        Key::Instance(_, _) => stands_beside(series, item),
-        Key::Series(_) | Key::Answer(_, _, _) | Key::Refresh(_, _, _) => false,
-    }
 }
 
 /// The next SEQUENCE to use for a UID (RFC 5545 3.8.7.4): one more than the greatest effective sequence of its kept items of REQUEST, ADD and CANCEL, or 0

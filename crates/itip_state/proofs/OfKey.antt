@@ -11,7 +11,7 @@ use Rattle.itip_message.specs.Later.{IsLater}
 use Rattle.itip_message.specs.declared.item.Item.{Item}
 use Rattle.itip_message.specs.KeyParts.{uid_of}
 use Rattle.itip_message.specs.declared.key.Key.{Key}
-use Rattle.itip_message.specs.declared.key.Key.TheVariants.{Series, Instance, Answer, Refresh}
+use Rattle.itip_message.specs.declared.key.Key.TheVariants.{Series, Instance, Range, Answer, Refresh}
 use Rattle.itip_state.specs.Kept.{IsBest, IsBestOf, AscendKeys}
 use Rattle.itip_state.specs.Slots.{key_cmp, key_total, rest_cmp}
 use Rattle.itip_state.proofs.Best.{not_later_itself}
@@ -61,6 +61,7 @@ not_before uid k same not e = by k (ap (λ (u : List ℕ). slice_cmp nat_cmp u u
     by : (k : Key) → slice_cmp nat_cmp (uid_of k) uid ≡ Equal → ((u : List ℕ) → k ≡ Series u → ⊥) → key_cmp k (Series uid) ≡ Less → ⊥
     by (Series u) tied not e = not u refl
     by (Instance u id) tied not e = let x : Less ≡ Greater = sym e ∙ ap (λ o. ordering_then o (rest_cmp (Instance u id) (Series uid))) tied in cc
+    by (Range u id) tied not e = let x : Less ≡ Greater = sym e ∙ ap (λ o. ordering_then o (rest_cmp (Range u id) (Series uid))) tied in cc
     by (Answer u id attendee) tied not e = let x : Less ≡ Greater = sym e ∙ ap (λ o. ordering_then o (rest_cmp (Answer u id attendee) (Series uid))) tied in cc
     by (Refresh u id attendee) tied not e = let x : Less ≡ Greater = sym e ∙ ap (λ o. ordering_then o (rest_cmp (Refresh u id attendee) (Series uid))) tied in cc
 

@@ -16,7 +16,7 @@ use Rattle.itip_join.specs.declared.lift.Lift.TheVariants.{Nothing, Known}
 use Rattle.itip_message.specs.KeyParts.{uid_of}
 use Rattle.itip_message.specs.declared.item.Item.{Item}
 use Rattle.itip_message.specs.declared.key.Key.{Key}
-use Rattle.itip_message.specs.declared.key.Key.TheVariants.{Series, Instance, Answer, Refresh}
+use Rattle.itip_message.specs.declared.key.Key.TheVariants.{Series, Instance, Range, Answer, Refresh}
 use Rattle.itip_state.specs.Kept.{AreSeriesOf, AreUidsOf, IsSeries, HasEachOnce, AscendKeys}
 use Rattle.itip_state.specs.Slots.{rest_cmp, key_cmp, slot_cmp, key_total}
 use Rattle.itip_state.specs.Held.{Best, Shape, is_series, series_items, entry_items, shape_items, items_of, series_list, IsEntryAt, IsSound, AreOrdered, AreSound, AreHeld}
@@ -45,6 +45,7 @@ slot_less a b e less =
 series_before : (k : Key) (uid : List ℕ) → uid_of k ≡ uid → is_series k ≡ false → key_cmp (Series uid) k ≡ Less
 series_before (Series u) uid e s = let x : true ≡ false = s in absurd (cc)
 series_before (Instance u i) uid e s = tie_uid (Series uid) (Instance u i) (sym e)
+series_before (Range u i) uid e s = tie_uid (Series uid) (Range u i) (sym e)
 series_before (Answer u i a) uid e s = tie_uid (Series uid) (Answer u i a) (sym e)
 series_before (Refresh u i a) uid e s = tie_uid (Series uid) (Refresh u i a) (sym e)
 

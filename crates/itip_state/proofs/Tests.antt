@@ -9,7 +9,7 @@ use Rattle.std.proofs.lemmas.Map.Lookups.{exact_bytes}
 use Rattle.itip_message.specs.KeyParts.{uid_of}
 use Rattle.itip_message.specs.declared.item.Item.{Item}
 use Rattle.itip_message.specs.declared.key.Key.{Key}
-use Rattle.itip_message.specs.declared.key.Key.TheVariants.{Series, Instance, Answer, Refresh}
+use Rattle.itip_message.specs.declared.key.Key.TheVariants.{Series, Instance, Range, Answer, Refresh}
 use Rattle.itip_join.specs.declared.lift.Lift.TheVariants.{Known}
 use Rattle.itip_state.specs.Kept.{IsBest, IsDead, CanDie}
 use Rattle.itip_state.specs.Held.{is_series, can_die, is_below, kills, best}
@@ -20,12 +20,14 @@ use Rattle.itip_state.proofs.Keeping.{eff_up}
 pub series_key : (key : Key) → is_series key ≡ true → key ≡ Series (uid_of key)
 series_key (Series uid) e = refl
 series_key (Instance uid id) e = let x : false ≡ true = e in absurd (cc)
+series_key (Range uid id) e = let x : false ≡ true = e in absurd (cc)
 series_key (Answer uid id attendee) e = let x : false ≡ true = e in absurd (cc)
 series_key (Refresh uid id attendee) e = let x : false ≡ true = e in absurd (cc)
 
 pub dies : (key : Key) → can_die key ≡ true → CanDie key
 dies (Series uid) e = let x : false ≡ true = e in absurd (cc)
 dies (Instance uid id) e = tt
+dies (Range uid id) e = tt
 dies (Answer uid None attendee) e = tt
 dies (Answer uid (Some id) attendee) e = let x : false ≡ true = e in absurd (cc)
 dies (Refresh uid id attendee) e = let x : false ≡ true = e in absurd (cc)
@@ -33,6 +35,7 @@ dies (Refresh uid id attendee) e = let x : false ≡ true = e in absurd (cc)
 pub can : (key : Key) → CanDie key → can_die key ≡ true
 can (Series uid) h = absurd h
 can (Instance uid id) h = refl
+can (Range uid id) h = refl
 can (Answer uid None attendee) h = refl
 can (Answer uid (Some id) attendee) h = absurd h
 can (Refresh uid id attendee) h = absurd h

@@ -1,12 +1,10 @@
 -- What a state keeps of one UID.
-use Rattle.std.proofs.Common.{◌≡◌, ℕ, List, [], sym, subst}
+use Rattle.std.proofs.Common.{ℕ, List}
 use Rattle.itip_message.specs.declared.item.Item.{Item}
 use Rattle.itip_state.specs.Kept.{ArePart, AscendKeys}
 use Rattle.itip_state.specs.OfUid.{IsUidPart}
 use Rattle.itip_state.specs.Order.{IsState}
 use Rattle.itip_state.proofs.Keeping.{kept_in_part}
-use Rattle.itip_state.proofs.Members.{no_pairs}
-use Rattle.itip_state.proofs.Ordered.{IsBefore}
 
 -- the part of a state that is about one UID is a state
 part_state : (uid : List ℕ) (part whole : List Item) → ArePart uid part whole → IsState whole → IsState part

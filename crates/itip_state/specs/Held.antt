@@ -8,7 +8,7 @@ use Rattle.std.specs.Cmp.Lexicographic.{slice_cmp}
 use Rattle.itip_message.specs.KeyParts.{uid_of}
 use Rattle.itip_message.specs.declared.item.Item.{Item}
 use Rattle.itip_message.specs.declared.key.Key.{Key}
-use Rattle.itip_message.specs.declared.key.Key.TheVariants.{Series, Instance, Answer, Refresh}
+use Rattle.itip_message.specs.declared.key.Key.TheVariants.{Series, Instance, Range, Answer, Refresh}
 use Rattle.itip_join.specs.declared.greatest.Greatest.{Greatest}
 use Rattle.itip_join.specs.declared.lift.Lift.{Lift}
 use Rattle.itip_join.specs.declared.lift.Lift.TheVariants.{Nothing, Known}
@@ -25,6 +25,7 @@ best item = record { value = item }
 abbrev pub is_series : Key → Bool
 is_series (Series uid) = true
 is_series (Instance uid id) = false
+is_series (Range uid id) = false
 is_series (Answer uid id attendee) = false
 is_series (Refresh uid id attendee) = false
 
@@ -32,6 +33,7 @@ is_series (Refresh uid id attendee) = false
 abbrev pub can_die : Key → Bool
 can_die (Series uid) = false
 can_die (Instance uid id) = true
+can_die (Range uid id) = true
 can_die (Answer uid None attendee) = true
 can_die (Answer uid (Some id) attendee) = false
 can_die (Refresh uid id attendee) = false

@@ -8,7 +8,7 @@ use Rattle.itip_message.specs.Later.{IsLater}
 use Rattle.itip_message.specs.KeyParts.{uid_of}
 use Rattle.itip_message.specs.declared.item.Item.{Item}
 use Rattle.itip_message.specs.declared.key.Key.{Key}
-use Rattle.itip_message.specs.declared.key.Key.TheVariants.{Series, Instance, Answer, Refresh}
+use Rattle.itip_message.specs.declared.key.Key.TheVariants.{Series, Instance, Range, Answer, Refresh}
 use Rattle.itip_state.specs.Slots.{key_cmp}
 
 -- the item of a key that no item of that key is later than
@@ -21,15 +21,16 @@ pub record IsBest (heard : List Item) (key : Key) (item : Item) : Type 0 where
 abbrev pub IsBestOf : List Item → Key → Option Item → Type 0
 IsBestOf heard key found = MatchOption found ((item : Item) → Contains heard item → item.key ≡ key → ⊥) (IsBest heard key)
 
--- Items of these keys can die: instances, and answers to a series as a whole. An answer to an instance never does.
+-- Items of these keys can die: instances, ranges, and answers to a series as a whole. An answer to an instance never does.
 abbrev pub CanDie : Key → Type 0
 CanDie (Series uid) = ⊥
 CanDie (Instance uid id) = Unit {0}
+CanDie (Range uid id) = Unit {0}
 CanDie (Answer uid None attendee) = Unit {0}
 CanDie (Answer uid (Some id) attendee) = ⊥
 CanDie (Refresh uid id attendee) = ⊥
 
--- An instance item or an answer to the series is dead where its effective sequence is below that of the best series item of its UID. Equal is not dead.
+-- An instance item, a range item or an answer to the series is dead where its effective sequence is below that of the best series item of its UID. Equal is not dead.
 pub record IsDead (heard : List Item) (item : Item) : Type 0 where
   pub can_die : CanDie item.key
   pub series : Item
@@ -88,7 +89,7 @@ pub record IsItemsOf (items set : List Item) : Type 0 where
 abbrev pub HasEachOnce : List Item → Type 0
 HasEachOnce = AllPairs (λ (a b : Item). a ≢ b)
 
--- Items in the order of their keys: by UID, then the series item, instances by recurrence id, answers, and refreshes, these by instance and attendee.
+-- Items in the order of their keys: by UID, then the series item, instances and then ranges by recurrence id, answers, and refreshes, these by instance and attendee.
 abbrev pub AscendKeys : List Item → Type 0
 AscendKeys = AllPairs (λ (a b : Item). key_cmp a.key b.key ≡ Less)
 

@@ -36,7 +36,7 @@ struct Change<'a> {
     before: Before,
 }
 
-/// Joins in what is kept of one item, in place. A refusal, for want of memory, changes nothing.
+/// Joins in what is kept of one item, in place. A refusal (out of memory) changes nothing.
 pub(crate) fn hear(held: &mut Held, alloc: Global, item: &SharedItem) -> Result<(), NoMemory>
     ensures kept { OnOk result ((heard : List Item) → HoldKept heard held.old → HoldKept (heard ++ item.now ∷ []) held.new) }
     ensures joined { OnOk result (IsJoinedAt (at held.old (uid_of item.now.key)) (Some (alone item.now)) (at held.new (uid_of item.now.key))) }

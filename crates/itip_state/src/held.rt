@@ -58,7 +58,7 @@ impl Held {
         self.map.get(uid)
     }
 
-    /// Joins `one` in at a UID, in place. A refusal, for want of memory, changes nothing.
+    /// Joins `one` in at a UID, in place. A refusal (out of memory) changes nothing.
     pub(crate) fn join_one(&mut self, uid: &Uid, one: &SeriesState) -> Result<(), NoMemory>
         ensures joined { OnOk result (IsJoinedAt (at self.old uid.now) (Some (shape one.now)) (at self.new uid.now)) }
         ensures others { (q : List ℕ) → is_eq (slice_cmp nat_cmp uid.now q) ≡ false → at self.new q ≡ at self.old q }
@@ -68,7 +68,7 @@ impl Held {
         self.map.join_one(uid, one)
     }
 
-    /// Puts in a copy of what another map holds of a UID. A refusal, for want of memory, changes nothing.
+    /// Puts in a copy of what another map holds of a UID. A refusal (out of memory) changes nothing.
     pub(crate) fn put(&mut self, uid: &Uid, series: &SeriesState) -> Result<(), NoMemory>
         ensures put { OnOk result ((q : List ℕ) → at self.new q ≡ cond (is_eq (slice_cmp nat_cmp uid.now q)) (Some (shape series.now)) (at self.old q)) }
         ensures ordered { OnOk result (AreOrdered self.new) }
@@ -95,7 +95,7 @@ impl Held {
         self.map.replace(uid, series)
     }
 
-    /// Joins another map in, UID by UID. A refusal, for want of memory, changes nothing.
+    /// Joins another map in, UID by UID. A refusal (out of memory) changes nothing.
     ///
     /// Where the other map tells nothing new, no memory is asked for, and the answer is Ok.
     pub(crate) fn join(&mut self, other: &Held) -> Result<(), NoMemory>

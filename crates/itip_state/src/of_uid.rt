@@ -12,8 +12,8 @@ use itip_moment::Moment;
 use itip_todo::Uid;
 use std::marker::Model;
 
-/// The kept items of one UID in the order of their keys: the series item, then instances by recurrence id, then answers, then refresh requests, each by
-/// instance and attendee.
+/// The kept items of one UID in the order of their keys: the series item, then instances and then ranges, each by recurrence id, then answers and then
+/// refresh requests, each by instance and attendee.
 #[derive(Debug, Drop)]
 pub struct ItemsOfUid<'a> {
     uid: &'a Uid,

@@ -50,7 +50,7 @@ fn has(items: &[Item], item: &Item) -> bool
     items.contains(item)
 }
 
-/// The kept items among these, each once, in the order in which they are given.
+/// The kept items among these, each once.
 pub fn kept(alloc: Global, items: &[Item]) -> Result<Vec<Item>, NoMemory>
     ensures kept { IfOk result (λ kept. AreKept kept.items items.now) }
     ensures once { IfOk result (λ kept. AllPairs (λ (a b : Item). a ≢ b) kept.items) }

@@ -39,7 +39,7 @@ fn can_die(key: &Key) -> bool
     ensures { result ≡ key_can_die key.now }
 {
     match key {
-        Key::Instance(_, _) | Key::Answer(_, None, _) => true,
+        Key::Instance(_, _) | Key::Range(_, _) | Key::Answer(_, None, _) => true,
         Key::Series(_) | Key::Answer(_, Some(_), _) | Key::Refresh(_, _, _) => false,
     }
 }

@@ -156,7 +156,7 @@ impl Ord for SharedItem {
     }
 }
 
-/// The items given, by canonical octets, each once. A refusal, for want of memory, drops them.
+/// The items given, by canonical octets, each once. A refusal (out of memory) drops them.
 pub fn by_octets(items: Vec<SharedItem>) -> Result<Vec<SharedItem>, NoMemory>
     ensures { IfOk result (λ sorted. IsItemsOf sorted.items items.items) }
 {

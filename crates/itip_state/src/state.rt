@@ -140,7 +140,7 @@ impl State {
         Ok(news)
     }
 
-    /// Hears these items. A refusal, for want of memory, changes nothing. Unlike `merge` it may ask for memory where nothing is new.
+    /// Hears these items. A refusal (out of memory) changes nothing. Unlike `merge` it may ask for memory where nothing is new.
     pub fn hear(&mut self, items: &[&SharedItem]) -> Result<(), NoMemory>
         ensures ok { OnOk result (AreKept self.new (self.old ++ map (λ item. item.now) items.now)) }
         ensures err { OnErr result (self.new ≡ self.old) }
@@ -148,7 +148,7 @@ impl State {
         hear_all(&mut self.held, self.alloc, items)
     }
 
-    /// Hears another state: their least upper bound. A refusal, for want of memory, changes nothing.
+    /// Hears another state: their least upper bound. A refusal (out of memory) changes nothing.
     ///
     /// Where the other state tells nothing new, no memory is asked for, and the answer is Ok.
     pub fn merge(&mut self, other: &State) -> Result<(), NoMemory>

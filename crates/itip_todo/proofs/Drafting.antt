@@ -1,10 +1,10 @@
 -- One more line of a property that may stand once, and of which none stood above.
-use Rattle.std.proofs.Common.{◌≡◌, ◌≢◌, ℕ, true, false, List, [], ◌∷◌, ◌++◌, refl, sym, subst, Option, Some, None}
+use Rattle.std.proofs.Common.{◌≡◌, ◌≢◌, ℕ, true, false, List, [], ◌∷◌, ◌++◌, refl, sym, subst, Bool, Option, Some, None}
 use Rattle.std.specs.Option.{is_some}
 use Rattle.itip_lines.specs.declared.line.Line.{Line}
 use Rattle.itip_moment.specs.declared.moment.Moment.{Moment}
 use Rattle.itip_moment.specs.declared.stamp.Stamp.{Stamp}
-use Rattle.itip_todo.specs.Reading.{IsOptional, IsUidOf, IsStampOf, IsSequenceOf, IsMomentOf, IsStatusOf, IsPercentOf, IsPriorityOf, IsPropertyOf, IsOrganizerOf, HasFaultAs, is_twice, has_range, first_of}
+use Rattle.itip_todo.specs.Reading.{IsOptional, IsUidOf, IsStampOf, IsSequenceOf, IsMomentOf, IsStatusOf, IsPercentOf, IsPriorityOf, IsPropertyOf, IsOrganizerOf, HasFaultAs, is_twice, has_range, has_bad_range, range_of, first_of}
 use Rattle.itip_todo.specs.Drafts.{IsDraftOf, Holds, Takes, more}
 use Rattle.itip_todo.specs.declared.draft.Draft.{Draft}
 use Rattle.itip_todo.specs.Values.{IsGoodValue}
@@ -33,12 +33,12 @@ put P (l ∷ lines) line None a h e here = absurd h
 put P (l ∷ lines) line (Some b) a h e here = absurd cc
 
 -- the value of a line of which no property stood above is bad
-pub bad : (above : PropertyName → List Line) (p : PropertyName) (line : Line) (f : Fault) → f ≡ fault.BadValue p → is_twice above p ≡ false → has_range p line ≡ false → (IsGoodValue p line → ⊥) → HasFaultAs above p line f
-bad above p line f e once no_range none = subst (λ (g : Fault). HasFaultAs above p line g) (sym e) (refl, once, no_range, none)
+pub bad : (above : PropertyName → List Line) (p : PropertyName) (line : Line) (f : Fault) → f ≡ fault.BadValue p → is_twice above p ≡ false → has_bad_range p line ≡ false → (IsGoodValue p line → ⊥) → HasFaultAs above p line f
+bad above p line f e once range none = subst (λ (g : Fault). HasFaultAs above p line g) (sym e) (refl, once, range, none)
 
 pub takes_uid : (line : Line) (d : Draft) (a : List ℕ) → d.uid ≡ None → IsUidOf line a → Takes name.Uid line d (record d { uid = Some a })
 takes_uid line d a none here = record {
-  good = λ above is. record { once = free IsUidOf (first_of (above name.Uid)) d.uid (is name.Uid) none; no_range = refl; value = here.1; few = refl; new = refl };
+  good = λ above is. record { once = free IsUidOf (first_of (above name.Uid)) d.uid (is name.Uid) none; range = refl; value = here.1; few = refl; new = refl };
   draft = λ above is. each above is;
 }
   where
@@ -48,7 +48,7 @@ takes_uid line d a none here = record {
 
 pub takes_stamp : (line : Line) (d : Draft) (a : Stamp) → d.stamp ≡ None → IsStampOf line a → Takes name.DtStamp line d (record d { stamp = Some a })
 takes_stamp line d a none here = record {
-  good = λ above is. record { once = free IsStampOf (first_of (above name.DtStamp)) d.stamp (is name.DtStamp) none; no_range = refl; value = (a, here); few = refl; new = refl };
+  good = λ above is. record { once = free IsStampOf (first_of (above name.DtStamp)) d.stamp (is name.DtStamp) none; range = refl; value = (a, here); few = refl; new = refl };
   draft = λ above is. each above is;
 }
   where
@@ -58,7 +58,7 @@ takes_stamp line d a none here = record {
 
 pub takes_seq : (line : Line) (d : Draft) (a : ℕ) → d.seq ≡ None → IsSequenceOf line a → Takes name.Sequence line d (record d { seq = Some a })
 takes_seq line d a none here = record {
-  good = λ above is. record { once = free IsSequenceOf (first_of (above name.Sequence)) d.seq (is name.Sequence) none; no_range = refl; value = (a, here); few = refl; new = refl };
+  good = λ above is. record { once = free IsSequenceOf (first_of (above name.Sequence)) d.seq (is name.Sequence) none; range = refl; value = (a, here); few = refl; new = refl };
   draft = λ above is. each above is;
 }
   where
@@ -68,7 +68,7 @@ takes_seq line d a none here = record {
 
 pub takes_base : (line : Line) (d : Draft) (a : ℕ) → d.base ≡ None → IsSequenceOf line a → Takes name.DeskBase line d (record d { base = Some a })
 takes_base line d a none here = record {
-  good = λ above is. record { once = free IsSequenceOf (first_of (above name.DeskBase)) d.base (is name.DeskBase) none; no_range = refl; value = (a, here); few = refl; new = refl };
+  good = λ above is. record { once = free IsSequenceOf (first_of (above name.DeskBase)) d.base (is name.DeskBase) none; range = refl; value = (a, here); few = refl; new = refl };
   draft = λ above is. each above is;
 }
   where
@@ -76,19 +76,27 @@ takes_base line d a none here = record {
     each above is name.DeskBase = put IsSequenceOf (above name.DeskBase) line d.base a (is name.DeskBase) none here
     each above is p = is p
 
-pub takes_rid : (line : Line) (d : Draft) (a : Moment) → d.rid ≡ None → (has_range name.RecurrenceId line ≡ false) → IsMomentOf line a → Takes name.RecurrenceId line d (record d { rid = Some a })
-takes_rid line d a none range here = record {
-  good = λ above is. record { once = free IsMomentOf (first_of (above name.RecurrenceId)) d.rid (is name.RecurrenceId) none; no_range = range; value = (a, here); few = refl; new = refl };
+-- the range of a line whose property stood in none above
+put_range : (lines : List Line) (line : Line) (b : Bool) → is_some (first_of lines) ≡ false → b ≡ has_range line → b ≡ range_of (first_of (lines ++ line ∷ []))
+put_range [] line b e here = here
+put_range (l ∷ lines) line b e here = absurd cc
+
+pub takes_rid : (line : Line) (d : Draft) (a : Moment) (b : Bool) → d.rid ≡ None → b ≡ has_range line → has_bad_range name.RecurrenceId line ≡ false → IsMomentOf line a → Takes name.RecurrenceId line d (record d { rid = Some a; range = b })
+takes_rid line d a b none ranges range here = record {
+  good = λ above is. record { once = none_above above is; range = range; value = (a, here); few = refl; new = refl };
   draft = λ above is. each above is;
 }
   where
-    each : (above : PropertyName → List Line) → IsDraftOf above d → (p : PropertyName) → Holds (record d { rid = Some a }) p (more above name.RecurrenceId line p)
-    each above is name.RecurrenceId = put IsMomentOf (above name.RecurrenceId) line d.rid a (is name.RecurrenceId) none here
+    none_above : (above : PropertyName → List Line) → IsDraftOf above d → is_some (first_of (above name.RecurrenceId)) ≡ false
+    none_above above is = free IsMomentOf (first_of (above name.RecurrenceId)) d.rid (is name.RecurrenceId).0 none
+
+    each : (above : PropertyName → List Line) → IsDraftOf above d → (p : PropertyName) → Holds (record d { rid = Some a; range = b }) p (more above name.RecurrenceId line p)
+    each above is name.RecurrenceId = (put IsMomentOf (above name.RecurrenceId) line d.rid a (is name.RecurrenceId).0 none here, put_range (above name.RecurrenceId) line b (none_above above is) ranges)
     each above is p = is p
 
 pub takes_start : (line : Line) (d : Draft) (a : Moment) → d.start ≡ None → IsMomentOf line a → Takes name.DtStart line d (record d { start = Some a })
 takes_start line d a none here = record {
-  good = λ above is. record { once = free IsMomentOf (first_of (above name.DtStart)) d.start (is name.DtStart) none; no_range = refl; value = (a, here); few = refl; new = refl };
+  good = λ above is. record { once = free IsMomentOf (first_of (above name.DtStart)) d.start (is name.DtStart) none; range = refl; value = (a, here); few = refl; new = refl };
   draft = λ above is. each above is;
 }
   where
@@ -98,7 +106,7 @@ takes_start line d a none here = record {
 
 pub takes_due : (line : Line) (d : Draft) (a : Moment) → d.due ≡ None → IsMomentOf line a → Takes name.Due line d (record d { due = Some a })
 takes_due line d a none here = record {
-  good = λ above is. record { once = free IsMomentOf (first_of (above name.Due)) d.due (is name.Due) none; no_range = refl; value = (a, here); few = refl; new = refl };
+  good = λ above is. record { once = free IsMomentOf (first_of (above name.Due)) d.due (is name.Due) none; range = refl; value = (a, here); few = refl; new = refl };
   draft = λ above is. each above is;
 }
   where
@@ -108,7 +116,7 @@ takes_due line d a none here = record {
 
 pub takes_status : (line : Line) (d : Draft) (a : Status) → d.status ≡ None → IsStatusOf line a → Takes name.Status line d (record d { status = Some a })
 takes_status line d a none here = record {
-  good = λ above is. record { once = free IsStatusOf (first_of (above name.Status)) d.status (is name.Status) none; no_range = refl; value = (a, here); few = refl; new = refl };
+  good = λ above is. record { once = free IsStatusOf (first_of (above name.Status)) d.status (is name.Status) none; range = refl; value = (a, here); few = refl; new = refl };
   draft = λ above is. each above is;
 }
   where
@@ -118,7 +126,7 @@ takes_status line d a none here = record {
 
 pub takes_percent : (line : Line) (d : Draft) (a : ℕ) → d.percent ≡ None → IsPercentOf line a → Takes name.PercentComplete line d (record d { percent = Some a })
 takes_percent line d a none here = record {
-  good = λ above is. record { once = free IsPercentOf (first_of (above name.PercentComplete)) d.percent (is name.PercentComplete) none; no_range = refl; value = (a, here); few = refl; new = refl };
+  good = λ above is. record { once = free IsPercentOf (first_of (above name.PercentComplete)) d.percent (is name.PercentComplete) none; range = refl; value = (a, here); few = refl; new = refl };
   draft = λ above is. each above is;
 }
   where
@@ -128,7 +136,7 @@ takes_percent line d a none here = record {
 
 pub takes_priority : (line : Line) (d : Draft) (a : ℕ) → d.priority ≡ None → IsPriorityOf line a → Takes name.Priority line d (record d { priority = Some a })
 takes_priority line d a none here = record {
-  good = λ above is. record { once = free IsPriorityOf (first_of (above name.Priority)) d.priority (is name.Priority) none; no_range = refl; value = (a, here); few = refl; new = refl };
+  good = λ above is. record { once = free IsPriorityOf (first_of (above name.Priority)) d.priority (is name.Priority) none; range = refl; value = (a, here); few = refl; new = refl };
   draft = λ above is. each above is;
 }
   where
@@ -138,7 +146,7 @@ takes_priority line d a none here = record {
 
 pub takes_summary : (line : Line) (d : Draft) (a : Property) → d.summary ≡ None → IsPropertyOf line a → Takes name.Summary line d (record d { summary = Some a })
 takes_summary line d a none here = record {
-  good = λ above is. record { once = free IsPropertyOf (first_of (above name.Summary)) d.summary (is name.Summary) none; no_range = refl; value = tt; few = refl; new = refl };
+  good = λ above is. record { once = free IsPropertyOf (first_of (above name.Summary)) d.summary (is name.Summary) none; range = refl; value = tt; few = refl; new = refl };
   draft = λ above is. each above is;
 }
   where
@@ -148,7 +156,7 @@ takes_summary line d a none here = record {
 
 pub takes_organizer : (line : Line) (d : Draft) (a : Property) → d.organizer ≡ None → IsOrganizerOf line a → Takes name.Organizer line d (record d { organizer = Some a })
 takes_organizer line d a none here = record {
-  good = λ above is. record { once = free IsOrganizerOf (first_of (above name.Organizer)) d.organizer (is name.Organizer) none; no_range = refl; value = here.1; few = refl; new = refl };
+  good = λ above is. record { once = free IsOrganizerOf (first_of (above name.Organizer)) d.organizer (is name.Organizer) none; range = refl; value = here.1; few = refl; new = refl };
   draft = λ above is. each above is;
 }
   where

@@ -1,5 +1,5 @@
 -- The draft of no line.
-use Rattle.std.proofs.Common.{◌≡◌, List, [], refl, sym, ap, subst, arith, None, Vec, Global}
+use Rattle.std.proofs.Common.{false, ◌≡◌, List, [], refl, sym, ap, subst, arith, None, Vec, Global}
 use Rattle.std.specs.BTreeMap.{is_at}
 use Rattle.std.specs.BTreeSet.{BTreeSet}
 use Rattle.std.specs.Cmp.Lexicographic.{slice_cmp}
@@ -30,6 +30,7 @@ pub empty_draft : (attendees : Vec Property Global) (keys : BTreeSet (List ℕ))
       seq = None;
       base = None;
       rid = None;
+      range = false;
       start = None;
       due = None;
       status = None;
@@ -44,6 +45,7 @@ pub empty_draft : (attendees : Vec Property Global) (keys : BTreeSet (List ℕ))
       exdates = exdates;
       others = others;
     }) p []
+empty_draft attendees keys rule rdates exdates others a b c d e f name.RecurrenceId = (tt, refl)
 empty_draft attendees keys rule rdates exdates others a b c d e f name.Attendee = no_attendee attendees.items keys a b
 empty_draft attendees keys rule rdates exdates others a b c d e f name.RRule = c
 empty_draft attendees keys rule rdates exdates others a b c d e f name.RDate = no_moment rdates d

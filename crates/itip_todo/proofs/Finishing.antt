@@ -1,9 +1,10 @@
 -- From the draft of all lines to the to-do.
-use Rattle.std.proofs.Common.{◌≡◌, ◌≢◌, true, ◌&&◌, ℕ, zero, suc, ◌+◌, ◌<◌, ◌≤◌, List, [], ◌∷◌, length, map, refl, sym, ap, subst, ◌∙◌, inl, inr, arith, length-append, Option, Some, None}
+use Rattle.std.proofs.Common.{◌≡◌, ◌≢◌, Bool, true, false, ◌&&◌, ℕ, zero, suc, ◌+◌, ◌<◌, ◌≤◌, List, [], ◌∷◌, length, map, refl, sym, ap, subst, ◌∙◌, inl, inr, arith, length-append, Option, Some, None}
 use Rattle.std.specs.BTreeSet.{BTreeSet, IsOrdered}
 use Rattle.std.specs.Fmt.{decimal}
 use Rattle.std.specs.List.{AllByRecursion, Contains, IsDistinct, list_all}
 use Rattle.std.specs.List.Sorted.{IsStrictlySortedBy}
+use Rattle.std.specs.Option.{is_some}
 use Rattle.std.specs.Prelude.{◌↔◌, codes, unwrap_or, IsTrue}
 use Rattle.std.proofs.lemmas.List.{length-map}
 use Rattle.itip_lines.specs.Lawful as line
@@ -17,11 +18,11 @@ use Rattle.itip_todo.specs.Parts.{Parts}
 use Rattle.itip_todo.specs.Drafts.{IsDraftOf, IsLawfulDraft, IsSetOf, draft_parts}
 use Rattle.itip_todo.specs.Lawful.{IsLawful, IsLawfulContent, HasValue, keys_of}
 use Rattle.itip_todo.specs.Participation.{same_text}
-use Rattle.itip_todo.specs.Reading.{IsOptional, IsOrNought, IfFault, AreGood, RefusesTodo, IsUidOf, IsStampOf, IsSequenceOf, IsPercentOf, IsPriorityOf, IsMomentOf, IsStatusOf, IsPropertyOf, IsOrganizerOf, AreMomentsOf, ListMoments, lines_of, first_of, first_named, whole_property, value_of, key_of}
+use Rattle.itip_todo.specs.Reading.{IsOptional, IsOrNought, IfFault, AreGood, RefusesTodo, IsUidOf, IsStampOf, IsSequenceOf, IsPercentOf, IsPriorityOf, IsMomentOf, IsStatusOf, IsPropertyOf, IsOrganizerOf, AreMomentsOf, ListMoments, lines_of, first_of, first_named, range_of, whole_property, value_of, key_of}
 use Rattle.itip_todo.specs.StatusText.{status_text}
 use Rattle.itip_todo.specs.Table.{name_text, place_of, is_same, property_of, is_other, sequence_limit, percent_limit, priority_limit, attendee_limit}
 use Rattle.itip_todo.specs.Values.{IsNumberUpTo, AreMoments}
-use Rattle.itip_todo.specs.Written.{Content, content_of, plain, moment_line, property_line, parts_contents}
+use Rattle.itip_todo.specs.Written.{Content, content_of, plain, moment_line, rid_line, property_line, parts_contents}
 use Rattle.itip_todo.specs.declared.draft.Draft.{Draft}
 use Rattle.itip_todo.specs.declared.error.Fault.TheVariants as fault
 use Rattle.itip_todo.specs.declared.error.TodoError.{TodoError}
@@ -29,7 +30,7 @@ use Rattle.itip_todo.specs.declared.error.TodoError.TheVariants as error
 use Rattle.itip_todo.specs.declared.property.Property.{Property}
 use Rattle.itip_todo.specs.declared.property_name.PropertyName.{PropertyName}
 use Rattle.itip_todo.specs.declared.property_name.PropertyName.TheVariants as name
-use Rattle.itip_todo.proofs.LawfulLines.{stamp_lawful, number_lawful, status_lawful, moment_lawful}
+use Rattle.itip_todo.proofs.LawfulLines.{stamp_lawful, number_lawful, status_lawful, moment_lawful, rid_lawful}
 use Rattle.itip_todo.proofs.Names.{all_named, first_named_is, has_name}
 use Rattle.itip_todo.proofs.Segments.{all_append, all_optional, all_map, all_parts}
 use Rattle.itip_todo.proofs.Sets.{same_members}
@@ -66,6 +67,19 @@ one_moment : (lines : List Line) (p : PropertyName) (v : Option Moment) → plac
 one_moment lines p v few short h m e =
     let at = found IsMomentOf (first_of (lines_of lines p)) v m h e in
     moment_lawful (name_text p) at.0.params at.0.value at.0.value m (lawful_line at.0 p (first_named_is lines p at.0 at.1) few) short at.2 (omega arith)
+
+-- RECURRENCE-ID, perhaps with a range
+one_rid : (lines : List Line) (v : Option Moment) (b : Bool) → IsOptional IsMomentOf (first_named name.RecurrenceId lines) v → b ≡ range_of (first_named name.RecurrenceId lines) → (m : Moment) → v ≡ Some m → IsLawfulContent (rid_line b m)
+one_rid lines v b h range m e =
+    let at = found IsMomentOf (first_named name.RecurrenceId lines) v m h e in
+    rid_lawful (name_text name.RecurrenceId) at.0.params at.0.value m b (lawful_line at.0 name.RecurrenceId (first_named_is lines name.RecurrenceId at.0 at.1) (omega arith)) (omega arith) at.2 (range ∙ ap range_of at.1)
+
+-- a range is that of a moment
+ranged : (o : Option Line) (v : Option Moment) (b : Bool) → IsOptional IsMomentOf o v → b ≡ range_of o → IsTrue b → IsTrue (is_some v)
+ranged None None b h e on = absurd (let none : false ≡ true = sym e ∙ on in cc)
+ranged None (Some m) b h e on = absurd h
+ranged (Some l) None b h e on = absurd h
+ranged (Some l) (Some m) b h e on = refl
 
 -- the property of which the whole line is kept
 one_property : (P : Line → Property → Type 0) → ((l : Line) (x : Property) → P l x → x ≡ whole_property l) → (lines : List Line) (p : PropertyName) (v : Option Property) → place_of p < 16 → IsOptional P (first_of (lines_of lines p)) v
@@ -119,6 +133,7 @@ pub record AreParts (lines : List Line) (parts : Parts) : Type 0 where
   pub seq : IsOrNought IsSequenceOf (first_named name.Sequence lines) parts.seq
   pub base : IsOptional IsSequenceOf (first_named name.DeskBase lines) parts.base
   pub rid : IsOptional IsMomentOf (first_named name.RecurrenceId lines) parts.rid
+  pub range : parts.range ≡ range_of (first_named name.RecurrenceId lines)
   pub start : IsOptional IsMomentOf (first_named name.DtStart lines) parts.start
   pub due : IsOptional IsMomentOf (first_named name.Due lines) parts.due
   pub status : IsOptional IsStatusOf (first_named name.Status lines) parts.status
@@ -165,7 +180,7 @@ contents_lawful lines parts is =
     all_parts P parts (record {
       head = (uid_lawful, (stamp_lawful parts.stamp, (number_lawful (codes "SEQUENCE") (record { some = omega arith; upper = refl }) (omega arith) parts.seq (sequence_small (first_named name.Sequence lines) parts.seq is.seq), tt)));
       base = all_optional P (λ n. plain name.DeskBase (decimal n)) parts.base (λ n e. number_lawful (codes "X-DESK-BASE") (record { some = omega arith; upper = refl }) (omega arith) n (at_most IsSequenceOf sequence_limit (λ l. small sequence_limit l.value) (first_named name.DeskBase lines) parts.base n is.base e));
-      rid = all_optional P (moment_line name.RecurrenceId) parts.rid (one_moment lines name.RecurrenceId parts.rid (omega arith) (omega arith) is.rid);
+      rid = all_optional P (rid_line parts.range) parts.rid (one_rid lines parts.rid parts.range is.rid is.range);
       start = all_optional P (moment_line name.DtStart) parts.start (one_moment lines name.DtStart parts.start (omega arith) (omega arith) is.start);
       due = all_optional P (moment_line name.Due) parts.due (one_moment lines name.Due parts.due (omega arith) (omega arith) is.due);
       status = all_optional P (λ s. plain name.Status (status_text s)) parts.status (λ s e. status_lawful s);
@@ -188,6 +203,7 @@ lawful_parts lines parts is attendees =
       uid = subst (λ (u : List ℕ). 0 < length u) (sym uid_at.2.0) uid_at.2.1;
       seq = sequence_small (first_named name.Sequence lines) parts.seq is.seq;
       base = λ n. at_most IsSequenceOf sequence_limit (λ l. small sequence_limit l.value) (first_named name.DeskBase lines) parts.base n is.base;
+      range = ranged (first_named name.RecurrenceId lines) parts.rid parts.range is.rid is.range;
       percent = λ n. at_most IsPercentOf percent_limit (λ l. small percent_limit l.value) (first_named name.PercentComplete lines) parts.percent n is.percent;
       priority = λ n. at_most IsPriorityOf priority_limit (λ l. small priority_limit l.value) (first_named name.Priority lines) parts.priority n is.priority;
       organizer = λ p e.
@@ -220,7 +236,8 @@ lawful_draft lines d is = λ uid stamp known stamped rdates exdates.
       stamp = subst (λ (v : Option Stamp). IsOptional IsStampOf (first_named name.DtStamp lines) v) stamped (is name.DtStamp);
       seq = or_nought IsSequenceOf (first_named name.Sequence lines) d.seq (is name.Sequence);
       base = is name.DeskBase;
-      rid = is name.RecurrenceId;
+      rid = (is name.RecurrenceId).0;
+      range = (is name.RecurrenceId).1;
       start = is name.DtStart;
       due = is name.Due;
       status = is name.Status;

@@ -8,7 +8,7 @@ use Rattle.std.proofs.lemmas.List.Elements.{filter-append}
 use Rattle.std.proofs.lemmas.List.{map-append}
 use Rattle.itip_lines.specs.declared.line.Line.{Line}
 use Rattle.itip_todo.specs.Participation.{same_text}
-use Rattle.itip_todo.specs.Reading.{lines_of, first_of, is_twice, has_range, is_too_many, is_same_attendee, key_of, IsGood, AreGood}
+use Rattle.itip_todo.specs.Reading.{lines_of, first_of, is_twice, has_bad_range, is_too_many, is_same_attendee, key_of, IsGood, AreGood}
 use Rattle.itip_todo.specs.Table.{property_of, is_same, stands_once, attendee_limit}
 use Rattle.itip_todo.specs.Values.{IsGoodValue}
 use Rattle.itip_todo.specs.declared.property_name.PropertyName.{PropertyName}
@@ -24,7 +24,7 @@ pub record AreFewEach (whole : List Line) : Type 0 where
 
 -- what is to be known of each line
 pub record IsGoodAlone (line : Line) : Type 0 where
-  pub no_range : has_range (property_of line) line ≡ false
+  pub range : has_bad_range (property_of line) line ≡ false
   pub value : IsGoodValue (property_of line) line
 
 here_first : (line : Line) (lines : List Line) → lines_of (line ∷ lines) (property_of line) ≡ line ∷ lines_of lines (property_of line)
@@ -87,7 +87,7 @@ module _ (whole above lines : List Line) (line : Line) (e : whole ≡ above ++ l
   ] refl
 
   is_good : IsGoodAlone line → IsGood above line
-  is_good alone = record { once = not_twice; no_range = alone.no_range; value = alone.value; few = not_many; new = not_again }
+  is_good alone = record { once = not_twice; range = alone.range; value = alone.value; few = not_many; new = not_again }
 
 good_behind : (whole above lines : List Line) → whole ≡ above ++ lines → AreFewEach whole → AllByRecursion IsGoodAlone lines → AreGood above lines
 good_behind whole above [] e each alone = tt

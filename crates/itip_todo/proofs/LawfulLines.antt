@@ -1,14 +1,16 @@
 -- The lines that a read to-do is written as are lawful.
-use Rattle.std.proofs.Common.{◌≡◌, ◌≢◌, cond, ℕ, ◌+◌, ◌%◌, ◌<◌, ◌≤◌, ◌^◌, Bool, true, false, ◌&&◌, List, [], ◌∷◌, ◌++◌, length, length-append, get_or, zero, suc, refl, sym, ap, subst, arith, Some}
+use Rattle.std.proofs.Common.{◌≡◌, ◌≢◌, ◌∙◌, cond, ℕ, ◌+◌, ◌%◌, ◌<◌, ◌≤◌, ◌^◌, Bool, true, false, ◌&&◌, List, [], ◌∷◌, ◌++◌, length, length-append, map, get_or, append-nil, zero, suc, refl, sym, ap, subst, arith, Some}
 use Rattle.std.specs.Prelude.{codes, ℤ}
 use Rattle.std.specs.Fmt.{decimal}
-use Rattle.std.specs.List.{list_all, AllByRecursion}
-use Rattle.std.specs.Str.{IsUtf8}
+use Rattle.std.specs.Char.{to_ascii_lowercase}
+use Rattle.std.specs.List.{list_all, list_any, AllByRecursion}
+use Rattle.std.specs.Str.{IsUtf8, str_eq_ignore_ascii_case}
 use Rattle.std.proofs.lemmas.Bool.Decides.{nat_tests}
+use Rattle.std.proofs.lemmas.List.{length-map}
 use Rattle.std.proofs.lemmas.Fmt.{decimal_by_steps, length-decimal-le}
 use Rattle.std.proofs.lemmas.Str.{IsUtf8-from_ascii}
 use Rattle.itip_lines.specs.Lawful as line
-use Rattle.itip_lines.specs.Octets.{is_value_octet}
+use Rattle.itip_lines.specs.Octets.{is_value_octet, is_separator}
 use Rattle.itip_moment.specs.Written.{stamp_text}
 use Rattle.itip_moment.specs.declared.stamp.Stamp.{Stamp}
 use Rattle.itip_moment.proofs.WrittenOctets.{is_stamp_octet, stamp_text_octets}
@@ -24,10 +26,11 @@ use Rattle.itip_todo.specs.Participation.{same_text, param_value, first_value}
 use Rattle.itip_todo.specs.StatusText.{status_text}
 use Rattle.itip_todo.specs.Table.{sequence_limit}
 use Rattle.itip_todo.specs.Values.{IsMomentText}
-use Rattle.itip_todo.specs.Written.{moment_params}
+use Rattle.itip_todo.specs.Written.{moment_params, range_params}
 use Rattle.itip_todo.specs.declared.status.Status.{Status}
 use Rattle.itip_todo.specs.declared.status.Status.TheVariants as status
 use Rattle.itip_todo.proofs.Names.{text_is}
+use Rattle.itip_todo.proofs.Segments as segments
 
 stamp_value_octet : (b : ℕ) → is_stamp_octet b ≡ true → (is_value_octet b ≡ true) × (b < 128)
 stamp_value_octet b e = grind (arith, nat_tests)
@@ -123,39 +126,72 @@ local_length text day second is =
     let whole : length text ≡ length (is.date ++ 84 ∷ is.clock) = ap length is.parts in
     omega (arith, date_length is.date day is.date_is, length-append is.date (84 ∷ is.clock))
 
--- the zone that the parameters name is a lawful value, and no longer than they are
-zone_value : (params : List Param) (zone : List ℕ) → param_value (codes "TZID") params ≡ zone → zone ≢ [] → AllByRecursion line.IsLawfulParam params
-    → line.IsParamValue zone × (length (line.value_text zone) + 6 ≤ length (line.params_text params))
-zone_value [] zone e some h = absurd (some (sym e))
-zone_value (p ∷ ps) zone e some h =
-    elim (same_text p.name (codes "TZID")) as
-    (λ b. same_text p.name (codes "TZID") ≡ b → cond b (first_value p.values) (param_value (codes "TZID") ps) ≡ zone → line.IsParamValue zone × (length (line.value_text zone) + 6 ≤ length (line.params_text (p ∷ ps)))) [
-      | true ↦ λ named first. here p.name p.values (text_is p.name (codes "TZID") named) h.0.values first
-      | false ↦ λ _ later. let rec = zone_value ps zone later some h.1 in (rec.0, omega (arith, rec.1, length-append (line.param_text p) (line.params_text ps)))
+-- a parameter is as long as its name and its first value
+first_long : (name : List ℕ) (values : List (List ℕ)) → first_value values ≢ [] → length name + length (line.value_text (first_value values)) + 2 ≤ length (59 ∷ (name ++ 61 ∷ line.values_text values))
+first_long name [] some = absurd (some refl)
+first_long name (v ∷ []) some = omega (arith, length-append name (61 ∷ line.value_text v))
+first_long name (v ∷ (w ∷ vs)) some = omega (arith, length-append name (61 ∷ (line.value_text v ++ 44 ∷ line.values_text (w ∷ vs))), length-append (line.value_text v) (44 ∷ line.values_text (w ∷ vs)))
+
+-- a value that a parameter of this name has first
+module _ (name value : List ℕ) (some : value ≢ []) where
+  one_long : (p : Param) → same_text p.name name ≡ true → first_value p.values ≡ value → length name + length (line.value_text value) + 2 ≤ length (line.param_text p)
+  one_long p named first =
+      let long = first_long p.name p.values (λ none. some (sym first ∙ none)) in
+      omega (arith, long, ap length (text_is p.name name named), ap (λ (z : List ℕ). length (line.value_text z)) first)
+
+  one_value : (values : List (List ℕ)) → first_value values ≡ value → AllByRecursion line.IsParamValue values → line.IsParamValue value
+  one_value [] first all = absurd (some (sym first))
+  one_value (v ∷ vs) first all = subst (λ (z : List ℕ). line.IsParamValue z) first all.0
+
+  -- it is lawful, and no longer than the parameters
+  value_long : (params : List Param) → param_value name params ≡ value → AllByRecursion line.IsLawfulParam params → line.IsParamValue value × (length name + length (line.value_text value) + 2 ≤ length (line.params_text params))
+  value_long [] e h = absurd (some (sym e))
+  value_long (p ∷ ps) e h =
+      elim (same_text p.name name) as (λ b. same_text p.name name ≡ b → cond b (first_value p.values) (param_value name ps) ≡ value → line.IsParamValue value × (length name + length (line.value_text value) + 2 ≤ length (line.params_text (p ∷ ps)))) [
+        | true ↦ λ named first. (one_value p.values first h.0.values, omega (arith, one_long p named first, length-append (line.param_text p) (line.params_text ps)))
+        | false ↦ λ _ later. let rec = value_long ps later h.1 in (rec.0, omega (arith, rec.1, length-append (line.param_text p) (line.params_text ps)))
+      ] refl e
+
+-- ---- a zone and a range beside it
+
+shown_long : (value : List ℕ) → length value ≤ length (line.value_text value)
+shown_long value = by (list_any is_separator value)
+  where
+    by : (b : Bool) → length value ≤ length (cond b (34 ∷ (value ++ 34 ∷ [])) value)
+    by true = omega (arith, length-append value (34 ∷ []))
+    by false = omega arith
+
+range_length : (value : List ℕ) → str_eq_ignore_ascii_case value (codes "THISANDFUTURE") ≡ true → length value ≡ 13
+range_length value e =
+    sym (length-map value to_ascii_lowercase) ∙ ap length (text_is (map to_ascii_lowercase value) (map to_ascii_lowercase (codes "THISANDFUTURE")) e)
+
+-- the parameters are as long as these two
+abbrev HasRoom : List ℕ → List ℕ → List Param → Type 0
+HasRoom zone range params = length (line.value_text zone) + length (line.value_text range) + 13 ≤ length (line.params_text params)
+
+-- a zone and a range are of two parameters
+pair_long : (zone range : List ℕ) → zone ≢ [] → range ≢ [] → (params : List Param) → param_value (codes "TZID") params ≡ zone → param_value (codes "RANGE") params ≡ range → AllByRecursion line.IsLawfulParam params → HasRoom zone range params
+pair_long zone range some_zone some_range [] e f h = absurd (some_zone (sym e))
+pair_long zone range some_zone some_range (p ∷ ps) e f h =
+    elim (same_text p.name (codes "TZID")) as (λ b. same_text p.name (codes "TZID") ≡ b → cond b (first_value p.values) (param_value (codes "TZID") ps) ≡ zone → HasRoom zone range (p ∷ ps)) [
+      | true ↦ λ named first.
+          let later : param_value (codes "RANGE") ps ≡ range = ap (λ (n : List ℕ). cond (same_text n (codes "RANGE")) (first_value p.values) (param_value (codes "RANGE") ps)) (sym (text_is p.name (codes "TZID") named)) ∙ f in
+          omega (arith, one_long (codes "TZID") zone some_zone p named first, (value_long (codes "RANGE") range some_range ps later h.1).1, whole)
+      | false ↦ λ _ later. elim (same_text p.name (codes "RANGE")) as (λ b. same_text p.name (codes "RANGE") ≡ b → cond b (first_value p.values) (param_value (codes "RANGE") ps) ≡ range → HasRoom zone range (p ∷ ps)) [
+        | true ↦ λ named first. omega (arith, one_long (codes "RANGE") range some_range p named first, (value_long (codes "TZID") zone some_zone ps later h.1).1, whole)
+        | false ↦ λ _ after. omega (arith, pair_long zone range some_zone some_range ps later after h.1, whole)
+      ] refl f
     ] refl e
   where
-    here : (name : List ℕ) (values : List (List ℕ)) → name ≡ codes "TZID" → AllByRecursion line.IsParamValue values → first_value values ≡ zone
-        → line.IsParamValue zone × (length (line.value_text zone) + 6 ≤ length ((59 ∷ (name ++ 61 ∷ line.values_text values)) ++ line.params_text ps))
-    here name [] same all first = absurd (some (sym first))
-    here name (v ∷ []) same all first =
-        let long : length name ≡ 4 = ap length same in
-        (subst (λ (z : List ℕ). line.IsParamValue z) first all.0, omega (arith, long, ap (λ (z : List ℕ). length (line.value_text z)) first, length-append (59 ∷ (name ++ 61 ∷ line.value_text v)) (line.params_text ps), length-append name (61 ∷ line.value_text v)))
-    here name (v ∷ (w ∷ vs)) same all first =
-        let long : length name ≡ 4 = ap length same in (
-          subst (λ (z : List ℕ). line.IsParamValue z) first all.0,
-          omega (
-            arith,
-            long,
-            ap (λ (z : List ℕ). length (line.value_text z)) first,
-            length-append (59 ∷ (name ++ 61 ∷ (line.value_text v ++ 44 ∷ line.values_text (w ∷ vs)))) (line.params_text ps),
-            length-append name (61 ∷ (line.value_text v ++ 44 ∷ line.values_text (w ∷ vs))),
-            length-append (line.value_text v) (44 ∷ line.values_text (w ∷ vs)),
-          ),
-        )
+    whole : length (line.params_text (p ∷ ps)) ≡ length (line.param_text p) + length (line.params_text ps)
+    whole = length-append (line.param_text p) (line.params_text ps)
 
 date_param : line.IsLawfulParam (record { name = codes "VALUE"; values = codes "DATE" ∷ [] })
 unfolding lib.Utf8.encode
 date_param = record { named = record { some = omega arith; upper = refl }; some = omega arith; values = (record { octets = refl; utf8 = (codes "DATE", (refl, refl)) }, tt) }
+
+some_same : (a b : List ℕ) → Some a ≡ Some b → a ≡ b
+some_same a b e = cc
 
 -- the line of a moment that a lawful line spells is lawful
 pub moment_lawful : (name : List ℕ) (params : List Param) (value text : List ℕ) (m : Moment) → line.IsLawful name params value → length name ≤ 100 → IsMomentText params text m → length text ≤ length value
@@ -182,7 +218,7 @@ moment_lawful name params value text (Utc at) h short_name is within = record {
   short = omega (arith, short_name, (stamp_text_octets at).1, length-append name (58 ∷ stamp_text at));
 }
 moment_lawful name params value text (Zoned zone at) h short_name is within =
-    let value_is = zone_value params zone.bytes (some_same (param_value (codes "TZID") params) zone.bytes is.1) zone.not_empty h.each_param in
+    let value_is = value_long (codes "TZID") zone.bytes zone.not_empty params (some_same (param_value (codes "TZID") params) zone.bytes is.1) h.each_param in
     let long : length (local_text at.day at.second) ≡ 15 = local_length (local_text at.day at.second) at.day at.second (local_text-IsLocalText at) in
     let read : length text ≡ 15 = local_length text at.day at.second is.0 in
     record {
@@ -192,6 +228,50 @@ moment_lawful name params value text (Zoned zone at) h short_name is within =
       utf8 = moment_utf8 (Zoned zone at);
       short = omega (arith, value_is.1, long, read, within, h.short, length-append name (params_text params ++ 58 ∷ value), length-append (params_text params) (58 ∷ value), length-append name (params_text (moment_params (Zoned zone at)) ++ 58 ∷ local_text at.day at.second), length-append (params_text (moment_params (Zoned zone at))) (58 ∷ local_text at.day at.second), length-append (line.value_text zone.bytes) []);
     }
-  where
-    some_same : (a b : List ℕ) → Some a ≡ Some b → a ≡ b
-    some_same a b e = cc
+
+range_param : line.IsLawfulParam (record { name = codes "RANGE"; values = codes "THISANDFUTURE" ∷ [] })
+unfolding lib.Utf8.encode
+range_param = record { named = record { some = omega arith; upper = refl }; some = omega arith; values = (record { octets = refl; utf8 = (codes "THISANDFUTURE", (refl, refl)) }, tt) }
+
+-- a moment with a range is no longer than the line that spells it, or short
+range_short : (name : List ℕ) (params : List Param) (value : List ℕ) (m : Moment) → line.IsLawful name params value → length name ≤ 100 → IsMomentText params value m → str_eq_ignore_ascii_case (param_value (codes "RANGE") params) (codes "THISANDFUTURE") ≡ true
+    → length (line.line_text name (moment_params m ++ range_params true) (moment_text m)) ≤ line.line_limit
+range_short name params value (Date day) h short_name is ranges =
+    omega (arith, short_name, date_length (date_text day.number) day.number (date_text-IsDateText day.number day.in_years), length-append name (params_text (moment_params (Date day) ++ range_params true) ++ 58 ∷ date_text day.number))
+range_short name params value (Floating at) h short_name is ranges =
+    omega (arith, short_name, local_length (local_text at.day at.second) at.day at.second (local_text-IsLocalText at), length-append name (params_text (range_params true) ++ 58 ∷ local_text at.day at.second))
+range_short name params value (Utc at) h short_name is ranges = omega (arith, short_name, (stamp_text_octets at).1, length-append name (params_text (range_params true) ++ 58 ∷ stamp_text at))
+range_short name params value (Zoned zone at) h short_name is ranges =
+    let range : List ℕ = param_value (codes "RANGE") params in
+    let thirteen : length range ≡ 13 = range_length range ranges in
+    let pair = pair_long zone.bytes range zone.not_empty (λ none. omega (arith, thirteen, ap length none)) params (some_same (param_value (codes "TZID") params) zone.bytes is.1) refl h.each_param in
+    let long : length (local_text at.day at.second) ≡ 15 = local_length (local_text at.day at.second) at.day at.second (local_text-IsLocalText at) in
+    let read : length value ≡ 15 = local_length value at.day at.second is.0 in
+    omega (
+      arith,
+      pair,
+      shown_long range,
+      thirteen,
+      long,
+      read,
+      h.short,
+      length-append name (params_text params ++ 58 ∷ value),
+      length-append (params_text params) (58 ∷ value),
+      length-append name (params_text (moment_params (Zoned zone at) ++ range_params true) ++ 58 ∷ local_text at.day at.second),
+      length-append (params_text (moment_params (Zoned zone at) ++ range_params true)) (58 ∷ local_text at.day at.second),
+      length-append (line.value_text zone.bytes) (params_text (range_params true)),
+    )
+
+-- the line of RECURRENCE-ID that a lawful line spells, with its range, is lawful
+pub rid_lawful : (name : List ℕ) (params : List Param) (value : List ℕ) (m : Moment) (b : Bool) → line.IsLawful name params value → length name ≤ 100 → IsMomentText params value m → b ≡ str_eq_ignore_ascii_case (param_value (codes "RANGE") params) (codes "THISANDFUTURE")
+    → line.IsLawful name (moment_params m ++ range_params b) (moment_text m)
+rid_lawful name params value m false h short_name is range = subst (λ (ps : List Param). line.IsLawful name ps (moment_text m)) (sym (append-nil (moment_params m))) (moment_lawful name params value value m h short_name is (omega arith))
+rid_lawful name params value m true h short_name is range =
+    let alone = moment_lawful name params value value m h short_name is (omega arith) in
+    record {
+      named = alone.named;
+      each_param = segments.all_append line.IsLawfulParam (moment_params m) (range_params true) alone.each_param (range_param, tt);
+      octets = alone.octets;
+      utf8 = alone.utf8;
+      short = range_short name params value m h short_name is (sym range);
+    }

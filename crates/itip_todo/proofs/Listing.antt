@@ -51,7 +51,7 @@ values_more : (old : List Property) (one : Property) → AllByRecursion HasValue
 values_more [] one h some = (some, tt)
 values_more (p ∷ ps) one h some = (h.0, values_more ps one h.1 some)
 
-pub attendees_more : (lines : List Line) (line : Line) (old new : List Property) (before after : BTreeSet (List ℕ)) → HoldsAttendees lines old before → 0 < length line.value → length old < 500 → list_any (same_text (key_of line)) (map key_of lines) ≡ false
+pub attendees_more : (lines : List Line) (line : Line) (old new : List Property) (before after : BTreeSet (List ℕ)) → HoldsAttendees lines old before → 0 < length line.value → length old < attendee_limit → list_any (same_text (key_of line)) (map key_of lines) ≡ false
     → Updates (slice_cmp nat_cmp) before after (key_of line) true → new ≡ old ++ whole_property line ∷ [] → HoldsAttendees (lines ++ line ∷ []) new after
 attendees_more lines line old new before after h some few free updates is =
     let count : length old ≡ length lines = ap length h.whole ∙ length-map lines whole_property in record {
@@ -68,7 +68,7 @@ counted lines attendees keys h = ap length h.whole ∙ length-map lines whole_pr
 
 pub takes_rdate : (line : Line) (d : Draft) (new : BTreeSet Moment) → PutsMoments line.params line.value d.rdates new → Takes name.RDate line d (record d { rdates = new })
 takes_rdate line d new puts = record {
-  good = λ above is. record { once = refl; no_range = refl; value = (puts.listed, puts.are); few = refl; new = refl };
+  good = λ above is. record { once = refl; range = refl; value = (puts.listed, puts.are); few = refl; new = refl };
   draft = λ above is. each above is;
 }
   where
@@ -78,7 +78,7 @@ takes_rdate line d new puts = record {
 
 pub takes_exdate : (line : Line) (d : Draft) (new : BTreeSet Moment) → PutsMoments line.params line.value d.exdates new → Takes name.ExDate line d (record d { exdates = new })
 takes_exdate line d new puts = record {
-  good = λ above is. record { once = refl; no_range = refl; value = (puts.listed, puts.are); few = refl; new = refl };
+  good = λ above is. record { once = refl; range = refl; value = (puts.listed, puts.are); few = refl; new = refl };
   draft = λ above is. each above is;
 }
   where
@@ -86,14 +86,14 @@ takes_exdate line d new puts = record {
     each above is name.ExDate = set_more (above name.ExDate) line d.exdates new (is name.ExDate) puts
     each above is p = is p
 
-pub takes_attendee : (line : Line) (d new : Draft) → 0 < length line.value → length d.attendees.items < 500 → contains (slice_cmp nat_cmp) d.keys (key_of line) ≡ false → Updates (slice_cmp nat_cmp) d.keys new.keys (key_of line) true
+pub takes_attendee : (line : Line) (d new : Draft) → 0 < length line.value → length d.attendees.items < attendee_limit → contains (slice_cmp nat_cmp) d.keys (key_of line) ≡ false → Updates (slice_cmp nat_cmp) d.keys new.keys (key_of line) true
     → new.attendees.items ≡ d.attendees.items ++ whole_property line ∷ [] → new ≡ record d { attendees = new.attendees; keys = new.keys } → Takes name.Attendee line d new
 takes_attendee line d new some few free updates is same = record {
   good = λ above is_draft. record {
     once = refl;
-    no_range = refl;
+    range = refl;
     value = some;
-    few = lt-leb attendee_limit (length (above name.Attendee)) (subst (λ n. n < 500) (counted (above name.Attendee) d.attendees.items d.keys (is_draft name.Attendee)) few);
+    few = lt-leb attendee_limit (length (above name.Attendee)) (subst (λ n. n < attendee_limit) (counted (above name.Attendee) d.attendees.items d.keys (is_draft name.Attendee)) few);
     new = sym ((is_draft name.Attendee).keys (key_of line)) ∙ free;
   };
   draft = λ above is_draft. subst (λ (e : Draft). IsDraftOf (more above name.Attendee line) e) (sym same) (each above is_draft);

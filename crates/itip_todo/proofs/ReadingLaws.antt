@@ -108,6 +108,7 @@ one_todo lines a b h k = same_todo a b (λ i. record {
   seq = one_or_nought (first_named name.Sequence lines) a.seq b.seq h.seq k.seq i;
   base = one_optional IsSequenceOf (λ line. one_number sequence_limit line.value) (first_named name.DeskBase lines) a.base b.base h.base k.base i;
   rid = one_optional IsMomentOf one_moment (first_named name.RecurrenceId lines) a.rid b.rid h.rid k.rid i;
+  range = (h.range ∙ sym k.range) i;
   start = one_optional IsMomentOf one_moment (first_named name.DtStart lines) a.start b.start h.start k.start i;
   due = one_optional IsMomentOf one_moment (first_named name.Due lines) a.due b.due h.due k.due i;
   status = one_optional IsStatusOf one_status (first_named name.Status lines) a.status b.status h.status k.status i;
@@ -130,7 +131,7 @@ never h k = let e : false ≡ true = sym h ∙ k in absurd cc
 good_fault : (above : PropertyName → List Line) (p : PropertyName) (line : Line) (f : Fault) → IsGoodAs above p line → HasFaultAs above p line f → ⊥
 good_fault above p line (fault.Missing q) h k = k
 good_fault above p line (fault.Twice q) h k = never h.once k.1
-good_fault above p line fault.Range h k = never h.no_range k.1
+good_fault above p line fault.Range h k = never h.range k.1
 good_fault above p line (fault.BadValue q) h k = k.3 h.value
 good_fault above p line fault.TooMany h k = never h.few k.3
 good_fault above p line fault.SameAttendee h k = never h.new k.4

@@ -4,7 +4,7 @@ use Rattle.std.specs.List.{AllByRecursion}
 use Rattle.std.specs.Fmt.{decimal}
 use Rattle.itip_todo.specs.Parts.{Parts}
 use Rattle.itip_todo.specs.StatusText.{status_text}
-use Rattle.itip_todo.specs.Written.{Content, content_of, plain, moment_line, property_line, optional, head_contents, parts_contents}
+use Rattle.itip_todo.specs.Written.{Content, content_of, plain, moment_line, rid_line, property_line, optional, head_contents, parts_contents}
 use Rattle.itip_todo.specs.declared.property_name.PropertyName.TheVariants as name
 
 pub all_append : {A : Type 0} (P : A → Type 0) (xs ys : List A) → AllByRecursion P xs → AllByRecursion P ys → AllByRecursion P (xs ++ ys)
@@ -29,7 +29,7 @@ abbrev pub base_lines : Parts → List Content
 base_lines parts = optional (λ n. plain name.DeskBase (decimal n)) parts.base
 
 abbrev pub rid_lines : Parts → List Content
-rid_lines parts = optional (moment_line name.RecurrenceId) parts.rid
+rid_lines parts = optional (rid_line parts.range) parts.rid
 
 abbrev pub start_lines : Parts → List Content
 start_lines parts = optional (moment_line name.DtStart) parts.start

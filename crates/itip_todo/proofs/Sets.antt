@@ -1,11 +1,10 @@
 -- The moments of a set are those that the lines list.
-use Rattle.std.proofs.Common.{◌≡◌, ℕ, zero, suc, ◌<◌, Bool, true, false, ◌||◌, List, [], ◌∷◌, ◌++◌, length, refl, sym, ap, subst, ◌∙◌, arith, append_assoc, get_or}
+use Rattle.std.proofs.Common.{◌≡◌, ℕ, zero, suc, ◌<◌, Bool, true, false, ◌||◌, List, [], ◌∷◌, length, refl, sym, ap, ◌∙◌, arith, get_or}
 use Rattle.std.proofs.lemmas.Cmp.{tied_itself}
-use Rattle.std.proofs.lemmas.List.Folds.{list_any-append}
 use Rattle.std.proofs.lemmas.Map.Views.{tells_apart}
 use Rattle.std.specs.BTreeMap.{is_at}
 use Rattle.std.specs.BTreeSet.{BTreeSet, contains}
-use Rattle.std.specs.List.{list_any, AllByRecursion, Contains}
+use Rattle.std.specs.List.{list_any, Contains}
 use Rattle.std.specs.Ordering.{eq_by_cmp, is_eq}
 use Rattle.std.specs.Prelude.{◌↔◌}
 use Rattle.itip_moment.specs.Order.{moment_cmp}
@@ -13,7 +12,6 @@ use Rattle.itip_moment.specs.OrderLaws.{moment_total}
 use Rattle.itip_moment.specs.declared.moment.Moment.{Moment}
 use Rattle.itip_moment.proofs.Same.{moment_equal}
 use Rattle.itip_todo.specs.Drafts.{is_listed}
-use Rattle.itip_todo.proofs.Segments.{all_weaker}
 
 -- a test that finds one value alone tells whether it is there
 

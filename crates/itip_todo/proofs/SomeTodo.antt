@@ -1,6 +1,6 @@
 -- Lines are a to-do, or they have a fault.
-use Rattle.std.proofs.Common.{◌≡◌, ◌∙◌, sym, ap, refl, ℕ, ◌+◌, ◌<◌, ◌≤◌, Bool, true, false, cond, List, [], ◌∷◌, ◌++◌, length, map, arith, subst, inl, inr, ◌⊎◌, Option, Some, None, append-nil, append_assoc, length-append}
-use Rattle.std.specs.Prelude.{◌&&◌, nat_le, ◌↔◌}
+use Rattle.std.proofs.Common.{◌≡◌, ◌∙◌, sym, ap, refl, ℕ, ◌<◌, ◌≤◌, Bool, true, false, cond, List, [], ◌∷◌, ◌++◌, length, map, arith, subst, inl, inr, ◌⊎◌, Option, Some, None, append-nil, append_assoc, length-append}
+use Rattle.std.specs.Prelude.{◌&&◌, nat_le}
 use Rattle.std.specs.List.{AllByRecursion, IsDistinct, list_any}
 use Rattle.std.proofs.lemmas.Bool.Decides.{leb_tells}
 use Rattle.std.proofs.lemmas.Cmp.{nat_list_eq_equiv}
@@ -12,11 +12,10 @@ use Rattle.itip_moment.specs.OrderLaws.{moment_total}
 use Rattle.itip_moment.specs.declared.moment.Moment.{Moment}
 use Rattle.itip_moment.specs.declared.stamp.Stamp.{Stamp}
 use Rattle.itip_moment.proofs.Same.{moment_equal}
-use Rattle.itip_todo.specs.Lawful.{IsLawful, HasValue}
+use Rattle.itip_todo.specs.Lawful.{HasValue}
 use Rattle.itip_todo.specs.Participation.{same_text}
 use Rattle.itip_todo.specs.Parts.{Parts}
-use Rattle.itip_todo.specs.PartsOf.{parts_of}
-use Rattle.itip_todo.specs.Reading.{IsGoodAs, IsGood, HasFaultAs, HasFault, AreGood, FirstFault, IsOptional, IsOrNought, IsUidOf, IsStampOf, IsSequenceOf, IsPercentOf, IsPriorityOf, IsMomentOf, IsStatusOf, IsPropertyOf, IsOrganizerOf, ListMoments, AreMomentsOf, ReadsTodo, RefusesTodo, is_twice, has_range, is_too_many, is_same_attendee, first_of, first_named, lines_of, whole_property, value_of, key_of}
+use Rattle.itip_todo.specs.Reading.{IsGoodAs, IsGood, HasFaultAs, AreGood, FirstFault, IsOptional, IsOrNought, IsUidOf, IsStampOf, IsSequenceOf, IsPercentOf, IsPriorityOf, IsMomentOf, IsStatusOf, IsPropertyOf, IsOrganizerOf, ListMoments, AreMomentsOf, ReadsTodo, RefusesTodo, is_twice, has_bad_range, range_of, is_too_many, is_same_attendee, first_of, first_named, lines_of, whole_property, value_of, key_of}
 use Rattle.itip_todo.specs.Table.{property_of, is_same, attendee_limit}
 use Rattle.itip_todo.specs.Values.{IsGoodValue, AreMoments}
 use Rattle.itip_todo.specs.declared.error.Fault.{Fault}
@@ -39,7 +38,7 @@ decide_line : (above : PropertyName → List Line) (p : PropertyName) (line : Li
 decide_line above p line =
     elim (is_twice above p) as (λ b. is_twice above p ≡ b → IsGoodAs above p line ⊎ ((f : Fault) × HasFaultAs above p line f)) [
       | true ↦ λ e. inr (fault.Twice p, (refl, e))
-      | false ↦ λ once. elim (has_range p line) as (λ b. has_range p line ≡ b → IsGoodAs above p line ⊎ ((f : Fault) × HasFaultAs above p line f)) [
+      | false ↦ λ once. elim (has_bad_range p line) as (λ b. has_bad_range p line ≡ b → IsGoodAs above p line ⊎ ((f : Fault) × HasFaultAs above p line f)) [
         | true ↦ λ e. inr (fault.Range, (once, e))
         | false ↦ λ range. elim (decide_value p line) [
           | inr bad ↦ inr (fault.BadValue p, (refl, once, range, bad))
@@ -47,7 +46,7 @@ decide_line above p line =
             | true ↦ λ e. inr (fault.TooMany, (once, range, value, e))
             | false ↦ λ few. elim (is_same_attendee above p line) as (λ b. is_same_attendee above p line ≡ b → IsGoodAs above p line ⊎ ((f : Fault) × HasFaultAs above p line f)) [
               | true ↦ λ e. inr (fault.SameAttendee, (once, range, value, few, e))
-              | false ↦ λ new. inl (record { once = once; no_range = range; value = value; few = few; new = new })
+              | false ↦ λ new. inl (record { once = once; range = range; value = value; few = few; new = new })
             ] refl
           ] refl
         ]
@@ -150,6 +149,7 @@ reads lines parts good is = (
     seq = is.seq;
     base = is.base;
     rid = is.rid;
+    range = is.range;
     start = is.start;
     due = is.due;
     status = is.status;
@@ -192,6 +192,7 @@ module _ (lines : List Line) (good : AreGood [] lines) where
           seq = seq.0;
           base = base.0;
           rid = rid.0;
+          range = range_of (first_named name.RecurrenceId lines);
           start = start.0;
           due = due.0;
           status = status.0;
@@ -211,6 +212,7 @@ module _ (lines : List Line) (good : AreGood [] lines) where
           seq = seq.1;
           base = base.1;
           rid = rid.1;
+          range = refl;
           start = start.1;
           due = due.1;
           status = status.1;

@@ -1,5 +1,5 @@
 -- The octets of a to-do are read as this to-do.
-use Rattle.std.proofs.Common.{◌≡◌, ◌∙◌, sym, ap, refl, ℕ, List, [], ◌∷◌, ◌++◌, length, arith, subst}
+use Rattle.std.proofs.Common.{◌≡◌, ◌∙◌, sym, ap, refl, ℕ, List, [], ◌∷◌, ◌++◌, arith, subst}
 use Rattle.std.specs.Prelude.{codes}
 use Rattle.std.specs.List.{AllByRecursion}
 use Rattle.std.proofs.lemmas.List.{append_cancel_left}
@@ -24,6 +24,7 @@ written_todo : (todo : Todo) → AreReadAs (contents_octets (todo_contents (part
 written_todo todo = record {
   lines = lines_from (todo_contents (parts_of todo)) (lawful todo);
   inside = lines_from (parts_contents (parts_of todo)) todo.lawful.lines;
+  spelled = ap contents_octets (sym (contents_of (todo_contents (parts_of todo)) (lawful todo)));
   are = λ few short. reads_from (todo_contents (parts_of todo)) (lawful todo) (omega (arith, few, length_from (todo_contents (parts_of todo)) (lawful todo))) short;
   framed =
       contents_of (todo_contents (parts_of todo)) (lawful todo)

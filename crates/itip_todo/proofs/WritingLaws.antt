@@ -1,7 +1,9 @@
 -- What a to-do is written as is read as this to-do.
-use Rattle.std.proofs.Common.{◌≡◌, ◌∙◌, ap, refl, sym, subst, ℕ, suc, ◌<◌, ◌≤◌, true, List, [], ◌∷◌, length, arith, Option, Some, None, map}
+use Rattle.std.proofs.Common.{◌≡◌, ◌∙◌, ap, refl, sym, subst, ℕ, suc, ◌<◌, ◌≤◌, Bool, true, false, List, [], ◌∷◌, length, arith, Option, Some, None, map}
 use Rattle.std.specs.Fmt.{decimal}
 use Rattle.std.specs.List.{IsDistinct}
+use Rattle.std.specs.Option.{is_some}
+use Rattle.std.specs.Prelude.{IsTrue}
 use mathlib.Core.HLevel.{is_prop→PathP}
 use Rattle.std.proofs.lemmas.Option.{same_Some}
 use Rattle.itip_lines.specs.Lawful as line
@@ -14,18 +16,18 @@ use Rattle.itip_todo.specs.Lawful.{IsLawful, keys_of}
 use Rattle.itip_todo.specs.Participation.{same_text}
 use Rattle.itip_todo.specs.Parts.{Parts}
 use Rattle.itip_todo.specs.PartsOf.{parts_of}
-use Rattle.itip_todo.specs.Reading.{ReadsTodo, lines_of, first_of, IsOptional, IsOrNought, IsUidOf, IsStampOf, IsSequenceOf, IsPercentOf, IsPriorityOf, IsMomentOf, IsStatusOf, IsPropertyOf, IsOrganizerOf, whole_property, value_of, key_of, ListMoments}
+use Rattle.itip_todo.specs.Reading.{ReadsTodo, lines_of, first_of, range_of, IsOptional, IsOrNought, IsUidOf, IsStampOf, IsSequenceOf, IsPercentOf, IsPriorityOf, IsMomentOf, IsStatusOf, IsPropertyOf, IsOrganizerOf, whole_property, value_of, key_of, ListMoments}
 use Rattle.itip_todo.specs.StatusText.{status_of, status_text}
 use Rattle.itip_todo.specs.Table.{stands_once, attendee_limit, sequence_limit, percent_limit, priority_limit}
 use Rattle.itip_todo.specs.Values.{IsNumberUpTo, IsMomentText}
-use Rattle.itip_todo.specs.Written.{Content, content_of, plain, moment_line, property_line, optional, parts_contents}
+use Rattle.itip_todo.specs.Written.{Content, content_of, plain, moment_line, rid_line, property_line, optional, parts_contents}
 use Rattle.itip_todo.specs.declared.property.Property.{Property}
 use Rattle.itip_todo.specs.declared.property_name.PropertyName.{PropertyName}
 use Rattle.itip_todo.specs.declared.property_name.PropertyName.TheVariants as name
 use Rattle.itip_todo.specs.declared.todo.Todo.{Todo}
 use Rattle.itip_todo.proofs.ByProperty.{lines_named, segment}
 use Rattle.itip_todo.proofs.GoodAgain.{AreFewEach, are_good}
-use Rattle.itip_todo.proofs.WrittenValues.{number_back, moment_back, status_back, good_alone}
+use Rattle.itip_todo.proofs.WrittenValues.{number_back, moment_back, rid_back, range_back, ranges_in, status_back, good_alone}
 
 as_many : (lines : List Line) → length (map content_of lines) ≡ length lines
 as_many [] = refl
@@ -100,6 +102,14 @@ number_of limit p l n h small e = subst (λ (c : Content). IsNumberUpTo limit c.
 moment_of : (p : PropertyName) (l : Line) (m : Moment) → content_of l ≡ moment_line p m → IsMomentOf l m
 moment_of p l m e = subst (λ (c : Content). IsMomentText c.params c.value m) (sym e) (moment_back m)
 
+-- a range stands only beside a moment
+range_read : (lines : List Line) (v : Option Moment) (b : Bool) → map content_of lines ≡ optional (rid_line b) v → (IsTrue b → IsTrue (is_some v)) → b ≡ range_of (first_of lines)
+range_read [] None true e h = absurd (let none : false ≡ true = h refl in cc)
+range_read [] None false e h = refl
+range_read [] (Some m) b e h = absurd cc
+range_read (l ∷ lines) None b e h = absurd cc
+range_read (l ∷ lines) (Some m) b e h = let head : content_of l ≡ rid_line b m = cc in sym (ap (λ (c : Content). ranges_in c.params) head ∙ range_back m b)
+
 moments_back : (p : PropertyName) (lines : List Line) (ms : List Moment) → map content_of lines ≡ map (moment_line p) ms → ListMoments lines ms
 moments_back p [] [] e = refl
 moments_back p [] (m ∷ ms) e = absurd cc
@@ -151,7 +161,8 @@ module _ (lines : List Line) (todo : Todo) (e : map content_of lines ≡ parts_c
         (λ l v s h. subst (λ (c : Content). IsStampText c.value v) (sym h) (stamp_text-IsStampText v));
     seq = sequence_back (lines_of lines name.Sequence) todo.seq lawful.seq (at name.Sequence);
     base = first_back IsSequenceOf (λ n. plain name.DeskBase (decimal n)) (lines_of lines name.DeskBase) todo.base (at name.DeskBase) (λ l n s h. number_of sequence_limit name.DeskBase l n (lawful.base n s) (omega arith) h);
-    rid = first_back IsMomentOf (moment_line name.RecurrenceId) (lines_of lines name.RecurrenceId) todo.rid (at name.RecurrenceId) (λ l m s h. moment_of name.RecurrenceId l m h);
+    rid = first_back IsMomentOf (rid_line todo.range) (lines_of lines name.RecurrenceId) todo.rid (at name.RecurrenceId) (λ l m s h. subst (λ (c : Content). IsMomentText c.params c.value m) (sym h) (rid_back m todo.range));
+    range = range_read (lines_of lines name.RecurrenceId) todo.rid todo.range (at name.RecurrenceId) lawful.range;
     start = first_back IsMomentOf (moment_line name.DtStart) (lines_of lines name.DtStart) todo.start (at name.DtStart) (λ l m s h. moment_of name.DtStart l m h);
     due = first_back IsMomentOf (moment_line name.Due) (lines_of lines name.Due) todo.due (at name.Due) (λ l m s h. moment_of name.Due l m h);
     status = first_back IsStatusOf (λ s. plain name.Status (status_text s)) (lines_of lines name.Status) todo.status (at name.Status) (λ l v s h. subst (λ (c : Content). status_of c.value ≡ Some v) (sym h) (status_back v));

@@ -13,7 +13,7 @@ use Rattle.itip_moment.specs.declared.stamp.Stamp.{Stamp}
 use Rattle.itip_todo.specs.Lawful.{IsLawful, HasValue}
 use Rattle.itip_todo.specs.Participation.{same_text}
 use Rattle.itip_todo.specs.Parts.{Parts}
-use Rattle.itip_todo.specs.Reading.{IsGoodAs, HasFaultAs, IsOptional, IsUidOf, IsStampOf, IsSequenceOf, IsPercentOf, IsPriorityOf, IsMomentOf, IsStatusOf, IsPropertyOf, IsOrganizerOf, whole_property, value_of, ListMoments, first_of, key_of}
+use Rattle.itip_todo.specs.Reading.{IsGoodAs, HasFaultAs, IsOptional, IsUidOf, IsStampOf, IsSequenceOf, IsPercentOf, IsPriorityOf, IsMomentOf, IsStatusOf, IsPropertyOf, IsOrganizerOf, whole_property, value_of, ListMoments, first_of, range_of, key_of}
 use Rattle.itip_todo.specs.Table.{is_same, attendee_limit}
 use Rattle.itip_todo.specs.Values.{AreMoments}
 use Rattle.itip_todo.specs.declared.draft.Draft.{Draft}
@@ -62,7 +62,7 @@ Holds draft name.Uid lines = IsOptional IsUidOf (first_of lines) draft.uid
 Holds draft name.DtStamp lines = IsOptional IsStampOf (first_of lines) draft.stamp
 Holds draft name.Sequence lines = IsOptional IsSequenceOf (first_of lines) draft.seq
 Holds draft name.DeskBase lines = IsOptional IsSequenceOf (first_of lines) draft.base
-Holds draft name.RecurrenceId lines = IsOptional IsMomentOf (first_of lines) draft.rid
+Holds draft name.RecurrenceId lines = IsOptional IsMomentOf (first_of lines) draft.rid × (draft.range ≡ range_of (first_of lines))
 Holds draft name.DtStart lines = IsOptional IsMomentOf (first_of lines) draft.start
 Holds draft name.Due lines = IsOptional IsMomentOf (first_of lines) draft.due
 Holds draft name.Status lines = IsOptional IsStatusOf (first_of lines) draft.status
@@ -101,6 +101,7 @@ draft_parts uid stamp draft = record {
   seq = unwrap_or draft.seq 0;
   base = draft.base;
   rid = draft.rid;
+  range = draft.range;
   start = draft.start;
   due = draft.due;
   status = draft.status;

@@ -1,5 +1,6 @@
 -- What a to-do keeps of itself: the values, counts and orders of the table of properties (RFC 5545 3.6.2; the limits and orders are our own).
 use Rattle.std.specs.Prelude.{◌≡◌, ◌≤◌, ◌<◌, ℕ, List, length, map, IsTrue, Some}
+use Rattle.std.specs.Option.{is_some}
 use Rattle.std.specs.List.{AllByRecursion, IsDistinct, list_all}
 use Rattle.std.specs.List.Sorted.{IsStrictlySortedBy}
 use Rattle.std.proofs.Props.{props}
@@ -26,6 +27,8 @@ pub record IsLawful (parts : Parts) : Type 0 where
   pub uid : 0 < length parts.uid
   pub seq : parts.seq ≤ sequence_limit
   pub base : (n : ℕ) → parts.base ≡ Some n → n ≤ sequence_limit
+  -- only RECURRENCE-ID has a range
+  pub range : IsTrue parts.range → IsTrue (is_some parts.rid)
   pub percent : (n : ℕ) → parts.percent ≡ Some n → n ≤ percent_limit
   pub priority : (n : ℕ) → parts.priority ≡ Some n → n ≤ priority_limit
   pub organizer : (p : Property) → parts.organizer ≡ Some p → HasValue p

@@ -1,5 +1,5 @@
 -- The parts of a to-do, as data (RFC 5545 3.6.2).
-use Rattle.std.specs.Prelude.{ℕ, List, Option}
+use Rattle.std.specs.Prelude.{ℕ, Bool, List, Option}
 use Rattle.itip_lines.specs.declared.line.Line.{Line}
 use Rattle.itip_moment.specs.declared.moment.Moment.{Moment}
 use Rattle.itip_moment.specs.declared.stamp.Stamp.{Stamp}
@@ -12,6 +12,7 @@ pub record Parts : Type 0 where
   pub seq : ℕ
   pub base : Option ℕ
   pub rid : Option Moment
+  pub range : Bool
   pub start : Option Moment
   pub due : Option Moment
   pub status : Option Status

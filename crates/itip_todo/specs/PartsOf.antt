@@ -9,6 +9,7 @@ parts_of todo = record {
   seq = todo.seq;
   base = todo.base;
   rid = todo.rid;
+  range = todo.range;
   start = todo.start;
   due = todo.due;
   status = todo.status;

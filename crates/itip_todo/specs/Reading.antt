@@ -1,15 +1,16 @@
 -- What the lines between BEGIN:VTODO and END:VTODO read as: a to-do, or its first fault (RFC 5545 3.6.2; the order of faults is our own).
-use Rattle.std.specs.Prelude.{◌≡◌, ◌≢◌, ◌<◌, ◌↔◌, ℕ, ◌⊎◌, Bool, false, ◌&&◌, nat_le, IsTrue, List, [], ◌∷◌, ◌++◌, length, map, codes, Option, Some, None}
+use Rattle.std.specs.Prelude.{◌≡◌, ◌≢◌, ◌<◌, ◌↔◌, ℕ, ◌⊎◌, Bool, false, not, ◌&&◌, nat_le, IsTrue, List, [], ◌∷◌, ◌++◌, length, map, codes, Option, Some, None}
 use Rattle.std.specs.Option.{is_some}
 use Rattle.std.specs.List.{list_any, filter, Contains}
 use Rattle.std.specs.List.Sorted.{IsStrictlySortedBy}
+use Rattle.std.specs.Str.{str_eq_ignore_ascii_case}
 use Rattle.itip_lines.specs.declared.line.Line.{Line}
 use Rattle.itip_lines.specs.declared.line.Param.{Param}
 use Rattle.itip_moment.specs.Order.{moment_cmp}
 use Rattle.itip_moment.specs.Spelling.{IsStampText}
 use Rattle.itip_moment.specs.declared.moment.Moment.{Moment}
 use Rattle.itip_moment.specs.declared.stamp.Stamp.{Stamp}
-use Rattle.itip_todo.specs.Participation.{same_text}
+use Rattle.itip_todo.specs.Participation.{same_text, param_value}
 use Rattle.itip_todo.specs.StatusText.{status_of}
 use Rattle.itip_todo.specs.Table.{property_of, is_same, stands_once, attendee_key, attendee_limit, sequence_limit, percent_limit, priority_limit}
 use Rattle.itip_todo.specs.Values.{IsNumberUpTo, IsMomentText, AreMoments, IsGoodValue}
@@ -39,9 +40,18 @@ first_named p lines = first_of (lines_of lines p)
 abbrev pub is_twice : (PropertyName → List Line) → PropertyName → Bool
 is_twice above p = stands_once p && is_some (first_of (above p))
 
--- RECURRENCE-ID with a RANGE parameter
-abbrev pub has_range : PropertyName → Line → Bool
-has_range p line = is_same p name.RecurrenceId && list_any (λ (param : Param). same_text param.name (codes "RANGE")) line.params
+-- A line with RANGE=THISANDFUTURE: the first value of the first RANGE, without regard to case.
+abbrev pub has_range : Line → Bool
+has_range line = str_eq_ignore_ascii_case (param_value (codes "RANGE") line.params) (codes "THISANDFUTURE")
+
+-- whether RECURRENCE-ID, where it stands, has RANGE=THISANDFUTURE
+abbrev pub range_of : Option Line → Bool
+range_of None = false
+range_of (Some line) = has_range line
+
+-- RECURRENCE-ID with RANGE of another value
+abbrev pub has_bad_range : PropertyName → Line → Bool
+has_bad_range p line = is_same p name.RecurrenceId && (list_any (λ (param : Param). same_text param.name (codes "RANGE")) line.params && not (has_range line))
 
 -- one ATTENDEE too many
 abbrev pub is_too_many : (PropertyName → List Line) → PropertyName → Bool
@@ -57,20 +67,20 @@ is_same_attendee above p line = is_same p name.Attendee && list_any (same_text (
 -- a line that is read as p has no fault, where these lines of each property stand above it
 pub record IsGoodAs (above : PropertyName → List Line) (p : PropertyName) (line : Line) : Type 0 where
   pub once : is_twice above p ≡ false
-  pub no_range : has_range p line ≡ false
+  pub range : has_bad_range p line ≡ false
   pub value : IsGoodValue p line
   pub few : is_too_many above p ≡ false
   pub new : is_same_attendee above p line ≡ false
 
--- the fault of a line that is read as p: the first of twice, RANGE, a bad value, too many, and one attendee twice
+-- the fault of a line that is read as p: the first of twice, another RANGE, a bad value, too many, and one attendee twice
 abbrev pub HasFaultAs : (PropertyName → List Line) → PropertyName → Line → Fault → Type 0
 HasFaultAs above p line (fault.Missing q) = ⊥
 HasFaultAs above p line (fault.Twice q) = (q ≡ p) × IsTrue (is_twice above p)
-HasFaultAs above p line fault.Range = (is_twice above p ≡ false) × IsTrue (has_range p line)
-HasFaultAs above p line (fault.BadValue q) = (q ≡ p) × (is_twice above p ≡ false) × (has_range p line ≡ false) × (¬ IsGoodValue p line)
-HasFaultAs above p line fault.TooMany = (is_twice above p ≡ false) × (has_range p line ≡ false) × IsGoodValue p line × IsTrue (is_too_many above p)
+HasFaultAs above p line fault.Range = (is_twice above p ≡ false) × IsTrue (has_bad_range p line)
+HasFaultAs above p line (fault.BadValue q) = (q ≡ p) × (is_twice above p ≡ false) × (has_bad_range p line ≡ false) × (¬ IsGoodValue p line)
+HasFaultAs above p line fault.TooMany = (is_twice above p ≡ false) × (has_bad_range p line ≡ false) × IsGoodValue p line × IsTrue (is_too_many above p)
 HasFaultAs above p line fault.SameAttendee =
-    (is_twice above p ≡ false) × (has_range p line ≡ false) × IsGoodValue p line × (is_too_many above p ≡ false) × IsTrue (is_same_attendee above p line)
+    (is_twice above p ≡ false) × (has_bad_range p line ≡ false) × IsGoodValue p line × (is_too_many above p ≡ false) × IsTrue (is_same_attendee above p line)
 
 -- a line has no fault, where these stand above it
 abbrev pub IsGood : List Line → Line → Type 0
@@ -155,6 +165,7 @@ pub record ReadsTodo (lines : List Line) (todo : Todo) : Type 0 where
   pub seq : IsOrNought IsSequenceOf (first_named name.Sequence lines) todo.seq
   pub base : IsOptional IsSequenceOf (first_named name.DeskBase lines) todo.base
   pub rid : IsOptional IsMomentOf (first_named name.RecurrenceId lines) todo.rid
+  pub range : todo.range ≡ range_of (first_named name.RecurrenceId lines)
   pub start : IsOptional IsMomentOf (first_named name.DtStart lines) todo.start
   pub due : IsOptional IsMomentOf (first_named name.Due lines) todo.due
   pub status : IsOptional IsStatusOf (first_named name.Status lines) todo.status

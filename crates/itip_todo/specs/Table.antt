@@ -99,7 +99,7 @@ priority_limit = 9
 
 -- the most attendees of a to-do (our own limit)
 abbrev pub attendee_limit : ℕ
-attendee_limit = 500
+attendee_limit = 2000
 
 -- an attendee is named by the address with ASCII letters in lower case (our own rule)
 abbrev pub attendee_key : List ℕ → List ℕ

@@ -1,5 +1,5 @@
 -- The canonical lines of a to-do, and their octets (RFC 5545 3.6.2; the order of properties and the forms of values are our own).
-use Rattle.std.specs.Prelude.{ℕ, List, [], ◌∷◌, ◌++◌, codes, Option, Some, None, map}
+use Rattle.std.specs.Prelude.{ℕ, Bool, true, false, List, [], ◌∷◌, ◌++◌, codes, Option, Some, None, map}
 use Rattle.std.specs.Fmt.{decimal}
 use Rattle.itip_lines.specs.Lawful.{line_text}
 use Rattle.itip_lines.specs.Writing.{folded}
@@ -45,6 +45,15 @@ moment_params (Zoned zone at) = (record { name = codes "TZID"; values = zone.byt
 abbrev pub moment_line : PropertyName → Moment → Content
 moment_line p m = record { name = name_text p; params = moment_params m; value = moment_text m }
 
+-- RANGE of an instance and all after it (RFC 5545 3.2.13)
+abbrev pub range_params : Bool → List Param
+range_params true = (record { name = codes "RANGE"; values = codes "THISANDFUTURE" ∷ [] }) ∷ []
+range_params false = []
+
+-- RECURRENCE-ID, of one instance or of it and all after it
+abbrev pub rid_line : Bool → Moment → Content
+rid_line range m = record { name = name_text name.RecurrenceId; params = moment_params m ++ range_params range; value = moment_text m }
+
 abbrev pub property_line : PropertyName → Property → Content
 property_line p property = record { name = name_text p; params = property.params; value = property.value }
 
@@ -62,7 +71,7 @@ abbrev pub parts_contents : Parts → List Content
 parts_contents parts =
     head_contents parts
     ++ (optional (λ n. plain name.DeskBase (decimal n)) parts.base
-    ++ (optional (moment_line name.RecurrenceId) parts.rid
+    ++ (optional (rid_line parts.range) parts.rid
     ++ (optional (moment_line name.DtStart) parts.start
     ++ (optional (moment_line name.Due) parts.due
     ++ (optional (λ s. plain name.Status (status_text s)) parts.status

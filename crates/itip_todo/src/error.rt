@@ -18,8 +18,8 @@ pub enum Fault {
     /// The value is not one that the property may have.
     #[error("{0} has a bad value")]
     BadValue(PropertyName),
-    /// RECURRENCE-ID has a RANGE parameter.
-    #[error("RECURRENCE-ID has a RANGE parameter")]
+    /// RECURRENCE-ID has a RANGE other than THISANDFUTURE.
+    #[error("RECURRENCE-ID has a RANGE other than THISANDFUTURE")]
     Range,
     /// There are too many attendees.
     #[error("there are too many attendees")]

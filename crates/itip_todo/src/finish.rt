@@ -32,6 +32,7 @@ pub(crate) fn finish(alloc: Global, draft: Draft) -> Result<Todo, TodoError>
         seq: draft.seq.unwrap_or(0),
         base: draft.base,
         rid: draft.rid,
+        range: draft.range,
         start: draft.start,
         due: draft.due,
         status: draft.status,
@@ -59,8 +60,5 @@ fn present<T>(field: Option<T>, property: PropertyName) -> Result<T, TodoError>
     ensures some { IfOk result (λ value. field ≡ Some value) }
     ensures fault { IfErr result (λ e. IfFault e (λ f. (f ≡ fault.Missing property) × (field ≡ None))) }
 {
-    match field {
-        Some(value) => Ok(value),
-        None => Err(TodoError::Fault(Fault::Missing(property))),
-    }
+    field.ok_or(TodoError::Fault(Fault::Missing(property)))
 }

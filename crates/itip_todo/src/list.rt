@@ -18,7 +18,7 @@ use itip_moment::{Moment, read_moment};
 use std::alloc::Global;
 use std::collections::BTreeSet;
 
-const ATTENDEE_LIMIT: usize = 500;
+const ATTENDEE_LIMIT: usize = 2_000;
 
 pub(crate) fn add_attendee(alloc: Global, draft: &mut Draft, line: &Line) -> Result<(), TodoError>
     ensures taken { OnOk result (Takes name.Attendee line.now draft.old draft.new) }

@@ -1,10 +1,14 @@
 //! Lines of the properties that may stand once.
-ghost use Rattle.std.specs.Prelude.{◌≡◌, ◌≢◌, None, OnOk, IfErr};
+ghost use Rattle.std.specs.Prelude.{◌≡◌, ◌≢◌, true, false, None, OnOk, IfOk, IfErr};
+ghost use Rattle.std.specs.List.{list_any};
+ghost use Rattle.itip_lines.specs.declared.line.Param.{Param};
 ghost use Rattle.itip_todo.specs.Drafts.{Takes, Refuses};
-ghost use Rattle.itip_todo.specs.Reading.{IfFault, has_range};
+ghost use Rattle.itip_todo.specs.Participation.{same_text};
+ghost use Rattle.itip_todo.specs.Reading.{IfFault, has_range, has_bad_range};
 ghost use Rattle.itip_todo.specs.declared.error.Fault.TheVariants as fault;
 ghost use Rattle.itip_todo.specs.declared.property_name.PropertyName.TheVariants as name;
 
+use crate::attendee::first_value;
 use crate::draft::Draft;
 use crate::error::{Fault, TodoError};
 use crate::property_name::PropertyName;
@@ -69,10 +73,9 @@ pub(crate) fn add_rid(alloc: Global, draft: &mut Draft, line: &Line) -> Result<(
     ensures fault { IfErr result (λ e. IfFault e (Refuses name.RecurrenceId line.now draft.old)) }
 {
     check_free(&draft.rid, PropertyName::RecurrenceId)?;
-    if has_range(line) {
-        return Err(TodoError::Fault(Fault::Range));
-    }
+    let range = range_of(line)?;
     draft.rid = Some(moment_of(alloc, PropertyName::RecurrenceId, line)?);
+    draft.range = range;
     Ok(())
 }
 
@@ -141,10 +144,32 @@ pub(crate) fn add_organizer(draft: &mut Draft, line: &Line) -> Result<(), TodoEr
     Ok(())
 }
 
-/// Whether RECURRENCE-ID has a RANGE parameter (RFC 5545 3.2.13).
+/// Whether RECURRENCE-ID has a range; RANGE of another value is a fault.
+fn range_of(line: &Line) -> Result<bool, TodoError>
+    ensures range { IfOk result (λ range. range ≡ has_range line.now) }
+    ensures good { OnOk result (has_bad_range name.RecurrenceId line.now ≡ false) }
+    ensures fault { IfErr result (λ e. IfFault e (λ f. (f ≡ fault.Range) × (has_bad_range name.RecurrenceId line.now ≡ true))) }
+{
+    if has_range(line) {
+        return Ok(true);
+    }
+    if has_param("RANGE", line) {
+        return Err(TodoError::Fault(Fault::Range));
+    }
+    Ok(false)
+}
+
+/// Whether a line has RANGE=THISANDFUTURE (RFC 5545 3.2.13).
 fn has_range(line: &Line) -> bool
-    ensures { result ≡ has_range name.RecurrenceId line.now }
+    ensures { result ≡ has_range line.now }
+{
+    first_value("RANGE", line.params.as_slice()).eq_ignore_ascii_case("THISANDFUTURE")
+}
+
+/// Whether a line has a parameter of this name.
+fn has_param(name: &str, line: &Line) -> bool
+    ensures { result ≡ list_any (λ (param : Param). same_text param.name name.now) line.now.params }
 {
     let mut params = line.params.as_slice().iter();
-    params.any(|param| param.name.as_str() == "RANGE")
+    params.any(|param| param.name.as_str() == name)
 }

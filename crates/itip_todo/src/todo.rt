@@ -25,6 +25,8 @@ pub struct Todo {
     pub base: Option<u32>,
     /// RECURRENCE-ID.
     pub rid: Option<Moment>,
+    /// Whether RECURRENCE-ID has RANGE=THISANDFUTURE: the to-do is of its instance and all after it (RFC 5545 3.2.13).
+    pub range: bool,
     /// DTSTART.
     pub start: Option<Moment>,
     /// DUE.
@@ -49,7 +51,7 @@ pub struct Todo {
     pub exdates: ListOf<Moment>,
     /// The lines of all other properties as they stand, and those of RDATE with a `/` in the value.
     pub others: ListOf<Line>,
-    pub ghost lawful: { IsLawful (record { uid = uid; stamp = stamp; seq = seq; base = base; rid = rid; start = start; due = due; status = status; percent = percent; priority = priority; summary = summary; organizer = organizer; attendees = attendees; rule = rule; rdates = rdates; exdates = exdates; others = others }) } by { IsLawful-prop (record { uid = uid; stamp = stamp; seq = seq; base = base; rid = rid; start = start; due = due; status = status; percent = percent; priority = priority; summary = summary; organizer = organizer; attendees = attendees; rule = rule; rdates = rdates; exdates = exdates; others = others }) },
+    pub ghost lawful: { IsLawful (record { uid = uid; stamp = stamp; seq = seq; base = base; rid = rid; range = range; start = start; due = due; status = status; percent = percent; priority = priority; summary = summary; organizer = organizer; attendees = attendees; rule = rule; rdates = rdates; exdates = exdates; others = others }) } by { IsLawful-prop (record { uid = uid; stamp = stamp; seq = seq; base = base; rid = rid; range = range; start = start; due = due; status = status; percent = percent; priority = priority; summary = summary; organizer = organizer; attendees = attendees; rule = rule; rdates = rdates; exdates = exdates; others = others }) },
 }
 
 impl Clone for Todo {
@@ -66,6 +68,7 @@ impl Clone for Todo {
             seq: self.seq,
             base: self.base,
             rid: times.rid,
+            range: self.range,
             start: times.start,
             due: times.due,
             status: self.status,

@@ -74,10 +74,7 @@ pub(crate) fn status_of(line: &Line) -> Result<Status, TodoError>
     ensures value { IfOk result (λ s. IsStatusOf line.now s) }
     ensures fault { IfErr result (λ e. IfFault e (λ f. (f ≡ fault.BadValue name.Status) × (IsGoodValue name.Status line.now → ⊥))) }
 {
-    match Status::named(line.value.as_str()) {
-        Some(status) => Ok(status),
-        None => Err(bad_value(PropertyName::Status)),
-    }
+    Status::named(line.value.as_str()).ok_or(bad_value(PropertyName::Status))
 }
 
 pub(crate) fn property_of(line: &Line) -> Result<Property, TodoError>

@@ -11,7 +11,7 @@ use crate::property::Property;
 use crate::property_name::PropertyName;
 use crate::status::Status;
 use crate::todo::Todo;
-use crate::write_moment::{write_moments, write_optional_moment};
+use crate::write_moment::{write_moments, write_optional_moment, write_rid};
 use itip_lines::{Line, Text, write_line, write_property};
 use itip_moment::write_stamp;
 use std::alloc::AllocError;
@@ -36,7 +36,7 @@ fn write_lines(todo: &Todo, out: &mut Vec<u8>) -> Result<(), AllocError>
     write_value("BEGIN", b"VTODO", out)?;
     write_head(todo, out)?;
     write_count(PropertyName::DeskBase, todo.base, out)?;
-    write_optional_moment(PropertyName::RecurrenceId, &todo.rid, out)?;
+    write_rid(todo.range, &todo.rid, out)?;
     write_optional_moment(PropertyName::DtStart, &todo.start, out)?;
     write_optional_moment(PropertyName::Due, &todo.due, out)?;
     write_status(todo.status, out)?;

@@ -15,7 +15,7 @@ use Rattle.itip_moment.specs.declared.moment.Moment.{Moment}
 use Rattle.itip_message.specs.declared.item.Item.{Item}
 use Rattle.itip_state.proofs.Members.{none_in, cons_cases, no_pairs}
 use Rattle.itip_view.specs.OfUid.{IsRowAt, IsAnswerAt, ArePlaces, AreRowsOf}
-use Rattle.itip_view.specs.Rows.{IsRow, IsInstanceRow, IsOccurrenceRow, IsSingleRow, IsOpaqueRow, AscendRows, moment_of, row_cmp}
+use Rattle.itip_view.specs.Rows.{IsRow, IsInstanceRow, IsOccurrenceRow, IsRangeRow, IsSingleRow, IsOpaqueRow, AscendRows, moment_of, row_cmp}
 use Rattle.itip_view.specs.Standing.{IsLiveSeries, Stands}
 use Rattle.itip_view.specs.declared.row.Row.{Row}
 use Rattle.itip_view.specs.declared.window.Window.{Window}
@@ -108,14 +108,18 @@ module _ (items : List Item) (window : Window) (uid : List ℕ) where
     all = λ row is here. by row here is;
   }
     where
-      by : (row : Row) → row.uid ≡ uid → IsInstanceRow items window row ⊎ (IsOccurrenceRow items window row ⊎ (IsSingleRow items window row ⊎ IsOpaqueRow items window row)) → Contains rows row
+      by : (row : Row) → row.uid ≡ uid → IsInstanceRow items window row ⊎ (IsOccurrenceRow items window row ⊎ (IsRangeRow items window row ⊎ (IsSingleRow items window row ⊎ IsOpaqueRow items window row))) →
+          Contains rows row
       by row here (inl p) = so.at p.at row (are.instances p.at p.item (subst (λ (u : List ℕ). Stands items u p.at p.item) here p.live.stands))
           (record { is_row = inl p; uid_is = here; at_is = ap moment_of p.id })
       by row here (inr (inl p)) = so.at p.at row
           (are.occurrences p.at (record { item = p.item; series = p.series; live = subst (λ (u : List ℕ). IsLiveSeries items u p.item) here p.live; repeats = p.repeats; occurs = p.occurs }))
           (record { is_row = inr (inl p); uid_is = here; at_is = ap moment_of p.id })
-      by row here (inr (inr (inl p))) = so.whole row (record { is_row = inr (inr (inl p)); uid_is = here; at_is = ap moment_of p.id })
-      by row here (inr (inr (inr p))) = so.whole row (record { is_row = inr (inr (inr p)); uid_is = here; at_is = ap moment_of p.id })
+      by row here (inr (inr (inl p))) = so.at p.at row
+          (are.occurrences p.at (record { item = p.whole; series = p.series; live = subst (λ (u : List ℕ). IsLiveSeries items u p.whole) here p.live_series; repeats = p.repeats; occurs = p.occurs }))
+          (record { is_row = inr (inr (inl p)); uid_is = here; at_is = ap moment_of p.id })
+      by row here (inr (inr (inr (inl p)))) = so.whole row (record { is_row = inr (inr (inr (inl p))); uid_is = here; at_is = ap moment_of p.id })
+      by row here (inr (inr (inr (inr p)))) = so.whole row (record { is_row = inr (inr (inr (inr p))); uid_is = here; at_is = ap moment_of p.id })
 
 -- what stands before a moment of an ascending list is before it
 pub earlier_before : {X : Type 0} (R : X → X → Type 0) (xs : List X) (i : ℕ) (x : X) → AllPairs R xs → i < length xs → x ≡ get_or xs i x → (y : X) → Contains (take i xs) y → R y x

@@ -2,18 +2,17 @@
 use Rattle.std.proofs.Common.{◌≡◌, List, [], ◌∷◌, ◌++◌, refl, sym, ap, inr, Option, Some, None, append_assoc}
 use Rattle.itip_todo.specs.declared.property.Property.{Property}
 use Rattle.itip_message.specs.declared.item.Item.{Item}
-use Rattle.itip_message.specs.declared.key.Key.{Key}
-use Rattle.itip_view.specs.Answers.{NoneCounts, Decides, AreShown, shown_line, in_front}
+use Rattle.itip_view.specs.Answers.{Asked, NoneCounts, Decides, AreShown, shown_line, in_front}
 use Rattle.itip_view.specs.declared.row.ShownAttendee.{ShownAttendee}
 
-module _ (heard : List Item) (governing : Item) where
-  pub decides_later : (key : Key) (keys : List Key) → NoneCounts heard governing key → (answer : Option Item) → Decides heard governing keys answer → Decides heard governing (key ∷ keys) answer
-  decides_later key keys none None rest = (none, rest)
-  decides_later key keys none (Some answer) rest = inr (none, rest)
+module _ (heard : List Item) where
+  pub decides_later : (asked : Asked) (rest : List Asked) → NoneCounts heard asked → (answer : Option Item) → Decides heard rest answer → Decides heard (asked ∷ rest) answer
+  decides_later asked rest none None decides = (none, decides)
+  decides_later asked rest none (Some answer) decides = inr (none, decides)
 
-  pub shows_more : (keys_of : Property → List Key) (line : Property) (lines : List Property) (answer : Option Item) (others : List ShownAttendee) → Decides heard governing (keys_of line) answer →
-      AreShown heard governing keys_of lines others → AreShown heard governing keys_of (line ∷ lines) (in_front (shown_line line answer) others)
-  shows_more keys_of line lines answer others decides rest = (answer, others, decides, rest, refl)
+  pub shows_more : (asked_of : Property → List Asked) (line : Property) (lines : List Property) (answer : Option Item) (others : List ShownAttendee) → Decides heard (asked_of line) answer →
+      AreShown heard asked_of lines others → AreShown heard asked_of (line ∷ lines) (in_front (shown_line line answer) others)
+  shows_more asked_of line lines answer others decides rest = (answer, others, decides, rest, refl)
 
 -- one more, or none, behind those before
 pub behind : (front others : List ShownAttendee) (shown : Option ShownAttendee) → front ++ in_front shown others ≡ (front ++ in_front shown []) ++ others

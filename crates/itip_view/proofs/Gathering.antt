@@ -12,7 +12,7 @@ use Rattle.itip_message.specs.declared.item.Item.{Item}
 use Rattle.itip_state.specs.Kept.{ArePart, AreUidsOf}
 use Rattle.itip_state.proofs.Members.{none_in, no_pairs, pairs_append}
 use Rattle.itip_view.specs.OfUid.{AreRowsOf}
-use Rattle.itip_view.specs.Rows.{IsRow, IsInstanceRow, IsOccurrenceRow, IsSingleRow, IsOpaqueRow, AreRows, AreTooMany, AscendRows, row_limit, moment_of, row_cmp}
+use Rattle.itip_view.specs.Rows.{IsRow, IsInstanceRow, IsOccurrenceRow, IsRangeRow, IsSingleRow, IsOpaqueRow, AreRows, AreTooMany, AscendRows, row_limit, moment_of, row_cmp}
 use Rattle.itip_view.specs.declared.row.Row.{Row}
 use Rattle.itip_view.specs.declared.window.Window.{Window}
 use Rattle.itip_view.proofs.OfPart.{row_of_part, row_in_part}
@@ -58,11 +58,13 @@ module _ (heard : List Item) (window : Window) where
     }
 
   -- each row is of a UID of which something was heard
-  uid_of_row : (uids : List (List ℕ)) → AreUidsOf uids heard → (row : Row) → IsInstanceRow heard window row ⊎ (IsOccurrenceRow heard window row ⊎ (IsSingleRow heard window row ⊎ IsOpaqueRow heard window row)) → Contains uids row.uid
+  uid_of_row : (uids : List (List ℕ)) → AreUidsOf uids heard → (row : Row) → IsInstanceRow heard window row ⊎ (IsOccurrenceRow heard window row ⊎ (IsRangeRow heard window row ⊎ (IsSingleRow heard window row ⊎ IsOpaqueRow heard window row))) →
+      Contains uids row.uid
   uid_of_row uids of row (inl p) = subst (Contains uids) (ap uid_of p.live.stands.best.about) (of.all p.item p.live.stands.best.is_heard)
   uid_of_row uids of row (inr (inl p)) = subst (Contains uids) (ap uid_of p.live.best.about) (of.all p.item p.live.best.is_heard)
-  uid_of_row uids of row (inr (inr (inl p))) = subst (Contains uids) (ap uid_of p.live.best.about) (of.all p.item p.live.best.is_heard)
-  uid_of_row uids of row (inr (inr (inr p))) = subst (Contains uids) (ap uid_of p.live.best.about) (of.all p.item p.live.best.is_heard)
+  uid_of_row uids of row (inr (inr (inl p))) = subst (Contains uids) (ap uid_of p.live_series.best.about) (of.all p.whole p.live_series.best.is_heard)
+  uid_of_row uids of row (inr (inr (inr (inl p)))) = subst (Contains uids) (ap uid_of p.live.best.about) (of.all p.item p.live.best.is_heard)
+  uid_of_row uids of row (inr (inr (inr (inr p)))) = subst (Contains uids) (ap uid_of p.live.best.about) (of.all p.item p.live.best.is_heard)
 
   pub all_gathered : (uids : List (List ℕ)) (rows : List Row) → AreUidsOf uids heard → RowsOfUids heard window uids rows → AreRows heard window rows
   all_gathered uids rows of so = record {

@@ -13,3 +13,5 @@ pub mod Collecting
 pub mod OfPart
 pub mod Gathering
 pub mod Occurring
+pub mod RangeOrder
+pub mod Ranging

@@ -5,11 +5,11 @@ use Rattle.itip_moment.specs.declared.moment.Moment.{Moment}
 use Rattle.itip_message.specs.declared.item.Item.{Item}
 use Rattle.itip_state.specs.Kept.{AreKept}
 use Rattle.itip_state.proofs.Keeping.{kept_again}
-use Rattle.itip_view.specs.Rows.{IsInstanceRow, IsOccurrenceRow, IsSingleRow, IsOpaqueRow, NoneStandsAtStart, IsRow, AreRows, AreTooMany}
+use Rattle.itip_view.specs.Rows.{IsInstanceRow, IsOccurrenceRow, IsRangeRow, IsSingleRow, IsOpaqueRow, NoneStandsAtStart, IsRow, AreRows, AreTooMany}
 use Rattle.itip_view.specs.ListText.{IsListText}
 use Rattle.itip_view.specs.declared.row.Row.{Row}
 use Rattle.itip_view.specs.declared.window.Window.{Window}
-use Rattle.itip_view.proofs.Alike.{KeepAlike, alike_back, none_stands_alike, live_series_alike, live_instance_alike, instance_shown, occurrence_shown, series_shown}
+use Rattle.itip_view.proofs.Alike.{KeepAlike, alike_back, none_stands_alike, rules_alike, none_rules_alike, live_series_alike, live_instance_alike, instance_shown, occurrence_shown, range_shown, series_shown}
 
 none_at_start : (x y : List Item) → KeepAlike x y → (uid : List ℕ) (start : Option Moment) → NoneStandsAtStart x uid start → NoneStandsAtStart y uid start
 none_at_start x y same uid None none = tt
@@ -25,7 +25,8 @@ module _ (x y : List Item) (same : KeepAlike x y) (window : Window) (row : Row) 
     id = is.id;
     fields = is.fields;
     dates = is.dates;
-    attendees = instance_shown x y same is.item row.uid is.at is.item.todo.attendees row.attendees is.attendees;
+    attendees = instance_shown x y same row.uid is.item is.at is.item.todo.attendees row.attendees is.attendees;
+    progress = is.progress;
   }
 
   occurrence_alike : IsOccurrenceRow x window row → IsOccurrenceRow y window row
@@ -37,11 +38,34 @@ module _ (x y : List Item) (same : KeepAlike x y) (window : Window) (row : Row) 
     repeats = is.repeats;
     occurs = is.occurs;
     none_stands = none_stands_alike x y same row.uid is.at is.none_stands;
+    none_rules = none_rules_alike x y same row.uid is.at is.none_rules;
     id = is.id;
     fields = is.fields;
     start = is.start;
     due = is.due;
-    attendees = occurrence_shown x y same is.item row.uid is.live.best is.at is.item.todo.attendees row.attendees is.attendees;
+    attendees = occurrence_shown x y same row.uid is.item is.live.best is.at is.item.todo.attendees row.attendees is.attendees;
+    progress = is.progress;
+  }
+
+  range_alike : IsRangeRow x window row → IsRangeRow y window row
+  range_alike is = record {
+    whole = is.whole;
+    item = is.item;
+    from = is.from;
+    at = is.at;
+    series = is.series;
+    live_series = live_series_alike x y same row.uid is.whole is.live_series;
+    repeats = is.repeats;
+    occurs = is.occurs;
+    none_stands = none_stands_alike x y same row.uid is.at is.none_stands;
+    rules = rules_alike x y same row.uid is.at is.from is.item is.rules;
+    live = is.live;
+    id = is.id;
+    fields = is.fields;
+    start = is.start;
+    due = is.due;
+    attendees = range_shown x y same row.uid is.item is.whole is.live_series.best is.at is.item.todo.attendees row.attendees is.attendees;
+    progress = is.progress;
   }
 
   single_alike : IsSingleRow x window row → IsSingleRow y window row
@@ -54,7 +78,8 @@ module _ (x y : List Item) (same : KeepAlike x y) (window : Window) (row : Row) 
     id = is.id;
     fields = is.fields;
     dates = is.dates;
-    attendees = series_shown x y same is.item row.uid is.live.best is.item.todo.attendees row.attendees is.attendees;
+    attendees = series_shown x y same row.uid is.item is.live.best is.item.todo.attendees row.attendees is.attendees;
+    progress = is.progress;
   }
 
   opaque_alike : IsOpaqueRow x window row → IsOpaqueRow y window row
@@ -65,15 +90,17 @@ module _ (x y : List Item) (same : KeepAlike x y) (window : Window) (row : Row) 
     id = is.id;
     fields = is.fields;
     dates = is.dates;
-    attendees = series_shown x y same is.item row.uid is.live.best is.item.todo.attendees row.attendees is.attendees;
+    attendees = series_shown x y same row.uid is.item is.live.best is.item.todo.attendees row.attendees is.attendees;
+    progress = is.progress;
   }
 
 -- two sets that keep the same have the same rows
 pub row_of_same : (x y : List Item) → KeepAlike x y → (window : Window) (row : Row) → IsRow x window row → IsRow y window row
 row_of_same x y same window row (inl is) = inl (instance_alike x y same window row is)
 row_of_same x y same window row (inr (inl is)) = inr (inl (occurrence_alike x y same window row is))
-row_of_same x y same window row (inr (inr (inl is))) = inr (inr (inl (single_alike x y same window row is)))
-row_of_same x y same window row (inr (inr (inr is))) = inr (inr (inr (opaque_alike x y same window row is)))
+row_of_same x y same window row (inr (inr (inl is))) = inr (inr (inl (range_alike x y same window row is)))
+row_of_same x y same window row (inr (inr (inr (inl is)))) = inr (inr (inr (inl (single_alike x y same window row is))))
+row_of_same x y same window row (inr (inr (inr (inr is)))) = inr (inr (inr (inr (opaque_alike x y same window row is))))
 
 -- what is kept has the rows of all that was heard
 pub rows_of_kept : (kept heard : List Item) → AreKept kept heard → (window : Window) (rows : List Row) → AreRows kept window rows → AreRows heard window rows

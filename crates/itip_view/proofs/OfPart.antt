@@ -8,9 +8,9 @@ use Rattle.itip_message.specs.declared.item.Item.{Item}
 use Rattle.itip_message.specs.declared.key.Key.{Key}
 use Rattle.itip_message.specs.declared.key.Key.TheVariants as key
 use Rattle.itip_state.specs.Kept.{IsBest, ArePart}
-use Rattle.itip_view.specs.Answers.{Counts, NoneCounts, Decides, AreShown}
-use Rattle.itip_view.specs.Rows.{IsRow, instance_keys, occurrence_keys, series_keys, NoneStandsAtStart}
-use Rattle.itip_view.specs.Standing.{Stands, NoneStands, IsLiveSeries}
+use Rattle.itip_view.specs.Answers.{Asked, Counts, NoneCounts, Decides, AreShown}
+use Rattle.itip_view.specs.Rows.{IsRow, instance_answers, occurrence_answers, range_answers, series_answers, NoneStandsAtStart}
+use Rattle.itip_view.specs.Standing.{StandsUnder, NoneStands, Rules, NoneRules, IsLiveSeries}
 use Rattle.itip_view.specs.declared.row.Row.{Row}
 use Rattle.itip_view.specs.declared.row.ShownAttendee.{ShownAttendee}
 use Rattle.itip_view.specs.declared.window.Window.{Window}
@@ -36,50 +36,66 @@ part_same uid part whole are = λ k about i. (
   },
 )
 
+-- what is asked is about the UID
+abbrev AskOf : List ℕ → List Asked → Type 0
+AskOf uid = AllByRecursion (λ (asked : Asked). uid_of asked.key ≡ uid)
+
 module _ (uid : List ℕ) (x y : List Item) (same : HaveSameBest uid x y) where
-  stands_there : (at : Moment) (i : Item) → Stands x uid at i → Stands y uid at i
-  stands_there at i s = record { best = (same (key.Instance uid at) refl i).0 s.best; beside = λ series best. s.beside series ((same (key.Series uid) refl series).1 best) }
+  -- of an instance, or of it and all after it
+  under_there : (k : Key) → uid_of k ≡ uid → (i : Item) → StandsUnder x uid k i → StandsUnder y uid k i
+  under_there k of i s = record { best = (same k of i).0 s.best; beside = λ series best. s.beside series ((same (key.Series uid) refl series).1 best) }
 
   series_there : (i : Item) → IsLiveSeries x uid i → IsLiveSeries y uid i
   series_there i s = record { best = (same (key.Series uid) refl i).0 s.best; live = s.live }
 
-  counts_there : (governing : Item) (k : Key) → uid_of k ≡ uid → (i : Item) → Counts x governing k i → Counts y governing k i
-  counts_there governing k about i c = record { best = (same k about i).0 c.best; since = c.since }
+  counts_there : (asked : Asked) → uid_of asked.key ≡ uid → (i : Item) → Counts x asked i → Counts y asked i
+  counts_there asked about i c = record { best = (same asked.key about i).0 c.best; since = c.since }
 
 module _ (uid : List ℕ) (x y : List Item) (same : HaveSameBest uid x y) where
   none_there : (at : Moment) → NoneStands x uid at → NoneStands y uid at
-  none_there at none = λ i s. none i (stands_there uid y x (swapped uid x y same) at i s)
+  none_there at none = λ i s. none i (under_there uid y x (swapped uid x y same) (key.Instance uid at) refl i s)
 
   none_at_start : (start : Option Moment) → NoneStandsAtStart x uid start → NoneStandsAtStart y uid start
   none_at_start None none = tt
   none_at_start (Some start) none = none_there start none
 
-  none_counts_there : (governing : Item) (k : Key) → uid_of k ≡ uid → NoneCounts x governing k → NoneCounts y governing k
-  none_counts_there governing k about none = λ i c. none i (counts_there uid y x (swapped uid x y same) governing k about i c)
+  rules_there : (at id : Moment) (i : Item) → Rules x uid at id i → Rules y uid at id i
+  rules_there at id i r = record {
+    stands = under_there uid x y same (key.Range uid id) refl i r.stands;
+    reaches = r.reaches;
+    greatest = λ other earlier s. r.greatest other earlier (under_there uid y x (swapped uid x y same) (key.Range uid other) refl earlier s);
+  }
 
-  decides_there : (governing : Item) (keys : List Key) → AllByRecursion (λ k. uid_of k ≡ uid) keys → (answer : Option Item) → Decides x governing keys answer → Decides y governing keys answer
-  decides_there governing [] about None d = tt
-  decides_there governing [] about (Some answer) d = absurd d
-  decides_there governing (k ∷ keys) about None (none, rest) = (none_counts_there governing k about.0 none, decides_there governing keys about.1 None rest)
-  decides_there governing (k ∷ keys) about (Some answer) (inl counts) = inl (counts_there uid x y same governing k about.0 answer counts)
-  decides_there governing (k ∷ keys) about (Some answer) (inr (none, rest)) = inr (none_counts_there governing k about.0 none, decides_there governing keys about.1 (Some answer) rest)
+  none_rules_there : (at : Moment) → NoneRules x uid at → NoneRules y uid at
+  none_rules_there at none = λ id i s. none id i (under_there uid y x (swapped uid x y same) (key.Range uid id) refl i s)
 
-  shown_there : (governing : Item) (keys_of : Property → List Key) → ((line : Property) → AllByRecursion (λ k. uid_of k ≡ uid) (keys_of line)) → (lines : List Property) (shown : List ShownAttendee)
-      → AreShown x governing keys_of lines shown → AreShown y governing keys_of lines shown
-  shown_there governing keys_of about [] shown are = are
-  shown_there governing keys_of about (line ∷ lines) shown (answer, others, decides, rest, is) =
-      (answer, others, decides_there governing (keys_of line) (about line) answer decides, shown_there governing keys_of about lines others rest, is)
+  none_counts_there : (asked : Asked) → uid_of asked.key ≡ uid → NoneCounts x asked → NoneCounts y asked
+  none_counts_there asked about none = λ i c. none i (counts_there uid y x (swapped uid x y same) asked about i c)
+
+  decides_there : (all : List Asked) → AskOf uid all → (answer : Option Item) → Decides x all answer → Decides y all answer
+  decides_there [] about None d = tt
+  decides_there [] about (Some answer) d = absurd d
+  decides_there (asked ∷ rest) about None (none, d) = (none_counts_there asked about.0 none, decides_there rest about.1 None d)
+  decides_there (asked ∷ rest) about (Some answer) (inl counts) = inl (counts_there uid x y same asked about.0 answer counts)
+  decides_there (asked ∷ rest) about (Some answer) (inr (none, d)) = inr (none_counts_there asked about.0 none, decides_there rest about.1 (Some answer) d)
+
+  shown_there : (asked_of : Property → List Asked) → ((line : Property) → AskOf uid (asked_of line)) → (lines : List Property) (shown : List ShownAttendee)
+      → AreShown x asked_of lines shown → AreShown y asked_of lines shown
+  shown_there asked_of about [] shown are = are
+  shown_there asked_of about (line ∷ lines) shown (answer, others, decides, rest, is) =
+      (answer, others, decides_there (asked_of line) (about line) answer decides, shown_there asked_of about lines others rest, is)
 
 row_there : (x y : List Item) (window : Window) (row : Row) → HaveSameBest row.uid x y → IsRow x window row → IsRow y window row
 row_there x y window row same (inl p) = inl (record {
   item = p.item;
   at = p.at;
-  live = record { stands = stands_there row.uid x y same p.at p.item p.live.stands; live = p.live.live };
+  live = record { stands = under_there row.uid x y same (key.Instance row.uid p.at) refl p.item p.live.stands; live = p.live.live };
   in_window = p.in_window;
   id = p.id;
   fields = p.fields;
   dates = p.dates;
-  attendees = shown_there row.uid x y same p.item (instance_keys row.uid p.at) (λ line. (refl, tt)) p.item.todo.attendees row.attendees p.attendees;
+  attendees = shown_there row.uid x y same (instance_answers row.uid p.at p.item) (λ line. (refl, tt)) p.item.todo.attendees row.attendees p.attendees;
+  progress = p.progress;
 })
 row_there x y window row same (inr (inl p)) = inr (inl (record {
   item = p.item;
@@ -89,13 +105,34 @@ row_there x y window row same (inr (inl p)) = inr (inl (record {
   repeats = p.repeats;
   occurs = p.occurs;
   none_stands = none_there row.uid x y same p.at p.none_stands;
+  none_rules = none_rules_there row.uid x y same p.at p.none_rules;
   id = p.id;
   fields = p.fields;
   start = p.start;
   due = p.due;
-  attendees = shown_there row.uid x y same p.item (occurrence_keys row.uid p.at) (λ line. (refl, (refl, tt))) p.item.todo.attendees row.attendees p.attendees;
+  attendees = shown_there row.uid x y same (occurrence_answers row.uid p.at p.item) (λ line. (refl, (refl, tt))) p.item.todo.attendees row.attendees p.attendees;
+  progress = p.progress;
 }))
 row_there x y window row same (inr (inr (inl p))) = inr (inr (inl (record {
+  whole = p.whole;
+  item = p.item;
+  from = p.from;
+  at = p.at;
+  series = p.series;
+  live_series = series_there row.uid x y same p.whole p.live_series;
+  repeats = p.repeats;
+  occurs = p.occurs;
+  none_stands = none_there row.uid x y same p.at p.none_stands;
+  rules = rules_there row.uid x y same p.at p.from p.item p.rules;
+  live = p.live;
+  id = p.id;
+  fields = p.fields;
+  start = p.start;
+  due = p.due;
+  attendees = shown_there row.uid x y same (range_answers row.uid p.at p.item p.whole) (λ line. (refl, (refl, tt))) p.item.todo.attendees row.attendees p.attendees;
+  progress = p.progress;
+})))
+row_there x y window row same (inr (inr (inr (inl p)))) = inr (inr (inr (inl (record {
   item = p.item;
   live = series_there row.uid x y same p.item p.live;
   single = p.single;
@@ -104,17 +141,19 @@ row_there x y window row same (inr (inr (inl p))) = inr (inr (inl (record {
   id = p.id;
   fields = p.fields;
   dates = p.dates;
-  attendees = shown_there row.uid x y same p.item (series_keys row.uid) (λ line. (refl, tt)) p.item.todo.attendees row.attendees p.attendees;
-})))
-row_there x y window row same (inr (inr (inr p))) = inr (inr (inr (record {
+  attendees = shown_there row.uid x y same (series_answers row.uid p.item) (λ line. (refl, tt)) p.item.todo.attendees row.attendees p.attendees;
+  progress = p.progress;
+}))))
+row_there x y window row same (inr (inr (inr (inr p)))) = inr (inr (inr (inr (record {
   item = p.item;
   live = series_there row.uid x y same p.item p.live;
   opaque = p.opaque;
   id = p.id;
   fields = p.fields;
   dates = p.dates;
-  attendees = shown_there row.uid x y same p.item (series_keys row.uid) (λ line. (refl, tt)) p.item.todo.attendees row.attendees p.attendees;
-})))
+  attendees = shown_there row.uid x y same (series_answers row.uid p.item) (λ line. (refl, tt)) p.item.todo.attendees row.attendees p.attendees;
+  progress = p.progress;
+}))))
 
 module _ (uid : List ℕ) (part whole : List Item) (are : ArePart uid part whole) (window : Window) (row : Row) (here : row.uid ≡ uid) where
   pub row_of_part : IsRow part window row → IsRow whole window row

@@ -66,13 +66,13 @@ pub places_are : (items : List Item) (window : Window) (uid : List ℕ) (series 
     → AreOccurrencesOf items window uid occurrences → Places series occurrences items places → IsStrictlySortedBy moment_cmp sorted → ((at : Moment) → Contains sorted at ↔ Contains places at) → ArePlaces items window uid sorted
 places_are items window uid series occurrences places sorted ordered about of are so ascend same = record {
   ascend = ascend;
-  instances = λ at item stands. (same at).1 (so.of_items at item stands.best.is_heard (record { uid = uid; about = stands.best.about; beside = beside_from items uid at series item of stands }));
+  instances = λ at item stands. (same at).1 (so.of_items at item stands.best.is_heard (record { uid = uid; about = stands.best.about; beside = beside_from items uid (key.Instance uid at) series item of stands }));
   occurrences = λ at is. (same at).1 (so.old at ((are at).1 is));
   each = λ at h none. elim (so.each at ((same at).0 h)) [
     | inl old ↦ (are at).0 old
     | inr by ↦
         let here : by.2.uid ≡ uid = sym (ap uid_of by.2.about) ∙ about by.0 by.1 in
         let key_is : by.0.key ≡ key.Instance uid at = by.2.about ∙ ap (λ (u : List ℕ). key.Instance u at) here in
-        absurd (none by.0 (stands_from items uid at series by.0 of (best_in items ordered (key.Instance uid at) by.0 by.1 key_is) by.2.beside))
+        absurd (none by.0 (stands_from items uid (key.Instance uid at) series by.0 of (best_in items ordered (key.Instance uid at) by.0 by.1 key_is) by.2.beside))
   ];
 }

@@ -1,4 +1,4 @@
--- Only an instance item's effective sequence may differ from its own.
+-- Only the effective sequence of an instance or range item may differ from its own.
 use Rattle.std.proofs.Common.{append-nil, ◌≡◌, ◌∙◌, sym, ap, refl, ℕ, List, [], ◌∷◌, map, subst, Option, Some, None}
 use Rattle.std.specs.Prelude.{Bool, true, false}
 use Rattle.std.specs.List.{AllByRecursion}
@@ -7,26 +7,32 @@ use Rattle.itip_moment.specs.declared.moment.Moment.{Moment}
 use Rattle.itip_todo.specs.Parts.{Parts}
 use Rattle.itip_todo.specs.PartsOf.{parts_of}
 use Rattle.itip_todo.specs.declared.property.Property.{Property}
-use Rattle.itip_message.specs.Items.{Draft, drafts_of, task_draft, add_drafts, attendee_draft, draft_of, instance_sequence, kind_of, method_of}
+use Rattle.itip_message.specs.Items.{Draft, drafts_of, task_draft, add_drafts, attendee_draft, draft_of, instance_key, instance_sequence, kind_of, method_of}
 use Rattle.itip_message.specs.declared.item.Item.{Item}
 use Rattle.itip_message.specs.declared.key.Key.{Key}
-use Rattle.itip_message.specs.declared.key.Key.TheVariants.{Series, Instance, Answer, Refresh}
+use Rattle.itip_message.specs.declared.key.Key.TheVariants.{Series, Instance, Range, Answer, Refresh}
 use Rattle.itip_message.specs.declared.kind.Kind.{Kind}
 use Rattle.itip_message.specs.declared.kind.Kind.TheVariants as kind
 use Rattle.itip_message.proofs.SameItem.{Is, stable, told_numbers}
 
+-- of an instance, or of it and all after it
 abbrev is_instance : Key → Bool
 is_instance (Series uid) = false
 is_instance (Instance uid id) = true
+is_instance (Range uid id) = true
 is_instance (Answer uid id attendee) = false
 is_instance (Refresh uid id attendee) = false
 
 abbrev IsPlain : Parts → Draft → Type 0
 IsPlain parts draft = is_instance draft.key ≡ false → draft.eff ≡ parts.seq
 
+instance_key-is : (range : Bool) (uid : List ℕ) (id : Moment) → is_instance (instance_key range uid id) ≡ true
+instance_key-is true uid id = refl
+instance_key-is false uid id = refl
+
 task_plain : (k : Kind) (eff : ℕ) (rid : Option Moment) (parts : Parts) → IsPlain parts (task_draft k eff rid parts)
 task_plain k eff None parts = λ e. refl
-task_plain k eff (Some id) parts = λ e. cc
+task_plain k eff (Some id) parts = λ e. let x : true ≡ false = sym (instance_key-is parts.range parts.uid id) ∙ e in cc
 
 added_plain : (eff : ℕ) (start : Option Moment) (parts : Parts) → AllByRecursion (IsPlain parts) (add_drafts eff start parts)
 added_plain eff None parts = tt

@@ -14,20 +14,25 @@ use Rattle.itip_message.specs.declared.kind.Kind.TheVariants as kind
 use Rattle.itip_state.specs.Kept.{IsBest}
 use Rattle.itip_view.specs.declared.row.ShownAttendee.{ShownAttendee}
 
--- the answer of a key counts where its sequence is at least that of the item that governs
-pub record Counts (heard : List Item) (governing : Item) (key : Key) (answer : Item) : Type 0 where
-  pub best : IsBest heard key answer
-  pub since : governing.own ≤ answer.own
+-- the answers of a key, and the least sequence of those that count
+pub record Asked : Type 0 where
+  pub key : Key
+  pub since : ℕ
 
-abbrev pub NoneCounts : List Item → Item → Key → Type 0
-NoneCounts heard governing key = (answer : Item) → ¬ Counts heard governing key answer
+-- an answer counts: the best of its key, and not of an earlier revision
+pub record Counts (heard : List Item) (asked : Asked) (answer : Item) : Type 0 where
+  pub best : IsBest heard asked.key answer
+  pub since : asked.since ≤ answer.own
 
--- the first of these keys that has an answer that counts decides
-abbrev pub Decides : List Item → Item → List Key → Option Item → Type 0
-Decides heard governing [] None = Unit {0}
-Decides heard governing [] (Some answer) = ⊥
-Decides heard governing (key ∷ keys) None = NoneCounts heard governing key × Decides heard governing keys None
-Decides heard governing (key ∷ keys) (Some answer) = Counts heard governing key answer ⊎ (NoneCounts heard governing key × Decides heard governing keys (Some answer))
+abbrev pub NoneCounts : List Item → Asked → Type 0
+NoneCounts heard asked = (answer : Item) → ¬ Counts heard asked answer
+
+-- the first of these that has an answer that counts decides
+abbrev pub Decides : List Item → List Asked → Option Item → Type 0
+Decides heard [] None = Unit {0}
+Decides heard [] (Some answer) = ⊥
+Decides heard (asked ∷ rest) None = NoneCounts heard asked × Decides heard rest None
+Decides heard (asked ∷ rest) (Some answer) = Counts heard asked answer ⊎ (NoneCounts heard asked × Decides heard rest (Some answer))
 
 -- the key of the answers of the attendee of a line
 abbrev pub answer_key : List ℕ → Option Moment → Property → Key
@@ -56,9 +61,9 @@ abbrev pub in_front : Option ShownAttendee → List ShownAttendee → List Shown
 in_front None others = others
 in_front (Some attendee) others = attendee ∷ others
 
--- the attendees that the lines of the governing item show, in their order, where each line's answers are looked for at these keys
-abbrev pub AreShown : List Item → Item → (Property → List Key) → List Property → List ShownAttendee → Type 0
-AreShown heard governing keys_of [] shown = shown ≡ []
-AreShown heard governing keys_of (line ∷ lines) shown =
-    (answer : Option Item) × (others : List ShownAttendee) × Decides heard governing (keys_of line) answer
-    × AreShown heard governing keys_of lines others × (shown ≡ in_front (shown_line line answer) others)
+-- the attendees that the lines of an item show, in their order, where of each line these are asked
+abbrev pub AreShown : List Item → (Property → List Asked) → List Property → List ShownAttendee → Type 0
+AreShown heard asked_of [] shown = shown ≡ []
+AreShown heard asked_of (line ∷ lines) shown =
+    (answer : Option Item) × (others : List ShownAttendee) × Decides heard (asked_of line) answer
+    × AreShown heard asked_of lines others × (shown ≡ in_front (shown_line line answer) others)

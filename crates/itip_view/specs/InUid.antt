@@ -1,10 +1,11 @@
 -- The rows of one UID, by what is known of it (our own form).
-use Rattle.std.specs.Prelude.{List, Option}
+use Rattle.std.specs.Prelude.{◌≡◌, List, Option}
 use Rattle.itip_moment.specs.declared.moment.Moment.{Moment}
 use Rattle.itip_message.specs.declared.item.Item.{Item}
 use Rattle.itip_view.specs.OfUid.{IsWhole, IsAnswerAt, IsOccurrence, IsRowOf, ArePlaces, AreRowsOf}
 use Rattle.itip_view.specs.Rows.{NoneStandsAtStart}
-use Rattle.itip_view.specs.Standing.{Stands, NoneStands, IsLiveSeries}
+use Rattle.itip_view.specs.Standing.{Stands, NoneStands, Rules, NoneRules, IsLiveSeries}
+use Rattle.itip_view.specs.declared.answers.Question.{Question}
 use Rattle.itip_view.specs.declared.of_uid.UidView.{UidView}
 use Rattle.itip_view.specs.declared.row.Row.{Row}
 use Rattle.itip_view.specs.declared.row.RowId.{RowId}
@@ -13,6 +14,10 @@ module _ (view : UidView) where
   -- its to-do as a whole is the live series item, or none is live
   abbrev pub HasWhole : Type 0
   HasWhole = IsWhole view.items.now.items view.items.now.uid view.whole
+
+  -- its range items that stand are those of its kept items
+  abbrev pub HasRanges : Type 0
+  HasRanges = view.ranges ≡ view.items.now
 
   abbrev pub HasRows : List Row → Type 0
   HasRows rows = AreRowsOf view.items.now.items view.window view.items.now.uid rows
@@ -33,6 +38,13 @@ module _ (view : UidView) where
   abbrev pub HasNoStanding : Moment → Type 0
   HasNoStanding at = NoneStands view.items.now.items view.items.now.uid at
 
+  -- a range item rules the moment, or none does
+  abbrev pub HasRuling : Moment → Item → Type 0
+  HasRuling at item = (id : Moment) × Rules view.items.now.items view.items.now.uid at id item
+
+  abbrev pub HasNoRuling : Moment → Type 0
+  HasNoRuling at = NoneRules view.items.now.items view.items.now.uid at
+
   abbrev pub HasLiveSeries : Item → Type 0
   HasLiveSeries item = IsLiveSeries view.items.now.items view.items.now.uid item
 
@@ -41,5 +53,5 @@ module _ (view : UidView) where
   HasNoneAtStart series = NoneStandsAtStart view.items.now.items view.items.now.uid series.todo.start
 
   -- a row with this name and these dates, and what else it shows of the item that governs it
-  abbrev pub IsRowWith : Item → RowId → Option Moment → Option Moment → List (Option Moment) → Row → Type 0
-  IsRowWith item id start due ids row = IsRowOf view.items.now.items item view.items.now.uid id start due ids row
+  abbrev pub IsRowWith : Item → RowId → Option Moment → Option Moment → List Question → Row → Type 0
+  IsRowWith item id start due questions row = IsRowOf view.items.now.items item view.items.now.uid id start due questions row

@@ -2,8 +2,10 @@ pub use Rattle.itip_state.specs.Kept
 pub mod Window
 pub mod Standing
 pub mod Answers
+pub mod Progress
 pub mod Rows
 pub mod InWindow
 pub mod OfUid
+pub mod Ruling
 pub mod InUid
 pub mod ListText

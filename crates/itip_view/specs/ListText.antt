@@ -54,8 +54,11 @@ dates_text row = codes "\n  START " ++ (shown shown_moment row.start ++ (codes "
 abbrev pub summary_text : Row → List ℕ
 summary_text row = codes "\n  SUMMARY " ++ (shown (λ text. text) row.summary ++ codes "\n")
 
+abbrev pub progress_text : Row → List ℕ
+progress_text row = codes "  PROGRESS " ++ (shown decimal row.progress ++ codes "\n")
+
 abbrev pub row_text : Row → List ℕ
-row_text row = names_text row ++ (numbers_text row ++ (dates_text row ++ (summary_text row ++ flat_map attendee_text row.attendees)))
+row_text row = names_text row ++ (numbers_text row ++ (dates_text row ++ (summary_text row ++ (flat_map attendee_text row.attendees ++ progress_text row))))
 
 abbrev pub list_text : List Row → List ℕ
 list_text rows = flat_map row_text rows

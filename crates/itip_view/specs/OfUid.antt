@@ -9,12 +9,12 @@ use Rattle.itip_recur.specs.Occurrences.{OccursIn}
 use Rattle.itip_recur.specs.ToDoShape.{IsShape, IsSeriesOf}
 use Rattle.itip_recur.specs.declared.series.Series.{Series}
 use Rattle.itip_message.specs.declared.item.Item.{Item}
-use Rattle.itip_message.specs.declared.key.Key.{Key}
 use Rattle.itip_message.specs.declared.key.Key.TheVariants as key
 use Rattle.itip_state.specs.Kept.{IsBestOf}
-use Rattle.itip_view.specs.Answers.{AreShown, answer_key}
-use Rattle.itip_view.specs.Rows.{HasFields, IsRow, AscendRows, moment_of}
+use Rattle.itip_view.specs.Answers.{Asked, AreShown}
+use Rattle.itip_view.specs.Rows.{HasFields, HasProgress, IsRow, AscendRows, moment_of, answers_since}
 use Rattle.itip_view.specs.Standing.{Stands, StandsBeside, NoneStands, IsLiveSeries}
+use Rattle.itip_view.specs.declared.answers.Question.{Question}
 use Rattle.itip_view.specs.declared.row.Row.{Row}
 use Rattle.itip_view.specs.declared.row.RowId.{RowId}
 use Rattle.itip_view.specs.declared.whole.Whole.{Whole}
@@ -24,23 +24,24 @@ use Rattle.itip_view.specs.declared.window.Window.{Window}
 abbrev pub IsSeriesItem : List Item → List ℕ → Option Item → Type 0
 IsSeriesItem heard uid = IsBestOf heard (key.Series uid)
 
--- an instance item stands beside the series item, or there is none
+-- an instance or range item stands beside the series item, or there is none
 abbrev pub StandsBesideOf : Option Item → Item → Type 0
 StandsBesideOf None item = Unit {0}
 StandsBesideOf (Some series) item = StandsBeside series item
 
--- where the answers of an attendee are looked for: those to each of these, an instance or the to-do as a whole
-abbrev pub keys_to : List ℕ → List (Option Moment) → Property → List Key
-keys_to uid ids line = map (λ id. answer_key uid id line) ids
+-- where the answers of an attendee are looked for: those to each of these, an instance or the to-do as a whole, from a sequence on
+abbrev pub asked_by : List ℕ → List Question → Property → List Asked
+asked_by uid questions line = map (λ (q : Question). answers_since q.since uid q.id line) questions
 
 -- a row with this name and these dates, and what else it shows of the item that governs it
-pub record IsRowOf (heard : List Item) (item : Item) (uid : List ℕ) (id : RowId) (start due : Option Moment) (ids : List (Option Moment)) (row : Row) : Type 0 where
+pub record IsRowOf (heard : List Item) (item : Item) (uid : List ℕ) (id : RowId) (start due : Option Moment) (questions : List Question) (row : Row) : Type 0 where
   pub uid_is : row.uid ≡ uid
   pub id_is : row.id ≡ id
   pub fields : HasFields item row
   pub start_is : row.start ≡ start
   pub due_is : row.due ≡ due
-  pub attendees : AreShown heard item (keys_to uid ids) item.todo.attendees row.attendees
+  pub attendees : AreShown heard (asked_by uid questions) item.todo.attendees row.attendees
+  pub progress : HasProgress row
 
 -- a row of the UID at this moment, or without one
 pub record IsRowAt (heard : List Item) (window : Window) (uid : List ℕ) (at : Option Moment) (row : Row) : Type 0 where

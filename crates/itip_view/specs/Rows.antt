@@ -1,13 +1,13 @@
--- The rows of a task list (our own rules): one for each standing live instance, one for each occurrence of a live series at which nothing stands, and one for each live to-do that
--- doesn't recur or whose recurrence isn't expanded.
-use Rattle.std.specs.Prelude.{◌≡◌, ◌⊎◌, ℕ, ◌<◌, ℤ, pos, ◌-ℤ◌, List, [], ◌∷◌, Option, Some, None, unwrap_or, length}
+-- The rows of a task list (our own rules): one for each standing live instance, one for each occurrence of a live series at which no instance stands and which an item governs, and one
+-- for each live to-do that doesn't recur or whose recurrence isn't expanded.
+use Rattle.std.specs.Prelude.{◌≡◌, ◌⊎◌, ℕ, ◌<◌, ℤ, pos, ◌-ℤ◌, List, [], ◌∷◌, Option, Some, None, unwrap_or, length, max}
 use Rattle.std.specs.Option.{option_map, option_cmp}
 use Rattle.std.specs.List.{Contains, AllPairs}
 use Rattle.std.specs.Ordering.{nat_cmp, ordering_then}
 use Rattle.std.specs.Cmp.Lexicographic.{slice_cmp}
 use Rattle.std.specs.declared.cmp.Ordering.{Ordering}
 use Rattle.std.specs.declared.cmp.Ordering.TheVariants.{Less}
-use Rattle.itip_moment.specs.Moment.{moment_day, moment_form, moment_second, moment_zone}
+use Rattle.itip_moment.specs.Moment.{moment_day, moment_second}
 use Rattle.itip_moment.specs.Order.{moment_cmp}
 use Rattle.itip_moment.specs.Shift.{CanShift, IsShifted}
 use Rattle.itip_moment.specs.declared.moment.Moment.{Moment}
@@ -17,9 +17,9 @@ use Rattle.itip_recur.specs.ToDoShape.{IsShape, IsSeriesOf}
 use Rattle.itip_recur.specs.declared.series.Series.{Series}
 use Rattle.itip_recur.specs.declared.series.Shape.TheVariants as shape
 use Rattle.itip_message.specs.declared.item.Item.{Item}
-use Rattle.itip_message.specs.declared.key.Key.{Key}
-use Rattle.itip_view.specs.Answers.{AreShown, answer_key}
-use Rattle.itip_view.specs.Standing.{NoneStands, IsLiveSeries, IsLiveInstance}
+use Rattle.itip_view.specs.Answers.{Asked, AreShown, answer_key}
+use Rattle.itip_view.specs.Progress.{progress_of}
+use Rattle.itip_view.specs.Standing.{IsLive, HaveOneForm, NoneStands, Rules, NoneRules, IsLiveSeries, IsLiveInstance}
 use Rattle.itip_view.specs.Window.{IsInWindow}
 use Rattle.itip_view.specs.declared.row.Row.{Row}
 use Rattle.itip_view.specs.declared.row.RowId.{RowId}
@@ -38,22 +38,34 @@ pub record HasFields (item : Item) (row : Row) : Type 0 where
   pub priority : row.priority ≡ item.todo.priority
   pub summary : row.summary ≡ option_map (λ (p : Property). p.value) item.todo.summary
 
+-- how far those are that the row shows
+abbrev pub HasProgress : Row → Type 0
+HasProgress row = row.progress ≡ progress_of row.attendees
+
 -- DTSTART and DUE as the item has them
 pub record HasOwnDates (item : Item) (row : Row) : Type 0 where
   pub start : row.start ≡ item.todo.start
   pub due : row.due ≡ item.todo.due
 
+-- the answers to an instance, or to the to-do as a whole, from a sequence on
+abbrev pub answers_since : ℕ → List ℕ → Option Moment → Property → Asked
+answers_since since uid id line = record { key = answer_key uid id line; since = since }
+
 -- where the answers of an attendee are looked for: on the row of an instance those to the instance
-abbrev pub instance_keys : List ℕ → Moment → Property → List Key
-instance_keys uid at line = answer_key uid (Some at) line ∷ []
+abbrev pub instance_answers : List ℕ → Moment → Item → Property → List Asked
+instance_answers uid at item line = answers_since item.own uid (Some at) line ∷ []
 
 -- on the row of an occurrence those to the occurrence, then those to the to-do as a whole
-abbrev pub occurrence_keys : List ℕ → Moment → Property → List Key
-occurrence_keys uid at line = answer_key uid (Some at) line ∷ answer_key uid None line ∷ []
+abbrev pub occurrence_answers : List ℕ → Moment → Item → Property → List Asked
+occurrence_answers uid at item line = answers_since item.own uid (Some at) line ∷ answers_since item.own uid None line ∷ []
+
+-- on the row of an occurrence that a range item rules the same, where those to the to-do as a whole are no earlier than the series item either
+abbrev pub range_answers : List ℕ → Moment → Item → Item → Property → List Asked
+range_answers uid at item series line = answers_since item.own uid (Some at) line ∷ answers_since (max item.own series.own) uid None line ∷ []
 
 -- on any other row those to the to-do as a whole
-abbrev pub series_keys : List ℕ → Property → List Key
-series_keys uid line = answer_key uid None line ∷ []
+abbrev pub series_answers : List ℕ → Item → Property → List Asked
+series_answers uid item line = answers_since item.own uid None line ∷ []
 
 -- the day of an instance: that of DTSTART, else of the recurrence id
 abbrev pub instance_day : Moment → Option Moment → Option ℤ
@@ -69,14 +81,10 @@ pub record IsInstanceRow (heard : List Item) (window : Window) (row : Row) : Typ
   pub id : row.id ≡ id.At at
   pub fields : HasFields item row
   pub dates : HasOwnDates item row
-  pub attendees : AreShown heard item (instance_keys row.uid at) item.todo.attendees row.attendees
+  pub attendees : AreShown heard (instance_answers row.uid at item) item.todo.attendees row.attendees
+  pub progress : HasProgress row
 
--- two moments of one form and one zone
-pub record HaveOneForm (start m : Moment) : Type 0 where
-  pub form : moment_form m ≡ moment_form start
-  pub zone : moment_zone m ≡ moment_zone start
-
--- the days from DTSTART to an occurrence
+-- the days from one moment to another
 abbrev pub days_to : Moment → Moment → ℤ
 days_to start m = moment_day m -ℤ moment_day start
 
@@ -84,19 +92,18 @@ days_to start m = moment_day m -ℤ moment_day start
 abbrev pub seconds_to : Moment → Moment → ℤ
 seconds_to start m = pos (unwrap_or (moment_second m) 0) -ℤ pos (unwrap_or (moment_second start) 0)
 
--- the moment is DUE, moved as far as the occurrence lies from DTSTART
-pub record IsMovedDue (due start m shown : Moment) : Type 0 where
-  pub one_form : HaveOneForm start m
-  pub can : CanShift due (days_to start m) (seconds_to start m)
-  pub shifted : IsShifted due (days_to start m) (seconds_to start m) shown
+-- the moment shown is a date, moved as far as one moment lies from another
+pub record IsMoved (date start m shown : Moment) : Type 0 where
+  pub can : CanShift date (days_to start m) (seconds_to start m)
+  pub shifted : IsShifted date (days_to start m) (seconds_to start m) shown
 
 -- DUE of an occurrence: absent where the to-do has none, where occurrence and DTSTART differ in form or zone, and where it can't be moved
 abbrev pub IsDueOf : Option Moment → Moment → Moment → Option Moment → Type 0
 IsDueOf None start m shown = shown ≡ None
 IsDueOf (Some due) start m None = HaveOneForm start m → CanShift due (days_to start m) (seconds_to start m) → ⊥
-IsDueOf (Some due) start m (Some shown) = IsMovedDue due start m shown
+IsDueOf (Some due) start m (Some shown) = HaveOneForm start m × IsMoved due start m shown
 
--- the row of an occurrence of a live series, where no instance stands there
+-- the row of an occurrence of a live series, where no instance stands and no range item rules
 pub record IsOccurrenceRow (heard : List Item) (window : Window) (row : Row) : Type 0 where
   pub item : Item
   pub at : Moment
@@ -105,11 +112,49 @@ pub record IsOccurrenceRow (heard : List Item) (window : Window) (row : Row) : T
   pub repeats : IsSeriesOf item.todo series
   pub occurs : OccursIn series window.from window.to at
   pub none_stands : NoneStands heard row.uid at
+  pub none_rules : NoneRules heard row.uid at
   pub id : row.id ≡ id.At at
   pub fields : HasFields item row
   pub start : row.start ≡ Some at
   pub due : IsDueOf item.todo.due series.start at row.due
-  pub attendees : AreShown heard item (occurrence_keys row.uid at) item.todo.attendees row.attendees
+  pub attendees : AreShown heard (occurrence_answers row.uid at item) item.todo.attendees row.attendees
+  pub progress : HasProgress row
+
+-- A date of a range item as an occurrence shows it: moved as far as the occurrence lies from the id; absent where its form or zone isn't that of the id, and
+-- where it can't be moved.
+abbrev pub IsDateFrom : Moment → Moment → Moment → Option Moment → Type 0
+IsDateFrom date from at None = HaveOneForm from date → CanShift date (days_to from at) (seconds_to from at) → ⊥
+IsDateFrom date from at (Some shown) = HaveOneForm from date × IsMoved date from at shown
+
+-- START: of DTSTART; the occurrence itself where the item has none
+abbrev pub IsStartFrom : Option Moment → Moment → Moment → Option Moment → Type 0
+IsStartFrom None from at shown = shown ≡ Some at
+IsStartFrom (Some start) from at shown = IsDateFrom start from at shown
+
+-- DUE: absent where the item has none
+abbrev pub IsDueFrom : Option Moment → Moment → Moment → Option Moment → Type 0
+IsDueFrom None from at shown = shown ≡ None
+IsDueFrom (Some due) from at shown = IsDateFrom due from at shown
+
+-- the row of an occurrence of a live series, where no instance stands and a live range item rules
+pub record IsRangeRow (heard : List Item) (window : Window) (row : Row) : Type 0 where
+  pub whole : Item
+  pub item : Item
+  pub from : Moment
+  pub at : Moment
+  pub series : Series
+  pub live_series : IsLiveSeries heard row.uid whole
+  pub repeats : IsSeriesOf whole.todo series
+  pub occurs : OccursIn series window.from window.to at
+  pub none_stands : NoneStands heard row.uid at
+  pub rules : Rules heard row.uid at from item
+  pub live : IsLive item
+  pub id : row.id ≡ id.At at
+  pub fields : HasFields item row
+  pub start : IsStartFrom item.todo.start from at row.start
+  pub due : IsDueFrom item.todo.due from at row.due
+  pub attendees : AreShown heard (range_answers row.uid at item whole) item.todo.attendees row.attendees
+  pub progress : HasProgress row
 
 -- the day of DTSTART, else of DUE, else none
 abbrev pub day_of : Option Moment → Option Moment → Option ℤ
@@ -132,7 +177,8 @@ pub record IsSingleRow (heard : List Item) (window : Window) (row : Row) : Type 
   pub id : row.id ≡ id.Single
   pub fields : HasFields item row
   pub dates : HasOwnDates item row
-  pub attendees : AreShown heard item (series_keys row.uid) item.todo.attendees row.attendees
+  pub attendees : AreShown heard (series_answers row.uid item) item.todo.attendees row.attendees
+  pub progress : HasProgress row
 
 -- the row of a live to-do whose recurrence isn't expanded; it stands in each window
 pub record IsOpaqueRow (heard : List Item) (window : Window) (row : Row) : Type 0 where
@@ -142,11 +188,13 @@ pub record IsOpaqueRow (heard : List Item) (window : Window) (row : Row) : Type 
   pub id : row.id ≡ id.Opaque
   pub fields : HasFields item row
   pub dates : HasOwnDates item row
-  pub attendees : AreShown heard item (series_keys row.uid) item.todo.attendees row.attendees
+  pub attendees : AreShown heard (series_answers row.uid item) item.todo.attendees row.attendees
+  pub progress : HasProgress row
 
 -- the row is one of the view of a set in a window
 abbrev pub IsRow : List Item → Window → Row → Type 0
-IsRow heard window row = IsInstanceRow heard window row ⊎ (IsOccurrenceRow heard window row ⊎ (IsSingleRow heard window row ⊎ IsOpaqueRow heard window row))
+IsRow heard window row =
+    IsInstanceRow heard window row ⊎ (IsOccurrenceRow heard window row ⊎ (IsRangeRow heard window row ⊎ (IsSingleRow heard window row ⊎ IsOpaqueRow heard window row)))
 
 -- the moment that names a row
 abbrev pub moment_of : RowId → Option Moment

@@ -1,8 +1,12 @@
 -- Which item stands at an instance, and which one governs a place of the list (our own rules).
-use Rattle.std.specs.Prelude.{◌≡◌, ◌⊎◌, ◌≤◌, ◌<◌, ℕ, Bool, true, false, List, Option, Some, None}
+use Rattle.std.specs.Prelude.{◌≡◌, ◌≢◌, ◌⊎◌, ◌≤◌, ◌<◌, ℕ, Bool, true, false, List, Option, Some, None}
+use Rattle.std.specs.declared.cmp.Ordering.TheVariants.{Less}
+use Rattle.itip_moment.specs.Moment.{moment_form, moment_zone}
+use Rattle.itip_moment.specs.Order.{moment_cmp}
 use Rattle.itip_moment.specs.declared.moment.Moment.{Moment}
 use Rattle.itip_message.specs.declared.item.Item.{Item}
-use Rattle.itip_message.specs.declared.key.Key.TheVariants.{Series, Instance}
+use Rattle.itip_message.specs.declared.key.Key.{Key}
+use Rattle.itip_message.specs.declared.key.Key.TheVariants.{Series, Instance, Range}
 use Rattle.itip_message.specs.declared.kind.Kind.{Kind}
 use Rattle.itip_message.specs.declared.kind.Kind.TheVariants as kind
 use Rattle.itip_state.specs.Kept.{IsBest}
@@ -19,22 +23,49 @@ is_live kind.Refresh = false
 abbrev pub IsLive : Item → Type 0
 IsLive item = is_live item.kind ≡ true
 
--- said of series and instance items alone
+-- said of series, instance and range items alone
 abbrev pub IsCancelled : Item → Type 0
 IsCancelled item = is_live item.kind ≡ false
 
--- an instance item stands beside a live series item that it is not below, and beside a cancelled one that it is above
+-- an instance or range item stands beside a live series item that it is not below, and beside a cancelled one that it is above
 pub record StandsBeside (series item : Item) : Type 0 where
   pub live : IsLive series → series.eff ≤ item.eff
   pub cancelled : IsCancelled series → series.eff < item.eff
 
--- the item stands at an instance: it is the best one there, and stands beside the best series item where there is one
-pub record Stands (heard : List Item) (uid : List ℕ) (id : Moment) (item : Item) : Type 0 where
-  pub best : IsBest heard (Instance uid id) item
+-- the item stands: it is the best one of its key, and stands beside the best series item where there is one
+pub record StandsUnder (heard : List Item) (uid : List ℕ) (key : Key) (item : Item) : Type 0 where
+  pub best : IsBest heard key item
   pub beside : (series : Item) → IsBest heard (Series uid) series → StandsBeside series item
+
+-- at an instance
+abbrev pub Stands : List Item → List ℕ → Moment → Item → Type 0
+Stands heard uid id item = StandsUnder heard uid (Instance uid id) item
 
 abbrev pub NoneStands : List Item → List ℕ → Moment → Type 0
 NoneStands heard uid id = (item : Item) → ¬ Stands heard uid id item
+
+-- from an instance on: a range item
+abbrev pub StandsFrom : List Item → List ℕ → Moment → Item → Type 0
+StandsFrom heard uid id item = StandsUnder heard uid (Range uid id) item
+
+-- two moments of one form and one zone
+pub record HaveOneForm (start m : Moment) : Type 0 where
+  pub form : moment_form m ≡ moment_form start
+  pub zone : moment_zone m ≡ moment_zone start
+
+-- a range from an instance on reaches the moments of its form and zone that are not before it
+pub record Reaches (id at : Moment) : Type 0 where
+  pub one_form : HaveOneForm id at
+  pub not_before : moment_cmp at id ≢ Less
+
+-- the range item that rules a moment: of those that stand and reach it the one with the greatest id
+pub record Rules (heard : List Item) (uid : List ℕ) (at id : Moment) (item : Item) : Type 0 where
+  pub stands : StandsFrom heard uid id item
+  pub reaches : Reaches id at
+  pub greatest : (other : Moment) (earlier : Item) → StandsFrom heard uid other earlier → Reaches other at → moment_cmp id other ≢ Less
+
+abbrev pub NoneRules : List Item → List ℕ → Moment → Type 0
+NoneRules heard uid at = (id : Moment) (item : Item) → StandsFrom heard uid id item → Reaches id at → ⊥
 
 -- the best series item of a UID, and it is live
 pub record IsLiveSeries (heard : List Item) (uid : List ℕ) (item : Item) : Type 0 where
@@ -46,8 +77,18 @@ pub record IsLiveInstance (heard : List Item) (uid : List ℕ) (id : Moment) (it
   pub stands : Stands heard uid id item
   pub live : IsLive item
 
--- The item that governs a to-do as a whole is its live series item. At an instance it is the one that stands there and is live, or, where none stands there, the live
--- series item.
+-- the range item that rules a moment, and it is live
+pub record IsLiveRange (heard : List Item) (uid : List ℕ) (at : Moment) (item : Item) : Type 0 where
+  pub id : Moment
+  pub rules : Rules heard uid at id item
+  pub live : IsLive item
+
+-- what governs a moment at which no instance item stands: the range item that rules it, where that is live, or, where none rules it, the live series item
+abbrev pub GovernsBetween : List Item → List ℕ → Moment → Item → Type 0
+GovernsBetween heard uid at item = IsLiveRange heard uid at item ⊎ (NoneRules heard uid at × IsLiveSeries heard uid item)
+
+-- The item that governs a to-do as a whole is its live series item. At an instance it is the one that stands there and is live, or, where none stands there, what
+-- governs the moment.
 abbrev pub Governs : List Item → List ℕ → Option Moment → Item → Type 0
 Governs heard uid None item = IsLiveSeries heard uid item
-Governs heard uid (Some id) item = IsLiveInstance heard uid id item ⊎ (NoneStands heard uid id × IsLiveSeries heard uid item)
+Governs heard uid (Some at) item = IsLiveInstance heard uid at item ⊎ (NoneStands heard uid at × GovernsBetween heard uid at item)

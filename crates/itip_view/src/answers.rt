@@ -1,34 +1,43 @@
 //! Which answers count, and what a row shows of the attendees.
 ghost use Rattle.std.specs.Prelude.{◌≡◌, IfOk, MatchOption};
 ghost use Rattle.std.specs.Option.{option_copied};
-ghost use Rattle.itip_todo.specs.Table.{attendee_key};
 ghost use Rattle.itip_view.specs.Answers.{Counts, NoneCounts, Decides, AreShown, answer_key, partstat_in, shown_line};
-ghost use Rattle.itip_view.specs.OfUid.{keys_to};
+ghost use Rattle.itip_view.specs.OfUid.{asked_by};
 
 use crate::NoMemory;
 use crate::row::ShownAttendee;
-use itip_lines::{ListOf, Text};
+use itip_lines::ListOf;
 use itip_message::{Item, Key, Kind};
 use itip_moment::Moment;
 use itip_state::ItemsOfUid;
-use itip_todo::{PartStat, Property, Uid, participation};
+use itip_todo::{PartStat, Property, Uid, attendee_key, participation};
 use std::alloc::Global;
 
-/// Which answers a row asks: those beside the item that governs it, to each of these in turn, an instance or the to-do as a whole.
+/// The answers to an instance, or to the to-do as a whole, from a sequence on.
+#[derive(Drop)]
+pub(crate) struct Question {
+    pub(crate) id: Option<Moment>,
+    pub(crate) since: u32,
+}
+
+/// Which answers a row asks: those of the UID to each of these in turn.
 #[derive(Drop)]
 pub(crate) struct Asked<'v, 'a> {
     pub(crate) items: &'v ItemsOfUid<'a>,
-    pub(crate) governing: &'v Item,
-    pub(crate) ids: &'v [Option<Moment>],
+    pub(crate) questions: &'v [Question],
 }
 
 impl<'v, 'a> Asked<'v, 'a> {
-    /// The attendees that the row shows, in the order of the item that governs it.
-    pub(crate) fn shown_attendees(&self, alloc: Global) -> Result<ListOf<ShownAttendee>, NoMemory>
-        ensures { IfOk result (AreShown self.now.items.now.items self.now.governing.now (keys_to self.now.items.now.uid self.now.ids.now) self.now.governing.now.todo.attendees) }
+    /// The attendees that these lines show, in their order.
+    pub(crate) fn shown_attendees(
+        &self,
+        alloc: Global,
+        lines: &[Property],
+    ) -> Result<ListOf<ShownAttendee>, NoMemory>
+        ensures { IfOk result (AreShown self.now.items.now.items (asked_by self.now.items.now.uid self.now.questions.now) lines.now) }
     {
         let mut attendees = Vec::new(alloc);
-        for line in self.governing.todo.attendees.as_slice() {
+        for line in lines {
             let answer = self.deciding(alloc, line)?;
             if let Some(attendee) = shown_line(line, answer)? {
                 attendees.push(attendee)?;
@@ -39,25 +48,25 @@ impl<'v, 'a> Asked<'v, 'a> {
 
     /// The first answer of the attendee of a line that counts.
     fn deciding(&self, alloc: Global, line: &Property) -> Result<Option<&'a Item>, NoMemory>
-        ensures { IfOk result (λ answer. Decides self.now.items.now.items self.now.governing.now (keys_to self.now.items.now.uid self.now.ids.now line.now) (option_copied answer)) }
+        ensures { IfOk result (λ answer. Decides self.now.items.now.items (asked_by self.now.items.now.uid self.now.questions.now line.now) (option_copied answer)) }
     {
-        for id in self.ids {
-            let key = answer_key(alloc, self.items.uid(), id, line)?;
-            if let Some(answer) = self.counting(&key) {
+        for question in self.questions {
+            let key = answer_key(alloc, self.items.uid(), &question.id, line)?;
+            if let Some(answer) = self.counting(&key, question.since) {
                 return Ok(Some(answer));
             }
         }
         Ok(None)
     }
 
-    /// The answer of a key, where it counts beside the item that governs.
-    fn counting(&self, key: &Key) -> Option<&'a Item>
+    /// The answer of a key, where it is no earlier than a sequence.
+    fn counting(&self, key: &Key, since: u32) -> Option<&'a Item>
         ensures { MatchOption (option_copied result)
-            (NoneCounts self.now.items.now.items self.now.governing.now key.now)
-            (Counts self.now.items.now.items self.now.governing.now key.now) }
+            (NoneCounts self.now.items.now.items (record { key = key.now; since = since }))
+            (Counts self.now.items.now.items (record { key = key.now; since = since })) }
     {
         match self.items.best(key) {
-            Some(answer) if self.governing.own <= answer.own => Some(answer),
+            Some(answer) if since <= answer.own => Some(answer),
             _ => None,
         }
     }
@@ -71,7 +80,7 @@ fn answer_key(
 ) -> Result<Key, NoMemory>
     ensures { IfOk result (λ key. key ≡ answer_key uid.now id.now line.now) }
 {
-    let attendee = Text::new(line.value.as_str().to_ascii_lowercase(alloc)?);
+    let attendee = attendee_key(alloc, line.value.as_str())?;
     Ok(Key::Answer(uid.clone()?, id.clone()?, attendee))
 }
 

@@ -1,6 +1,8 @@
 //! The days and dates of rows.
-ghost use Rattle.std.specs.Prelude.{◌≡◌, ◌↔◌, IsTrue, IfOk};
-ghost use Rattle.itip_view.specs.Rows.{day_of, instance_day, days_to, seconds_to, HaveOneForm, IsDueOf};
+ghost use Rattle.std.specs.Prelude.{◌≡◌, ◌↔◌, IsTrue, IfOk, MatchOption};
+ghost use Rattle.itip_moment.specs.Shift.{CanShift};
+ghost use Rattle.itip_view.specs.Rows.{day_of, instance_day, days_to, seconds_to, IsMoved, IsDueOf, IsDateFrom, IsStartFrom, IsDueFrom};
+ghost use Rattle.itip_view.specs.Standing.{HaveOneForm};
 
 use crate::NoMemory;
 use itip_moment::Moment;
@@ -43,15 +45,61 @@ pub(crate) fn due_of(
     if !have_one_form(start, at) {
         return Ok(None);
     }
-    let mut moved = due.clone()?;
-    if moved.shift(days_to(start, at), seconds_to(start, at)) {
+    moved(due, start, at)
+}
+
+/// START of an occurrence that a range item rules: its DTSTART, moved as far as the occurrence lies from the id; without one the occurrence itself.
+pub(crate) fn start_from(
+    start: &Option<Moment>,
+    id: &Moment,
+    at: &Moment,
+) -> Result<Option<Moment>, NoMemory>
+    ensures { IfOk result (IsStartFrom start.now id.now at.now) }
+{
+    match start {
+        Some(start) => date_from(start, id, at),
+        None => Ok(Some(at.clone()?)),
+    }
+}
+
+/// DUE of an occurrence that a range item rules: that of the item, moved as far as the occurrence lies from the id.
+pub(crate) fn due_from(
+    due: &Option<Moment>,
+    id: &Moment,
+    at: &Moment,
+) -> Result<Option<Moment>, NoMemory>
+    ensures { IfOk result (IsDueFrom due.now id.now at.now) }
+{
+    match due {
+        Some(due) => date_from(due, id, at),
+        None => Ok(None),
+    }
+}
+
+/// A date of a range item as an occurrence shows it; there is none where its form or zone isn't that of the id, nor where it can't be moved so far.
+fn date_from(date: &Moment, id: &Moment, at: &Moment) -> Result<Option<Moment>, NoMemory>
+    ensures { IfOk result (IsDateFrom date.now id.now at.now) }
+{
+    if !have_one_form(id, date) {
+        return Ok(None);
+    }
+    moved(date, id, at)
+}
+
+/// A date, moved as far as one moment lies from another, where it can be.
+fn moved(date: &Moment, from: &Moment, at: &Moment) -> Result<Option<Moment>, NoMemory>
+    ensures { IfOk result (λ moved. MatchOption moved (CanShift date.now (days_to from.now at.now) (seconds_to from.now at.now) → ⊥) (IsMoved date.now from.now at.now)) }
+{
+    let mut moved = date.clone()?;
+    if moved.shift(days_to(from, at), seconds_to(from, at)) {
         Ok(Some(moved))
     } else {
         Ok(None)
     }
 }
 
-fn have_one_form(start: &Moment, at: &Moment) -> bool
+/// Whether two moments have one form and one zone.
+pub(crate) fn have_one_form(start: &Moment, at: &Moment) -> bool
     ensures { IsTrue result ↔ HaveOneForm start.now at.now }
 {
     match (start, at) {

@@ -1,11 +1,11 @@
 //! The laws of views, of every finite set of items. They hold with no code: each function is empty.
-ghost use Rattle.std.specs.Prelude.{List, ℕ, Option, Some, None, ◌↔◌, ◌≡◌};
+ghost use Rattle.std.specs.Prelude.{List, ℕ, Option, Some, None, ◌↔◌, ◌≡◌, ◌≤◌};
 ghost use Rattle.itip_message.specs.declared.item.Item.{Item};
 ghost use Rattle.itip_state.specs.Kept.{AreKept};
 ghost use Rattle.std.specs.declared.cmp.Ordering.TheVariants.{Equal};
 ghost use Rattle.itip_moment.specs.declared.moment.Moment.{Moment};
 ghost use Rattle.itip_message.specs.declared.key.Key.TheVariants.{Answer};
-ghost use Rattle.itip_view.specs.Standing.{Stands, Governs, IsLiveSeries};
+ghost use Rattle.itip_view.specs.Standing.{Stands, StandsFrom, Rules, NoneRules, Governs, IsLiveSeries};
 ghost use Rattle.itip_view.specs.Answers.{Counts};
 ghost use Rattle.itip_view.specs.Rows.{IsRow, AreRows, AreTooMany, row_cmp};
 ghost use Rattle.itip_view.specs.ListText.{IsListText};
@@ -15,16 +15,19 @@ ghost use Rattle.itip_view.specs.declared.window.Window.{Window};
 /// What stands and what governs needs only what is kept (our own rules).
 pub fn standing_of_kept()
     ensures stands { (kept heard : List Item) → AreKept kept heard → (uid : List ℕ) (id : Moment) (item : Item) → Stands kept uid id item ↔ Stands heard uid id item }
+    ensures stands_from { (kept heard : List Item) → AreKept kept heard → (uid : List ℕ) (id : Moment) (item : Item) → StandsFrom kept uid id item ↔ StandsFrom heard uid id item }
+    ensures rules { (kept heard : List Item) → AreKept kept heard → (uid : List ℕ) (at id : Moment) (item : Item) → Rules kept uid at id item ↔ Rules heard uid at id item }
+    ensures none_rules { (kept heard : List Item) → AreKept kept heard → (uid : List ℕ) (at : Moment) → NoneRules kept uid at ↔ NoneRules heard uid at }
     ensures governs { (kept heard : List Item) → AreKept kept heard → (uid : List ℕ) (id : Option Moment) (item : Item) → Governs kept uid id item ↔ Governs heard uid id item }
 {}
 
-/// Which answers count needs only what is kept: an answer to an instance never dies, and one to the to-do as a whole that counts beside the live series isn't
-/// dead (our own rules).
+/// Which answers count needs only what is kept: an answer to an instance never dies, and one to the to-do as a whole that is no earlier than the live series
+/// isn't dead (our own rules).
 pub fn answers_of_kept()
-    ensures to_instance { (kept heard : List Item) → AreKept kept heard → (governing : Item) (uid : List ℕ) (id : Moment) (attendee : List ℕ) (answer : Item) →
-        Counts kept governing (Answer uid (Some id) attendee) answer ↔ Counts heard governing (Answer uid (Some id) attendee) answer }
-    ensures to_series { (kept heard : List Item) → AreKept kept heard → (governing : Item) (uid attendee : List ℕ) (answer : Item) → IsLiveSeries heard uid governing →
-        Counts kept governing (Answer uid None attendee) answer ↔ Counts heard governing (Answer uid None attendee) answer }
+    ensures to_instance { (kept heard : List Item) → AreKept kept heard → (uid : List ℕ) (id : Moment) (attendee : List ℕ) (since : ℕ) (answer : Item) →
+        Counts kept (record { key = Answer uid (Some id) attendee; since = since }) answer ↔ Counts heard (record { key = Answer uid (Some id) attendee; since = since }) answer }
+    ensures to_series { (kept heard : List Item) → AreKept kept heard → (series : Item) (uid attendee : List ℕ) (since : ℕ) (answer : Item) → IsLiveSeries heard uid series → series.own ≤ since →
+        Counts kept (record { key = Answer uid None attendee; since = since }) answer ↔ Counts heard (record { key = Answer uid None attendee; since = since }) answer }
 {}
 
 /// The view of what is kept is the view of all that was heard (our own rule).

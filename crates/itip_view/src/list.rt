@@ -3,7 +3,7 @@ ghost use Rattle.std.specs.Prelude.{◌≡◌, ◌++◌, ◌∷◌, [], IfOk, On
 ghost use Rattle.std.specs.Fmt.{decimal};
 ghost use Rattle.std.specs.List.{flat_map};
 ghost use Rattle.itip_todo.specs.StatusText.{status_text};
-ghost use Rattle.itip_view.specs.ListText.{list_text, row_text, attendee_text, id_text, names_text, numbers_text, dates_text, summary_text, shown, shown_moment};
+ghost use Rattle.itip_view.specs.ListText.{list_text, row_text, attendee_text, id_text, names_text, numbers_text, dates_text, summary_text, progress_text, shown, shown_moment};
 
 use crate::row::{Row, RowId, ShownAttendee};
 use itip_lines::Text;
@@ -16,15 +16,23 @@ pub fn list_text(alloc: Global, rows: &[Row]) -> Result<Vec<u8>, AllocError>
     ensures { IfOk result (λ text. text.items ≡ list_text rows.now) }
 {
     let mut text = Vec::new(alloc);
-    for row in rows {
-        put_row(&mut text, row)?;
-    }
+    append_list(rows, &mut text)?;
     Ok(text)
+}
+
+/// Appends the text of rows, in the order given. After an error (out of memory) a part of it may stand there.
+pub fn append_list(rows: &[Row], out: &mut Vec<u8>) -> Result<(), AllocError>
+    ensures { OnOk result (out.new.items ≡ out.old.items ++ list_text rows.now) }
+{
+    for row in rows {
+        put_row(out, row)?;
+    }
+    Ok(())
 }
 
 /// Appends the text of rows, in the order given.
 ///
-/// On an error, for want of memory, the vector is as before.
+/// On an error (out of memory) the vector is as before.
 pub fn write_list(rows: &[Row], out: &mut Vec<u8>) -> Result<(), AllocError>
     ensures ok { OnOk result (out.new.items ≡ out.old.items ++ list_text rows.now) }
     ensures err { OnErr result (out.new.items ≡ out.old.items) }
@@ -41,6 +49,7 @@ fn put_row(out: &mut Vec<u8>, row: &Row) -> Result<(), AllocError>
     put_dates(out, row)?;
     put_summary(out, row)?;
     put_attendees(out, row.attendees.as_slice())?;
+    put_progress(out, row)?;
     Ok(())
 }
 
@@ -105,6 +114,14 @@ fn put_summary(out: &mut Vec<u8>, row: &Row) -> Result<(), AllocError>
     put(out, "\n")
 }
 
+fn put_progress(out: &mut Vec<u8>, row: &Row) -> Result<(), AllocError>
+    ensures { OnOk result (out.new.items ≡ out.old.items ++ progress_text row.now) }
+{
+    put(out, "  PROGRESS ")?;
+    put_shown_number(out, row.progress)?;
+    put(out, "\n")
+}
+
 fn put_attendee(out: &mut Vec<u8>, attendee: &ShownAttendee) -> Result<(), AllocError>
     ensures { OnOk result (out.new.items ≡ out.old.items ++ attendee_text attendee.now) }
 {
@@ -146,11 +163,11 @@ fn put_status(out: &mut Vec<u8>, status: Option<Status>) -> Result<(), AllocErro
     }
 }
 
-fn put_shown_number(out: &mut Vec<u8>, percent: Option<u8>) -> Result<(), AllocError>
-    ensures { OnOk result (out.new.items ≡ out.old.items ++ shown decimal percent) }
+fn put_shown_number(out: &mut Vec<u8>, number: Option<u8>) -> Result<(), AllocError>
+    ensures { OnOk result (out.new.items ≡ out.old.items ++ shown decimal number) }
 {
-    match percent {
-        Some(percent) => put_number(out, percent as u32),
+    match number {
+        Some(number) => put_number(out, number as u32),
         None => put(out, "-"),
     }
 }

@@ -4,11 +4,13 @@ ghost use Rattle.std.specs.Option.{option_map};
 ghost use Rattle.itip_recur.specs.ToDoShape.{IsShape};
 ghost use Rattle.itip_todo.specs.declared.property.Property.{Property};
 ghost use Rattle.itip_view.specs.OfUid.{AreRowsOf};
-ghost use Rattle.itip_view.specs.InUid.{HasWhole, HasRows, HasPlaces, HasAnswerAt, HasOccurrence, HasStanding, HasNoStanding, HasNoneAtStart, HasLiveSeries, IsRowWith};
+ghost use Rattle.itip_view.specs.InUid.{HasWhole, HasRanges, HasRows, HasPlaces, HasAnswerAt, HasOccurrence, HasStanding, HasNoStanding, HasRuling, HasNoRuling, HasNoneAtStart, HasLiveSeries, IsRowWith};
 
 use crate::NoMemory;
-use crate::answers::Asked;
-use crate::dates::{day_of, due_of, instance_day};
+use crate::answers::{Asked, Question};
+use crate::dates::{day_of, due_from, due_of, instance_day, start_from};
+use crate::progress::progress_of;
+use crate::ranges::Ranges;
 use crate::row::{Row, RowId};
 use crate::standing::{is_live, standing_item, stands_beside};
 use crate::whole::{Whole, in_order, occurrences, whole_of};
@@ -29,11 +31,12 @@ struct Place {
     due: Option<Moment>,
 }
 
-/// The view of one UID: its kept items, its to-do as a whole, and the window that is asked for.
+/// The view of one UID: its kept items, the range items that stand among them, its to-do as a whole, and the window that is asked for.
 #[derive(Drop)]
 struct UidView<'v, 'a> {
     alloc: Global,
     items: &'v ItemsOfUid<'a>,
+    ranges: Ranges<'v, 'a>,
     whole: Option<Whole<'a>>,
     window: Window,
 }
@@ -47,9 +50,11 @@ pub(crate) fn rows_of_uid(
     ensures { IfOk result (λ rows. AreRowsOf items.now.items window items.now.uid rows.items) }
 {
     let whole = whole_of(alloc, items)?;
+    let ranges = Ranges::of(alloc, items)?;
     let view = UidView {
         alloc,
         items,
+        ranges,
         whole,
         window,
     };
@@ -59,7 +64,8 @@ pub(crate) fn rows_of_uid(
 impl<'v, 'a> UidView<'v, 'a> {
     /// The rows, in their order.
     fn rows(&self) -> Result<Vec<Row>, NoMemory>
-        requires { HasWhole self.now }
+        requires whole { HasWhole self.now }
+        requires ranges { HasRanges self.now }
         ensures { IfOk result (λ rows. HasRows self.now rows.items) }
     {
         let places = self.places()?;
@@ -137,12 +143,13 @@ impl<'v, 'a> UidView<'v, 'a> {
     /// The row at a moment: that of the item that stands there, or of the occurrence.
     fn row_at(&self, at: &Moment) -> Result<Option<Row>, NoMemory>
         requires whole { HasWhole self.now }
+        requires ranges { HasRanges self.now }
         requires occurs { HasNoStanding self.now at.now → HasOccurrence self.now at.now }
         ensures { IfOk result (HasAnswerAt self.now (Some at.now)) }
     {
         match standing_item(self.items, at)? {
             Some(item) => self.instance_row(item, at),
-            None => self.occurrence_row(at),
+            None => self.row_between(at),
         }
     }
 
@@ -164,20 +171,68 @@ impl<'v, 'a> UidView<'v, 'a> {
 
     /// A row with the dates of the item that governs it.
     fn own_row(&self, item: &Item, id: RowId, asked: Option<Moment>) -> Result<Row, NoMemory>
-        ensures { IfOk result (IsRowWith self.now item.now id item.now.todo.start item.now.todo.due (asked ∷ [])) }
+        ensures { IfOk result (IsRowWith self.now item.now id item.now.todo.start item.now.todo.due (record { id = asked; since = item.now.own } ∷ [])) }
     {
         let place = Place {
             id,
             start: item.todo.start.clone()?,
             due: item.todo.due.clone()?,
         };
-        self.row_of(item, place, &[asked])
+        let question = Question {
+            id: asked,
+            since: item.own,
+        };
+        self.row_of(item, place, &[question])
     }
 
-    /// The row of an occurrence.
+    /// The row of an occurrence at which no instance item stands.
+    fn row_between(&self, at: &Moment) -> Result<Option<Row>, NoMemory>
+        requires whole { HasWhole self.now }
+        requires ranges { HasRanges self.now }
+        requires none { HasNoStanding self.now at.now }
+        requires occurs { HasOccurrence self.now at.now }
+        ensures { IfOk result (HasAnswerAt self.now (Some at.now)) }
+    {
+        match self.ranges.ruling(at) {
+            Some(range) => self.range_row(range, at),
+            None => self.occurrence_row(at),
+        }
+    }
+
+    /// The row of an occurrence that a range item rules, where that is live.
+    fn range_row(&self, range: &Item, at: &Moment) -> Result<Option<Row>, NoMemory>
+        requires whole { HasWhole self.now }
+        requires none { HasNoStanding self.now at.now }
+        requires rules { HasRuling self.now at.now range.now }
+        requires occurs { HasOccurrence self.now at.now }
+        ensures { IfOk result (HasAnswerAt self.now (Some at.now)) }
+    {
+        let Some(whole) = &self.whole else {
+            return Ok(None);
+        };
+        let Key::Range(_, id) = &range.key else {
+            return Ok(None);
+        };
+        if !is_live(range.kind) {
+            return Ok(None);
+        }
+        let place = Place {
+            id: RowId::At(at.clone()?),
+            start: start_from(&range.todo.start, id, at)?,
+            due: due_from(&range.todo.due, id, at)?,
+        };
+        // An answer to the to-do as a whole is dead where it is earlier than the series, so it doesn't count here either (our own rule).
+        let since = range.own.max(whole.item.own);
+        let questions = in_turn(at, range.own, since)?;
+        let row = self.row_of(range, place, &questions)?;
+        Ok(Some(row))
+    }
+
+    /// The row of an occurrence that no range item rules.
     fn occurrence_row(&self, at: &Moment) -> Result<Option<Row>, NoMemory>
         requires whole { HasWhole self.now }
         requires none { HasNoStanding self.now at.now }
+        requires none_rules { HasNoRuling self.now at.now }
         requires occurs { HasOccurrence self.now at.now }
         ensures { IfOk result (HasAnswerAt self.now (Some at.now)) }
     {
@@ -194,21 +249,22 @@ impl<'v, 'a> UidView<'v, 'a> {
             start: Some(at.clone()?),
             due: due_of(&item.todo.due, &series.start, at)?,
         };
-        let row = self.row_of(item, place, &[Some(at.clone()?), None])?;
+        let questions = in_turn(at, item.own, item.own)?;
+        let row = self.row_of(item, place, &questions)?;
         Ok(Some(row))
     }
 
-    /// The row at a place that an item governs; `ids` says which answers are asked, one after the other.
-    fn row_of(&self, item: &Item, place: Place, ids: &[Option<Moment>]) -> Result<Row, NoMemory>
-        ensures { IfOk result (IsRowWith self.now item.now place.id place.start place.due ids.now) }
+    /// The row at a place that an item governs; of each attendee these are asked, one after the other.
+    fn row_of(&self, item: &Item, place: Place, questions: &[Question]) -> Result<Row, NoMemory>
+        ensures { IfOk result (IsRowWith self.now item.now place.id place.start place.due questions.now) }
     {
         let todo = &item.todo;
         let asked = Asked {
             items: self.items,
-            governing: item,
-            ids,
+            questions,
         };
-        let attendees = asked.shown_attendees(self.alloc)?;
+        let attendees = asked.shown_attendees(self.alloc, todo.attendees.as_slice())?;
+        let progress = progress_of(attendees.as_slice());
         let summary = summary(todo)?;
         Ok(Row {
             uid: self.items.uid().clone()?,
@@ -221,8 +277,22 @@ impl<'v, 'a> UidView<'v, 'a> {
             due: place.due,
             summary,
             attendees,
+            progress,
         })
     }
+}
+
+/// On the row of an occurrence: the answers to it from one sequence on, then those to the to-do as a whole from another.
+fn in_turn(at: &Moment, own: u32, since: u32) -> Result<[Question; 2], NoMemory>
+    ensures { IfOk result (λ questions. questions ≡ (record { id = Some at.now; since = own } ∷ record { id = None; since = since } ∷ [])) }
+{
+    Ok([
+        Question {
+            id: Some(at.clone()?),
+            since: own,
+        },
+        Question { id: None, since },
+    ])
 }
 
 /// Adds a row where there is one.

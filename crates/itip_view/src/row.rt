@@ -24,7 +24,8 @@ pub struct ShownAttendee {
     pub percent: Option<u8>,
 }
 
-/// A row of the task list. Each field but the identifier is that of the item that governs the row.
+/// A row of the task list. SEQUENCE, STATUS, PERCENT-COMPLETE, PRIORITY and SUMMARY are those of the item that governs it, and so are START and DUE but on
+/// the row of an occurrence, where they are moved to it.
 #[derive(Debug, Drop)]
 pub struct Row {
     pub uid: Uid,
@@ -39,4 +40,6 @@ pub struct Row {
     /// The value of SUMMARY.
     pub summary: Option<Text>,
     pub attendees: ListOf<ShownAttendee>,
+    /// The mean of the percentages that the attendees show, rounded down.
+    pub progress: Option<u8>,
 }

@@ -13,7 +13,7 @@ const ROW_LIMIT: usize = 100_000;
 
 /// The rows of a state in a window, in their order, at most 100,000.
 ///
-/// Refused where more rows stand there (31), or for want of memory (32).
+/// Refused where more rows stand there (31), or when out of memory (32).
 pub fn rows(alloc: Global, state: &State, window: Window) -> Result<Vec<Row>, ViewError>
     ensures rows { IfOk result (λ rows. AreRows state.now window rows.items) }
     ensures few { IfOk result (λ rows. length rows.items ≤ row_limit) }

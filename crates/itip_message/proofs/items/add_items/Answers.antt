@@ -5,6 +5,7 @@ use Rattle.itip_todo.specs.PartsOf.{parts_of}
 use Rattle.itip_message.specs.Items.{Draft, drafts_of, add_drafts, kind_of, raised, is_task, instance_draft, method_of, IsCanonical}
 use Rattle.itip_message.specs.Message.{Adds}
 use Rattle.itip_message.specs.Needs.{Suits}
+use Rattle.itip_message.specs.declared.key.Key.{Key}
 use Rattle.itip_message.specs.declared.kind.Kind.{Kind}
 use Rattle.itip_message.specs.declared.kind.Kind.TheVariants as kind
 use Rattle.itip_message.proofs.Adding.{adds_one, adds_none}
@@ -16,8 +17,8 @@ instance_item-requires c =
     let parts : Parts = parts_of c.args.todo in
     let is_add : kind_of c.args.method parts ≡ kind.Add = sym c.kind_of-kind.ensures ∙ c.in-Add.is in
     let suits : Suits (method_of kind.Add) parts = subst (λ (k : Kind). Suits (method_of k) parts) is_add (sends c.args.method parts c.requires.0).suits in (
-      subst (λ (k : Kind). IsCanonical (instance_draft k (raised parts c.args.above) c.in_ok-id-in-Add.id parts)) (sym c.in-Add.is)
-          (add_canonical parts c.in_ok-id-in-Add.id c.args.above suits (c.in-Some.is ∙ ap (λ (id : Moment). Some id) (sym c.in_ok-id-in-Add.ensures.cases))),
+      subst (λ (k : Kind). IsCanonical (instance_draft k (raised parts c.args.above) c.in_ok-key-in-Add.key parts)) (sym c.in-Add.is)
+          (subst (λ (key : Key). IsCanonical (instance_draft kind.Add (raised parts c.args.above) key parts)) (sym c.in_ok-key-in-Add.ensures) (add_canonical parts c.in-Some.start c.args.above suits c.in-Some.is)),
       c.requires.1,
     )
 

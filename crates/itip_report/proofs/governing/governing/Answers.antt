@@ -4,7 +4,7 @@ use Rattle.std.specs.Option.{option_copied}
 use Rattle.itip_moment.specs.declared.moment.Moment.{Moment}
 use Rattle.itip_message.specs.declared.item.Item.{Item}
 use Rattle.itip_view.specs.Standing.{Governs}
-use Rattle.itip_report.proofs.Telling.{live_series, governs_standing, governs_beside}
+use Rattle.itip_report.proofs.Telling.{live_series, governs_standing, governs_between}
 use Rattle.itip_report.proofs.governing.governing.Goals as goal
 
 -- the item that governs, or that none does
@@ -29,6 +29,5 @@ pub returns-in-None : goal.returns-in-None
 returns-in-None c =
     let items : List Item = c.args.items.now.items in
     let uid : List ℕ = c.args.items.now.uid in
-    subst (λ (id : Option Moment). IsGoverning items uid id (option_copied c.if_live-in-None.result)) (sym c.in-Some.is)
-    (subst (IsGoverning items uid (Some c.in-Some.at)) (sym c.if_live-in-None.ensures)
-    (governs_beside items uid c.in-Some.at (option_copied c.series-in-None.result) c.series-in-None.ensures (rw c.in-None.is at c.in_ok-item.ensures)))
+    subst (λ (id : Option Moment). IsGoverning items uid id (option_copied c.governing_between.result)) (sym c.in-Some.is)
+    (governs_between items uid c.in-Some.at (rw c.in-None.is at c.in_ok-item.ensures) (option_copied c.governing_between.result) c.governing_between.ensures)

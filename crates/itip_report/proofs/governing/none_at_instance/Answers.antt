@@ -1,4 +1,4 @@
-use Rattle.std.proofs.Common.{◌≡◌, ◌↔◌, ◌∙◌, sym, subst, refl, List, Bool, true, false, not, Option, Some, None, Bor}
+use Rattle.std.proofs.Common.{◌≡◌, ◌↔◌, sym, subst, refl, List, Bool, true, false, not, Option, Some, None, Bor}
 use Rattle.std.specs.Prelude.{IsTrue, is_some}
 use Rattle.std.specs.Option.{option_copied}
 use Rattle.itip_moment.specs.declared.moment.Moment.{Moment}

@@ -1,17 +1,10 @@
-use Rattle.std.proofs.Common.{◌≡◌, [], ◌∷◌, List, ℕ, sym, ap, ◌∙◌, refl, false}
+use Rattle.std.proofs.Common.{◌≡◌, [], ◌∷◌, sym, ap, ◌∙◌, false}
 use Rattle.std.specs.Prelude.{cond}
 use Rattle.itip_join.specs.declared.lift.Lift.TheVariants.{Nothing, Known}
 use Rattle.itip_message.specs.declared.item.Item.{Item}
-use Rattle.itip_message.specs.declared.key.Key.{Key}
-use Rattle.itip_message.specs.declared.key.Key.TheVariants.{Series, Instance, Answer, Refresh}
 use Rattle.itip_state.specs.Held.{alone, best, is_series}
+use Rattle.itip_state.proofs.News.{not_series}
 use Rattle.itip_state.proofs.series.of_item.Goals as goal
-
-not_series : (key : Key) → ((uid : List ℕ) → key ≡ Series uid → ⊥) → is_series key ≡ false
-not_series (Series uid) h = absurd (h uid refl)
-not_series (Instance uid id) h = refl
-not_series (Answer uid id attendee) h = refl
-not_series (Refresh uid id attendee) h = refl
 
 pub returns : goal.returns
 returns c =

@@ -14,12 +14,12 @@ pub returns : goal.returns
 returns c =
     on_ok_weaker c.write_value-2.result
     (λ (last : c.write_value-2.new.out.items ≡ c.write_others.new.out.items ++ contents_octets (bare (codes "END") (codes "VTODO") ∷ [])).
-    all_written (parts_of c.args.todo.now) c.args.out.now.items c.write_value.new.out.items c.write_head.new.out.items c.write_count.new.out.items c.write_optional_moment.new.out.items c.write_optional_moment-2.new.out.items c.write_optional_moment-3.new.out.items c.write_status.new.out.items c.write_small.new.out.items c.write_small-2.new.out.items c.write_optional_whole.new.out.items c.write_optional_whole-2.new.out.items c.write_attendees.new.out.items c.write_rule.new.out.items c.write_moments.new.out.items c.write_moments-2.new.out.items c.write_others.new.out.items c.write_value-2.new.out.items
+    all_written (parts_of c.args.todo.now) c.args.out.now.items c.write_value.new.out.items c.write_head.new.out.items c.write_count.new.out.items c.write_rid.new.out.items c.write_optional_moment.new.out.items c.write_optional_moment-2.new.out.items c.write_status.new.out.items c.write_small.new.out.items c.write_small-2.new.out.items c.write_optional_whole.new.out.items c.write_optional_whole-2.new.out.items c.write_attendees.new.out.items c.write_rule.new.out.items c.write_moments.new.out.items c.write_moments-2.new.out.items c.write_others.new.out.items c.write_value-2.new.out.items
     c.in_ok-write_value.ensures c.in_ok-write_head.ensures
     c.in_ok-write_count.ensures
+    c.in_ok-write_rid.ensures
     c.in_ok-write_optional_moment.ensures
     c.in_ok-write_optional_moment-2.ensures
-    c.in_ok-write_optional_moment-3.ensures
     c.in_ok-write_status.ensures
     c.in_ok-write_small.ensures
     c.in_ok-write_small-2.ensures

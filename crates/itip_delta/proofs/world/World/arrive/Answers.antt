@@ -1,8 +1,7 @@
-use Rattle.std.proofs.Common.{◌≡◌, ◌<◌, length, ℕ, List, refl, sym, ap, subst, ◌∙◌, get_or, Some, arith}
+use Rattle.std.proofs.Common.{◌≡◌, ℕ, List, ap, ◌∙◌, get_or, Some}
 use Rattle.std.specs.Prelude.{slice_get}
 use Rattle.std.proofs.lemmas.Result.{on_ok_weaker}
-use Rattle.itip_delta.specs.Worlds.{ShownWorld, Steps, OthersStay}
-use Rattle.itip_delta.specs.declared.event.Event.TheVariants.{Arrive}
+use Rattle.itip_delta.specs.Worlds.{ShownWorld}
 use Rattle.itip_delta.proofs.Packets.{text_there}
 use Rattle.itip_delta.proofs.Events.{steps_arrive, spends_arrive, others_heard}
 use Rattle.itip_delta.proofs.world.World.arrive.Goals as goal

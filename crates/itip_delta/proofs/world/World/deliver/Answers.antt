@@ -1,7 +1,7 @@
-use Rattle.std.proofs.Common.{◌≡◌, ◌++◌, ◌∷◌, [], ◌<◌, length, ℕ, List, refl, sym, ap, subst, ◌∙◌}
+use Rattle.std.proofs.Common.{◌++◌, ◌∷◌, [], ◌<◌, length, refl, sym, ap, subst, ◌∙◌}
 use Rattle.std.proofs.lemmas.Result.{on_ok_weaker}
 use Rattle.itip_message.specs.Message.{RefusesMessage}
-use Rattle.itip_delta.specs.Worlds.{ShownWorld, Steps, OthersStay}
+use Rattle.itip_delta.specs.Worlds.{ShownWorld, Steps}
 use Rattle.itip_delta.specs.declared.event.Event.TheVariants.{Deliver}
 use Rattle.itip_delta.specs.declared.event.Reply.TheVariants.{Refused}
 use Rattle.itip_delta.proofs.Events.{steps_deliver, steps_refused, spends_deliver, others_heard}

@@ -1,5 +1,4 @@
-use Rattle.std.proofs.Common.{◌≡◌, ◌<◌, List, get_or, length, subst, ap, sym, ◌∙◌}
-use Rattle.itip_desk.specs.Desk.{Shown}
+use Rattle.std.proofs.Common.{subst}
 use Rattle.itip_delta.specs.Worlds.{ShownWorld, IsEntriesOf}
 use Rattle.itip_delta.proofs.Desks.{at_index}
 use Rattle.itip_delta.proofs.Events.{entries_of}
@@ -10,4 +9,4 @@ returns c =
     let at = c.in_ok-get.ensures.lookup.3 in
     let world : ShownWorld = record { desks = c.self.inside.desks.items; packets = c.self.inside.packets.items; replies = c.self.inside.replies.items } in
     subst (λ (w : ShownWorld). IsEntriesOf w c.args.desk c.entries.result) c.self.view_is
-    (entries_of world c.args.desk c.in_ok-get.field-0.now c.entries.result (rw (← c.deref.ensures.value) (at_index c.deref.result.now c.args.desk c.in_ok-get.field-0.now at.0 at.1)) c.entries.ensures.once c.entries.ensures.number)
+    (entries_of world c.args.desk c.in_ok-get.field-0.now c.entries.result (rw (← c.deref.ensures.value) (at_index c.deref.result.now c.args.desk c.in_ok-get.field-0.now at.0 at.1)) c.entries.ensures.number)

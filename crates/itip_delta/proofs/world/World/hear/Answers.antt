@@ -1,8 +1,8 @@
 use Rattle.std.proofs.Common.{◌≡◌, ◌∷◌, ◌++◌, [], ◌<◌, length, sym, ap, subst, ◌∙◌, refl, arith, Some, Err}
 use Rattle.std.specs.Prelude.{slice_set}
-use Rattle.std.proofs.lemmas.Result.{err_from_is_err_and}
 use Rattle.itip_desk.specs.declared.error.DeskError.{DeskError}
 use Rattle.itip_desk.specs.declared.error.DeskError.TheVariants as desk
+use Rattle.itip_state.specs.Kept.{HasEachOnce}
 use Rattle.itip_delta.specs.Worlds.{ShownWorld, HearsBatch, IsAtLastTick}
 use Rattle.itip_delta.specs.declared.event.Reply.TheVariants.{Taken}
 use Rattle.itip_delta.proofs.Desks.{slice_get-get_or}
@@ -20,8 +20,8 @@ hears : (c : In_ok-push) → HearsBatch (old c) c.args.desk c.args.batch.now (ne
 hears c =
     let within : c.args.desk < length (old c).desks = subst (λ (w : ShownWorld). c.args.desk < length w.desks) (sym c.self.view_is) c.requires in
     let count : c.len.result ≡ length c.in_ok-changed.changed.uids.items = grind arith in
-    hears_batch (old c) (new c) c.args.desk c.args.batch.now c.index_mut.result.now c.take.new.self c.in_ok-changed.changed.uids.items c.in_ok-changed.changed.tick c.len.result within c.index_mut.ensures.value
-    c.in_ok-changed.ensures.uids (λ steps start is. c.in_ok-changed.ensures.step steps start is) c.in_ok-changed.ensures.tick count refl refl
+    hears_batch (old c) (new c) c.args.desk c.args.batch.now c.index_mut-heard.result.now c.take.new.self c.in_ok-changed.changed.uids.items c.in_ok-changed.changed.tick c.len.result within c.index_mut-heard.ensures.value
+    c.in_ok-changed.ensures.uids (subst HasEachOnce c.state.ensures c.lawful.ensures.once) (λ steps start is. c.in_ok-changed.ensures.step steps start is) c.in_ok-changed.ensures.tick count refl refl
     (c.in_ok-push.ensures.items ∙ ap (λ front. front ++ Taken c.in_ok-changed.changed.tick c.len.result ∷ []) c.in_ok-reserve.ensures.items)
 
 pub returns-clause-hears : goal.returns-clause-hears
@@ -36,14 +36,14 @@ invariant_of-self-2 c =
 
 pub returns-in_err-changed-clause-spent : goal.returns-in_err-changed-clause-spent
 returns-in_err-changed-clause-spent c = λ spent.
-    let was = c.index_mut.result.now in
+    let was = c.index_mut-heard.result.now in
     let desks = c.self.inside.desks.items in
     let within : c.args.desk < length desks = subst (λ (w : ShownWorld). c.args.desk < length w.desks) (sym c.self.view_is) c.requires in
     let error : c.in_err-changed.field-0.0 ≡ desk.TicksSpent = same_error c.in_err-changed.field-0.0 desk.TicksSpent c.from_residual-in_err-changed.result c.from_residual-in_err-changed.ensures.1 spent in
     let at_desk = c.in_err-changed.ensures.spent (ap (λ (e : DeskError). Err e) error) in
     subst (λ (w : ShownWorld). IsAtLastTick w c.args.desk c.args.batch.now) c.self.view_is (record {
       shown = was;
-      there = slice_get-get_or desks c.args.desk was within ∙ ap Some (sym c.index_mut.ensures.value);
+      there = slice_get-get_or desks c.args.desk was within ∙ ap Some (sym c.index_mut-heard.ensures.value);
       last = at_desk.0;
       uid = at_desk.1.0;
       moves = at_desk.1.1;

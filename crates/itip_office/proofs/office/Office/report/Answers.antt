@@ -3,7 +3,7 @@ use Rattle.std.specs.String.{string_bytes}
 use Rattle.itip_message.specs.declared.item.Item.{Item}
 use Rattle.itip_view.specs.Rows.{AreTooMany}
 use Rattle.itip_office.specs.Running.{IsReportOf}
-use Rattle.itip_office.proofs.Answering.{answers_report, answers_no_load, answers_no_report}
+use Rattle.itip_office.proofs.Answering.{answers_report, answers_no_rows, answers_no_report}
 use Rattle.itip_office.proofs.office.Office.report.Goals as goal
 
 pub returns-in_default-clause-answers : goal.returns-in_default-clause-answers
@@ -20,5 +20,5 @@ pub returns-in-Err-TooManyRows-clause-answers : goal.returns-in-Err-TooManyRows-
 returns-in-Err-TooManyRows-clause-answers c =
     let office = c.args.self.now in
     let over = ap (λ e. Err e) c.in-Err-TooManyRows.field-0-is in
-    answers_no_load office.window office.world c.args.desk c.in-Some.asked.now c.in-Some.ensures c.args.name (c.in-Err-TooManyRows.ensures.load over)
+    answers_no_rows office.window office.world c.args.desk c.in-Some.asked.now c.in-Some.ensures c.args.name (c.in-Err-TooManyRows.ensures.of_rows over)
     (subst (λ (items : List Item). AreTooMany items office.window) c.state.ensures (c.in-Err-TooManyRows.ensures.many over))

@@ -9,6 +9,7 @@ returns c = record {
     seq = c.args.self.now.seq;
     base = c.args.self.now.base;
     rid = (c.in_ok-times.ensures i).rid;
+    range = c.args.self.now.range;
     start = (c.in_ok-times.ensures i).start;
     due = (c.in_ok-times.ensures i).due;
     status = c.args.self.now.status;

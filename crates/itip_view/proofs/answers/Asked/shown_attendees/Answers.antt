@@ -1,11 +1,10 @@
-use Rattle.std.proofs.Common.{◌≡◌, ◌+◌, List, [], ◌∷◌, ◌++◌, map, drop, refl, sym, ◌∙◌, ap, subst, Option, append-nil}
+use Rattle.std.proofs.Common.{◌≡◌, ◌+◌, List, [], ◌∷◌, ◌++◌, drop, refl, sym, ◌∙◌, ap, subst, Option, append-nil}
 use Rattle.std.specs.Option.{option_copied}
 use Rattle.std.proofs.lemmas.List.{at_drop_more, at_drop_all}
 use Rattle.itip_todo.specs.declared.property.Property.{Property}
 use Rattle.itip_message.specs.declared.item.Item.{Item}
-use Rattle.itip_message.specs.declared.key.Key.{Key}
-use Rattle.itip_view.specs.Answers.{AreShown, shown_line, in_front}
-use Rattle.itip_view.specs.OfUid.{keys_to}
+use Rattle.itip_view.specs.Answers.{Asked, AreShown, shown_line, in_front}
+use Rattle.itip_view.specs.OfUid.{asked_by}
 use Rattle.itip_view.specs.declared.row.ShownAttendee.{ShownAttendee}
 use Rattle.itip_view.proofs.Deciding.{shows_more, behind}
 use Rattle.itip_view.proofs.answers.Asked.shown_attendees.Goals as goal
@@ -14,9 +13,8 @@ use Rattle.itip_view.proofs.answers.Asked.shown_attendees.Goals.{in-Some+in_ok-p
 pub loop-line-preserved : goal.loop-line-preserved
 loop-line-preserved c = λ others rest.
     let items : List Item = c.args.self.now.items.now.items in
-    let governing : Item = c.args.self.now.governing.now in
-    let keys : Property → List Key = keys_to c.args.self.now.items.now.uid c.args.self.now.ids.now in
-    let lines : List Property = c.as_slice-line-items.result.now in
+    let asked : Property → List Asked = asked_by c.args.self.now.items.now.uid c.args.self.now.questions.now in
+    let lines : List Property = c.args.lines.now in
     let line : Property = c.line-item.result in
     let before : List ShownAttendee = c.loop-line.attendees.items in
     let answer : Option Item = option_copied c.in_ok-answer.answer in
@@ -28,19 +26,17 @@ loop-line-preserved c = λ others rest.
       | in_default w ↦ ap (λ v. v.items) w.attendees-is ∙ sym (append-nil before) ∙ ap (λ (s : Option ShownAttendee). before ++ in_front s []) (sym w.in_default.is)
     ] in
     let shown : c.in_ok-attendee.field-0 ≡ shown_line line answer = c.in_ok-attendee.ensures in
-    let all : AreShown items governing keys lines (before ++ in_front (shown_line line answer) others) =
-    c.loop-line.invariant (in_front (shown_line line answer) others) (subst (λ (xs : List Property). AreShown items governing keys xs (in_front (shown_line line answer) others)) (sym here)
-    (shows_more items governing keys line (drop (c.loop-line.line-index + 1) lines) answer others c.in_ok-answer.ensures rest)) in
-    subst (λ (xs : List ShownAttendee). AreShown items governing keys lines xs)
+    let all : AreShown items asked lines (before ++ in_front (shown_line line answer) others) =
+    c.loop-line.invariant (in_front (shown_line line answer) others) (subst (λ (xs : List Property). AreShown items asked xs (in_front (shown_line line answer) others)) (sym here)
+    (shows_more items asked line (drop (c.loop-line.line-index + 1) lines) answer others c.in_ok-answer.ensures rest)) in
+    subst (λ (xs : List ShownAttendee). AreShown items asked lines xs)
     (behind before others (shown_line line answer) ∙ ap (λ (s : Option ShownAttendee). (before ++ in_front s []) ++ others) (sym shown) ∙ ap (λ (xs : List ShownAttendee). xs ++ others) (sym now)) all
 
 pub returns : goal.returns
 returns c =
     let items : List Item = c.args.self.now.items.now.items in
-    let governing : Item = c.args.self.now.governing.now in
-    let keys : Property → List Key = keys_to c.args.self.now.items.now.uid c.args.self.now.ids.now in
-    let lines : List Property = c.as_slice-line-items.result.now in
-    let all : AreShown items governing keys lines (c.loop-line.attendees.items ++ []) =
-    c.loop-line.invariant [] (subst (λ (xs : List Property). AreShown items governing keys xs []) (sym (at_drop_all (λ (xs : List Property). xs) lines c.loop-line.line-index c.loop-line-test.false)) refl) in
-    subst (λ (xs : List Property). AreShown items governing keys xs c.from_vec.result) c.as_slice-line-items.ensures
-    (subst (λ (xs : List ShownAttendee). AreShown items governing keys lines xs) (append-nil c.loop-line.attendees.items ∙ sym c.from_vec.ensures) all)
+    let asked : Property → List Asked = asked_by c.args.self.now.items.now.uid c.args.self.now.questions.now in
+    let lines : List Property = c.args.lines.now in
+    let all : AreShown items asked lines (c.loop-line.attendees.items ++ []) =
+    c.loop-line.invariant [] (subst (λ (xs : List Property). AreShown items asked xs []) (sym (at_drop_all (λ (xs : List Property). xs) lines c.loop-line.line-index c.loop-line-test.false)) refl) in
+    subst (λ (xs : List ShownAttendee). AreShown items asked lines xs) (append-nil c.loop-line.attendees.items ∙ sym c.from_vec.ensures) all

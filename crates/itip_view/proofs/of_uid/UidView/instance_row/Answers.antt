@@ -1,4 +1,4 @@
-use Rattle.std.proofs.Common.{◌≡◌, ◌∙◌, sym, ap, subst, List, [], ◌∷◌, ℕ, map, Option, Some, true, false, rules}
+use Rattle.std.proofs.Common.{◌≡◌, ◌∙◌, sym, ap, subst, List, [], ◌∷◌, ℕ, Option, Some, true, false, rules}
 use Rattle.itip_moment.specs.declared.moment.Moment.{Moment}
 use Rattle.itip_message.specs.declared.item.Item.{Item}
 use Rattle.itip_view.specs.InWindow.{is_in_window}
@@ -7,13 +7,14 @@ use Rattle.itip_view.specs.Rows.{instance_day}
 use Rattle.itip_view.specs.declared.row.Row.{Row}
 use Rattle.itip_view.specs.declared.row.RowId.TheVariants as id
 use Rattle.itip_view.proofs.InDays.{in_window_is, in_window_from}
-use Rattle.itip_view.proofs.PlaceRows.{instance_is, no_instance}
+use Rattle.itip_view.proofs.PlaceRows.{ask, instance_is, no_instance}
 use Rattle.itip_view.proofs.of_uid.UidView.instance_row.Goals as goal
 
 copied : (items : List Item) (item : Item) (uid : List ℕ) (at a b : Moment) (start due : Option Moment) (row : Row) → a ≡ at → b ≡ at
-    → IsRowOf items item uid (id.At a) start due (Some b ∷ []) row → IsRowOf items item uid (id.At at) start due (Some at ∷ []) row
+    → IsRowOf items item uid (id.At a) start due (ask (Some b) item.own ∷ []) row → IsRowOf items item uid (id.At at) start due (ask (Some at) item.own ∷ []) row
 copied items item uid at a b start due row p q of =
-    subst (λ (m : Moment). IsRowOf items item uid (id.At m) start due (Some at ∷ []) row) p (subst (λ (m : Moment). IsRowOf items item uid (id.At a) start due (Some m ∷ []) row) q of)
+    subst (λ (m : Moment). IsRowOf items item uid (id.At m) start due (ask (Some at) item.own ∷ []) row) p
+    (subst (λ (m : Moment). IsRowOf items item uid (id.At a) start due (ask (Some m) item.own ∷ []) row) q of)
 
 pub returns-then-not-is_live : goal.returns-then-not-is_live
 returns-then-not-is_live c =

@@ -1,4 +1,4 @@
-use Rattle.std.proofs.Common.{◌≡◌, sym, subst, List, map, ℕ, Bool, Option, Some, None, Bor}
+use Rattle.std.proofs.Common.{◌≡◌, sym, subst, List, ℕ, Bool, Option, Some, None, Bor}
 use Rattle.std.specs.Prelude.{MatchOption}
 use Rattle.std.specs.Bool.{MatchBool}
 use Rattle.std.specs.Option.{option_copied, is_some}

@@ -1,4 +1,4 @@
-use Rattle.std.proofs.Common.{◌≡◌, ◌+◌, ℕ, take, take_all, ◌++◌, ◌∷◌, [], ◌∙◌, sym, ap, subst, List, map, Some}
+use Rattle.std.proofs.Common.{◌≡◌, ◌+◌, ℕ, take, take_all, ◌++◌, ◌∷◌, [], ◌∙◌, sym, ap, subst, List}
 use Rattle.std.specs.List.{Contains, AllPairs}
 use Rattle.std.specs.Option.{option_to_list}
 use Rattle.std.specs.declared.cmp.Ordering.TheVariants.{Less}

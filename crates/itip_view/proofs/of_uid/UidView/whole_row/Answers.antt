@@ -1,4 +1,4 @@
-use Rattle.std.proofs.Common.{subst, List, map, Option, Some}
+use Rattle.std.proofs.Common.{subst, List, Option, Some}
 use Rattle.itip_recur.specs.ToDoShape.{IsShape}
 use Rattle.itip_message.specs.declared.item.Item.{Item}
 use Rattle.itip_view.specs.OfUid.{IsWhole}

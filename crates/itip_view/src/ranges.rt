@@ -1,0 +1,125 @@
+//! The range items of a UID that stand.
+ghost use Rattle.std.specs.Prelude.{◌≡◌, IfOk, MatchOption};
+ghost use Rattle.std.specs.Option.{option_copied};
+ghost use Rattle.itip_moment.specs.declared.moment.Moment.{Moment};
+ghost use Rattle.itip_moment.specs.Moment.{moment_zone};
+ghost use Rattle.itip_state.specs.OfUid.{UidPart};
+ghost use Rattle.itip_view.specs.Ruling.{AreRanges, AreRangesInOrder, range_cmp};
+ghost use Rattle.itip_view.specs.Standing.{Rules, NoneRules};
+
+use crate::NoMemory;
+use crate::dates::have_one_form;
+use crate::standing::stands_beside;
+use itip_message::{Item, Key};
+use itip_moment::Moment;
+use itip_state::ItemsOfUid;
+use std::alloc::Global;
+use std::cmp::Ordering;
+use std::marker::Model;
+
+/// A range item, and the id from which on it is.
+#[derive(Clone, Copy, Debug, Drop)]
+struct RangeFrom<'a> {
+    id: &'a Moment,
+    item: &'a Item,
+}
+
+/// The range items of a UID that stand, by the form, the zone and the moment of their ids.
+///
+/// They are the ones of its kept items, by the invariant of the type.
+#[derive(Debug, Drop)]
+pub struct Ranges<'v, 'a> {
+    items: &'v ItemsOfUid<'a>,
+    standing: Vec<RangeFrom<'a>>,
+}
+
+impl<'v, 'a> Model for Ranges<'v, 'a> {
+    ghost use Rattle.itip_state.specs.OfUid.{UidPart, uid_part_code};
+    ghost use Rattle.itip_view.specs.Ruling.{AreRangesInOrder};
+
+    ghost Value = { UidPart };
+
+    ghost coded = { uid_part_code };
+
+    ghost view = { λ r. r.items.now };
+
+    ghost invariant = { λ r. AreRangesInOrder r.items.now r.standing.items };
+}
+
+impl<'v, 'a> Ranges<'v, 'a> {
+    /// The range items that stand among the kept items of a UID.
+    pub fn of(alloc: Global, items: &'v ItemsOfUid<'a>) -> Result<Ranges<'v, 'a>, NoMemory>
+        ensures { IfOk result (λ ranges. ranges ≡ items.now) }
+    {
+        let found = standing_ranges(alloc, items)?;
+        let standing = by_id(found)?;
+        Ok(Ranges { items, standing })
+    }
+
+    /// The range item that rules a moment: of those with an id of its form and zone that is not after it the one with the greatest id; `None` where there
+    /// is none. It is found by a binary search, and takes no memory.
+    pub fn ruling(&self, at: &Moment) -> Option<&'a Item>
+        ensures { MatchOption (option_copied result) (NoneRules self.now.items self.now.uid at.now)
+            (λ item. (id : Moment) × Rules self.now.items self.now.uid at.now id item) }
+    {
+        let standing = self.standing.as_slice();
+        let reached = standing.partition_point(|range| !compare(range.id, at).is_gt());
+        if reached == 0 {
+            return None;
+        }
+        let RangeFrom { id, item } = standing[reached - 1];
+        if have_one_form(id, at) {
+            Some(item)
+        } else {
+            None
+        }
+    }
+}
+
+/// The range items that stand among the items of a UID, in their order there.
+fn standing_ranges<'a>(
+    alloc: Global,
+    items: &ItemsOfUid<'a>,
+) -> Result<Vec<RangeFrom<'a>>, NoMemory>
+    ensures { IfOk result (λ found. AreRanges items.now found.items) }
+{
+    let series = items.series();
+    let mut found = Vec::new(alloc);
+    for item in items.as_slice() {
+        if let Key::Range(_, id) = &item.key {
+            if stands_beside(series, item) {
+                found.push(RangeFrom { id, item })?;
+            }
+        }
+    }
+    Ok(found)
+}
+
+/// Range items by their ids.
+fn by_id<'a>(found: Vec<RangeFrom<'a>>) -> Result<Vec<RangeFrom<'a>>, NoMemory>
+    ensures { IfOk result (λ sorted. (part : UidPart) → AreRanges part found.entry.items → AreRangesInOrder part sorted.items) }
+{
+    let mut found = found;
+    found.sort_by(|a, b| compare(a.id, b.id))?;
+    Ok(found)
+}
+
+/// By form and zone, then in the order of moments.
+fn compare(id: &Moment, other: &Moment) -> Ordering
+    ensures { result ≡ range_cmp id.now other.now }
+{
+    (id.form() as u8)
+        .cmp(&(other.form() as u8))
+        .then(zone(id).cmp(zone(other)))
+        .then(id.cmp(other))
+}
+
+/// The name of the zone, empty where the moment is in none.
+fn zone(moment: &Moment) -> &str
+    ensures { result.now ≡ moment_zone moment.now }
+{
+    match moment {
+        Moment::Zoned(zone, _) => zone.as_str(),
+        _ => "",
+    }
+}
