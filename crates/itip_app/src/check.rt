@@ -1,45 +1,46 @@
 //! Reading one message and showing its items.
-ghost use Rattle.std.specs.Prelude.{◌≤◌, vec_len, IfOk};
-
 use itip_desk::Batch;
 use itip_message::{Item, ReadError, read_message};
-use itip_office::{MAX_READS, ScriptFault, read_some, write_output};
+use itip_streams::{StreamFault, read_within, write_output};
 use std::alloc::Global;
 use std::io::{Read, Write};
 
-/// One octet more than the most of a message, so that one too long shows.
-const MOST: usize = 1_048_577;
+/// The most octets of a message.
+const MAX_OCTETS: usize = 1_048_576;
 
-// How much one read may bring.
-const ROOM: usize = 65_536;
+// The number of the refusal of a longer one.
+const TOO_LONG: u32 = 1;
 
 /// Reads one message and writes `items N` and the canonical octets of its N items, by these octets and each once;
 /// or `refused N`, N the number of the cause. Says whether it was refused.
 ///
-/// At most 1,048,577 octets are read, in at most [`MAX_READS`] reads; one read more is a failed read.
+/// At most 1,048,577 octets are read, in at most [`MAX_READS`](itip_streams::MAX_READS) reads; one read more is a failed read.
 pub(crate) fn check<R: Read, W: Write>(
     alloc: Global,
     reader: &mut R,
     writer: &mut W,
-) -> Result<bool, ScriptFault> {
-    let text = read_front(alloc, reader)?;
+) -> Result<bool, StreamFault> {
+    let Some(text) = read_within(alloc, reader, MAX_OCTETS)? else {
+        return refuse(alloc, writer, TOO_LONG);
+    };
     match read_message(alloc, &text) {
         Ok(items) => {
             let shown = items_text(alloc, items)?;
             write_output(writer, &shown)?;
             Ok(false)
         }
-        Err(ReadError::Fault(fault)) => {
-            let number = fault.number();
-            let shown = format!(in alloc; "refused {number}\n")?;
-            write_output(writer, shown.as_bytes())?;
-            Ok(true)
-        }
-        Err(ReadError::NoMemory) => Err(ScriptFault::Memory),
+        Err(ReadError::Fault(fault)) => refuse(alloc, writer, fault.number()),
+        Err(ReadError::NoMemory) => Err(StreamFault::Memory),
     }
 }
 
-fn items_text(alloc: Global, items: Vec<Item>) -> Result<Vec<u8>, ScriptFault> {
+fn refuse<W: Write>(alloc: Global, writer: &mut W, number: u32) -> Result<bool, StreamFault> {
+    let shown = format!(in alloc; "refused {number}\n")?;
+    write_output(writer, shown.as_bytes())?;
+    Ok(true)
+}
+
+fn items_text(alloc: Global, items: Vec<Item>) -> Result<Vec<u8>, StreamFault> {
     let batch = Batch::of_items(items)?;
     let count = batch.as_slice().len();
     let mut shown = format!(in alloc; "items {count}\n")?.into_bytes();
@@ -47,21 +48,4 @@ fn items_text(alloc: Global, items: Vec<Item>) -> Result<Vec<u8>, ScriptFault> {
         shown.extend_from_slice(item.bytes.as_slice())?;
     }
     Ok(shown)
-}
-
-/// Reads as many octets as there are, and no more than [`MOST`].
-fn read_front<R: Read>(alloc: Global, reader: &mut R) -> Result<Vec<u8>, ScriptFault>
-    ensures short { IfOk result (λ text. vec_len text ≤ 1048577) }
-{
-    let mut text = Vec::new(alloc);
-    let mut buffer = [0u8; ROOM];
-    for _ in 0..MAX_READS {
-        let room = ROOM.min(MOST - text.len());
-        let count = read_some(reader, &mut buffer[..room])?;
-        if count == 0 {
-            return Ok(text);
-        }
-        text.extend_from_slice(&buffer[..count])?;
-    }
-    Err(ScriptFault::Read)
 }

@@ -4,7 +4,8 @@ ghost use Rattle.itip_app.specs.Words.{AreDesks};
 
 use crate::check::check;
 use crate::words::{Call, NoCall, Task, read_words};
-use itip_office::{ScriptFault, run_script};
+use itip_office::run_script;
+use itip_streams::StreamFault;
 use std::fmt::Display;
 use std::rt::Env;
 use std::{env, io};
@@ -56,7 +57,7 @@ fn check_message<R: AllocGlobal + Input + Print + Eprint>(rt: &R) -> u8 {
 }
 
 /// The status of what was done: 1 where a refusal was written.
-fn ended<R: Eprint>(rt: &R, done: Result<bool, ScriptFault>) -> u8 {
+fn ended<R: Eprint>(rt: &R, done: Result<bool, StreamFault>) -> u8 {
     match done {
         Ok(false) => 0,
         Ok(true) => 1,

@@ -3,7 +3,7 @@
 use itip_delta::Cause;
 use itip_desk::DeskError;
 use itip_message::{Fault, ReadError};
-use itip_office::ScriptFault;
+use itip_streams::StreamFault;
 use itip_view::{BadWindow, ViewError};
 use std::alloc::{AllocError, AllocFailed, Global};
 use std::io;
@@ -32,7 +32,7 @@ pub(crate) enum CallError {
     #[error("{0:?}")]
     View(ViewError),
     #[error("{0:?}")]
-    Script(ScriptFault),
+    Script(StreamFault),
 }
 
 impl CallError {
@@ -105,10 +105,10 @@ impl From<ViewError> for CallError {
     }
 }
 
-impl From<ScriptFault> for CallError {
-    fn from(fault: ScriptFault) -> CallError {
+impl From<StreamFault> for CallError {
+    fn from(fault: StreamFault) -> CallError {
         match fault {
-            ScriptFault::Memory => CallError::NoMemory,
+            StreamFault::Memory => CallError::NoMemory,
             fault => CallError::Script(fault),
         }
     }

@@ -5,7 +5,8 @@ use crate::error::CallError;
 use crate::narrow::Narrow;
 use crate::pieces::Pieces;
 use crate::texts::{count, text};
-use itip_office::{Commands, ScriptFault, read_script, run_script, write_output};
+use itip_office::{Commands, read_script, run_script};
+use itip_streams::{StreamFault, write_output};
 use itip_view::Window;
 use std::alloc::{AllocError, Global};
 
@@ -130,9 +131,9 @@ fn run(
 /// The text of a fault.
 fn fault(alloc: Global, name: &str) -> Result<Vec<u8>, CallError> {
     let fault = match name {
-        "read" => ScriptFault::Read,
-        "write" => ScriptFault::Write,
-        "memory" => ScriptFault::from(AllocError),
+        "read" => StreamFault::Read,
+        "write" => StreamFault::Write,
+        "memory" => StreamFault::from(AllocError),
         _ => return Err(CallError::NoSuchCall),
     };
     Ok(format!(in alloc; "{fault}")?.into_bytes())

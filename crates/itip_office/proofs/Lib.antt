@@ -1,6 +1,5 @@
 pub mod FirstLines
 pub mod Digits
-pub mod Writing
 pub mod Stretches
 pub mod Cuttings
 pub mod Spellings

@@ -14,7 +14,7 @@ use Rattle.itip_delta.specs.Worlds.{Past, no_past, ShownWorld, IsWorldOf}
 use Rattle.itip_office.specs.Orders.{Order}
 use Rattle.itip_office.specs.Replies.{refused_text}
 use Rattle.itip_office.specs.Script.{orders_of}
-use Rattle.itip_office.specs.Written.{AppendsFront, MovesOut}
+use Rattle.itip_streams.specs.Written.{AppendsFront, MovesOut}
 use Rattle.itip_office.specs.Running.{Answer, answer_text, is_refusal, Step, Runs, Writes, WritesCommands, WritesSome, WritesFront, RunsSoFar, Answers}
 
 pub on_err : {T E P : Type 0} (r : Result T E) → P → OnErr r P

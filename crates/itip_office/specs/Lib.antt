@@ -2,7 +2,6 @@ pub mod Lines
 pub mod Orders
 pub mod Script
 pub mod Left
-pub mod Written
 pub mod Cutting
 pub mod Spelling
 pub mod Replies

@@ -26,7 +26,7 @@ use Rattle.itip_office.specs.declared.command.ReportName.TheVariants as name
 use Rattle.itip_office.specs.Orders.{Order, takes, lists, posts, arrives, reports, resends, asks_next, counts, malformed}
 use Rattle.itip_office.specs.Replies.{refused_text, taken_text, posted_text, arrived_text, counted_text, listed_text, reported_text, resent_text, next_text}
 use Rattle.itip_office.specs.Script.{orders_of}
-use Rattle.itip_office.specs.Written.{AppendsFront}
+use Rattle.itip_streams.specs.Written.{AppendsFront}
 
 -- What a command is answered.
 pub data Answer : Type 0 where

@@ -8,12 +8,10 @@
 mod answer;
 mod command;
 mod cut;
-mod fault;
 mod input;
 mod laws;
 mod line;
 mod office;
-mod output;
 mod reply;
 mod reports;
 mod run;
@@ -21,9 +19,8 @@ mod word;
 
 pub use command::{Command, ReportName};
 pub use cut::Commands;
-pub use fault::ScriptFault;
-pub use input::{MAX_OCTETS, MAX_READS, read_script, read_some};
+pub use input::{MAX_OCTETS, read_script};
+pub use itip_streams::StreamFault as ScriptFault;
 pub use laws::{one_cutting, one_output, one_spelling};
-pub use output::write_output;
 pub use run::run_script;
 pub use word::read_number;

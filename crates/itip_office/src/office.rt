@@ -7,9 +7,9 @@ ghost use Rattle.itip_office.specs.Running.{Answers, answer_of, answer_to, heard
 
 use crate::answer::{Answer, BAD_COMMAND, Heard, NO_DESK, NO_PACKET, TICKS_SPENT};
 use crate::command::Command;
-use crate::fault::ScriptFault;
 use itip_delta::{Cause, Event, Reply, World};
 use itip_lines::Bytes;
+use itip_streams::StreamFault;
 use itip_view::Window;
 use std::alloc::{AllocError, Global};
 
@@ -35,10 +35,10 @@ impl Office {
     }
 
     /// Does a command. An error means out of memory.
-    pub(crate) fn answer(&mut self, command: &Command<'_>) -> Result<Answer, ScriptFault>
+    pub(crate) fn answer(&mut self, command: &Command<'_>) -> Result<Answer, StreamFault>
         ensures answers { IfOk result (λ answer. Answers self.old.window (order_of command.now) self.old.world (answer_of answer) self.new.world) }
         ensures window { self.new.window ≡ self.old.window }
-        ensures fault { IfErr result (λ fault. fault ≡ ScriptFault.Memory) }
+        ensures fault { IfErr result (λ fault. fault ≡ StreamFault.Memory) }
     {
         match command {
             Command::Take { desk, text } => {
@@ -63,10 +63,10 @@ impl Office {
     }
 
     /// Does the event that a command asks for.
-    fn happen(&mut self, event: &Event) -> Result<Answer, ScriptFault>
+    fn happen(&mut self, event: &Event) -> Result<Answer, StreamFault>
         ensures answers { IfOk result (λ answer. (window : Window) (order : Order) → event_of order ≡ Some event.now → Answers window order self.old.world (answer_of answer) self.new.world) }
         ensures window { self.new.window ≡ self.old.window }
-        ensures fault { IfErr result (λ fault. fault ≡ ScriptFault.Memory) }
+        ensures fault { IfErr result (λ fault. fault ≡ StreamFault.Memory) }
     {
         match self.world.step(event) {
             Ok(()) => match self.world.replies().last() {
@@ -76,7 +76,7 @@ impl Office {
             Err(Cause::NoDesk) => Ok(Answer::Refused(NO_DESK)),
             Err(Cause::NoPacket) => Ok(Answer::Refused(NO_PACKET)),
             Err(Cause::TicksSpent) => Ok(Answer::Refused(TICKS_SPENT)),
-            Err(Cause::NoMemory) => Err(ScriptFault::Memory),
+            Err(Cause::NoMemory) => Err(StreamFault::Memory),
         }
     }
 }

@@ -9,11 +9,11 @@ ghost use Rattle.itip_office.specs.Running.{Answers, answer_of, IsReportOf, IsOf
 
 use crate::answer::{Answer, NO_DESK, TOO_MANY_ROWS};
 use crate::command::ReportName;
-use crate::fault::ScriptFault;
 use crate::office::Office;
 use itip_desk::Desk;
 use itip_report::{cancelled, load_by_attendee, next_seq, orphans, progress, refresh_wanted};
 use itip_state::State;
+use itip_streams::StreamFault;
 use itip_todo::Uid;
 use itip_view::{ViewError, Window, rows};
 use std::alloc::{AllocError, Global};
@@ -29,9 +29,9 @@ impl Office {
     }
 
     /// Answers with the rows of the list of a desk.
-    pub(crate) fn list(&self, desk: u64) -> Result<Answer, ScriptFault>
+    pub(crate) fn list(&self, desk: u64) -> Result<Answer, StreamFault>
         ensures answers { IfOk result (λ answer. Answers self.now.window (lists desk) self.now.world (answer_of answer) self.now.world) }
-        ensures fault { IfErr result (λ fault. fault ≡ ScriptFault.Memory) }
+        ensures fault { IfErr result (λ fault. fault ≡ StreamFault.Memory) }
     {
         let Some(listed) = self.desk(desk) else {
             return Ok(Answer::Refused(NO_DESK));
@@ -39,7 +39,7 @@ impl Office {
         match rows(self.alloc, listed.state(), self.window) {
             Ok(rows) => Ok(Answer::Listed { desk, rows }),
             Err(ViewError::TooManyRows) => Ok(Answer::Refused(TOO_MANY_ROWS)),
-            Err(ViewError::NoMemory) => Err(ScriptFault::Memory),
+            Err(ViewError::NoMemory) => Err(StreamFault::Memory),
         }
     }
 
@@ -54,9 +54,9 @@ impl Office {
     }
 
     /// Answers with the lines of a report of a desk.
-    pub(crate) fn report(&self, desk: u64, name: ReportName) -> Result<Answer, ScriptFault>
+    pub(crate) fn report(&self, desk: u64, name: ReportName) -> Result<Answer, StreamFault>
         ensures answers { IfOk result (λ answer. Answers self.now.window (reports desk name) self.now.world (answer_of answer) self.now.world) }
-        ensures fault { IfErr result (λ fault. fault ≡ ScriptFault.Memory) }
+        ensures fault { IfErr result (λ fault. fault ≡ StreamFault.Memory) }
     {
         let Some(asked) = self.desk(desk) else {
             return Ok(Answer::Refused(NO_DESK));
@@ -64,14 +64,14 @@ impl Office {
         match report_lines(self.alloc, asked.state(), self.window, name) {
             Ok(lines) => Ok(Answer::Reported { desk, name, lines }),
             Err(ViewError::TooManyRows) => Ok(Answer::Refused(TOO_MANY_ROWS)),
-            Err(ViewError::NoMemory) => Err(ScriptFault::Memory),
+            Err(ViewError::NoMemory) => Err(StreamFault::Memory),
         }
     }
 
     /// Answers with the messages that a desk sends again of a UID.
-    pub(crate) fn resend(&self, desk: u64, uid: &[u8]) -> Result<Answer, ScriptFault>
+    pub(crate) fn resend(&self, desk: u64, uid: &[u8]) -> Result<Answer, StreamFault>
         ensures answers { IfOk result (λ answer. Answers self.now.window (resends desk uid.now) self.now.world (answer_of answer) self.now.world) }
-        ensures fault { IfErr result (λ fault. fault ≡ ScriptFault.Memory) }
+        ensures fault { IfErr result (λ fault. fault ≡ StreamFault.Memory) }
     {
         let Some(asked) = self.desk(desk) else {
             return Ok(Answer::Refused(NO_DESK));
@@ -81,9 +81,9 @@ impl Office {
     }
 
     /// Answers with the next sequence of a UID at a desk.
-    pub(crate) fn next(&self, desk: u64, uid: &[u8]) -> Result<Answer, ScriptFault>
+    pub(crate) fn next(&self, desk: u64, uid: &[u8]) -> Result<Answer, StreamFault>
         ensures answers { IfOk result (λ answer. Answers self.now.window (asks_next desk uid.now) self.now.world (answer_of answer) self.now.world) }
-        ensures fault { IfErr result (λ fault. fault ≡ ScriptFault.Memory) }
+        ensures fault { IfErr result (λ fault. fault ≡ StreamFault.Memory) }
     {
         let Some(asked) = self.desk(desk) else {
             return Ok(Answer::Refused(NO_DESK));

@@ -5,15 +5,14 @@ ghost use Rattle.itip_delta.specs.Worlds.{no_past, IsWorldOf};
 ghost use Rattle.itip_office.specs.Running.{WritesAll, WritesFront, WritesCommands, WritesSome};
 ghost use Rattle.itip_office.specs.Replies.{refused_text};
 ghost use Rattle.itip_office.specs.Script.{orders_of};
-ghost use Rattle.itip_office.specs.Written.{AppendsFront, MovesOut};
+ghost use Rattle.itip_streams.specs.Written.{AppendsFront, MovesOut};
 
 use crate::answer::SCRIPT_TOO_LONG;
 use crate::cut::Commands;
-use crate::fault::ScriptFault;
 use crate::input::read_script;
 use crate::office::Office;
-use crate::output::write_output;
 use crate::reply::append_refused;
+use itip_streams::{StreamFault, write_output};
 use itip_view::Window;
 use std::alloc::Global;
 use std::io::{Read, Write};
@@ -31,12 +30,12 @@ pub fn run_script<R: Read, W: Write>(
     writer: &mut W,
     desks: usize,
     window: Window,
-) -> Result<bool, ScriptFault>
+) -> Result<bool, StreamFault>
     requires some { 1 ≤ desks }
     requires few { desks ≤ 16 }
     ensures output { IfOk result (λ refusal. IfSome (R.remaining reader.old) (λ script. WritesAll window desks (W.contents writer.old) (W.contents writer.new) script refusal)) }
     ensures front { OnErr result (IfSome (R.remaining reader.old) (λ script. WritesFront window desks (W.contents writer.old) (W.contents writer.new) script)) }
-    ensures unread { IsErrOf result ScriptFault.Read → Keeps (W.contents writer.old) (W.contents writer.new) }
+    ensures unread { IsErrOf result StreamFault.Read → Keeps (W.contents writer.old) (W.contents writer.new) }
 {
     let Some(script) = read_script(alloc, reader)? else {
         return refuse_whole(alloc, writer);
@@ -45,10 +44,10 @@ pub fn run_script<R: Read, W: Write>(
     run_commands(&mut office, script.as_slice(), writer)
 }
 
-fn refuse_whole<W: Write>(alloc: Global, writer: &mut W) -> Result<bool, ScriptFault>
+fn refuse_whole<W: Write>(alloc: Global, writer: &mut W) -> Result<bool, StreamFault>
     ensures all { IfOk result (λ refusal. (refusal ≡ true) × Appends (W.contents writer.old) (W.contents writer.new) (refused_text 61)) }
     ensures front { OnErr result (AppendsFront (W.contents writer.old) (W.contents writer.new) (refused_text 61)) }
-    ensures fault { IfErr result (λ fault. fault ≢ ScriptFault.Read) }
+    ensures fault { IfErr result (λ fault. fault ≢ StreamFault.Read) }
 {
     let mut reply = Vec::new(alloc);
     append_refused(&mut reply, SCRIPT_TOO_LONG)?;
@@ -61,12 +60,12 @@ fn run_commands<W: Write>(
     office: &mut Office,
     script: &[u8],
     writer: &mut W,
-) -> Result<bool, ScriptFault>
+) -> Result<bool, StreamFault>
     ensures all { IfOk result (λ refusal. (desks : ℕ) → IsWorldOf (no_past desks) office.old.world →
         WritesCommands office.old.window desks (W.contents writer.old) (W.contents writer.new) (orders_of script.now) refusal) }
     ensures front { OnErr result ((desks : ℕ) → IsWorldOf (no_past desks) office.old.world →
         WritesSome office.old.window desks (W.contents writer.old) (W.contents writer.new) (orders_of script.now)) }
-    ensures fault { IfErr result (λ fault. fault ≢ ScriptFault.Read) }
+    ensures fault { IfErr result (λ fault. fault ≢ StreamFault.Read) }
 {
     let mut replies = Vec::new(office.alloc);
     let mut is_refused = false;
@@ -81,10 +80,10 @@ fn run_commands<W: Write>(
 }
 
 // Writes the replies that are kept once they are many.
-fn write_if_many<W: Write>(writer: &mut W, replies: &mut Vec<u8>) -> Result<(), ScriptFault>
+fn write_if_many<W: Write>(writer: &mut W, replies: &mut Vec<u8>) -> Result<(), StreamFault>
     ensures moved { OnOk result (MovesOut (W.contents writer.old) (W.contents writer.new) replies.old.items replies.new.items) }
     ensures front { OnErr result (AppendsFront (W.contents writer.old) (W.contents writer.new) replies.old.items) }
-    ensures fault { IfErr result (λ fault. fault ≡ ScriptFault.Write) }
+    ensures fault { IfErr result (λ fault. fault ≡ StreamFault.Write) }
 {
     if replies.len() >= CHUNK {
         write_output(writer, replies.as_slice())?;

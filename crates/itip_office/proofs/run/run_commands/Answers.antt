@@ -3,7 +3,7 @@ use Rattle.std.proofs.lemmas.List.{map_push}
 use Rattle.std.specs.Io.KnownBytes.{Appends}
 use Rattle.itip_view.specs.declared.window.Window.{Window}
 use Rattle.itip_delta.specs.Worlds.{no_past, IsWorldOf}
-use Rattle.itip_office.specs.Written.{AppendsFront}
+use Rattle.itip_streams.specs.Written.{AppendsFront}
 use Rattle.itip_office.specs.Orders.{order_of}
 use Rattle.itip_office.specs.Script.{orders_of}
 use Rattle.itip_office.specs.Left.{orders_left}

@@ -1,5 +1,5 @@
-use Rattle.itip_office.proofs.Writing.{wrote_more}
-use Rattle.itip_office.proofs.output.write_output.Goals as goal
+use Rattle.itip_streams.proofs.Writing.{wrote_more}
+use Rattle.itip_streams.proofs.output.write_output.Goals as goal
 
 pub loop-rest-preserved : goal.loop-rest-preserved
 loop-rest-preserved g c =

@@ -1,6 +1,6 @@
 use Rattle.std.proofs.Common.{length}
-use Rattle.itip_office.specs.Written.{AppendsRest}
-use Rattle.itip_office.proofs.output.write_output.Given as goal
+use Rattle.itip_streams.specs.Written.{AppendsRest}
+use Rattle.itip_streams.proofs.output.write_output.Given as goal
 
 abbrev pub invariant-loop-rest : goal.invariant-loop-rest
 invariant-loop-rest g l = AppendsRest (g.W.Write.contents l.fn.writer) (g.W.Write.contents l.writer) l.bytes l.rest

@@ -3,7 +3,7 @@ use Rattle.std.proofs.Common.{ℕ, ◌-◌, List, ◌++◌, length, take, drop, 
 use Rattle.std.proofs.lemmas.List.{take_rest}
 use Rattle.std.proofs.KnownBytes.{Appends-trans}
 use Rattle.std.specs.Io.KnownBytes.{Appends}
-use Rattle.itip_office.specs.Written.{AppendsRest}
+use Rattle.itip_streams.specs.Written.{AppendsRest}
 
 -- one write more
 pub wrote_more : (old mid new : Option (List ℕ)) (output rest : List ℕ) (n : ℕ) → AppendsRest old mid output rest → Appends mid new (take n rest) → AppendsRest old new output (take (length rest - n) (drop n rest))
