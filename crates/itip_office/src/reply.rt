@@ -9,7 +9,7 @@ ghost use Rattle.itip_office.specs.Spelling.{name_text};
 
 use crate::answer::{Answer, Heard};
 use crate::command::ReportName;
-use itip_view::{Row, append_list};
+use itip_view::{Row, write_list};
 use std::alloc::AllocError;
 
 impl Answer {
@@ -87,7 +87,7 @@ fn append_listed(output: &mut Vec<u8>, desk: u64, rows: &[Row]) -> Result<(), Al
     let count = rows.len();
     let line = format!(in *output.allocator(); "list {desk} rows {count}\n")?;
     output.extend_from_slice(line.as_bytes())?;
-    append_list(rows, output)
+    write_list(rows, output)
 }
 
 /// Appends the lines of a report, behind the line that says how many they are.

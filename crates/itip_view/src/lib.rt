@@ -17,7 +17,7 @@ mod window;
 
 pub use error::{BadWindow, ViewError};
 pub use laws::{answers_of_kept, one_list, standing_of_kept, view_of_kept};
-pub use list::{append_list, list_text, write_list};
+pub use list::{list_text, write_list};
 pub use ranges::Ranges;
 pub use row::{Row, RowId, ShownAttendee};
 pub use standing::{is_live, standing_item, stands_beside};

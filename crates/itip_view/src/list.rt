@@ -2,6 +2,7 @@
 ghost use Rattle.std.specs.Prelude.{◌≡◌, ◌++◌, ◌∷◌, [], IfOk, OnOk, OnErr, Option, Some, None};
 ghost use Rattle.std.specs.Fmt.{decimal};
 ghost use Rattle.std.specs.List.{flat_map};
+ghost use Rattle.itip_lines.specs.Writing.{Extends};
 ghost use Rattle.itip_todo.specs.StatusText.{status_text};
 ghost use Rattle.itip_view.specs.ListText.{list_text, row_text, attendee_text, id_text, names_text, numbers_text, dates_text, summary_text, progress_text, shown, shown_moment};
 
@@ -16,13 +17,14 @@ pub fn list_text(alloc: Global, rows: &[Row]) -> Result<Vec<u8>, AllocError>
     ensures { IfOk result (λ text. text.items ≡ list_text rows.now) }
 {
     let mut text = Vec::new(alloc);
-    append_list(rows, &mut text)?;
+    write_list(rows, &mut text)?;
     Ok(text)
 }
 
-/// Appends the text of rows, in the order given. After an error (out of memory) a part of it may stand there.
-pub fn append_list(rows: &[Row], out: &mut Vec<u8>) -> Result<(), AllocError>
-    ensures { OnOk result (out.new.items ≡ out.old.items ++ list_text rows.now) }
+/// Appends the text of rows; where memory is refused, perhaps a part of it.
+fn append_list(rows: &[Row], out: &mut Vec<u8>) -> Result<(), AllocError>
+    ensures text { OnOk result (out.new.items ≡ out.old.items ++ list_text rows.now) }
+    ensures extends { Extends out.old.items out.new.items }
 {
     for row in rows {
         put_row(out, row)?;
@@ -37,12 +39,17 @@ pub fn write_list(rows: &[Row], out: &mut Vec<u8>) -> Result<(), AllocError>
     ensures ok { OnOk result (out.new.items ≡ out.old.items ++ list_text rows.now) }
     ensures err { OnErr result (out.new.items ≡ out.old.items) }
 {
-    let text = list_text(*out.allocator(), rows)?;
-    out.extend_from_slice(&text)
+    let start = out.len();
+    let done = append_list(rows, out);
+    if done.is_err() {
+        out.truncate(start);
+    }
+    done
 }
 
 fn put_row(out: &mut Vec<u8>, row: &Row) -> Result<(), AllocError>
-    ensures { OnOk result (out.new.items ≡ out.old.items ++ row_text row.now) }
+    ensures text { OnOk result (out.new.items ≡ out.old.items ++ row_text row.now) }
+    ensures extends { Extends out.old.items out.new.items }
 {
     put_names(out, row)?;
     put_numbers(out, row)?;
@@ -54,7 +61,8 @@ fn put_row(out: &mut Vec<u8>, row: &Row) -> Result<(), AllocError>
 }
 
 fn put_names(out: &mut Vec<u8>, row: &Row) -> Result<(), AllocError>
-    ensures { OnOk result (out.new.items ≡ out.old.items ++ names_text row.now) }
+    ensures text { OnOk result (out.new.items ≡ out.old.items ++ names_text row.now) }
+    ensures extends { Extends out.old.items out.new.items }
 {
     put(out, "TODO ")?;
     put(out, row.uid.as_str())?;
@@ -63,7 +71,8 @@ fn put_names(out: &mut Vec<u8>, row: &Row) -> Result<(), AllocError>
 }
 
 fn put_attendees(out: &mut Vec<u8>, attendees: &[ShownAttendee]) -> Result<(), AllocError>
-    ensures { OnOk result (out.new.items ≡ out.old.items ++ flat_map attendee_text attendees.now) }
+    ensures text { OnOk result (out.new.items ≡ out.old.items ++ flat_map attendee_text attendees.now) }
+    ensures extends { Extends out.old.items out.new.items }
 {
     for attendee in attendees {
         put_attendee(out, attendee)?;
@@ -72,7 +81,8 @@ fn put_attendees(out: &mut Vec<u8>, attendees: &[ShownAttendee]) -> Result<(), A
 }
 
 fn put_id(out: &mut Vec<u8>, id: &RowId) -> Result<(), AllocError>
-    ensures { OnOk result (out.new.items ≡ out.old.items ++ id_text id.now) }
+    ensures text { OnOk result (out.new.items ≡ out.old.items ++ id_text id.now) }
+    ensures extends { Extends out.old.items out.new.items }
 {
     match id {
         RowId::Single => put(out, "-"),
@@ -82,7 +92,8 @@ fn put_id(out: &mut Vec<u8>, id: &RowId) -> Result<(), AllocError>
 }
 
 fn put_numbers(out: &mut Vec<u8>, row: &Row) -> Result<(), AllocError>
-    ensures { OnOk result (out.new.items ≡ out.old.items ++ numbers_text row.now) }
+    ensures text { OnOk result (out.new.items ≡ out.old.items ++ numbers_text row.now) }
+    ensures extends { Extends out.old.items out.new.items }
 {
     put(out, "\n  SEQ ")?;
     put_number(out, row.seq)?;
@@ -95,7 +106,8 @@ fn put_numbers(out: &mut Vec<u8>, row: &Row) -> Result<(), AllocError>
 }
 
 fn put_dates(out: &mut Vec<u8>, row: &Row) -> Result<(), AllocError>
-    ensures { OnOk result (out.new.items ≡ out.old.items ++ dates_text row.now) }
+    ensures text { OnOk result (out.new.items ≡ out.old.items ++ dates_text row.now) }
+    ensures extends { Extends out.old.items out.new.items }
 {
     put(out, "\n  START ")?;
     put_shown_moment(out, &row.start)?;
@@ -104,7 +116,8 @@ fn put_dates(out: &mut Vec<u8>, row: &Row) -> Result<(), AllocError>
 }
 
 fn put_summary(out: &mut Vec<u8>, row: &Row) -> Result<(), AllocError>
-    ensures { OnOk result (out.new.items ≡ out.old.items ++ summary_text row.now) }
+    ensures text { OnOk result (out.new.items ≡ out.old.items ++ summary_text row.now) }
+    ensures extends { Extends out.old.items out.new.items }
 {
     put(out, "\n  SUMMARY ")?;
     match &row.summary {
@@ -115,7 +128,8 @@ fn put_summary(out: &mut Vec<u8>, row: &Row) -> Result<(), AllocError>
 }
 
 fn put_progress(out: &mut Vec<u8>, row: &Row) -> Result<(), AllocError>
-    ensures { OnOk result (out.new.items ≡ out.old.items ++ progress_text row.now) }
+    ensures text { OnOk result (out.new.items ≡ out.old.items ++ progress_text row.now) }
+    ensures extends { Extends out.old.items out.new.items }
 {
     put(out, "  PROGRESS ")?;
     put_shown_number(out, row.progress)?;
@@ -123,7 +137,8 @@ fn put_progress(out: &mut Vec<u8>, row: &Row) -> Result<(), AllocError>
 }
 
 fn put_attendee(out: &mut Vec<u8>, attendee: &ShownAttendee) -> Result<(), AllocError>
-    ensures { OnOk result (out.new.items ≡ out.old.items ++ attendee_text attendee.now) }
+    ensures text { OnOk result (out.new.items ≡ out.old.items ++ attendee_text attendee.now) }
+    ensures extends { Extends out.old.items out.new.items }
 {
     put(out, "  ATTENDEE ")?;
     put(out, attendee.address.as_str())?;
@@ -135,7 +150,8 @@ fn put_attendee(out: &mut Vec<u8>, attendee: &ShownAttendee) -> Result<(), Alloc
 }
 
 fn put_shown_moment(out: &mut Vec<u8>, moment: &Option<Moment>) -> Result<(), AllocError>
-    ensures { OnOk result (out.new.items ≡ out.old.items ++ shown shown_moment moment.now) }
+    ensures text { OnOk result (out.new.items ≡ out.old.items ++ shown shown_moment moment.now) }
+    ensures extends { Extends out.old.items out.new.items }
 {
     match moment {
         Some(moment) => put_moment(out, moment),
@@ -144,7 +160,8 @@ fn put_shown_moment(out: &mut Vec<u8>, moment: &Option<Moment>) -> Result<(), Al
 }
 
 fn put_moment(out: &mut Vec<u8>, moment: &Moment) -> Result<(), AllocError>
-    ensures { OnOk result (out.new.items ≡ out.old.items ++ shown_moment moment.now) }
+    ensures text { OnOk result (out.new.items ≡ out.old.items ++ shown_moment moment.now) }
+    ensures extends { Extends out.old.items out.new.items }
 {
     if let Moment::Zoned(zone, _) = moment {
         put(out, "TZID=")?;
@@ -155,7 +172,8 @@ fn put_moment(out: &mut Vec<u8>, moment: &Moment) -> Result<(), AllocError>
 }
 
 fn put_status(out: &mut Vec<u8>, status: Option<Status>) -> Result<(), AllocError>
-    ensures { OnOk result (out.new.items ≡ out.old.items ++ shown status_text status) }
+    ensures text { OnOk result (out.new.items ≡ out.old.items ++ shown status_text status) }
+    ensures extends { Extends out.old.items out.new.items }
 {
     match status {
         Some(status) => put(out, status.as_str()),
@@ -164,7 +182,8 @@ fn put_status(out: &mut Vec<u8>, status: Option<Status>) -> Result<(), AllocErro
 }
 
 fn put_shown_number(out: &mut Vec<u8>, number: Option<u8>) -> Result<(), AllocError>
-    ensures { OnOk result (out.new.items ≡ out.old.items ++ shown decimal number) }
+    ensures text { OnOk result (out.new.items ≡ out.old.items ++ shown decimal number) }
+    ensures extends { Extends out.old.items out.new.items }
 {
     match number {
         Some(number) => put_number(out, number as u32),
@@ -173,14 +192,16 @@ fn put_shown_number(out: &mut Vec<u8>, number: Option<u8>) -> Result<(), AllocEr
 }
 
 fn put_number(out: &mut Vec<u8>, number: u32) -> Result<(), AllocError>
-    ensures { OnOk result (out.new.items ≡ out.old.items ++ decimal number) }
+    ensures text { OnOk result (out.new.items ≡ out.old.items ++ decimal number) }
+    ensures extends { Extends out.old.items out.new.items }
 {
     let digits = number.to_string(*out.allocator())?;
     put(out, digits.as_str())
 }
 
 fn put(out: &mut Vec<u8>, text: &str) -> Result<(), AllocError>
-    ensures { OnOk result (out.new.items ≡ out.old.items ++ text.now) }
+    ensures text { OnOk result (out.new.items ≡ out.old.items ++ text.now) }
+    ensures extends { Extends out.old.items out.new.items }
 {
     out.extend_from_slice(text.as_bytes())
 }

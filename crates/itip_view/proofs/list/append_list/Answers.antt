@@ -6,5 +6,5 @@ use Rattle.itip_view.proofs.list.append_list.Goals as goal
 pub loop-row-preserved : goal.loop-row-preserved
 loop-row-preserved c =
     let more = flat_map_more row_text c.args.rows.now c.loop-row.row-index c.row-item.result c.loop-row-test.true c.row-item.is in
-    c.in_ok-put_row.ensures ∙ ap (λ front. front ++ row_text c.row-item.result) c.loop-row.invariant
+    c.in_ok-put_row.ensures.text ∙ ap (λ front. front ++ row_text c.row-item.result) c.loop-row.invariant
     ∙ append_assoc c.args.out.now.items (list_text (take c.loop-row.row-index c.args.rows.now)) (row_text c.row-item.result) ∙ ap (λ rest. c.args.out.now.items ++ rest) (sym more)
