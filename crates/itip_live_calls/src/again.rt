@@ -1,5 +1,5 @@
 //! Calls of which one request for memory may be refused: where it is, they see that nothing has changed, and make the call once more. So the answer is that of
-//! an undisturbed run, or the run ends for want of memory where no call was tried.
+//! an undisturbed run, or the run ends out of memory where the request was beside the call.
 
 use crate::error::CallError;
 use crate::picture::{octets, picture};
