@@ -1,44 +1,38 @@
 /* Loaded before a program (LD_PRELOAD), refuses one of its requests for memory: the one of the number REFUSE, counted from 1.
-   Where COUNT names a file, the number of all requests is written to it at the end. For bin/refusals alone; no proof speaks of it. */
+   Where COUNT names a file of eight octets, the number of requests so far stands in it. For bin/refusals alone; no proof speaks of it. */
 #define _GNU_SOURCE
 #include <errno.h>
+#include <fcntl.h>
 #include <stdatomic.h>
 #include <stddef.h>
-#include <stdio.h>
 #include <stdlib.h>
+#include <sys/mman.h>
 
 extern void *__libc_malloc(size_t);
 extern void *__libc_calloc(size_t, size_t);
 extern void *__libc_realloc(void *, size_t);
 extern void *__libc_memalign(size_t, size_t);
 
-static _Atomic unsigned long requests;
+static _Atomic unsigned long own;
+static _Atomic unsigned long *requests = &own;
 static unsigned long refused;
 
 __attribute__((constructor)) static void begin(void)
 {
-    const char *number = getenv("REFUSE");
-    atomic_store(&requests, 0);
-    refused = number ? strtoul(number, NULL, 10) : 0;
-}
-
-__attribute__((destructor)) static void end(void)
-{
-    const char *path = getenv("COUNT");
-    unsigned long all = atomic_load(&requests);
-    FILE *file;
-    refused = 0;
-    file = path ? fopen(path, "w") : NULL;
-    if (file) {
-        fprintf(file, "%lu\n", all);
-        fclose(file);
+    const char *number = getenv("REFUSE"), *path = getenv("COUNT");
+    int file = path ? open(path, O_RDWR) : -1;
+    if (file >= 0) {
+        void *map = mmap(NULL, sizeof *requests, PROT_READ | PROT_WRITE, MAP_SHARED, file, 0);
+        if (map != MAP_FAILED)
+            requests = map;
     }
+    atomic_store(requests, 0);
+    refused = number ? strtoul(number, NULL, 10) : 0;
 }
 
 static int is_refused(void)
 {
-    unsigned long number = atomic_fetch_add(&requests, 1) + 1;
-    if (number != refused)
+    if (atomic_fetch_add(requests, 1) + 1 != refused)
         return 0;
     errno = ENOMEM;
     return 1;

@@ -27,5 +27,5 @@ fn octets_of(alloc: Global, part: &str) -> Result<Vec<u8>, CallError> {
     if part == "-" {
         return Ok(Vec::new(alloc));
     }
-    hex::decode(alloc, part).map_err(|_| CallError::Line)
+    Ok(hex::decode(alloc, part)?)
 }

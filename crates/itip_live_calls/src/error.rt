@@ -1,5 +1,6 @@
 //! Why a call gives no value.
 
+use hex::FromHexError;
 use itip_desk::DeskError;
 use itip_live::{LiveError, PassError};
 use itip_message::{Fault, ReadError};
@@ -59,8 +60,20 @@ impl<T: Drop> From<AllocFailed<T>> for CallError {
 }
 
 impl From<io::Error> for CallError {
-    fn from(_: io::Error) -> CallError {
-        CallError::Io
+    fn from(error: io::Error) -> CallError {
+        match error.kind() {
+            io::ErrorKind::OutOfMemory => CallError::NoMemory,
+            _ => CallError::Io,
+        }
+    }
+}
+
+impl From<FromHexError> for CallError {
+    fn from(error: FromHexError) -> CallError {
+        match error {
+            FromHexError::OutOfMemory => CallError::NoMemory,
+            _ => CallError::Line,
+        }
     }
 }
 

@@ -182,9 +182,12 @@ impl Running {
             receipt: _receipt,
         } = self;
         let mut passes = Vec::new(rt.alloc());
-        let _ = passes.push(first);
-        let _ = passes.push(second);
-        Ok(meet(rt, keeper, passes)?)
+        let is_one_lost = passes.push(first).is_err() || passes.push(second).is_err();
+        let met = meet(rt, keeper, passes)?;
+        if is_one_lost {
+            return Err(CallError::NoMemory);
+        }
+        Ok(met)
     }
 }
 
