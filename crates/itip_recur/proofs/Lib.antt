@@ -17,3 +17,6 @@ pub mod Zips
 pub mod Rests
 pub mod RuleTexts
 pub mod OneSeries
+pub mod InMonth
+pub mod WaitDays
+pub mod UnitWalks

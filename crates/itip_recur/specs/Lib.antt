@@ -2,6 +2,7 @@ pub mod Calendar
 pub mod Pattern
 pub mod Members
 pub mod Walk
+pub mod Waits
 pub mod Occurrences
 pub mod Adding
 pub mod RuleText

@@ -17,6 +17,8 @@ mod read;
 mod rule;
 mod series;
 mod shapes;
+mod waits;
+mod walk;
 
 pub use error::RecurError;
 pub use jiff_core::civil::Weekday;

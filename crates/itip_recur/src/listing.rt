@@ -13,9 +13,10 @@ ghost use Rattle.itip_recur.specs.Occurrences.{OccursIn, AreOccurrences, AreOver
 use crate::NoMemory;
 use crate::calendar::CALENDAR_END;
 use crate::error::RecurError;
-use crate::members::{end_of_days, is_up_to, next_day, on_day};
+use crate::members::{end_of_days, is_up_to, on_day};
 use crate::rule::{End, Rule};
 use crate::series::Series;
+use crate::walk::Walk;
 use itip_moment::Moment;
 use std::alloc::{AllocError, Global};
 use std::collections::BTreeSet;
@@ -181,10 +182,10 @@ fn add_between(
     requires later { moment_day series.now.start <ℤ from }
     ensures { IsStep limit (IsBetween series.now rule.now from end) found.old.keys found.new.keys result }
 {
-    let start = series.start.day();
+    let walk = Walk::new(rule, series.start.day());
     let mut day = from;
     while day < end {
-        let Some(next) = next_day(rule, start, day, end) else {
+        let Some(next) = walk.next_day(day, end) else {
             break;
         };
         add_on_day(found, series, rule, next, limit)?;
