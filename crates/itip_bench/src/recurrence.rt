@@ -71,10 +71,10 @@ fn series(alloc: Global, start: &str, rule: &str) -> Result<Series, BenchError> 
     let Reading::Plain(rule) = read_rule(alloc, rule)? else {
         return Err(BenchError::Words);
     };
-    Ok(Series {
+    Ok(Series::new(
         start,
-        rule: Some(rule),
-        rdates: ListOf::new(alloc),
-        exdates: ListOf::new(alloc),
-    })
+        Some(rule),
+        ListOf::new(alloc),
+        ListOf::new(alloc),
+    )?)
 }

@@ -20,3 +20,4 @@ pub mod OneSeries
 pub mod InMonth
 pub mod WaitDays
 pub mod UnitWalks
+pub mod Ascents

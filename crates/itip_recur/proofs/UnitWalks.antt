@@ -1,11 +1,11 @@
 -- A walk over the units of a rule: a day that a unit selects is in the pattern, and no other is.
-use Rattle.std.proofs.Common.{◌≡◌, ◌↔◌, ◌⊎◌, inl, inr, ℕ, ◌+◌, ◌%◌, ◌<◌, ◌≤◌, sym, subst, ap, ◌∙◌, arith, ℤ, pos, ◌+ℤ◌, ◌-ℤ◌, ◌<ℤ◌, ◌≤ℤ◌, unsigned_abs}
+use Rattle.std.proofs.Common.{◌≡◌, ◌↔◌, ◌⊎◌, inl, inr, ℕ, ◌+◌, ◌%◌, ◌<◌, subst, ap, ◌∙◌, arith, ℤ, pos, ◌+ℤ◌, ◌-ℤ◌, ◌<ℤ◌, ◌≤ℤ◌, unsigned_abs}
 use Rattle.std.proofs.lemmas.Int.{by_lt_z}
 use Rattle.jiff_core.proofs.SignedLemmas.{signed_arith}
 use Rattle.itip_moment.specs.Years.{IsDayNumber}
 use Rattle.itip_recur.specs.declared.rule.Rule.{Rule}
 use Rattle.itip_recur.specs.Calendar.{IsDayOrEnd}
-use Rattle.itip_recur.specs.Pattern.{unit_number, InPattern, IsSelected}
+use Rattle.itip_recur.specs.Pattern.{unit_number, IsSelected}
 use Rattle.itip_recur.specs.Walk.{IsNoDay, IsNextDay, IsUnitFrom}
 use Rattle.itip_recur.specs.Waits.{IsNone, IsFirst, IsWait}
 use Rattle.itip_recur.proofs.Dates.{pos-unsigned_abs}

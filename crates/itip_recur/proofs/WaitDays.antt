@@ -1,9 +1,8 @@
 -- Days that can be passed over.
-use Rattle.std.proofs.Common.{◌≡◌, ℕ, ◌+◌, ◌-◌, ◌<◌, ◌≤◌, sym, subst, ◌∙◌, arith, ℤ, pos, ◌+ℤ◌, ◌<ℤ◌, ◌≤ℤ◌}
-use Rattle.std.specs.List.{Any}
+use Rattle.std.proofs.Common.{◌≡◌, ℕ, ◌+◌, ◌-◌, ◌<◌, ◌≤◌, subst, arith, ℤ, pos, ◌≤ℤ◌}
 use Rattle.jiff_core.proofs.SignedLemmas.{signed_arith}
 use Rattle.itip_moment.specs.Years.{IsDayNumber}
-use Rattle.itip_recur.specs.Calendar.{month_of_year, day_of_month, month_length}
+use Rattle.itip_recur.specs.Calendar.{day_of_month, month_length}
 use Rattle.itip_recur.specs.Waits.{IsWait}
 use Rattle.itip_recur.proofs.InMonth.{IsInMonth, in_month}
 

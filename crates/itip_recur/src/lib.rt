@@ -6,6 +6,7 @@
 //! far from the start costs no step for each occurrence before it, unless the rule has COUNT.
 #![tactic(auto)]
 
+mod ascending;
 mod calendar;
 mod elements;
 mod error;

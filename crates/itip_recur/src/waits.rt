@@ -35,13 +35,7 @@ fn wait_in_month(days: &MonthDays, start: &CalendarDay, day: &CalendarDay) -> i3
 {
     match days {
         MonthDays::OfStart => wait_for_day(start.day, day),
-        days => {
-            if is_month_day(days, start, day) {
-                0
-            } else {
-                1
-            }
-        }
+        days => { if is_month_day(days, start, day) { 0 } else { 1 } }
     }
 }
 
@@ -57,13 +51,7 @@ fn wait_in_year(days: &YearDays, start: &CalendarDay, day: &CalendarDay) -> i32
         YearDays::Listed { months, .. } if !is_in_some_month(months.as_slice(), day) => {
             rest_of_month(day)
         }
-        days => {
-            if is_year_day(days, start, day) {
-                0
-            } else {
-                1
-            }
-        }
+        days => { if is_year_day(days, start, day) { 0 } else { 1 } }
     }
 }
 

@@ -90,12 +90,7 @@ fn earlier(day: i32, other: i32) -> i32
 }
 
 // The first day from `from` on and before `stop` that the frequency selects in its unit.
-fn first_selected(
-    frequency: &Frequency,
-    start: &CalendarDay,
-    from: i32,
-    stop: i32,
-) -> Option<i32>
+fn first_selected(frequency: &Frequency, start: &CalendarDay, from: i32, stop: i32) -> Option<i32>
     requires from_in { IsDayNumber from }
     requires stop_in { IsDayOrEnd stop }
     requires before { from <ℤ stop }
@@ -126,12 +121,7 @@ fn first_week_day(days: &WeekDays, start: i32, from: i32, stop: i32) -> Option<i
     None
 }
 
-fn first_date(
-    frequency: &Frequency,
-    start: &CalendarDay,
-    from: i32,
-    stop: i32,
-) -> Option<i32>
+fn first_date(frequency: &Frequency, start: &CalendarDay, from: i32, stop: i32) -> Option<i32>
     requires from_in { IsDayNumber from }
     requires stop_in { IsDayOrEnd stop }
     requires before { from <ℤ stop }

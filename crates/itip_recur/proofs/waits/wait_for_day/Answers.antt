@@ -1,4 +1,4 @@
-use Rattle.std.proofs.Common.{◌≡◌, ℤ, ◌-◌, ◌<◌, ◌≤ℤ◌, arith, FitsSigned, w32, to_z, to_z-of_z, pos}
+use Rattle.std.proofs.Common.{◌≡◌, ℤ, ◌-◌, ◌≤ℤ◌, arith, FitsSigned, w32, to_z, to_z-of_z, pos}
 use Rattle.std.proofs.lemmas.Int.{ints}
 use Rattle.jiff_core.proofs.SignedLemmas.{signed_arith}
 use Rattle.itip_recur.specs.Calendar.{day_of_month}
@@ -18,8 +18,8 @@ returns-else-day-wanted-clause-wait c =
     let day = c.args.day.now in
     let rest : FitsSigned w32 c.rest_of_month.result = omega (arith, signed_arith) in
     let none : (x : ℤ) → IsInMonth day.number x → day.number ≤ℤ x → day_of_month x ≡ c.args.wanted → ⊥ =
-        elim c.else-day-wanted.branch [
-          | else-day-wanted-via-then-day-wanted+else-wanted-day w ↦ λ x at low same. too_long day.number x c.args.wanted (omega (arith, day.length_is)) at same
-          | else-day-wanted-via-else-day-wanted w ↦ λ x at low same. past day.number x c.args.wanted (omega (arith, day.day_is)) at low same
-        ] in
+    elim c.else-day-wanted.branch [
+      | else-day-wanted-via-then-day-wanted+else-wanted-day w ↦ λ x at low same. too_long day.number x c.args.wanted (omega (arith, day.length_is)) at same
+      | else-day-wanted-via-else-day-wanted w ↦ λ x at low same. past day.number x c.args.wanted (omega (arith, day.day_is)) at low same
+    ] in
     rw to_z-of_z (in_rest (λ x. day_of_month x ≡ c.args.wanted) day.number c.rest_of_month.result day.in_years c.rest_of_month.ensures.low c.rest_of_month.ensures.value none)

@@ -1,8 +1,8 @@
-use Rattle.std.proofs.Common.{◌≡◌, ℤ, ◌≤ℤ◌, arith, FitsSigned, w32, to_z-of_z, sym, ◌∙◌, subst, ℕ}
+use Rattle.std.proofs.Common.{◌≡◌, arith, FitsSigned, w32, to_z-of_z, sym, ◌∙◌, subst, ℕ}
 use Rattle.std.specs.List.{Any}
 use Rattle.jiff_core.proofs.SignedLemmas.{signed_arith}
 use Rattle.itip_recur.specs.Calendar.{month_of_year, day_of_month}
-use Rattle.itip_recur.specs.Pattern.{IsYearDay, IsAtPlace}
+use Rattle.itip_recur.specs.Pattern.{IsAtPlace}
 use Rattle.itip_recur.proofs.WaitDays.{in_rest}
 use Rattle.itip_recur.proofs.waits.wait_in_year.Goals as goal
 

@@ -1,4 +1,4 @@
-use Rattle.std.proofs.Common.{◌≡◌, ◌-ℤ◌, ◌≤ℤ◌, ◌<ℤ◌, pos, unsigned_abs}
+use Rattle.std.proofs.Common.{◌≡◌, ◌-ℤ◌, ◌≤ℤ◌, unsigned_abs}
 use Rattle.itip_recur.specs.Pattern.{IsSelected}
 use Rattle.itip_recur.specs.Waits.{IsNone}
 use Rattle.itip_recur.proofs.walk.first_date.Given as goal

@@ -1,4 +1,4 @@
-use Rattle.std.proofs.Common.{◌≡◌, ◌%◌, inl, inr, arith, pos, ◌-ℤ◌, FitsSigned, w32, to_z-of_z, sym, ◌∙◌}
+use Rattle.std.proofs.Common.{◌≡◌, inl, inr, arith, pos, ◌-ℤ◌, FitsSigned, w32, to_z-of_z, sym, ◌∙◌}
 use Rattle.std.proofs.lemmas.Bool.{cases_lt}
 use Rattle.jiff_core.proofs.SignedLemmas.{signed_arith}
 use Rattle.itip_moment.specs.Years.{IsDayNumber}
@@ -43,9 +43,9 @@ returns-else-number-here c =
           let below = (c.first_day-day.ensures.before x x_in).0 high in
           next.skipped (unit x) (omega (arith, here, rises)) below (in_pattern.congruent ∙ sym c.args.self.now.residue_is);
       low = λ x x_in low. elim (cases_lt (unit x) c.next_congruent-number.result) [
-            | inl lt ↦ absurd (let before = (c.first_day-day.ensures.before x x_in).1 lt in omega (arith, signed_arith))
-            | inr le ↦ le
-          ];
+        | inl lt ↦ absurd (let before = (c.first_day-day.ensures.before x x_in).1 lt in omega (arith, signed_arith))
+        | inr le ↦ le
+      ];
       high = λ first_in.
           let later = (c.first_day-day.ensures.before c.args.day day_in).1 (omega (arith, here, next.near, next.not_before, c.if-number-here.false)) in
           let before_in : IsDayNumber (c.first_day-day.result -ℤ pos 1) = (omega (arith, signed_arith, later, day_in), omega (arith, signed_arith, first_in)) in
