@@ -47,7 +47,7 @@ pub record IsInMonth (day x : ℤ) : Type 0 where
   pub at : pos (day_of_month x) +ℤ day ≡ pos (day_of_month day) +ℤ x
   pub within : day_of_month x ≤ month_length day
 
-pos-days_from_zero-low : (x : ℤ) → pos 0 ≤ℤ (x +ℤ pos 719_528) → pos (days_from_zero x) ≡ x +ℤ pos 719_528
+pub pos-days_from_zero-low : (x : ℤ) → pos 0 ≤ℤ (x +ℤ pos 719_528) → pos (days_from_zero x) ≡ x +ℤ pos 719_528
 unfolding days_from_zero
 pos-days_from_zero-low x low = pos-unsigned_abs (x +ℤ pos 719_528) low
 

@@ -21,3 +21,4 @@ pub mod InMonth
 pub mod WaitDays
 pub mod UnitWalks
 pub mod Ascents
+pub mod PeriodWalks

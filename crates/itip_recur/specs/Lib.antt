@@ -3,6 +3,7 @@ pub mod Pattern
 pub mod Members
 pub mod Walk
 pub mod Waits
+pub mod Counting
 pub mod Occurrences
 pub mod Adding
 pub mod RuleText

@@ -14,6 +14,7 @@ mod listing;
 mod members;
 mod parts;
 mod pattern;
+mod periods;
 mod read;
 mod rule;
 mod series;
