@@ -25,7 +25,7 @@ use Rattle.itip_recur.proofs.Counted.{Counted-start, Counted-more, Counted-passe
 later : (day : ℤ) (n : ℕ) → neg_ℤ (pos 719_528) ≤ℤ day → days_from_zero (day +ℤ pos n) ≡ days_from_zero day + n
 later day n low = omega (arith, signed_arith, pos-days_from_zero-low day (omega (arith, signed_arith)), pos-days_from_zero-low (day +ℤ pos n) (omega (arith, signed_arith)))
 
-monday_zero-small : (w : Weekday) → monday_zero w ≤ 6
+pub monday_zero-small : (w : Weekday) → monday_zero w ≤ 6
 monday_zero-small Monday = omega arith
 monday_zero-small Tuesday = omega arith
 monday_zero-small Wednesday = omega arith

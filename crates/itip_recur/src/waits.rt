@@ -1,12 +1,14 @@
 //! How many days pass before a frequency selects one.
-ghost use Rattle.std.specs.Prelude.{◌≡◌, ◌+◌, ◌-◌, pos, ◌≤ℤ◌};
+ghost use Rattle.std.specs.Prelude.{◌≡◌, ◌+◌, ◌-◌, ℤ, pos, ◌+ℤ◌, ◌≤ℤ◌};
+ghost use Rattle.itip_moment.specs.Years.{IsDayNumber};
 ghost use Rattle.itip_recur.specs.Calendar.{day_of_month, month_length};
-ghost use Rattle.itip_recur.specs.Pattern.{IsSelected, IsMonthDay, IsYearDay};
-ghost use Rattle.itip_recur.specs.Waits.{IsWait};
+ghost use Rattle.itip_recur.specs.Pattern.{IsSelected, IsMonthDay, IsMonthWeekday, IsOnWeekday, IsYearDay};
+ghost use Rattle.itip_recur.specs.Waits.{IsNone, IsWait};
 
-use crate::calendar::CalendarDay;
+use crate::Weekday;
+use crate::calendar::{CalendarDay, weekday_number};
 use crate::pattern::{is_in_some_month, is_month_day, is_week_day, is_year_day};
-use crate::rule::{Frequency, MonthDays, YearDays};
+use crate::rule::{Frequency, MonthDays, MonthWeekday, YearDays};
 
 /// So many days can be passed over: none of them is selected, and where it is 0 this one is.
 pub(crate) fn wait(frequency: &Frequency, start: &CalendarDay, day: &CalendarDay) -> i32
@@ -35,8 +37,48 @@ fn wait_in_month(days: &MonthDays, start: &CalendarDay, day: &CalendarDay) -> i3
 {
     match days {
         MonthDays::OfStart => wait_for_day(start.day, day),
-        days => { if is_month_day(days, start, day) { 0 } else { 1 } }
+        days => {
+            if is_month_day(days, start, day) {
+                0
+            } else {
+                wait_behind(days, day.number)
+            }
+        }
     }
+}
+
+// From a day that isn't selected on: to the weekday where one alone is named, else to the next day.
+fn wait_behind(days: &MonthDays, day: i32) -> i32
+    requires day_in { IsDayNumber day }
+    ensures low { pos 1 ≤ℤ result }
+    ensures high { result ≤ℤ pos 31 }
+    ensures none { (start : ℤ) → IsNone (IsMonthDay days.now start) (day +ℤ pos 1) (day +ℤ result) }
+{
+    match days {
+        MonthDays::Weekdays(weekdays) => match weekdays.as_slice() {
+            [one] => wait_for_weekday(weekday_of(*one), day),
+            _ => 1,
+        },
+        MonthDays::OfStart | MonthDays::Listed(_) => 1,
+    }
+}
+
+fn weekday_of(one: MonthWeekday) -> Weekday
+    ensures { (day : ℤ) → IsMonthWeekday one day → IsOnWeekday result day }
+{
+    match one {
+        MonthWeekday::Every(weekday) | MonthWeekday::Nth(_, weekday) => weekday,
+    }
+}
+
+// To the next such weekday behind this day.
+fn wait_for_weekday(weekday: Weekday, day: i32) -> i32
+    requires day_in { IsDayNumber day }
+    ensures low { pos 1 ≤ℤ result }
+    ensures high { result ≤ℤ pos 7 }
+    ensures none { IsNone (IsOnWeekday weekday) (day +ℤ pos 1) (day +ℤ result) }
+{
+    ((weekday.index() + 6 - weekday_number(day)) % 7 + 1) as i32
 }
 
 // A month that a rule doesn't name is passed over whole.
