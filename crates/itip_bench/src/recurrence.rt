@@ -10,12 +10,20 @@ use std::rt::Clock;
 use std::time::Duration;
 
 /// DTSTART, RRULE, and the first day of the window of 3,660 days, counted from 1970-01-01.
-const SERIES: [(&str, &str, i32); 5] = [
+const SERIES: [(&str, &str, i32); 9] = [
     ("20240101", "FREQ=DAILY", 20_454),
     ("20240101", "FREQ=WEEKLY;BYDAY=TU,FR", 20_454),
+    ("20240101", "FREQ=WEEKLY;INTERVAL=2;BYDAY=MO,TH", 20_454),
+    ("20240101", "FREQ=WEEKLY;BYDAY=TU,FR;COUNT=400", 20_454),
     ("20240101", "FREQ=MONTHLY;BYDAY=-1FR", 20_454),
     ("20240229", "FREQ=YEARLY", 20_454),
     ("19700101", "FREQ=DAILY", 2_567_664),
+    ("19700101", "FREQ=MONTHLY;BYDAY=-1FR", 2_567_664),
+    (
+        "19700101",
+        "FREQ=WEEKLY;BYDAY=TU,FR;COUNT=800000",
+        2_567_664,
+    ),
 ];
 
 /// How many days the window has.
@@ -71,10 +79,5 @@ fn series(alloc: Global, start: &str, rule: &str) -> Result<Series, BenchError> 
     let Reading::Plain(rule) = read_rule(alloc, rule)? else {
         return Err(BenchError::Words);
     };
-    Ok(Series {
-        start,
-        rule: Some(rule),
-        rdates: ListOf::new(alloc),
-        exdates: ListOf::new(alloc),
-    })
+    Ok(Series::new(start, Some(rule), ListOf::new(alloc), ListOf::new(alloc))?)
 }

@@ -55,12 +55,10 @@ fn series_of(
     rdates: &str,
     exdates: &str,
 ) -> Result<Series, CallError> {
-    Ok(Series {
-        start: moment_of(alloc, start)?,
-        rule: rule_if_any(alloc, rule)?,
-        rdates: moments_of(alloc, rdates)?,
-        exdates: moments_of(alloc, exdates)?,
-    })
+    let start = moment_of(alloc, start)?;
+    let rule = rule_if_any(alloc, rule)?;
+    let rdates = moments_of(alloc, rdates)?;
+    Ok(Series::new(start, rule, rdates, moments_of(alloc, exdates)?)?)
 }
 
 fn rule_if_any(alloc: Global, text: &str) -> Result<Option<Rule>, CallError> {

@@ -1,19 +1,12 @@
 -- Steps of a listing, one after another.
-use Rattle.std.proofs.Common.{◌≡◌, ◌↔◌, ◌⊎◌, inl, inr, ℕ, Bool, true, false, cond, refl, sym, subst, ap, ◌∙◌, List, Result, Ok, Err}
+use Rattle.std.proofs.Common.{◌≡◌, ◌↔◌, ◌⊎◌, inl, inr, ℕ, sym, subst, List, [], ◌∷◌, ◌++◌, Result, Ok, Err}
 use Rattle.std.specs.List.{Contains}
-use Rattle.std.specs.BTreeSet.{BTreeSet, contains, Updates}
-use Rattle.std.specs.BTreeMap.{is_at}
-use Rattle.std.specs.Ordering.{is_eq}
-use Rattle.std.proofs.lemmas.Cmp.{tied_itself}
-use Rattle.std.proofs.lemmas.Map.Views.{btree_set_contains_iff, tells_apart}
+use Rattle.std.proofs.lemmas.List.Elements.{Contains-append_left, Contains-push, Contains-push_cases}
 use Rattle.itip_moment.specs.declared.moment.Moment.{Moment}
-use Rattle.itip_moment.specs.Order.{moment_cmp}
-use Rattle.itip_moment.specs.OrderLaws.{moment_total}
-use Rattle.itip_moment.proofs.Same.{moment_equal}
 use Rattle.itip_recur.specs.declared.error.RecurError.{RecurError}
 use Rattle.itip_recur.specs.declared.error.RecurError.TheVariants.{TooMany, NoMemory}
 use Rattle.itip_recur.specs.Occurrences.{IfTooMany}
-use Rattle.itip_recur.specs.Adding.{Adds, Exceeds, IsStep, IsLeft}
+use Rattle.itip_recur.specs.Adding.{Adds, Exceeds, Gains, IsStep}
 
 pub Adds-none : (limit : ℕ) (P : Moment → Type 0) (old : List Moment) → ((m : Moment) → P m → ⊥) → Adds limit P old old
 Adds-none limit P old none = record { exactly = λ m. (λ h. inl h, λ h. elim h [ inl there ↦ there | inr is ↦ absurd (none m is) ]); small = λ h. h }
@@ -74,27 +67,36 @@ IsStep-after limit P R Q a b c (Ok x) like first h = Adds-like limit (λ m. P m 
 IsStep-after limit P R Q a b c (Err TooMany) like first h = Exceeds-like limit (λ m. P m ⊎ R m) Q a c (λ m. (like m).0) (Exceeds-after limit P R a b c first h)
 IsStep-after limit P R Q a b c (Err NoMemory) like first h = tt
 
--- a moment put into a set
-pub Contains-inserted : (excluded : List Moment) (old new : BTreeSet Moment) (moment : Moment) → (Contains excluded moment → ⊥) → Updates moment_cmp old new moment true → (m : Moment) → Contains new.keys m ↔ (Contains old.keys m ⊎ IsLeft excluded moment m)
-Contains-inserted excluded old new moment stays updates m = by_test m (is_at (moment_cmp moment) m) refl
-  where
-    here : (m : Moment) → contains moment_cmp new m ≡ cond (is_at (moment_cmp moment) m) true (contains moment_cmp old m)
-    here m = updates.0 m
+-- a moment put to the end
+push_gains : (old : List Moment) (moment : Moment) → Gains (λ m. m ≡ moment) old (old ++ moment ∷ [])
+push_gains old moment m = (
+  λ h. elim (Contains-push_cases old moment m h) [ inl there ↦ inl there | inr same ↦ inr (sym same) ],
+  λ h. elim h [ inl there ↦ Contains-append_left old (moment ∷ []) m there | inr same ↦ subst (Contains (old ++ moment ∷ [])) (sym same) (Contains-push old moment) ],
+)
 
-    by_test : (m : Moment) (b : Bool) → is_at (moment_cmp moment) m ≡ b → Contains new.keys m ↔ (Contains old.keys m ⊎ IsLeft excluded moment m)
-    by_test m true e =
-        let same : moment ≡ m = tells_apart moment_equal moment m e in (
-          λ h. inr (record { is = sym same; stays = subst (λ (x : Moment). Contains excluded x → ⊥) same stays }),
-          λ h. (btree_set_contains_iff moment_total moment_equal new m).0 (here m ∙ ap (λ t. cond t true (contains moment_cmp old m)) e),
-        )
-    by_test m false e =
-        let as_before : contains moment_cmp new m ≡ contains moment_cmp old m = here m ∙ ap (λ t. cond t true (contains moment_cmp old m)) e in (
-          λ h. inl ((btree_set_contains_iff moment_total moment_equal old m).0 (sym as_before ∙ (btree_set_contains_iff moment_total moment_equal new m).1 h)),
-          λ h. elim h [
-            | inl there ↦ (btree_set_contains_iff moment_total moment_equal new m).0 (as_before ∙ (btree_set_contains_iff moment_total moment_equal old m).1 there)
-            | inr left ↦ absurd (let tied : is_at (moment_cmp moment) m ≡ true = ap (λ x. is_eq (moment_cmp moment x)) left.is ∙ ap is_eq (tied_itself moment_total moment) in cc)
-          ],
-        )
+pub Gains-push : (old new : List Moment) (moment : Moment) → new ≡ old ++ moment ∷ [] → Gains (λ m. m ≡ moment) old new
+Gains-push old new moment is = subst (λ (ms : List Moment). Gains (λ m. m ≡ moment) old ms) (sym is) (push_gains old moment)
+
+pub Gains-none : (P : Moment → Type 0) (old : List Moment) → ((m : Moment) → P m → ⊥) → Gains P old old
+Gains-none P old none m = (λ h. inl h, λ h. elim h [ inl there ↦ there | inr is ↦ absurd (none m is) ])
+
+pub Gains-like : (P Q : Moment → Type 0) (old new : List Moment) → ((m : Moment) → P m ↔ Q m) → Gains P old new → Gains Q old new
+Gains-like P Q old new like gains m = (
+  λ h. elim ((gains m).0 h) [ inl there ↦ inl there | inr is ↦ inr ((like m).0 is) ],
+  λ h. elim h [ inl there ↦ (gains m).1 (inl there) | inr is ↦ (gains m).1 (inr ((like m).1 is)) ],
+)
+
+pub Gains-both : (P Q : Moment → Type 0) (a b c : List Moment) → Gains P a b → Gains Q b c → Gains (λ m. P m ⊎ Q m) a c
+Gains-both P Q a b c first second m = (
+  λ h. elim ((second m).0 h) [
+    | inl there ↦ elim ((first m).0 there) [ inl old ↦ inl old | inr is ↦ inr (inl is) ]
+    | inr is ↦ inr (inr is)
+  ],
+  λ h. elim h [
+    | inl old ↦ (second m).1 (inl ((first m).1 (inl old)))
+    | inr is ↦ elim is [ inl p ↦ (second m).1 (inl ((first m).1 (inr p))) | inr q ↦ (second m).1 (inr q) ]
+  ],
+)
 
 pub IfTooMany-like : {P Q : Type 0} (e : RecurError) → (P → Q) → IfTooMany e P → IfTooMany e Q
 IfTooMany-like TooMany like h = like h

@@ -1,5 +1,5 @@
 -- The days of a rule that a walk has counted from its start.
-use Rattle.std.proofs.Common.{◌≡◌, ℕ, ◌+◌, ◌<◌, ◌≤◌, ◌↔◌, inl, inr, true, false, refl, sym, subst, arith, ℤ, pos, ◌+ℤ◌, ◌<ℤ◌, List, [], ◌∷◌, ◌++◌, map, length, length-append}
+use Rattle.std.proofs.Common.{◌≡◌, ℕ, ◌+◌, ◌<◌, ◌≤◌, ◌↔◌, inl, inr, true, false, refl, sym, subst, arith, ℤ, pos, ◌+ℤ◌, ◌<ℤ◌, ◌≤ℤ◌, List, [], ◌∷◌, ◌++◌, map, length, length-append}
 use Rattle.std.proofs.lemmas.List.{length-map}
 use Rattle.std.specs.List.{Contains, IsDistinct, list_any}
 use Rattle.std.specs.Ordering.{int_eq}
@@ -18,6 +18,7 @@ use Rattle.itip_moment.proofs.Same.{same_day}
 use Rattle.itip_recur.specs.declared.rule.Rule.{Rule}
 use Rattle.itip_recur.specs.Pattern.{IsLaterDay}
 use Rattle.itip_recur.specs.Walk.{IsNoDay, IsNextDay, AreFewerDays, IsEarlier, IsEndOfCount}
+use Rattle.itip_recur.specs.Counting.{Counted}
 
 exact_signed_eq : (x y : ℤ) → int_eq x y ≡ true → x ≡ y
 exact_signed_eq x y e = grind (arith, ints)
@@ -43,15 +44,6 @@ not_among days y absent =
       | true ↦ λ h. absurd (absent (Contains-numbers days y (Contains-from_any exact_signed_eq y.number (map (λ d. d.number) days) h)))
       | false ↦ λ h. refl
     ] refl
-
--- the days of the rule before `day` are so many, and each of them has fewer than `count` before it
-pub record Counted (rule : Rule) (start : ℤ) (count seen : ℕ) (day : ℤ) : Type 0 where
-  pub after : start <ℤ day
-  pub days : List Day
-  pub exactly : (e : Day) → Contains days e ↔ IsEarlier rule start day e.number
-  pub distinct : IsDistinct int_eq (map (λ d. d.number) days)
-  pub many : length days ≡ seen
-  pub inside : (d : ℤ) → IsLaterDay rule start d → d <ℤ day → AreFewerDays (IsEarlier rule start d) count
 
 no_later_yet : (rule : Rule) (start d : ℤ) → IsLaterDay rule start d → d <ℤ (start +ℤ pos 1) → ⊥
 no_later_yet rule start d later lt = let after = later.later in omega (arith, signed_arith)
@@ -138,4 +130,25 @@ Counted-none rule start count seen day end c none =
     record {
       inside = λ d later before_end lt. by_lt_z d day (c.inside d later) (λ ge. absurd (none d ge before_end later.in_pattern));
       outside = λ d later before_end ge fewer. omega (arith, signed_arith);
+    }
+
+-- days that aren't in the pattern change nothing
+pub Counted-passed : (rule : Rule) (start : ℤ) (count seen : ℕ) (day next : ℤ) → Counted rule start count seen day → day ≤ℤ next → IsNoDay rule start day next → Counted rule start count seen next
+Counted-passed rule start count seen day next c le none =
+    let after = c.after in
+    record {
+      after = omega (arith, signed_arith);
+      days = c.days;
+      exactly = λ e. (
+        λ h. let earlier = (c.exactly e).0 h in let lt = earlier.1 in (earlier.0, omega (arith, signed_arith)),
+        λ h. by_lt_z e.number day
+            (λ lt. (c.exactly e).1 (h.0, lt))
+            (λ ge. elim h.0 [
+              | inl same ↦ absurd (omega (arith, signed_arith))
+              | inr later ↦ absurd (none e.number ge h.1 later.in_pattern)
+            ]),
+      );
+      distinct = c.distinct;
+      many = c.many;
+      inside = λ d later lt. by_lt_z d day (c.inside d later) (λ ge. absurd (none d ge lt later.in_pattern));
     }

@@ -1,7 +1,7 @@
 -- Later days have later dates, and a month's days are those before the next.
 use Rattle.std.proofs.Common.{◌≡◌, ℕ, zero, suc, ◌+◌, ◌*◌, ◌<◌, ◌≤◌, ◌⊎◌, inl, inr, ◌↔◌, true, false, cond, nat_lt, refl, sym, subst, arith, ℤ, pos, negsuc, ◌+ℤ◌, ◌<ℤ◌, ◌≤ℤ◌, unsigned_abs}
 use Rattle.std.proofs.lemmas.Int.{by_lt_z}
-use Rattle.std.proofs.lemmas.Bool.{cases_lt}
+use Rattle.std.proofs.lemmas.Bool.{cases_lt, ltb-false}
 use borrow.Author.Tests.{ltb-true}
 use Rattle.jiff.specs.Words.{days_in_month}
 use Rattle.jiff_core.proofs.SignedLemmas.{signed_arith}
@@ -69,7 +69,7 @@ nth_date-later n (suc m) lt =
       | inr above ↦ let same : m ≡ n = omega arith in subst (λ (k : ℕ). IsLaterDate (nth_date k) (next_date (nth_date m))) same step
     ]
 
-pos-unsigned_abs : (z : ℤ) → pos 0 ≤ℤ z → pos (unsigned_abs z) ≡ z
+pub pos-unsigned_abs : (z : ℤ) → pos 0 ≤ℤ z → pos (unsigned_abs z) ≡ z
 pos-unsigned_abs (pos n) h = refl
 pos-unsigned_abs (negsuc n) h = absurd (omega (arith, signed_arith))
 
@@ -79,6 +79,38 @@ pos-days_from_zero day in_years = pos-unsigned_abs (day +ℤ pos 719_528) (omega
 
 pub later_date : (a b : ℤ) → IsDayNumber a → IsDayNumber b → a <ℤ b → IsLaterDate (date_of a) (date_of b)
 later_date a b a_in b_in lt = nth_date-later (days_from_zero a) (days_from_zero b) (omega (arith, signed_arith, pos-days_from_zero a a_in, pos-days_from_zero b b_in))
+
+-- the next date lies in the same month and year, or in the next
+record IsNear (d e : YearMonthDay) : Type 0 where
+  month : months e ≤ months d + 1
+  year : e.year ≤ d.year + 1
+
+next_date-near : (d : YearMonthDay) → IsPlain d → IsNear d (next_date d)
+next_date-near d h =
+    elim (nat_lt d.day (days_in_month (pos d.year) d.month)) as (λ b. IsNear d (cond b (record d { day = d.day + 1 }) (cond (nat_lt d.month 12) (record { year = d.year; month = d.month + 1; day = 1 }) (record { year = d.year + 1; month = 1; day = 1 })))) [
+      | true ↦ record { month = omega arith; year = omega arith }
+      | false ↦
+          elim (nat_lt d.month 12) as (λ b. nat_lt d.month 12 ≡ b → IsNear d (cond b (record { year = d.year; month = d.month + 1; day = 1 }) (record { year = d.year + 1; month = 1; day = 1 }))) [
+            | true ↦ λ e. record { month = omega arith; year = omega arith }
+            | false ↦ λ e. let high : 12 ≤ d.month = omega (arith, ltb-false d.month 12 e) in record { month = omega arith; year = omega arith }
+          ] refl
+    ]
+
+nth_date-near : (n m : ℕ) → m ≡ n + 1 → IsNear (nth_date n) (nth_date m)
+unfolding nth_date
+nth_date-near n zero e = absurd (omega arith)
+nth_date-near n (suc m) e =
+    let same : m ≡ n = omega arith in
+    subst (λ (k : ℕ). IsNear (nth_date k) (next_date (nth_date m))) same (next_date-near (nth_date m) (nth_date-IsPlain m))
+
+near : (x y : ℤ) → IsDayNumber x → IsDayNumber y → y ≡ x +ℤ pos 1 → IsNear (date_of x) (date_of y)
+near x y x_in y_in next = nth_date-near (days_from_zero x) (days_from_zero y) (omega (arith, signed_arith, pos-days_from_zero x x_in, pos-days_from_zero y y_in, next))
+
+pub month_near : (x y : ℤ) → IsDayNumber x → IsDayNumber y → y ≡ x +ℤ pos 1 → month_number y ≤ month_number x + 1
+month_near x y x_in y_in next = (near x y x_in y_in next).month
+
+pub year_near : (x y : ℤ) → IsDayNumber x → IsDayNumber y → y ≡ x +ℤ pos 1 → year_number y ≤ year_number x + 1
+year_near x y x_in y_in next = (near x y x_in y_in next).year
 
 -- the days before the first of a month lie in earlier months
 pub first_of_month : (first : ℤ) (month : ℕ) → IsDayNumber first → month_number first ≡ month → day_of_month first ≡ 1 → (day : ℤ) → IsDayNumber day → (day <ℤ first) ↔ (month_number day < month)

@@ -17,3 +17,8 @@ pub mod Zips
 pub mod Rests
 pub mod RuleTexts
 pub mod OneSeries
+pub mod InMonth
+pub mod WaitDays
+pub mod UnitWalks
+pub mod Ascents
+pub mod PeriodWalks

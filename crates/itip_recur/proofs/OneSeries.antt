@@ -6,6 +6,9 @@ use Rattle.std.specs.Char.{to_ascii_lowercase}
 use Rattle.std.specs.Str.Parse.{IsNumeral}
 use mathlib.Core.HLevel.{is_prop→PathP}
 use denote.Struct.Props.{props}
+use Rattle.std.specs.List.Sorted.{IsStrictlySortedBy}
+use Rattle.std.proofs.lemmas.Map.Keys.{IsStrictlySortedBy-prop}
+use Rattle.itip_moment.specs.Order.{moment_cmp}
 use Rattle.jiff_core.specs.declared.civil.weekday.Weekday.{Weekday}
 use Rattle.jiff_core.specs.declared.civil.weekday.Weekday.TheVariants.{Monday, Tuesday, Wednesday, Thursday, Friday, Saturday, Sunday}
 use Rattle.itip_moment.specs.declared.moment.Moment.{Moment}
@@ -256,4 +259,10 @@ series_one todo s t p q =
     let rule : s.rule ≡ t.rule = rule_of_one todo.rule s.start t.start s.rule t.rule p.rule q.rule in
     let rdates : s.rdates ≡ t.rdates = p.rdates ∙ sym q.rdates in
     let exdates : s.exdates ≡ t.exdates = p.exdates ∙ sym q.exdates in
-    λ i. record { start = start i; rule = rule i; rdates = rdates i; exdates = exdates i }
+    λ i. record {
+      start = start i;
+      rule = rule i;
+      rdates = rdates i;
+      exdates = exdates i;
+      exdates_ascend = is_prop→PathP (λ j. IsStrictlySortedBy moment_cmp (exdates j)) (λ j. IsStrictlySortedBy-prop moment_cmp (exdates j)) s.exdates_ascend t.exdates_ascend i;
+    }

@@ -1,15 +1,17 @@
 -- Steps of a listing in a row: day after day, and moment after moment.
-use Rattle.std.proofs.Common.{◌≡◌, ◌⊎◌, inl, inr, ℕ, ◌+◌, ◌<◌, ◌≤◌, sym, subst, ap, ◌∙◌, ℤ, pos, ◌+ℤ◌, ◌<ℤ◌, ◌≤ℤ◌, List, [], ◌∷◌, ◌++◌, take, drop, length, get_or}
+use Rattle.std.proofs.Common.{◌≡◌, ◌↔◌, ◌⊎◌, inl, inr, ℕ, ◌+◌, ◌<◌, ◌≤◌, sym, subst, ap, ◌∙◌, arith, ℤ, pos, ◌+ℤ◌, ◌<ℤ◌, ◌≤ℤ◌, List, [], ◌∷◌, ◌++◌, take, length, get_or}
 use Rattle.std.specs.List.{Contains}
-use Rattle.std.proofs.lemmas.List.{take_more, take_all, take-append-drop}
-use Rattle.std.proofs.lemmas.List.Elements.{Contains-get_or, Contains-append_left}
+use Rattle.std.specs.List.Sorted.{IsStrictlySortedBy}
+use Rattle.std.proofs.lemmas.List.{take_more, take_all}
+use Rattle.jiff_core.proofs.SignedLemmas.{signed_arith}
+use Rattle.itip_moment.specs.Order.{moment_cmp}
 use Rattle.itip_moment.specs.declared.moment.Moment.{Moment}
 use Rattle.itip_moment.specs.Moment.{moment_day}
 use Rattle.itip_recur.specs.declared.rule.Rule.{Rule}
 use Rattle.itip_recur.specs.declared.series.Series.{Series}
 use Rattle.itip_recur.specs.Walk.{IsNoDay, IsNextDay}
-use Rattle.itip_recur.specs.Adding.{Adds, Exceeds, IsThis, IsBetween, IsOnDay, IsOneOf}
-use Rattle.itip_recur.proofs.Adds.{Adds-none, Adds-like, Adds-both, Exceeds-like, Exceeds-after}
+use Rattle.itip_recur.specs.Adding.{Adds, Exceeds, Gains, AreBefore, IsStart, IsThis, IsBetween, IsOnDay, IsOneOf}
+use Rattle.itip_recur.proofs.Adds.{Adds-none, Adds-like, Adds-both, Exceeds-like, Exceeds-after, Gains-like, Gains-both}
 use Rattle.itip_recur.proofs.Steps.{between_more, none_between, between_all, between_all_before, one_more}
 
 -- on the days before this one
@@ -39,24 +41,37 @@ module _ (limit : ℕ) (series : Series) (rule : Rule) (from end : ℤ) where
 abbrev pub IsOneOfFirst : ℕ → List Moment → Series → ℤ → ℤ → Moment → Type 0
 IsOneOfFirst i moments series from to m = IsOneOf (take i moments) series from to m
 
-Contains-take : (i : ℕ) (moments : List Moment) (m : Moment) → Contains (take i moments) m → Contains moments m
-Contains-take i moments m h = subst (λ (ms : List Moment). Contains ms m) (take-append-drop i moments) (Contains-append_left (take i moments) (drop i moments) m h)
-
-module _ (limit : ℕ) (moments : List Moment) (series : Series) (from to : ℤ) (i : ℕ) (old mid new : List Moment) (moment : Moment) where
-  pub list_more : i < length moments → moment ≡ get_or moments i moment → Adds limit (IsOneOfFirst i moments series from to) old mid → Adds limit (IsThis series from to moment) mid new → Adds limit (IsOneOfFirst (i + 1) moments series from to) old new
+module _ (moments : List Moment) (series : Series) (from to : ℤ) (i : ℕ) (old mid new : List Moment) (moment : Moment) where
+  pub list_more : i < length moments → moment ≡ get_or moments i moment → Gains (IsOneOfFirst i moments series from to) old mid → Gains (IsThis series from to moment) mid new → Gains (IsOneOfFirst (i + 1) moments series from to) old new
   list_more lt is so_far step =
-      Adds-like limit (λ m. IsOneOfFirst i moments series from to m ⊎ IsThis series from to moment m) (IsOneOfFirst (i + 1) moments series from to) old new
+      Gains-like (λ m. IsOneOfFirst i moments series from to m ⊎ IsThis series from to moment m) (IsOneOfFirst (i + 1) moments series from to) old new
       (one_more series from to (take i moments) (take (i + 1) moments) moment (take_more moments i moment lt ∙ ap (λ x. take i moments ++ x ∷ []) (sym is)))
-      (Adds-both limit (IsOneOfFirst i moments series from to) (IsThis series from to moment) old mid new so_far step)
+      (Gains-both (IsOneOfFirst i moments series from to) (IsThis series from to moment) old mid new so_far step)
 
-  pub list_over : i < length moments → moment ≡ get_or moments i moment → Adds limit (IsOneOfFirst i moments series from to) old mid → Exceeds limit (IsThis series from to moment) mid new → Exceeds limit (IsOneOf moments series from to) old new
-  list_over lt is so_far step =
-      Exceeds-like limit (λ m. IsOneOfFirst i moments series from to m ⊎ IsThis series from to moment m) (IsOneOf moments series from to) old new
-      (λ m h. elim h [
-        | inl first ↦ record { among = Contains-take i moments m first.among; kept = first.kept }
-        | inr this ↦ record { among = subst (Contains moments) (sym is ∙ sym this.is) (Contains-get_or moments i moment lt); kept = this.kept }
-      ])
-      (Exceeds-after limit (IsOneOfFirst i moments series from to) (IsThis series from to moment) old mid new so_far step)
+pub list_end : (moments : List Moment) (series : Series) (from to : ℤ) (i : ℕ) (old new : List Moment) → length moments ≤ i → Gains (IsOneOfFirst i moments series from to) old new → Gains (IsOneOf moments series from to) old new
+list_end moments series from to i old new le so_far = subst (λ (ms : List Moment). Gains (IsOneOf ms series from to) old new) (take_all i moments le) so_far
 
-pub list_end : (limit : ℕ) (moments : List Moment) (series : Series) (from to : ℤ) (i : ℕ) (old new : List Moment) → length moments ≤ i → Adds limit (IsOneOfFirst i moments series from to) old new → Adds limit (IsOneOf moments series from to) old new
-list_end limit moments series from to i old new le so_far = subst (λ (ms : List Moment). Adds limit (IsOneOf ms series from to) old new) (take_all i moments le) so_far
+-- what was found so far lies before the day to come
+pub before_next : (limit : ℕ) (series : Series) (rule : Rule) (from end day next : ℤ) (old new : List Moment) → from ≤ℤ day → day ≤ℤ next → AreBefore from old → Adds limit (IsSoFar series rule from end day) old new → AreBefore next new
+before_next limit series rule from end day next old new le later before adds m h =
+    elim ((adds.exactly m).0 h) [
+      | inl there ↦ let lt = before m there in omega (arith, signed_arith)
+      | inr is ↦ let lt = is.1 in omega (arith, signed_arith)
+    ]
+
+pub after_start : (limit : ℕ) (series : Series) (from to : ℤ) (old new : List Moment) → old ≡ [] → Adds limit (IsStart series from to) old new → AreBefore (moment_day series.start +ℤ pos 1) new
+after_start limit series from to old new empty adds m h =
+    elim ((adds.exactly m).0 h) [
+      | inl there ↦ absurd (let none : Contains [] m = subst (λ (ms : List Moment). Contains ms m) empty there in let low = none.1 in omega arith)
+      | inr start ↦ let same : moment_day m ≡ moment_day series.start = ap moment_day start.is in omega (arith, signed_arith)
+    ]
+
+pub before_later : (a b : ℤ) (moments : List Moment) → a ≤ℤ b → AreBefore a moments → AreBefore b moments
+before_later a b moments le before m h = let lt = before m h in omega (arith, signed_arith)
+
+-- what is put in order
+pub grown : (limit : ℕ) (P : Moment → Type 0) (old mid new : List Moment) → Gains P old mid → ((m : Moment) → Contains new m ↔ Contains mid m) → length new ≤ limit → Adds limit P old new
+grown limit P old mid new gains same small = record { exactly = λ m. (λ h. (gains m).0 ((same m).0 h), λ h. (same m).1 ((gains m).1 h)); small = λ h. small }
+
+pub outgrown : (limit : ℕ) (P : Moment → Type 0) (old mid new : List Moment) → Gains P old mid → ((m : Moment) → Contains new m ↔ Contains mid m) → IsStrictlySortedBy moment_cmp new → limit < length new → Exceeds limit P old new
+outgrown limit P old mid new gains same ascending many = record { ascending = ascending; each = λ m h. (gains m).0 ((same m).0 h); many = many }

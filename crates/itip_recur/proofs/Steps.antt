@@ -19,28 +19,31 @@ use Rattle.itip_recur.specs.Members.{HasTimeOf, IsRepeat, IsCandidate, IsWithinE
 use Rattle.itip_recur.specs.Occurrences.{OccursIn}
 use Rattle.itip_recur.specs.Pattern.{InPattern}
 use Rattle.itip_recur.specs.Walk.{IsNoDay, IsNextDay, IsUpTo}
-use Rattle.itip_recur.specs.Adding.{IsLeft, IsThis, IsStart, IsRepeatOf, IsBetween, IsOnDay, IsOneOf, IsMemberIn}
+use Rattle.itip_recur.specs.Adding.{IsKept, IsThis, IsStart, IsRepeatOf, IsBetween, IsOnDay, IsOneOf, IsMemberIn}
 use Rattle.itip_recur.proofs.Moments.{one_moment, moment_cmp-Greater, moment_day-in_years}
 
 -- one moment
 
-pub left_is_this : (series : Series) (from to : ℤ) (moment copy : Moment) → copy ≡ moment → from ≤ℤ moment_day moment → moment_day moment <ℤ to → (m : Moment) → IsLeft series.exdates copy m ↔ IsThis series from to moment m
-left_is_this series from to moment copy same low high m = (
-  λ left. let is : m ≡ moment = left.is ∙ same in
-      record { is = is; kept = record { stays = left.stays; not_before = subst (λ (x : Moment). from ≤ℤ moment_day x) (sym is) low; before_end = subst (λ (x : Moment). moment_day x <ℤ to) (sym is) high } },
-  λ this. record { is = this.is ∙ sym same; stays = this.kept.stays },
+pub kept_is_this : (series : Series) (from to : ℤ) (moment : Moment) → IsKept series from to moment → (m : Moment) → (m ≡ moment) ↔ IsThis series from to moment m
+kept_is_this series from to moment kept m = (λ is. record { is = is; kept = subst (IsKept series from to) (sym is) kept }, λ this. this.is)
+
+pub none_kept : (series : Series) (from to : ℤ) (moment : Moment) → (IsKept series from to moment → ⊥) → (m : Moment) → IsThis series from to moment m → ⊥
+none_kept series from to moment not m this = not (subst (IsKept series from to) this.is this.kept)
+
+pub is_on_day : (series : Series) (rule : Rule) (day : ℤ) (moment : Moment) → HasTimeOf series.start moment → moment_day moment ≡ day → IsUpTo rule.end moment → (Contains series.exdates moment → ⊥) → (m : Moment) → (m ≡ moment) ↔ IsOnDay series rule day m
+is_on_day series rule day moment time day_is up_to stays m = (
+  λ is. record {
+    time = subst (HasTimeOf series.start) (sym is) time;
+    day_is = ap moment_day is ∙ day_is;
+    up_to = subst (IsUpTo rule.end) (sym is) up_to;
+    stays = subst (λ (x : Moment). Contains series.exdates x → ⊥) (sym is) stays;
+  },
+  λ on. one_moment series.start m moment on.time time (on.day_is ∙ sym day_is),
 )
 
-pub left_on_day : (series : Series) (rule : Rule) (day : ℤ) (moment : Moment) → HasTimeOf series.start moment → moment_day moment ≡ day → IsUpTo rule.end moment → (m : Moment) → IsLeft series.exdates moment m ↔ IsOnDay series rule day m
-left_on_day series rule day moment time day_is up_to m = (
-  λ left. record {
-    time = subst (HasTimeOf series.start) (sym left.is) time;
-    day_is = ap moment_day left.is ∙ day_is;
-    up_to = subst (IsUpTo rule.end) (sym left.is) up_to;
-    stays = left.stays;
-  },
-  λ on. record { is = one_moment series.start m moment on.time time (on.day_is ∙ sym day_is); stays = on.stays },
-)
+pub excluded_on_day : (series : Series) (rule : Rule) (day : ℤ) (moment : Moment) → HasTimeOf series.start moment → moment_day moment ≡ day → Contains series.exdates moment → (m : Moment) → IsOnDay series rule day m → ⊥
+excluded_on_day series rule day moment time day_is among m on =
+    on.stays (subst (Contains series.exdates) (sym (one_moment series.start m moment on.time time (on.day_is ∙ sym day_is))) among)
 
 pub none_on_day : (series : Series) (rule : Rule) (day : ℤ) (moment : Moment) → HasTimeOf series.start moment → moment_day moment ≡ day → (IsUpTo rule.end moment → ⊥) → (m : Moment) → IsOnDay series rule day m → ⊥
 none_on_day series rule day moment time day_is after m on =
@@ -48,11 +51,14 @@ none_on_day series rule day moment time day_is after m on =
 
 -- the start
 
-pub this_is_start : (series : Series) (from to : ℤ) → IsRuleMember series.rule series.start series.start → (m : Moment) → IsThis series from to series.start m ↔ IsStart series from to m
-this_is_start series from to member m = (
-  λ this. record { is = this.is; member = subst (IsRuleMember series.rule series.start) (sym this.is) member; kept = this.kept },
-  λ start. record { is = start.is; kept = start.kept },
+pub kept_is_start : (series : Series) (from to : ℤ) → IsRuleMember series.rule series.start series.start → IsKept series from to series.start → (m : Moment) → (m ≡ series.start) ↔ IsStart series from to m
+kept_is_start series from to member kept m = (
+  λ is. record { is = is; member = subst (IsRuleMember series.rule series.start) (sym is) member; kept = subst (IsKept series from to) (sym is) kept },
+  λ start. start.is,
 )
+
+pub no_start : (series : Series) (from to : ℤ) → (IsRuleMember series.rule series.start series.start → IsKept series from to series.start → ⊥) → (m : Moment) → IsStart series from to m → ⊥
+no_start series from to not m start = not (subst (IsRuleMember series.rule series.start) start.is start.member) (subst (IsKept series from to) start.is start.kept)
 
 not_before_start : (rule : Rule) (start m : Moment) → IsCandidate rule start m → moment_cmp m start ≡ Less → ⊥
 not_before_start rule start m (inl same) less =

@@ -1,5 +1,5 @@
 -- The numbers of units don't fall from day to day.
-use Rattle.std.proofs.Common.{◌≡◌, ◌≤◌, inl, inr, ap, arith, ℤ, ◌≤ℤ◌}
+use Rattle.std.proofs.Common.{◌≡◌, ◌+◌, ◌≤◌, inl, inr, ap, arith, ℤ, pos, ◌+ℤ◌, ◌≤ℤ◌}
 use Rattle.std.proofs.lemmas.Int.{by_lt_z}
 use Rattle.jiff_core.specs.declared.civil.weekday.Weekday.{Weekday}
 use Rattle.jiff_core.proofs.SignedLemmas.{signed_arith}
@@ -8,7 +8,7 @@ use Rattle.itip_recur.specs.declared.rule.Frequency.{Frequency}
 use Rattle.itip_recur.specs.declared.rule.Frequency.TheVariants.{Daily, Weekly, Monthly, Yearly}
 use Rattle.itip_recur.specs.Calendar.{days_from_zero, month_number}
 use Rattle.itip_recur.specs.Pattern.{unit_number}
-use Rattle.itip_recur.proofs.Dates.{date_of-IsPlain, pos-days_from_zero, later_date}
+use Rattle.itip_recur.proofs.Dates.{date_of-IsPlain, pos-days_from_zero, later_date, month_near, year_near}
 
 month_number-rises : (a b : ℤ) → IsDayNumber a → IsDayNumber b → a ≤ℤ b → month_number a ≤ month_number b
 month_number-rises a b a_in b_in le =
@@ -27,3 +27,12 @@ unit_number-rises (Yearly d) w a b a_in b_in le =
     let low = date_of-IsPlain a in
     let high = date_of-IsPlain b in
     omega arith
+
+-- no unit is left out
+pub unit_number-near : (f : Frequency) (w : Weekday) (x y : ℤ) → IsDayNumber x → IsDayNumber y → y ≡ x +ℤ pos 1 → unit_number f w y ≤ unit_number f w x + 1
+unit_number-near Daily w x y x_in y_in next = omega (arith, signed_arith, pos-days_from_zero x x_in, pos-days_from_zero y y_in)
+unit_number-near (Weekly d) w x y x_in y_in next =
+    let days : days_from_zero y ≡ days_from_zero x + 1 = omega (arith, signed_arith, pos-days_from_zero x x_in, pos-days_from_zero y y_in) in
+    omega arith
+unit_number-near (Monthly d) w x y x_in y_in next = month_near x y x_in y_in next
+unit_number-near (Yearly d) w x y x_in y_in next = year_near x y x_in y_in next

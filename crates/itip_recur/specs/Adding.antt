@@ -1,4 +1,4 @@
--- What a step of a listing adds to the moments that were found; they are the keys of a set (our own form).
+-- What a step of a listing adds to the moments that were found (our own form).
 use Rattle.std.specs.Prelude.{◌≡◌, ◌↔◌, ℕ, ◌<◌, ◌≤◌, ◌⊎◌, List, length, Result, Ok, Err, ℤ, ◌≤ℤ◌, ◌<ℤ◌}
 use Rattle.std.specs.List.{Contains}
 use Rattle.std.specs.List.Sorted.{IsStrictlySortedBy}
@@ -8,6 +8,7 @@ use Rattle.itip_moment.specs.Order.{moment_cmp}
 use Rattle.itip_recur.specs.declared.series.Series.{Series}
 use Rattle.itip_recur.specs.declared.rule.Rule.{Rule}
 use Rattle.itip_recur.specs.declared.error.RecurError.{RecurError}
+use Rattle.itip_recur.specs.declared.ascending.Ascending.{Ascending}
 use Rattle.itip_recur.specs.Members.{HasTimeOf, IsRuleMember, IsRepeat, IsCandidate, IsWithinEnd}
 use Rattle.itip_recur.specs.Walk.{IsUpTo}
 use Rattle.itip_recur.specs.Occurrences.{IfTooMany}
@@ -23,10 +24,13 @@ pub record Exceeds (limit : ℕ) (P : Moment → Type 0) (old new : List Moment)
   pub each : (m : Moment) → Contains new m → Contains old m ⊎ P m
   pub many : limit < length new
 
--- a moment that isn't excluded
-pub record IsLeft (excluded : List Moment) (moment m : Moment) : Type 0 where
-  pub is : m ≡ moment
-  pub stays : Contains excluded m → ⊥
+-- there are now the moments that there were, and those that are P
+abbrev pub Gains : (Moment → Type 0) → List Moment → List Moment → Type 0
+Gains P old new = (m : Moment) → Contains new m ↔ (Contains old m ⊎ P m)
+
+-- all lie on days before this one
+abbrev pub AreBefore : ℤ → List Moment → Type 0
+AreBefore day moments = (m : Moment) → Contains moments m → moment_day m <ℤ day
 
 -- a moment of the window that isn't excluded
 pub record IsKept (series : Series) (from to : ℤ) (m : Moment) : Type 0 where
@@ -80,3 +84,8 @@ pub record IsMemberIn (series : Series) (from to : ℤ) (m : Moment) : Type 0 wh
 abbrev pub IsStep : {T : Type 0} → ℕ → (Moment → Type 0) → List Moment → List Moment → Result T RecurError → Type 0
 IsStep limit P old new (Ok x) = Adds limit P old new
 IsStep limit P old new (Err e) = IfTooMany e (Exceeds limit P old new)
+
+-- a step that gives the moments that there were and those that are P, or finds too many
+abbrev pub IsGrown : ℕ → (Moment → Type 0) → List Moment → Result Ascending RecurError → Type 0
+IsGrown limit P old (Ok found) = Adds limit P old found.moments.items
+IsGrown limit P old (Err e) = IfTooMany e ((new : List Moment) × Exceeds limit P old new)

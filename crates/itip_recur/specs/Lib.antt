@@ -2,6 +2,8 @@ pub mod Calendar
 pub mod Pattern
 pub mod Members
 pub mod Walk
+pub mod Waits
+pub mod Counting
 pub mod Occurrences
 pub mod Adding
 pub mod RuleText

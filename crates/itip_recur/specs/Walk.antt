@@ -1,5 +1,5 @@
 -- What the walk over the days of a rule finds (our own form).
-use Rattle.std.specs.Prelude.{◌≢◌, ℕ, ◌<◌, List, length, ℤ, ◌≤ℤ◌, ◌<ℤ◌}
+use Rattle.std.specs.Prelude.{◌≡◌, ◌≢◌, ℕ, ◌+◌, ◌%◌, ◌^◌, ◌<◌, ◌≤◌, List, length, ℤ, ◌≤ℤ◌, ◌<ℤ◌}
 use Rattle.std.specs.List.{Contains}
 use Rattle.std.specs.declared.cmp.Ordering.TheVariants.{Greater}
 use Rattle.itip_moment.specs.declared.day.Day.{Day}
@@ -8,7 +8,9 @@ use Rattle.itip_moment.specs.Order.{moment_cmp}
 use Rattle.itip_recur.specs.declared.rule.End.{End}
 use Rattle.itip_recur.specs.declared.rule.End.TheVariants.{Never, Count, Until}
 use Rattle.itip_recur.specs.declared.rule.Rule.{Rule}
-use Rattle.itip_recur.specs.Pattern.{InPattern, IsLaterDay, IsRuleDay}
+use Rattle.itip_moment.specs.Years.{IsDayNumber}
+use Rattle.itip_recur.specs.Calendar.{IsDayOrEnd}
+use Rattle.itip_recur.specs.Pattern.{unit_number, InPattern, IsLaterDay, IsRuleDay}
 
 -- no day from `from` on and before `end` is in the pattern
 abbrev pub IsNoDay : Rule → ℤ → ℤ → ℤ → Type 0
@@ -41,3 +43,13 @@ abbrev pub IsUpTo : End → Moment → Type 0
 IsUpTo Never m = Unit {0}
 IsUpTo (Count n) m = Unit {0}
 IsUpTo (Until last) m = moment_cmp m last ≢ Greater
+
+-- `first` is the first day from `day` on in a unit of the rule's own, whose number is `unit`, or the end of the calendar
+pub record IsUnitFrom (rule : Rule) (start day : ℤ) (unit : ℕ) (first : ℤ) : Type 0 where
+  pub bounds : IsDayOrEnd first
+  pub not_before : day ≤ℤ first
+  pub skipped : IsNoDay rule start day first
+  pub low : (x : ℤ) → IsDayNumber x → first ≤ℤ x → unit ≤ unit_number rule.frequency rule.week_start x
+  pub high : IsDayNumber first → unit_number rule.frequency rule.week_start first ≤ unit
+  pub small : unit < 2 ^ 22 + 2 ^ 16
+  pub congruent : unit % rule.interval ≡ unit_number rule.frequency rule.week_start start % rule.interval

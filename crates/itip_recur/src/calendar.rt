@@ -1,5 +1,5 @@
 //! The weekday, the week, the month and the year of a day by its number.
-ghost use Rattle.std.specs.Prelude.{◌≡◌, ◌<◌, ◌≤◌, ◌↔◌, ◌*◌, ◌+◌, ◌-◌, ◌/◌, ◌%◌, ◌^◌, ℤ, pos, ◌<ℤ◌};
+ghost use Rattle.std.specs.Prelude.{◌≡◌, ◌<◌, ◌≤◌, ◌↔◌, ◌*◌, ◌+◌, ◌-◌, ◌/◌, ◌%◌, ◌^◌, ℤ, pos, ◌<ℤ◌, ◌≤ℤ◌, ◌+ℤ◌};
 ghost use Rattle.itip_moment.specs.Years.{IsDayNumber};
 ghost use Rattle.std.specs.Int.{IsInRange};
 ghost use Rattle.jiff.specs.Words.{monday_zero, days_in_month};
@@ -45,6 +45,34 @@ impl CalendarDay {
             month,
             day: day_of_month,
             days_in_month: days_in_month(year, month),
+        }
+    }
+
+    /// The date so many days later. It is worked out anew only in another month.
+    pub(crate) fn later(&self, days: i32) -> CalendarDay
+        requires positive { pos 0 <ℤ days }
+        requires high { days ≤ℤ pos 31 }
+        requires in_years { IsDayNumber (self.now.number +ℤ days) }
+        ensures { result.number ≡ self.now.number +ℤ days }
+    {
+        if days <= (self.days_in_month - self.day) as i32 {
+            self.later_in_month(days as u8)
+        } else {
+            CalendarDay::new(self.number + days)
+        }
+    }
+
+    fn later_in_month(&self, days: u8) -> CalendarDay
+        requires in_month { self.now.day + days ≤ self.now.days_in_month }
+        requires in_years { IsDayNumber (self.now.number +ℤ pos days) }
+        ensures { result.number ≡ self.now.number +ℤ pos days }
+    {
+        CalendarDay {
+            number: self.number + days as i32,
+            year: self.year,
+            month: self.month,
+            day: self.day + days,
+            days_in_month: self.days_in_month,
         }
     }
 

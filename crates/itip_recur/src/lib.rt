@@ -6,6 +6,7 @@
 //! far from the start costs no step for each occurrence before it, unless the rule has COUNT.
 #![tactic(auto)]
 
+mod ascending;
 mod calendar;
 mod elements;
 mod error;
@@ -13,10 +14,13 @@ mod listing;
 mod members;
 mod parts;
 mod pattern;
+mod periods;
 mod read;
 mod rule;
 mod series;
 mod shapes;
+mod waits;
+mod walk;
 
 pub use error::RecurError;
 pub use jiff_core::civil::Weekday;

@@ -1,24 +1,22 @@
 //! The moments of a series in a window.
-ghost use Rattle.std.specs.Prelude.{◌≡◌, ◌≤◌, ◌↔◌, length, ℤ, ◌<ℤ◌, IsTrue, IfOk, IfErr};
-ghost use Rattle.std.specs.List.{Contains};
-ghost use Rattle.std.specs.List.Sorted.{IsStrictlySortedBy};
+ghost use Rattle.std.specs.Prelude.{◌≡◌, ◌≤◌, ◌↔◌, length, [], ℤ, pos, ◌+ℤ◌, ◌≤ℤ◌, ◌<ℤ◌, IsTrue, IfOk, IfErr, OnOk};
 ghost use Rattle.itip_moment.specs.Moment.{moment_day};
-ghost use Rattle.itip_moment.specs.Order.{moment_cmp};
 ghost use Rattle.itip_moment.specs.Years.{IsDayNumber};
-ghost use Rattle.itip_recur.specs.Adding.{IsStep, IsLeft, IsThis, IsStart, IsRepeatOf, IsBetween, IsOnDay, IsOneOf, IsMemberIn};
+ghost use Rattle.itip_recur.specs.Adding.{AreBefore, Gains, IsStep, IsGrown, IsKept, IsThis, IsStart, IsRepeatOf, IsBetween, IsOnDay, IsOneOf, IsMemberIn};
 ghost use Rattle.itip_recur.specs.Calendar.{IsDayOrEnd};
 ghost use Rattle.itip_recur.specs.Members.{IsRuleMember};
-ghost use Rattle.itip_recur.specs.Occurrences.{OccursIn, AreOccurrences, AreOver, IfTooMany, occurrence_limit};
+ghost use Rattle.itip_recur.specs.Occurrences.{AreOccurrences, AreOver, IfTooMany, occurrence_limit};
 
 use crate::NoMemory;
+use crate::ascending::Ascending;
 use crate::calendar::CALENDAR_END;
 use crate::error::RecurError;
-use crate::members::{end_of_days, is_up_to, next_day, on_day};
+use crate::members::{end_of_days, is_up_to, on_day};
 use crate::rule::{End, Rule};
 use crate::series::Series;
+use crate::walk::Walk;
 use itip_moment::Moment;
 use std::alloc::{AllocError, Global};
-use std::collections::BTreeSet;
 
 /// The most occurrences that are listed.
 const OCCURRENCE_LIMIT: usize = 100_000;
@@ -67,39 +65,20 @@ fn listed(
     ensures small { IfOk result (λ v. length v.items ≤ limit) }
     ensures over { IfErr result (λ e. IfTooMany e (AreOver limit series.now from to)) }
 {
-    let mut found = BTreeSet::new(alloc);
-    add_occurrences(&mut found, series, from, to, limit)?;
-    Ok(into_moments(alloc, found)?)
-}
-
-fn into_moments(alloc: Global, found: BTreeSet<Moment>) -> Result<Vec<Moment>, NoMemory>
-    ensures items { IfOk result (λ v. v.items ≡ found.keys) }
-    ensures ascending { IfOk result (λ v. IsStrictlySortedBy moment_cmp v.items) }
-{
-    found.into_iter().collect(alloc)
-}
-
-fn add_occurrences(
-    found: &mut BTreeSet<Moment>,
-    series: &Series,
-    from: i32,
-    to: i32,
-    limit: usize,
-) -> Result<(), RecurError>
-    ensures { IsStep limit (OccursIn series.now from to) found.old.keys found.new.keys result }
-{
-    add_members(found, series, from, to, limit)?;
-    add_rdates(found, series, from, to, limit)
+    let mut found = Ascending::new(alloc);
+    add_members(&mut found, series, from, to, limit)?;
+    Ok(with_rdates(found, series, from, to, limit)?.moments)
 }
 
 fn add_members(
-    found: &mut BTreeSet<Moment>,
+    found: &mut Ascending,
     series: &Series,
     from: i32,
     to: i32,
     limit: usize,
 ) -> Result<(), RecurError>
-    ensures { IsStep limit (IsMemberIn series.now from to) found.old.keys found.new.keys result }
+    requires { found.old.moments.items ≡ [] }
+    ensures { IsStep limit (IsMemberIn series.now from to) found.old.moments.items found.new.moments.items result }
 {
     add_start(found, series, from, to, limit)?;
     match &series.rule {
@@ -109,19 +88,32 @@ fn add_members(
 }
 
 fn add_start(
-    found: &mut BTreeSet<Moment>,
+    found: &mut Ascending,
     series: &Series,
     from: i32,
     to: i32,
     limit: usize,
 ) -> Result<(), RecurError>
-    ensures { IsStep limit (IsStart series.now from to) found.old.keys found.new.keys result }
+    requires { found.old.moments.items ≡ [] }
+    ensures { IsStep limit (IsStart series.now from to) found.old.moments.items found.new.moments.items result }
 {
-    if is_member(&series.rule, &series.start) {
-        add_in_window(found, series, &series.start, from, to, limit)
+    if is_member(&series.rule, &series.start) && is_kept(series, &series.start, from, to) {
+        found.add(series.start.clone()?, limit)
     } else {
         Ok(())
     }
+}
+
+fn is_kept(series: &Series, moment: &Moment, from: i32, to: i32) -> bool
+    ensures { IsTrue result ↔ IsKept series.now from to moment.now }
+{
+    is_in(moment.day(), from, to) && !series.is_excluded(moment)
+}
+
+fn is_in(day: i32, from: i32, to: i32) -> bool
+    ensures { IsTrue result ↔ ((from ≤ℤ day) × (day <ℤ to)) }
+{
+    from <= day && day < to
 }
 
 // Whether the start is a member: COUNT counts it, and UNTIL may lie before it.
@@ -138,14 +130,15 @@ fn is_member(rule: &Option<Rule>, start: &Moment) -> bool
 }
 
 fn add_repeats(
-    found: &mut BTreeSet<Moment>,
+    found: &mut Ascending,
     series: &Series,
     rule: &Rule,
     from: i32,
     to: i32,
     limit: usize,
 ) -> Result<(), RecurError>
-    ensures { IsStep limit (IsRepeatOf series.now rule.now from to) found.old.keys found.new.keys result }
+    requires { AreBefore (moment_day series.now.start +ℤ pos 1) found.old.moments.items }
+    ensures { IsStep limit (IsRepeatOf series.now rule.now from to) found.old.moments.items found.new.moments.items result }
 {
     let start = series.start.day();
     let end = end_of_days(rule, &series.start, window_day(start, to));
@@ -169,7 +162,7 @@ fn window_day(start: i32, day: i32) -> i32
 }
 
 fn add_between(
-    found: &mut BTreeSet<Moment>,
+    found: &mut Ascending,
     series: &Series,
     rule: &Rule,
     from: i32,
@@ -179,12 +172,13 @@ fn add_between(
     requires from_in { IsDayOrEnd from }
     requires end_in { IsDayOrEnd end }
     requires later { moment_day series.now.start <ℤ from }
-    ensures { IsStep limit (IsBetween series.now rule.now from end) found.old.keys found.new.keys result }
+    requires before { AreBefore from found.old.moments.items }
+    ensures { IsStep limit (IsBetween series.now rule.now from end) found.old.moments.items found.new.moments.items result }
 {
-    let start = series.start.day();
+    let walk = Walk::new(rule, series.start.day());
     let mut day = from;
     while day < end {
-        let Some(next) = next_day(rule, start, day, end) else {
+        let Some(next) = walk.next_day(day, end) else {
             break;
         };
         add_on_day(found, series, rule, next, limit)?;
@@ -194,76 +188,71 @@ fn add_between(
 }
 
 fn add_on_day(
-    found: &mut BTreeSet<Moment>,
+    found: &mut Ascending,
     series: &Series,
     rule: &Rule,
     day: i32,
     limit: usize,
 ) -> Result<(), RecurError>
-    requires { IsDayNumber day }
-    ensures { IsStep limit (IsOnDay series.now rule.now day) found.old.keys found.new.keys result }
+    requires day_in { IsDayNumber day }
+    requires before { AreBefore day found.old.moments.items }
+    ensures { IsStep limit (IsOnDay series.now rule.now day) found.old.moments.items found.new.moments.items result }
 {
     let moment = on_day(&series.start, day)?;
-    if is_up_to(&rule.end, &moment) {
-        add(found, series.exdates.as_slice(), moment, limit)
+    if is_up_to(&rule.end, &moment) && !series.is_excluded(&moment) {
+        found.add(moment, limit)
     } else {
         Ok(())
     }
 }
 
-fn add_rdates(
-    found: &mut BTreeSet<Moment>,
+// With the added moments of the window among those that were found.
+fn with_rdates(
+    found: Ascending,
     series: &Series,
     from: i32,
     to: i32,
     limit: usize,
-) -> Result<(), RecurError>
-    ensures { IsStep limit (IsOneOf series.now.rdates series.now from to) found.old.keys found.new.keys result }
+) -> Result<Ascending, RecurError>
+    ensures { IsGrown limit (IsOneOf series.now.rdates series.now from to) found.moments.items result }
+{
+    if series.rdates.is_empty() {
+        return Ok(found);
+    }
+    let mut moments = found.moments;
+    push_rdates(&mut moments, series, from, to)?;
+    let all = Ascending::of_moments(moments)?;
+    if all.moments.len() > limit {
+        return Err(RecurError::TooMany);
+    }
+    Ok(all)
+}
+
+fn push_rdates(
+    moments: &mut Vec<Moment>,
+    series: &Series,
+    from: i32,
+    to: i32,
+) -> Result<(), NoMemory>
+    ensures { OnOk result (Gains (IsOneOf series.now.rdates series.now from to) moments.old.items moments.new.items) }
 {
     for moment in series.rdates.as_slice() {
-        add_in_window(found, series, moment, from, to, limit)?;
+        push_kept(moments, series, moment, from, to)?;
     }
     Ok(())
 }
 
-fn add_in_window(
-    found: &mut BTreeSet<Moment>,
+fn push_kept(
+    moments: &mut Vec<Moment>,
     series: &Series,
     moment: &Moment,
     from: i32,
     to: i32,
-    limit: usize,
-) -> Result<(), RecurError>
-    ensures { IsStep limit (IsThis series.now from to moment.now) found.old.keys found.new.keys result }
+) -> Result<(), NoMemory>
+    ensures { OnOk result (Gains (IsThis series.now from to moment.now) moments.old.items moments.new.items) }
 {
-    if from <= moment.day() && moment.day() < to {
-        add(found, series.exdates.as_slice(), moment.clone()?, limit)
-    } else {
-        Ok(())
-    }
-}
-
-// Adds a moment that isn't excluded; `TooMany` where that is one more than the limit.
-fn add(
-    found: &mut BTreeSet<Moment>,
-    excluded: &[Moment],
-    moment: Moment,
-    limit: usize,
-) -> Result<(), RecurError>
-    ensures { IsStep limit (IsLeft excluded.now moment) found.old.keys found.new.keys result }
-{
-    if is_among(excluded, &moment) {
-        return Ok(());
-    }
-    found.insert(moment)?;
-    if found.len() > limit {
-        return Err(RecurError::TooMany);
+    if is_kept(series, moment, from, to) {
+        moments.push(moment.clone()?)?;
     }
     Ok(())
-}
-
-fn is_among(moments: &[Moment], moment: &Moment) -> bool
-    ensures { IsTrue result ↔ Contains moments.now moment.now }
-{
-    moments.contains(moment)
 }

@@ -10,32 +10,11 @@ ghost use Rattle.itip_recur.specs.Members.{HasTimeOf, IsRepeat, IsCandidate, IsW
 ghost use Rattle.itip_recur.specs.Walk.{IsNextDay, IsNoDay, IsEndOfCount, IsUpTo};
 
 use crate::NoMemory;
-use crate::calendar::CALENDAR_END;
-use crate::pattern::{in_pattern, next_unit};
+use crate::periods::passed_periods;
 use crate::rule::{End, Rule};
+use crate::walk::Walk;
 use itip_moment::{Day, Moment, Stamp};
 use std::cmp::Ordering;
-
-/// The first day of the pattern from `from` on and before `end`.
-pub(crate) fn next_day(rule: &Rule, start: i32, from: i32, end: i32) -> Option<i32>
-    requires start_in { IsDayNumber start }
-    requires from_in { IsDayOrEnd from }
-    requires end_in { IsDayOrEnd end }
-    ensures { MatchOption result (IsNoDay rule.now start from end) (IsNextDay rule.now start from end) }
-{
-    let mut day = from;
-    while day < end {
-        day = next_unit(rule, start, day);
-        if day >= end {
-            break;
-        }
-        if in_pattern(rule, start, day) {
-            return Some(day);
-        }
-        day += 1;
-    }
-    None
-}
 
 /// The end of the later days that COUNT leaves to a rule, where no more than those before `end` are wanted.
 pub(crate) fn end_of_count(rule: &Rule, start: i32, count: u32, end: i32) -> i32
@@ -44,10 +23,14 @@ pub(crate) fn end_of_count(rule: &Rule, start: i32, count: u32, end: i32) -> i32
     ensures bounds { IsDayOrEnd result }
     ensures exact { IsEndOfCount rule.now start count end result }
 {
+    let walk = Walk::new(rule, start);
     let mut seen: u32 = 1;
     let mut day = start + 1;
+    let passed = passed_periods(&walk, count, end);
+    seen += passed.seen;
+    day += passed.days as i32;
     while seen < count {
-        let Some(found) = next_day(rule, start, day, end) else {
+        let Some(found) = walk.next_day(day, end) else {
             return end;
         };
         seen += 1;

@@ -1,5 +1,5 @@
 //! Which days a rule selects.
-ghost use Rattle.std.specs.Prelude.{◌≡◌, ◌↔◌, ◌<◌, ◌≤◌, ◌%◌, ◌+◌, ◌^◌, ◌≢◌, ℕ, ℤ, ◌≤ℤ◌, ◌<ℤ◌, IsTrue};
+ghost use Rattle.std.specs.Prelude.{◌≡◌, ◌↔◌, ◌<◌, ◌≤◌, ◌%◌, ◌+◌, ◌^◌, ◌≢◌, ℕ, ℤ, ◌<ℤ◌, IsTrue};
 ghost use Rattle.itip_moment.specs.Years.{IsDayNumber};
 ghost use Rattle.std.specs.List.{Any};
 ghost use Rattle.itip_recur.specs.Calendar.{IsDayOrEnd, month_of_year};
@@ -32,7 +32,7 @@ pub(crate) fn in_pattern(rule: &Rule, start: i32, day: i32) -> bool
         && is_selected(&rule.frequency, start, day)
 }
 
-fn unit_number(rule: &Rule, day: i32) -> u32
+pub(crate) fn unit_number(rule: &Rule, day: i32) -> u32
     requires { IsDayNumber day }
     ensures value { result ≡ unit_number rule.now.frequency rule.now.week_start day }
     ensures bound { result < 2 ^ 22 }
@@ -62,7 +62,7 @@ fn is_selected(frequency: &Frequency, start: i32, day: i32) -> bool
     }
 }
 
-fn is_week_day(days: &WeekDays, start: i32, day: i32) -> bool
+pub(crate) fn is_week_day(days: &WeekDays, start: i32, day: i32) -> bool
     requires start_in { IsDayNumber start }
     requires day_in { IsDayNumber day }
     ensures { IsTrue result ↔ IsWeekDay days.now start day }
@@ -74,7 +74,7 @@ fn is_week_day(days: &WeekDays, start: i32, day: i32) -> bool
     }
 }
 
-fn is_month_day(days: &MonthDays, start: &CalendarDay, day: &CalendarDay) -> bool
+pub(crate) fn is_month_day(days: &MonthDays, start: &CalendarDay, day: &CalendarDay) -> bool
     ensures { IsTrue result ↔ IsMonthDay days.now start.now.number day.now.number }
 {
     match days {
@@ -87,7 +87,7 @@ fn is_month_day(days: &MonthDays, start: &CalendarDay, day: &CalendarDay) -> boo
     }
 }
 
-fn is_year_day(days: &YearDays, start: &CalendarDay, day: &CalendarDay) -> bool
+pub(crate) fn is_year_day(days: &YearDays, start: &CalendarDay, day: &CalendarDay) -> bool
     ensures { IsTrue result ↔ IsYearDay days.now start.now.number day.now.number }
 {
     match days {
@@ -98,7 +98,7 @@ fn is_year_day(days: &YearDays, start: &CalendarDay, day: &CalendarDay) -> bool
     }
 }
 
-fn is_in_some_month(months: &[u8], day: &CalendarDay) -> bool
+pub(crate) fn is_in_some_month(months: &[u8], day: &CalendarDay) -> bool
     ensures { IsTrue result ↔ Any (λ month. month_of_year day.now.number ≡ month) months.now }
 {
     months.iter().any(|month| day.month == *month)
@@ -147,26 +147,9 @@ fn is_in_seven(place: Place, day: &CalendarDay) -> bool
     7 * ordinal.saturating_sub(1) < counted && counted <= 7 * ordinal
 }
 
-/// The first day from `day` on that lies in a unit whose number is congruent to that of the start's unit;
-/// the end of the calendar where there is none.
-pub(crate) fn next_unit(rule: &Rule, start: i32, day: i32) -> i32
-    requires start_in { IsDayNumber start }
-    requires day_in { IsDayNumber day }
-    ensures bounds { IsDayOrEnd result }
-    ensures not_before { day ≤ℤ result }
-    ensures skipped { (x : ℤ) → day ≤ℤ x → x <ℤ result → InPattern rule.now start x → ⊥ }
-{
-    let here = unit_number(rule, day);
-    let next = next_congruent(here, unit_number(rule, start), rule.interval as u32);
-    if next == here {
-        day
-    } else {
-        first_day(rule, next)
-    }
-}
-
-fn first_day(rule: &Rule, unit: u32) -> i32
-    requires { unit < 2 ^ 24 }
+/// The first day of a unit, or the end of the calendar.
+pub(crate) fn first_day(rule: &Rule, unit: u32) -> i32
+    requires { unit < 2 ^ 23 }
     ensures bounds { IsDayOrEnd result }
     ensures before { (day : ℤ) → IsDayNumber day
         → (day <ℤ result) ↔ (unit_number rule.now.frequency rule.now.week_start day < unit) }
@@ -179,17 +162,17 @@ fn first_day(rule: &Rule, unit: u32) -> i32
     }
 }
 
-// The first number from `from` on that is congruent to `to` modulo the interval.
-fn next_congruent(from: u32, to: u32, interval: u32) -> u32
-    requires positive { 1 ≤ interval }
+/// The first number from `from` on with this residue modulo the interval.
+pub(crate) fn next_congruent(from: u32, wanted: u32, interval: u32) -> u32
+    requires wanted_in { wanted < interval }
     requires interval_in { interval < 2 ^ 16 }
     requires from_in { from < 2 ^ 22 }
     ensures not_before { from ≤ result }
     ensures near { result < from + interval }
-    ensures skipped { (n : ℕ) → from ≤ n → n < result → n % interval ≢ to % interval }
+    ensures congruent { result % interval ≡ wanted }
+    ensures skipped { (n : ℕ) → from ≤ n → n < result → n % interval ≢ wanted }
 {
     let here = from % interval;
-    let wanted = to % interval;
     if here <= wanted {
         from + (wanted - here)
     } else {

@@ -1,5 +1,7 @@
 //! How a to-do recurs.
 ghost use Rattle.std.specs.Prelude.{◌≡◌, ◌↔◌, IsTrue, IfOk, MatchOption, Option};
+ghost use Rattle.std.specs.List.Sorted.{IsStrictlySortedBy};
+ghost use Rattle.itip_moment.specs.Order.{moment_cmp};
 ghost use Rattle.itip_recur.specs.declared.rule.Rule.{Rule};
 ghost use Rattle.itip_recur.specs.declared.series.Series.{Series};
 ghost use Rattle.itip_recur.specs.RuleText.{RuleText};
@@ -72,6 +74,7 @@ fn series(
     rdates: &ListOf<Moment>,
     exdates: &ListOf<Moment>,
 ) -> Result<Series, NoMemory>
+    requires { IsStrictlySortedBy moment_cmp exdates.now }
     ensures start { IfOk result (λ s. s.start ≡ start.now) }
     ensures rule { IfOk result (λ s. s.rule ≡ rule) }
     ensures rdates { IfOk result (λ s. s.rdates ≡ rdates.now) }

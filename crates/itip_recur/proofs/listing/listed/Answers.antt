@@ -1,26 +1,30 @@
-use Rattle.std.proofs.Common.{FitsSigned, w32, to_z-of_z, sym, subst, List}
+use Rattle.std.proofs.Common.{FitsSigned, w32, to_z-of_z, []}
 use Rattle.std.proofs.lemmas.Result.{err_from_is_err_and}
-use Rattle.itip_moment.specs.declared.moment.Moment.{Moment}
-use Rattle.itip_recur.specs.Occurrences.{OccursIn}
-use Rattle.itip_recur.specs.Adding.{Adds}
 use Rattle.itip_recur.proofs.Adds.{IfTooMany-like}
-use Rattle.itip_recur.proofs.Listed.{AreOccurrences-listed, AreOver-listed}
+use Rattle.itip_recur.proofs.Listed.{over_members, over_all, all_listed}
 use Rattle.itip_recur.proofs.listing.listed.Goals as goal
 
-pub returns-in_err-add_occurrences-clause-over : goal.returns-in_err-add_occurrences-clause-over
-returns-in_err-add_occurrences-clause-over c =
+pub returns-in_err-add_members-clause-over : goal.returns-in_err-add_members-clause-over
+returns-in_err-add_members-clause-over c =
     let from : FitsSigned w32 c.args.from = c.ranges.from in
     let to : FitsSigned w32 c.args.to = c.ranges.to in
-    let step = simp to_z-of_z at c.in_err-add_occurrences.ensures in
+    let step = simp to_z-of_z at c.in_err-add_members.ensures in
     let p = err_from_is_err_and c.from_residual.result c.from_residual.ensures.1 in
-    rw (p.1, p.2) (IfTooMany-like c.in_err-add_occurrences.field-0.0 (AreOver-listed c.args.limit c.args.series.now c.args.from c.args.to c.new-found.result.keys c.add_occurrences.new.found.keys c.new-found.ensures.empty) step)
+    rw (p.1, p.2) (IfTooMany-like c.in_err-add_members.field-0.0 (over_members c.args.limit c.args.series.now c.args.from c.args.to c.new-found.result.moments.items c.add_members.new.found.moments.items [] c.new-found.ensures) step)
+
+pub returns-in_err-with_rdates-clause-over : goal.returns-in_err-with_rdates-clause-over
+returns-in_err-with_rdates-clause-over c =
+    let from : FitsSigned w32 c.args.from = c.ranges.from in
+    let to : FitsSigned w32 c.args.to = c.ranges.to in
+    let first = simp to_z-of_z at c.in_ok-add_members.ensures in
+    let step = simp to_z-of_z at c.in_err-with_rdates.ensures in
+    let p = err_from_is_err_and c.from_residual-in_err-with_rdates.result c.from_residual-in_err-with_rdates.ensures.1 in
+    rw (p.1, p.2) (IfTooMany-like c.in_err-with_rdates.field-0.0 (λ over. over_all c.args.limit c.args.series.now c.args.from c.args.to c.new-found.result.moments.items c.add_members.new.found.moments.items over.0 c.new-found.ensures first over.1) step)
 
 pub returns-clause-found : goal.returns-clause-found
 returns-clause-found c =
-    let series = c.args.series.now in
     let from : FitsSigned w32 c.args.from = c.ranges.from in
     let to : FitsSigned w32 c.args.to = c.ranges.to in
-    let step = simp to_z-of_z at c.in_ok-add_occurrences.ensures in
-    let found = c.in_ok-into_moments.ensures in
-    AreOccurrences-listed c.args.limit series c.args.from c.args.to c.new-found.result.keys c.in_ok-into_moments.field-0.items c.new-found.ensures.empty found.ascending
-    (subst (λ (ks : List Moment). Adds c.args.limit (OccursIn series c.args.from c.args.to) c.new-found.result.keys ks) (sym found.items) step)
+    let first = simp to_z-of_z at c.in_ok-add_members.ensures in
+    let step = simp to_z-of_z at c.in_ok-with_rdates.ensures in
+    all_listed c.args.limit c.args.series.now c.args.from c.args.to c.new-found.result.moments.items c.add_members.new.found.moments.items c.in_ok-with_rdates.field-0.moments.items c.new-found.ensures first step c.in_ok-with_rdates.field-0.ascending

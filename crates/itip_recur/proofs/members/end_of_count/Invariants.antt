@@ -1,6 +1,6 @@
 use Rattle.std.proofs.Common.{◌-◌}
 use Rattle.itip_recur.specs.Calendar.{IsDayOrEnd}
-use Rattle.itip_recur.proofs.Counted.{Counted}
+use Rattle.itip_recur.specs.Counting.{Counted}
 use Rattle.itip_recur.proofs.members.end_of_count.Given as goal
 
 abbrev pub invariant-loop-seen : goal.invariant-loop-seen

@@ -1,0 +1,65 @@
+-- The days of a month stand side by side.
+use Rattle.std.proofs.Common.{◌≡◌, ℕ, zero, suc, ◌+◌, ◌-◌, ◌<◌, ◌≤◌, true, false, cond, nat_lt, refl, sym, subst, ◌∙◌, arith, ℤ, pos, ◌+ℤ◌, ◌<ℤ◌, ◌≤ℤ◌}
+use Rattle.std.proofs.lemmas.Bool.{lt-ltb}
+use Rattle.jiff.specs.Words.{days_in_month}
+use Rattle.jiff_core.proofs.SignedLemmas.{signed_arith}
+use Rattle.itip_moment.specs.Years.{IsDayNumber}
+use Rattle.itip_moment.specs.Written.{YearMonthDay, next_date, nth_date}
+use Rattle.itip_recur.specs.Calendar.{days_from_zero, date_of, year_number, month_of_year, day_of_month, month_length}
+use Rattle.itip_recur.proofs.Dates.{pos-unsigned_abs, pos-days_from_zero}
+
+-- so many days after d, in its month
+record IsAfter (d e : YearMonthDay) (k : ℕ) : Type 0 where
+  year : e.year ≡ d.year
+  month : e.month ≡ d.month
+  day : e.day ≡ d.day + k
+
+length_of : YearMonthDay → ℕ
+length_of d = days_in_month (pos d.year) d.month
+
+same_length : (d e : YearMonthDay) → e.year ≡ d.year → e.month ≡ d.month → days_in_month (pos e.year) e.month ≡ days_in_month (pos d.year) d.month
+same_length d e year month = rw (year, month) refl
+
+next_in_month : (d : YearMonthDay) → d.day < days_in_month (pos d.year) d.month → IsAfter d (next_date d) 1
+next_in_month d lt =
+    elim (nat_lt d.day (days_in_month (pos d.year) d.month)) as (λ b. nat_lt d.day (days_in_month (pos d.year) d.month) ≡ b → IsAfter d (cond b (record d { day = d.day + 1 }) (cond (nat_lt d.month 12) (record { year = d.year; month = d.month + 1; day = 1 }) (record { year = d.year + 1; month = 1; day = 1 }))) 1) [
+      | true ↦ λ e. record { year = refl; month = refl; day = refl }
+      | false ↦ λ e. absurd (let t : nat_lt d.day (days_in_month (pos d.year) d.month) ≡ true = lt-ltb d.day (days_in_month (pos d.year) d.month) lt in cc)
+    ] refl
+
+stays : (n k m : ℕ) → m ≡ n + k → (nth_date n).day + k ≤ days_in_month (pos (nth_date n).year) (nth_date n).month → IsAfter (nth_date n) (nth_date m) k
+unfolding nth_date
+stays n zero m e le =
+    let same : m ≡ n = omega arith in
+    subst (λ (z : ℕ). IsAfter (nth_date n) (nth_date z) 0) (sym same) (record { year = refl; month = refl; day = omega arith })
+stays n (suc k) zero e le = absurd (omega arith)
+stays n (suc k) (suc m) e le =
+    let before = stays n k m (omega arith) (omega arith) in
+    let long = same_length (nth_date n) (nth_date m) before.year before.month in
+    let step = next_in_month (nth_date m) (omega (arith, before.day)) in
+    record { year = step.year ∙ before.year; month = step.month ∙ before.month; day = omega (arith, step.day, before.day) }
+
+-- x lies in the month of the day, so many days after it
+pub record IsInMonth (day x : ℤ) : Type 0 where
+  pub year : year_number x ≡ year_number day
+  pub month : month_of_year x ≡ month_of_year day
+  pub long : month_length x ≡ month_length day
+  pub at : pos (day_of_month x) +ℤ day ≡ pos (day_of_month day) +ℤ x
+  pub within : day_of_month x ≤ month_length day
+
+pub pos-days_from_zero-low : (x : ℤ) → pos 0 ≤ℤ (x +ℤ pos 719_528) → pos (days_from_zero x) ≡ x +ℤ pos 719_528
+unfolding days_from_zero
+pos-days_from_zero-low x low = pos-unsigned_abs (x +ℤ pos 719_528) low
+
+pub in_month : (day x : ℤ) → IsDayNumber day → day ≤ℤ x → x <ℤ (day +ℤ pos (month_length day + 1 - day_of_month day)) → IsInMonth day x
+in_month day x day_in low high =
+    let n = pos-days_from_zero day day_in in
+    let m = pos-days_from_zero-low x (omega (arith, signed_arith, day_in)) in
+    let after = stays (days_from_zero day) (days_from_zero x - days_from_zero day) (days_from_zero x) (omega (arith, signed_arith, n, m)) (omega (arith, signed_arith, n, m)) in
+    record {
+      year = after.year;
+      month = after.month;
+      long = same_length (date_of day) (date_of x) after.year after.month;
+      at = omega (arith, signed_arith, after.day, n, m);
+      within = omega (arith, signed_arith, after.day, n, m);
+    }

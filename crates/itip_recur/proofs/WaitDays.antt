@@ -1,0 +1,60 @@
+-- Days that can be passed over.
+use Rattle.std.proofs.Common.{◌≡◌, ℕ, ◌+◌, ◌-◌, ◌*◌, ◌/◌, ◌%◌, ◌<◌, ◌≤◌, subst, arith, ℤ, pos, ◌+ℤ◌, ◌<ℤ◌, ◌≤ℤ◌}
+use Rattle.std.proofs.lemmas.Int.{by_lt_z}
+use Rattle.jiff_core.proofs.SignedLemmas.{signed_arith}
+use Rattle.itip_moment.specs.Years.{IsDayNumber}
+use Rattle.itip_recur.specs.Calendar.{days_from_zero, weekday_number, day_of_month, month_length}
+use Rattle.itip_recur.proofs.Dates.{pos-days_from_zero}
+use Rattle.itip_recur.specs.Waits.{IsNone, IsWait}
+use Rattle.itip_recur.proofs.InMonth.{IsInMonth, in_month, pos-days_from_zero-low}
+
+-- a day that isn't P
+pub one_day : (P : ℤ → Type 0) (day : ℤ) → (P day → ⊥) → IsWait P day (pos 1)
+one_day P day not =
+    record {
+      here = λ e. absurd (omega (arith, signed_arith));
+      none = λ x low high is. let same : x ≡ day = omega (arith, signed_arith) in not (subst P same is);
+    }
+
+-- the rest of a month of which no day is P
+pub in_rest : (P : ℤ → Type 0) (day r : ℤ) → IsDayNumber day → pos 1 ≤ℤ r → r ≡ pos (month_length day + 1 - day_of_month day) → ((x : ℤ) → IsInMonth day x → day ≤ℤ x → P x → ⊥) → IsWait P day r
+in_rest P day r day_in low is none =
+    record {
+      here = λ e. absurd (omega (arith, signed_arith));
+      none = λ x ge lt p. none x (in_month day x day_in ge (omega (arith, signed_arith, is))) ge p;
+    }
+
+pub for_day : (day : ℤ) (d wanted : ℕ) → IsDayNumber day → d ≡ day_of_month day → d ≤ wanted → wanted ≤ month_length day → IsWait (λ x. day_of_month x ≡ wanted) day (pos (wanted - d))
+for_day day d wanted day_in is le high =
+    record {
+      here = λ e. omega (arith, signed_arith, is, e);
+      none = λ x ge lt same. let at = in_month day x day_in ge (omega (arith, signed_arith, is)) in omega (arith, signed_arith, at.at, is, same);
+    }
+
+-- the rest of a month has no day of the month that is past
+pub past : (day x : ℤ) (wanted : ℕ) → wanted < day_of_month day → IsInMonth day x → day ≤ℤ x → day_of_month x ≡ wanted → ⊥
+past day x wanted lt at ge same = omega (arith, signed_arith, at.at)
+
+-- nor one that the month doesn't have
+pub too_long : (day x : ℤ) (wanted : ℕ) → month_length day < wanted → IsInMonth day x → day_of_month x ≡ wanted → ⊥
+too_long day x wanted lt at same = omega (arith, at.within)
+
+-- a day that isn't P, and none of the days behind it that are passed over
+pub and_behind : (P : ℤ → Type 0) (day wait : ℤ) → (P day → ⊥) → pos 1 ≤ℤ wait → IsNone P (day +ℤ pos 1) (day +ℤ wait) → IsWait P day wait
+and_behind P day wait not low none =
+    record {
+      here = λ e. absurd (omega (arith, signed_arith));
+      none = λ x ge lt p.
+          by_lt_z day x (λ after. none x (omega (arith, signed_arith)) lt p)
+          (λ le. let same : x ≡ day = omega (arith, signed_arith) in not (subst P same p));
+    }
+
+-- no day lies behind this one and before the next
+pub none_behind : (P : ℤ → Type 0) (day : ℤ) → IsNone P (day +ℤ pos 1) (day +ℤ pos 1)
+none_behind P day x low high p = omega (arith, signed_arith)
+
+pub no_weekday : (w d : ℕ) (day : ℤ) → w ≤ 6 → d ≡ weekday_number day → IsDayNumber day → IsNone (λ x. weekday_number x ≡ w) (day +ℤ pos 1) (day +ℤ pos ((w + 6 - d) % 7 + 1))
+no_weekday w d day small is day_in x low high on =
+    let here = pos-days_from_zero day day_in in
+    let there = pos-days_from_zero-low x (omega (arith, signed_arith, day_in)) in
+    omega (arith, signed_arith, here, there, is, on)

@@ -1,0 +1,146 @@
+//! The walk over the days of a rule.
+ghost use Rattle.std.specs.Prelude.{◌≡◌, ◌≢◌, ◌↔◌, ◌+◌, ◌%◌, ◌<◌, ◌^◌, ℤ, pos, ◌≤ℤ◌, ◌<ℤ◌, ◌⊎◌, MatchOption};
+ghost use Rattle.itip_moment.specs.Years.{IsDayNumber};
+ghost use Rattle.itip_recur.specs.Calendar.{IsDayOrEnd};
+ghost use Rattle.itip_recur.specs.Pattern.{unit_number, InPattern, IsSelected, IsWeekDay};
+ghost use Rattle.itip_recur.specs.Walk.{IsNextDay, IsNoDay, IsUnitFrom};
+ghost use Rattle.itip_recur.specs.Waits.{IsNone, IsFirst};
+
+use crate::calendar::CalendarDay;
+use crate::pattern::{first_day, is_week_day, next_congruent, unit_number};
+use crate::rule::{Frequency, Rule, WeekDays};
+use crate::waits::wait;
+
+/// A rule, the date of its start, and which units are its own.
+#[derive(Drop)]
+pub(crate) struct Walk<'a> {
+    pub(crate) rule: &'a Rule,
+    pub(crate) start: CalendarDay,
+    residue: u32,
+    ghost residue_is: { residue ≡ unit_number rule.now.frequency rule.now.week_start start.number % rule.now.interval },
+}
+
+/// A unit from a day on.
+#[derive(Clone, Copy)]
+struct UnitFrom {
+    number: u32,
+    day: i32,
+}
+
+impl<'a> Walk<'a> {
+    pub(crate) fn new(rule: &'a Rule, start: i32) -> Walk<'a>
+        requires { IsDayNumber start }
+        ensures rule { result.rule.now ≡ rule.now }
+        ensures start { result.start.number ≡ start }
+    {
+        let residue = unit_number(rule, start) % rule.interval as u32;
+        Walk {
+            rule,
+            start: CalendarDay::new(start),
+            residue,
+        }
+    }
+
+    /// The first day of the pattern from `from` on and before `end`.
+    pub(crate) fn next_day(&self, from: i32, end: i32) -> Option<i32>
+        requires from_in { IsDayOrEnd from }
+        requires end_in { IsDayOrEnd end }
+        ensures { MatchOption result
+            (IsNoDay self.now.rule.now self.now.start.number from end)
+            (IsNextDay self.now.rule.now self.now.start.number from end) }
+    {
+        let mut day = from;
+        while day < end {
+            let unit = self.next_unit(day);
+            if unit.day >= end {
+                break;
+            }
+            let stop = earlier(first_day(self.rule, unit.number + 1), end);
+            if let Some(found) = first_selected(&self.rule.frequency, &self.start, unit.day, stop) {
+                return Some(found);
+            }
+            day = stop;
+        }
+        None
+    }
+
+    // The first unit of the rule's own that has a day from this one on, and the first such day; the end of the
+    // calendar where there is none.
+    fn next_unit(&self, day: i32) -> UnitFrom
+        requires { IsDayNumber day }
+        ensures { IsUnitFrom self.now.rule.now self.now.start.number day result.number result.day }
+    {
+        let here = unit_number(self.rule, day);
+        let number = next_congruent(here, self.residue, self.rule.interval as u32);
+        let day = if number == here {
+            day
+        } else {
+            first_day(self.rule, number)
+        };
+        UnitFrom { number, day }
+    }
+}
+
+fn earlier(day: i32, other: i32) -> i32
+    ensures bound { result ≤ℤ day }
+    ensures other_bound { result ≤ℤ other }
+    ensures one { (result ≡ day) ⊎ (result ≡ other) }
+{
+    if day < other { day } else { other }
+}
+
+// The first day from `from` on and before `stop` that the frequency selects in its unit.
+fn first_selected(frequency: &Frequency, start: &CalendarDay, from: i32, stop: i32) -> Option<i32>
+    requires from_in { IsDayNumber from }
+    requires stop_in { IsDayOrEnd stop }
+    requires before { from <ℤ stop }
+    ensures { MatchOption result
+        (IsNone (IsSelected frequency.now start.now.number) from stop)
+        (IsFirst (IsSelected frequency.now start.now.number) from stop) }
+{
+    match frequency {
+        Frequency::Daily => Some(from),
+        Frequency::Weekly(days) => first_week_day(days, start.number, from, stop),
+        frequency => first_date(frequency, start, from, stop),
+    }
+}
+
+fn first_week_day(days: &WeekDays, start: i32, from: i32, stop: i32) -> Option<i32>
+    requires start_in { IsDayNumber start }
+    requires from_in { IsDayOrEnd from }
+    requires stop_in { IsDayOrEnd stop }
+    ensures { MatchOption result (IsNone (IsWeekDay days.now start) from stop) (IsFirst (IsWeekDay days.now start) from stop) }
+{
+    let mut day = from;
+    while day < stop {
+        if is_week_day(days, start, day) {
+            return Some(day);
+        }
+        day += 1;
+    }
+    None
+}
+
+fn first_date(frequency: &Frequency, start: &CalendarDay, from: i32, stop: i32) -> Option<i32>
+    requires from_in { IsDayNumber from }
+    requires stop_in { IsDayOrEnd stop }
+    requires before { from <ℤ stop }
+    ensures { MatchOption result
+        (IsNone (IsSelected frequency.now start.now.number) from stop)
+        (IsFirst (IsSelected frequency.now start.now.number) from stop) }
+{
+    let mut day = CalendarDay::new(from);
+    let mut left = stop - from;
+    while left > 0 {
+        let days = wait(frequency, start, &day);
+        if days <= 0 {
+            return Some(day.number);
+        }
+        if days >= left {
+            break;
+        }
+        day = day.later(days);
+        left -= days;
+    }
+    None
+}
