@@ -11,6 +11,8 @@ pub mod PlaceRows
 pub mod Placing
 pub mod Collecting
 pub mod OfPart
+pub mod Showing
+pub mod Needing
 pub mod Gathering
 pub mod Occurring
 pub mod RangeOrder
