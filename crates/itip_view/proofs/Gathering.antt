@@ -1,5 +1,5 @@
 -- The rows of several UIDs, one UID after the other.
-use Rattle.std.proofs.Common.{◌≡◌, ◌+◌, ◌<◌, ℕ, List, [], ◌∷◌, ◌++◌, sym, ◌∙◌, ap, subst, ◌⊎◌, inl, inr, length, length-append, Option, None}
+use Rattle.std.proofs.Common.{◌≡◌, ◌+◌, ◌<◌, ℕ, List, [], ◌∷◌, ◌++◌, sym, ◌∙◌, ap, subst, ◌⊎◌, inl, inr, length, length-append, Option, None, ◌↔◌}
 use Rattle.std.specs.List.{Contains}
 use Rattle.std.specs.Option.{option_cmp}
 use Rattle.std.specs.Ordering.{nat_cmp, ordering_then}
@@ -78,3 +78,22 @@ module _ (heard : List Item) (window : Window) where
 
   pub all_too_many : (uids : List (List ℕ)) → AreTooManyWhere (IsAmong uids None) heard window → AreTooMany heard window
   all_too_many uids many = record { some = many.some; ascend = many.ascend; each = many.each; many = many.many }
+
+-- UIDs in another order, or named more than once, have the same rows
+module _ (heard : List Item) (window : Window) (shown : Option (List ℕ)) (uids others : List (List ℕ)) (same : (uid : List ℕ) → Contains uids uid ↔ Contains others uid) where
+  pub rows_of_same_uids : (rows : List Row) → AreRowsWhere (IsAmong uids shown) heard window rows → AreRowsWhere (IsAmong others shown) heard window rows
+  rows_of_same_uids rows are = record {
+    ascend = are.ascend;
+    each = are.each;
+    holds = λ row h. let r = are.holds row h in record { uid_is = (same row.uid).0 r.uid_is; shows = r.shows };
+    all = λ row is P. are.all row is (record { uid_is = (same row.uid).1 P.uid_is; shows = P.shows });
+  }
+
+  pub many_of_same_uids : AreTooManyWhere (IsAmong uids shown) heard window → AreTooManyWhere (IsAmong others shown) heard window
+  many_of_same_uids over = record {
+    some = over.some;
+    ascend = over.ascend;
+    each = over.each;
+    holds = λ row h. let r = over.holds row h in record { uid_is = (same row.uid).0 r.uid_is; shows = r.shows };
+    many = over.many;
+  }

@@ -12,6 +12,7 @@ pub mod Placing
 pub mod Collecting
 pub mod OfPart
 pub mod Showing
+pub mod Once
 pub mod Needing
 pub mod Gathering
 pub mod Occurring
