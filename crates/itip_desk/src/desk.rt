@@ -4,6 +4,7 @@ ghost use Rattle.itip_message.specs.declared.item.Item.{Item};
 
 use crate::batch::Batch;
 use crate::error::DeskError;
+use crate::indexed::IndexedState;
 use crate::moves::MovedUids;
 use itip_state::{State, uids};
 use itip_todo::Uid;
@@ -21,7 +22,7 @@ pub struct Changed {
 /// A replica: what it keeps of all that it has heard, its tick, and the UIDs that moved, each with the tick of its last move.
 #[derive(Debug, Drop)]
 pub struct Desk {
-    state: State,
+    kept: IndexedState,
     tick: u64,
     moves: MovedUids,
     alloc: Global,
@@ -35,7 +36,7 @@ impl Model for Desk {
 
     ghost coded = { shown_code };
 
-    ghost view = { λ d. record { kept = d.state; tick = d.tick; changed = d.moves } };
+    ghost view = { λ d. record { kept = d.kept; tick = d.tick; changed = d.moves } };
 
     ghost invariant = { λ d. FallFrom d.tick d.moves };
 }
@@ -52,7 +53,7 @@ impl Desk {
         ensures { IsDeskOf [] tick result }
     {
         Desk {
-            state: State::empty(alloc),
+            kept: IndexedState::empty(alloc),
             tick,
             moves: MovedUids::new(alloc),
             alloc,
@@ -70,7 +71,7 @@ impl Desk {
     pub fn state(&self) -> &State
         ensures { result.now ≡ self.now.kept }
     {
-        &self.state
+        self.kept.state()
     }
 
     /// The number of kept items, of which each stands once in what the desk shows; `usize::MAX` where there are more. It takes no memory.
@@ -78,7 +79,7 @@ impl Desk {
         ensures number { result ≡ min (length self.now.kept) usize.MAX }
         ensures once { HasEachOnce self.now.kept }
     {
-        self.state.entries()
+        self.kept.state().entries()
     }
 
     /// Hears a batch. Where UIDs move the tick rises by one, and they carry it.
@@ -94,7 +95,7 @@ impl Desk {
         ensures spent { IsErrOf result DeskError.TicksSpent → (self.old.tick ≡ u64.MAX) × ((uid : List ℕ) × Moves self.old.kept batch.now uid) }
         ensures err { OnErr result (self.new ≡ self.old) }
     {
-        let news = self.state.news(batch.as_slice())?;
+        let news = self.kept.state().news(batch.as_slice())?;
         let uids = uids(self.alloc, &news)?;
         if uids.is_empty() {
             return Ok(Changed {
@@ -107,7 +108,7 @@ impl Desk {
         }
         let places = self.moves.len();
         self.moves.add_places(&uids)?;
-        if let Err(refused) = self.state.hear(&news) {
+        if let Err(refused) = self.kept.hear(&news) {
             self.moves.truncate(places);
             return Err(refused.into());
         }
@@ -124,7 +125,7 @@ impl Desk {
         ensures { IfOk result (IsDeltaOf self.now tick) }
     {
         let uids = self.moves.after(tick)?;
-        let part = self.state.part(&uids)?;
+        let part = self.kept.state().part(&uids)?;
         Batch::of_shared(part.shared_items()?)
     }
 
@@ -135,7 +136,7 @@ impl Desk {
         ensures text { IfOk result (λ text. (heard : List Item) → AreKept self.now.kept heard → IsListText heard window text.items) }
         ensures many { IsErrOf result ViewError.TooManyRows → (heard : List Item) → AreKept self.now.kept heard → AreTooMany heard window }
     {
-        let rows = rows(self.alloc, &self.state, window)?;
+        let rows = rows(self.alloc, self.kept.state(), window)?;
         Ok(list_text(self.alloc, &rows)?)
     }
 }

@@ -3,7 +3,10 @@
 
 mod batch;
 mod desk;
+mod entry;
 mod error;
+mod index;
+mod indexed;
 mod laws;
 mod moves;
 
