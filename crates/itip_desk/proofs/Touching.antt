@@ -135,6 +135,23 @@ put_back false true true apart = refl
 put_back true false o apart = refl
 put_back false false o apart = refl
 
+-- what is new was not there
+pub fresh : (old found : List Item) (index o n : BTreeSet Entry) → IsIndexOf old index → AreEntriesOf old found o → ((e : Entry) → IsTrue (has n e) → IsTouched found e.uid) →
+    (e : Entry) → has n e ≡ true → has o e ≡ false → has index e ≡ false
+fresh old found index o n is before touch e new lacks = by_bool (has index e) (has index e ≡ false)
+    (λ there. absurd (let yet : has o e ≡ true = (before e).1 ((is e).0 there, touch e new) in cc))
+    (λ lacking. lacking)
+
+-- a refusal leaves the index
+pub index_same : (old : List Item) (index changed : BTreeSet Entry) → IsIndexOf old index → ((e : Entry) → has changed e ≡ has index e) → IsIndexOf old changed
+index_same old index changed is same e = (λ h. (is e).0 (sym (same e) ∙ h), λ h. same e ∙ (is e).1 h)
+
+-- what was put in is taken out again
+pub index_back : (old : List Item) (index o n grown changed : BTreeSet Entry) → IsIndexOf old index → ((e : Entry) → has n e ≡ true → has o e ≡ false → has index e ≡ false) →
+    ((e : Entry) → has grown e ≡ (has index e || (has n e && not (has o e)))) → ((e : Entry) → has changed e ≡ (has grown e && not (has n e && not (has o e)))) → IsIndexOf old changed
+index_back old index o n grown changed is apart more less = index_same old index changed is
+    (λ e. less e ∙ ap (λ b. b && not (has n e && not (has o e))) (more e) ∙ put_back (has index e) (has n e) (has o e) (apart e))
+
 module _ (old news found after : List Item) (state : IsState old) (of : AreOfRows found news) (hears : AreKept after (old ++ news)) where
   -- nothing is changed of UIDs that no such item is about
   untouched : (e : Entry) → (IsTouched found e.uid → ⊥) → SameRowItems e.uid old after
@@ -154,23 +171,6 @@ module _ (old news found after : List Item) (state : IsState old) (of : AreOfRow
       let iff = after_change (IsNoted old e) (IsNoted after e) (IsTouched found e.uid) (λ none. noted_alike old after e (untouched e none)) (λ none. noted_alike after old e (swapped e.uid old after (untouched e none)))
           (has index e) (has o e) (has n e) (is e) (before e) (behind e) in
       (λ h. iff.0 (sym (are e) ∙ h), λ h. are e ∙ iff.1 h)
-
-  -- what is new was not there
-  pub fresh : (index o n : BTreeSet Entry) → IsIndexOf old index → AreEntriesOf old found o → ((e : Entry) → IsTrue (has n e) → IsTouched found e.uid) →
-      (e : Entry) → has n e ≡ true → has o e ≡ false → has index e ≡ false
-  fresh index o n is before touch e new lacks = by_bool (has index e) (has index e ≡ false)
-      (λ there. absurd (let yet : has o e ≡ true = (before e).1 ((is e).0 there, touch e new) in cc))
-      (λ lacking. lacking)
-
-  -- a refusal leaves the index
-  pub index_same : (index changed : BTreeSet Entry) → IsIndexOf old index → ((e : Entry) → has changed e ≡ has index e) → IsIndexOf old changed
-  index_same index changed is same e = (λ h. (is e).0 (sym (same e) ∙ h), λ h. same e ∙ (is e).1 h)
-
-  -- what was put in is taken out again
-  pub index_back : (index o n grown changed : BTreeSet Entry) → IsIndexOf old index → ((e : Entry) → has n e ≡ true → has o e ≡ false → has index e ≡ false) →
-      ((e : Entry) → has grown e ≡ (has index e || (has n e && not (has o e)))) → ((e : Entry) → has changed e ≡ (has grown e && not (has n e && not (has o e)))) → IsIndexOf old changed
-  index_back index o n grown changed is apart more less = index_same index changed is
-      (λ e. less e ∙ ap (λ b. b && not (has n e && not (has o e))) (more e) ∙ put_back (has index e) (has n e) (has o e) (apart e))
 
 module _ {A B : Type 0} (f : A → B) (xs : List A) (i : ℕ) where
   pub seen_more : (x : A) → i < length xs → x ≡ get_or xs i x → take (i + 1) (map f xs) ≡ take i (map f xs) ++ f x ∷ []

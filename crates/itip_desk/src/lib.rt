@@ -5,6 +5,7 @@ mod batch;
 mod desk;
 mod entry;
 mod error;
+mod found;
 mod index;
 mod indexed;
 mod laws;

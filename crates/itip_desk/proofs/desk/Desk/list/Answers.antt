@@ -14,7 +14,7 @@ error_of {T} d e r h k = ap (λ (r : Result T ViewError). elim r [ Ok x ↦ d | 
 
 pub returns-in_err-rows-clause-many : goal.returns-in_err-rows-clause-many
 returns-in_err-rows-clause-many c = λ spent heard are.
-    let kept : c.self.inside.state ≡ c.args.self.now.kept = ap (λ (d : Shown). d.kept) c.self.view_is in
+    let kept : c.self.inside.kept ≡ c.args.self.now.kept = ap (λ (d : Shown). d.kept) c.self.view_is in
     let p = err_from_is_err_and c.from_residual.result c.from_residual.ensures.1 in
     let given : p.0 ≡ c.in_err-rows.field-0.0 = p.2 in
     let same : p.0 ≡ TooManyRows = error_of p.0 TooManyRows c.from_residual.result p.1 spent in
@@ -22,9 +22,9 @@ returns-in_err-rows-clause-many c = λ spent heard are.
 
 pub returns-clause-text : goal.returns-clause-text
 returns-clause-text c = λ heard are.
-    let kept : c.self.inside.state ≡ c.args.self.now.kept = ap (λ (d : Shown). d.kept) c.self.view_is in
+    let kept : c.self.inside.kept ≡ c.args.self.now.kept = ap (λ (d : Shown). d.kept) c.self.view_is in
     let made = c.in_ok-list_text.field-0.items in
-    let text : IsListText c.self.inside.state c.args.window made = record {
+    let text : IsListText c.self.inside.kept c.args.window made = record {
       rows = c.in_ok-rows.rows.items;
       are_rows = c.in_ok-rows.ensures.rows;
       few = c.in_ok-rows.ensures.few;
