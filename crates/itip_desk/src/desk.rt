@@ -8,7 +8,7 @@ use crate::indexed::IndexedState;
 use crate::moves::MovedUids;
 use itip_state::{State, uids};
 use itip_todo::Uid;
-use itip_view::{ViewError, Window, list_text, rows};
+use itip_view::{Row, ViewError, Window, list_text, rows_among};
 use std::alloc::{AllocError, Global};
 use std::marker::Model;
 
@@ -45,7 +45,9 @@ impl Desk {
     ghost use Rattle.itip_state.specs.Kept.{AreKept, AreMoved, Moves, HasEachOnce};
     ghost use Rattle.itip_desk.specs.Desk.{IsDeskOf, IsDeltaOf, IsCarriedOn};
     ghost use Rattle.itip_desk.specs.Heard.{TickStep};
-    ghost use Rattle.itip_view.specs.Rows.{AreTooMany};
+    ghost use Rattle.std.specs.Prelude.{◌≤◌};
+    ghost use Rattle.itip_view.specs.Rows.{AreRows, AreTooMany, row_limit};
+    ghost use Rattle.itip_view.specs.Showing.{Shows, AreRowsWhere, AreTooManyWhere, IsListTextFor};
     ghost use Rattle.itip_view.specs.ListText.{IsListText};
 
     /// A desk that has heard nothing, at this tick. It takes no memory.
@@ -129,14 +131,49 @@ impl Desk {
         Batch::of_shared(part.shared_items()?)
     }
 
-    /// The text of the task list in a window.
+    /// The rows of the task list in a window, in their order, at most 100,000. No UID is looked at whose rows can't stand in it.
+    ///
+    /// Refused where more rows stand there (31), or when out of memory (32).
+    pub fn rows(&self, window: Window) -> Result<Vec<Row>, ViewError>
+        ensures rows { IfOk result (λ rows. AreRows self.now.kept window rows.items) }
+        ensures few { IfOk result (λ rows. length rows.items ≤ row_limit) }
+        ensures many { IsErrOf result ViewError.TooManyRows → AreTooMany self.now.kept window }
+    {
+        let uids = self.kept.uids_in(window)?;
+        rows_among(self.alloc, self.kept.state(), uids, window, None)
+    }
+
+    /// The rows in a window that show the attendee of an address, in their order, at most 100,000. No UID is looked at whose items don't name the attendee.
+    ///
+    /// Refused where more rows there show the attendee (31), or when out of memory (32).
+    pub fn rows_for(&self, window: Window, address: &str) -> Result<Vec<Row>, ViewError>
+        ensures rows { IfOk result (λ rows. AreRowsWhere (Shows address.now) self.now.kept window rows.items) }
+        ensures few { IfOk result (λ rows. length rows.items ≤ row_limit) }
+        ensures many { IsErrOf result ViewError.TooManyRows → AreTooManyWhere (Shows address.now) self.now.kept window }
+    {
+        let uids = self.kept.uids_naming(address)?;
+        rows_among(self.alloc, self.kept.state(), uids, window, Some(address))
+    }
+
+    /// The text of the task list in a window. No UID is looked at whose rows can't stand in it.
     ///
     /// Refused where more than 100,000 rows stand there (31), or when out of memory (32).
     pub fn list(&self, window: Window) -> Result<Vec<u8>, ViewError>
         ensures text { IfOk result (λ text. (heard : List Item) → AreKept self.now.kept heard → IsListText heard window text.items) }
         ensures many { IsErrOf result ViewError.TooManyRows → (heard : List Item) → AreKept self.now.kept heard → AreTooMany heard window }
     {
-        let rows = rows(self.alloc, self.kept.state(), window)?;
+        let rows = self.rows(window)?;
+        Ok(list_text(self.alloc, &rows)?)
+    }
+
+    /// The text of the rows in a window that show the attendee of an address. No UID is looked at whose items don't name the attendee.
+    ///
+    /// Refused where more than 100,000 rows there show the attendee (31), or when out of memory (32).
+    pub fn list_for(&self, window: Window, address: &str) -> Result<Vec<u8>, ViewError>
+        ensures text { IfOk result (λ text. (heard : List Item) → AreKept self.now.kept heard → IsListTextFor address.now heard window text.items) }
+        ensures many { IsErrOf result ViewError.TooManyRows → (heard : List Item) → AreKept self.now.kept heard → AreTooManyWhere (Shows address.now) heard window }
+    {
+        let rows = self.rows_for(window, address)?;
         Ok(list_text(self.alloc, &rows)?)
     }
 }

@@ -3,7 +3,7 @@ ghost use Rattle.std.specs.Prelude.{◌≡◌, ◌++◌, ◌≤ℤ◌, ◌<ℤ�
 ghost use Rattle.std.specs.List.{Contains};
 ghost use Rattle.std.specs.BTreeMap.Range.{IsLeBy};
 ghost use Rattle.std.specs.BTreeSet.{keys_between};
-ghost use Rattle.std.specs.declared.ops.bounds.Bound.TheVariants.{Included, Excluded};
+ghost use Rattle.std.specs.declared.ops.Bound.TheVariants.{Included, Excluded};
 ghost use Rattle.itip_desk.specs.declared.entry.Entry.{Entry};
 ghost use Rattle.itip_desk.specs.declared.entry.Mark.TheVariants.{Day, Always, Attendee};
 ghost use Rattle.itip_desk.specs.Entries.{entry_cmp, entry_at};

@@ -3,16 +3,20 @@ ghost use Rattle.std.specs.Prelude.{◌≡◌, ◌++◌, ◌↔◌, ◌⊎◌, [
 ghost use Rattle.itip_message.specs.declared.item.Item.{Item};
 ghost use Rattle.itip_state.specs.Kept.{AreKept};
 ghost use Rattle.itip_state.specs.Order.{IsState};
-ghost use Rattle.itip_view.specs.RowDays.{is_of_rows};
+ghost use Rattle.std.specs.List.{Contains};
+ghost use Rattle.itip_todo.specs.Table.{attendee_key};
+ghost use Rattle.itip_view.specs.RowDays.{is_of_rows, HasRowsIn, NamesIn};
 ghost use Rattle.itip_desk.specs.declared.entry.Entry.{Entry};
 ghost use Rattle.itip_desk.specs.Entries.{IsNoted};
 ghost use Rattle.itip_desk.specs.Index.{has, IsTouched, AreOfRows, AreEntriesOf, HaveEntries};
 
 use crate::entry::Entry;
+use crate::found::{find_in, find_named};
 use crate::index::{grow, note, shrink};
 use itip_message::{Item, Key};
 use itip_state::{SharedItem, State, uids};
-use itip_todo::Uid;
+use itip_todo::{Uid, attendee_key};
+use itip_view::Window;
 use std::alloc::{AllocError, Global};
 use std::collections::BTreeSet;
 use std::marker::Model;
@@ -67,6 +71,21 @@ impl IndexedState {
         ensures { result.now ≡ self.now }
     {
         &self.state
+    }
+
+    /// The UIDs whose rows can stand in a window, perhaps more than once.
+    pub(crate) fn uids_in(&self, window: Window) -> Result<Vec<&Uid>, AllocError>
+        ensures { IfOk result (λ uids. (uid : List ℕ) → HasRowsIn self.now window uid → Contains (map (λ u. u.now) uids.items) uid) }
+    {
+        find_in(self.alloc, &self.index, window)
+    }
+
+    /// The UIDs whose rows can show the attendee of an address.
+    pub(crate) fn uids_naming(&self, address: &str) -> Result<Vec<&Uid>, AllocError>
+        ensures { IfOk result (λ uids. (uid : List ℕ) → NamesIn self.now (attendee_key address.now) uid → Contains (map (λ u. u.now) uids.items) uid) }
+    {
+        let key = attendee_key(self.alloc, address)?;
+        find_named(self.alloc, &self.index, &key)
     }
 
     /// Hears these items. A refusal (out of memory) changes nothing.

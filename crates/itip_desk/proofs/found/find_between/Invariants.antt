@@ -1,6 +1,6 @@
 use Rattle.std.proofs.Common.{◌≡◌, ◌++◌, map}
 use Rattle.std.specs.BTreeSet.{keys_between}
-use Rattle.std.specs.declared.ops.bounds.Bound.TheVariants.{Included, Excluded}
+use Rattle.std.specs.declared.ops.Bound.TheVariants.{Included, Excluded}
 use Rattle.itip_desk.specs.Entries.{entry_cmp}
 use Rattle.itip_desk.proofs.found.find_between.Given as goal
 
