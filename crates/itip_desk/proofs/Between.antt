@@ -10,7 +10,7 @@ use Rattle.std.specs.declared.ops.Bound.TheVariants.{Included, Excluded}
 use Rattle.std.specs.BTreeMap.Range.{range_contains, IsLeBy}
 use Rattle.std.specs.BTreeSet.{BTreeSet, keys_between}
 use Rattle.std.proofs.lemmas.Cmp.{nat_cmp_total, int_ranked}
-use Rattle.std.proofs.lemmas.Int.{signed_arith}
+use Rattle.std.proofs.lemmas.Int.{ints}
 use Rattle.itip_state.proofs.Members.{by_bool, none_in, cons_cases, cons_first, cons_later}
 use Rattle.itip_view.proofs.Showing.{into_filter}
 use Rattle.std.proofs.lemmas.List.Elements.{Contains-append_left, Contains-append_right}
@@ -57,11 +57,11 @@ nothing_before (c ∷ uid) = refl
 from_day : (r : Ordering) (from day : ℤ) (uid : List ℕ) → r ≡ int_cmp from day → from ≤ℤ day → is_le (ordering_then (ordering_then r Equal) (slice_cmp nat_cmp [] uid)) ≡ true
 from_day Less from day uid is below = refl
 from_day Equal from day uid is below = nothing_before uid
-from_day Greater from day uid is below = absurd (let over : day <ℤ from = int_ranked from day Greater is in omega (arith, signed_arith))
+from_day Greater from day uid is below = absurd (let over : day <ℤ from = int_ranked from day Greater is in omega (arith, ints))
 
 to_day : (r : Ordering) (to day : ℤ) (uid : List ℕ) → r ≡ int_cmp to day → day <ℤ to → is_le (ordering_then (ordering_then r Equal) (slice_cmp nat_cmp [] uid)) ≡ false
-to_day Less to day uid is below = absurd (let over : to <ℤ day = int_ranked to day Less is in omega (arith, signed_arith))
-to_day Equal to day uid is below = absurd (let same : to ≡ day = int_ranked to day Equal is in omega (arith, signed_arith))
+to_day Less to day uid is below = absurd (let over : to <ℤ day = int_ranked to day Less is in omega (arith, ints))
+to_day Equal to day uid is below = absurd (let same : to ≡ day = int_ranked to day Equal is in omega (arith, ints))
 to_day Greater to day uid is below = refl
 
 both_ways : (a b : Bool) → a ≡ true → b ≡ false → (a && not b) ≡ true
@@ -95,7 +95,7 @@ key_inside key uid = both_ways _ _
 days_forward : (r : Ordering) (from to : ℤ) → r ≡ int_cmp from to → from <ℤ to → is_gt (ordering_then (ordering_then r Equal) Equal) ≡ false
 days_forward Less from to is below = refl
 days_forward Equal from to is below = refl
-days_forward Greater from to is below = absurd (let over : to <ℤ from = int_ranked from to Greater is in omega (arith, signed_arith))
+days_forward Greater from to is below = absurd (let over : to <ℤ from = int_ranked from to Greater is in omega (arith, ints))
 
 pub window_forward : (from to : ℤ) → from <ℤ to → IsLeBy entry_cmp (entry_at [] (Day from)) (entry_at [] (Day to))
 window_forward from to below = days_forward (int_cmp from to) from to refl below

@@ -169,7 +169,7 @@ module _ (old news found after : List Item) (state : IsState old) (of : AreOfRow
       ((e : Entry) → has changed e ≡ ((has index e || (has n e && not (has o e))) && not (has o e && not (has n e)))) → IsIndexOf after changed
   index_after index o n changed is before behind are e =
       let iff = after_change (IsNoted old e) (IsNoted after e) (IsTouched found e.uid) (λ none. noted_alike old after e (untouched e none)) (λ none. noted_alike after old e (swapped e.uid old after (untouched e none)))
-          (has index e) (has o e) (has n e) (is e) (before e) (behind e) in
+      (has index e) (has o e) (has n e) (is e) (before e) (behind e) in
       (λ h. iff.0 (sym (are e) ∙ h), λ h. are e ∙ iff.1 h)
 
 module _ {A B : Type 0} (f : A → B) (xs : List A) (i : ℕ) where
@@ -254,7 +254,7 @@ module _ (state found part : List Item) (uids : List (List ℕ)) (of : AreUidsOf
   pub old_entries : (old : BTreeSet Entry) → HaveEntries part uids old → AreEntriesOf state found old
   old_entries old have e = (
     λ h. let was = (have e).0 h in
-    (record { item = was.noted.item; there = ((are was.noted.item).0 was.noted.there).0; gives = was.noted.gives }, in_touched e was.about),
+        (record { item = was.noted.item; there = ((are was.noted.item).0 was.noted.there).0; gives = was.noted.gives }, in_touched e was.about),
     λ (noted, t). (have e).1 (record {
       noted = record {
         item = noted.item;

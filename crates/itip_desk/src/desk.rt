@@ -173,7 +173,7 @@ impl Desk {
         ensures text { IfOk result (λ text. (heard : List Item) → AreKept self.now.kept heard → IsListTextFor address.now heard window text.items) }
         ensures many { IsErrOf result ViewError.TooManyRows → (heard : List Item) → AreKept self.now.kept heard → AreTooManyWhere (Shows address.now) heard window }
     {
-        let rows = self.rows_for(window, address)?;
-        Ok(list_text(self.alloc, &rows)?)
+        let shown = self.rows_for(window, address)?;
+        Ok(list_text(self.alloc, &shown)?)
     }
 }

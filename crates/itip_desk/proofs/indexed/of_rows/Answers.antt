@@ -18,7 +18,7 @@ loop-item-preserved c =
     (elim c.if-is_of_rows.branch [
       | then-is_of_rows+in_ok-push w ↦
           let put : now ≡ before ++ item ∷ [] = ap (λ v. map (λ item. item.now) v.items) w.found-is ∙ ap (map (λ item. item.now)) w.in_ok-push.ensures.items
-              ∙ map-append (λ item. item.now) c.loop-item.found.items (c.item-item.result ∷ []) in
+          ∙ map-append (λ item. item.now) c.loop-item.found.items (c.item-item.result ∷ []) in
           subst (λ (found : List Item). AreOfRows found (take c.loop-item.item-index news ++ item ∷ [])) (sym put)
           (rows_more before (take c.loop-item.item-index news) item c.loop-item.invariant (sym test ∙ w.if-is_of_rows.true))
       | else-is_of_rows w ↦

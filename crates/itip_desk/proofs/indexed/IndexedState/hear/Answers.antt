@@ -16,7 +16,7 @@ invariant_of-self c = index_same c.self.inside.state c.self.inside.index c.grow.
 pub invariant_of-self-in-Err : goal.invariant_of-self-in-Err
 invariant_of-self-in-Err c =
     let apart = fresh c.self.inside.state (map (λ item. item.now) c.deref.result.now) c.self.inside.index c.in_ok-change.change.old c.in_ok-change.change.new c.self.invariant
-        c.in_ok-change.ensures.old c.in_ok-change.ensures.about in
+    c.in_ok-change.ensures.old c.in_ok-change.ensures.about in
     subst (λ (kept : List Item). IsIndexOf kept c.shrink.new.index) (sym c.in-Err.ensures.err)
     (index_back c.self.inside.state c.self.inside.index c.in_ok-change.change.old c.in_ok-change.change.new c.grow.new.index c.shrink.new.index c.self.invariant apart c.in_ok-grow.ensures.ok c.shrink.ensures)
 
