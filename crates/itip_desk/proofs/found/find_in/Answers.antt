@@ -1,10 +1,11 @@
-use Rattle.std.proofs.Common.{◌≡◌, ◌∙◌, ◌++◌, ℕ, List, [], ap, sym, subst, refl, true, map}
+use Rattle.std.proofs.Common.{◌≡◌, ◌∙◌, ◌++◌, ℕ, List, [], ap, sym, subst, refl, true, map, rules, w32}
 use Rattle.std.specs.List.{Contains}
 use Rattle.std.specs.BTreeMap.Range.{IsLeBy, range_contains}
 use Rattle.std.specs.BTreeSet.{keys_between}
 use Rattle.std.specs.declared.ops.Bound.TheVariants.{Included, Excluded}
 use Rattle.std.proofs.lemmas.List.Elements.{Contains-append_left, Contains-append_right}
 use Rattle.std.proofs.lemmas.Int.{to_z-of_z}
+use mir.Val.{SFits}
 use Rattle.itip_desk.specs.Entries.{entry_cmp, entry_at}
 use Rattle.itip_desk.specs.declared.entry.Entry.{Entry}
 use Rattle.itip_desk.specs.declared.entry.Mark.TheVariants.{Day, Always, Attendee}
@@ -13,6 +14,8 @@ use Rattle.itip_desk.proofs.found.find_in.Goals as goal
 
 pub find_between-requires : goal.find_between-requires
 find_between-requires c =
+    let first : SFits w32 c.args.window.from = search rules in
+    let last : SFits w32 c.args.window.to = search rules in
     let from : c.bound-from.result ≡ entry_at [] (Day c.args.window.from) = simp to_z-of_z at c.bound-from.ensures in
     let to : c.bound-to.result ≡ entry_at [] (Day c.args.window.to) = simp to_z-of_z at c.bound-to.ensures in
     subst (λ (low : Entry). IsLeBy entry_cmp low c.bound-to.result) (sym from)
@@ -26,6 +29,8 @@ find_between-requires-2 c =
 
 pub returns-clause-days : goal.returns-clause-days
 returns-clause-days c = λ uid day low high there.
+    let first : SFits w32 c.args.window.from = search rules in
+    let last : SFits w32 c.args.window.to = search rules in
     let from : c.bound-from.result ≡ entry_at [] (Day c.args.window.from) = simp to_z-of_z at c.bound-from.ensures in
     let to : c.bound-to.result ≡ entry_at [] (Day c.args.window.to) = simp to_z-of_z at c.bound-to.ensures in
     let inside : range_contains entry_cmp (Included c.bound-from.result) (Excluded c.bound-to.result) (entry_at uid (Day day)) ≡ true =
