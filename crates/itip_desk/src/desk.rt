@@ -4,10 +4,11 @@ ghost use Rattle.itip_message.specs.declared.item.Item.{Item};
 
 use crate::batch::Batch;
 use crate::error::DeskError;
+use crate::indexed::IndexedState;
 use crate::moves::MovedUids;
 use itip_state::{State, uids};
 use itip_todo::Uid;
-use itip_view::{ViewError, Window, list_text, rows};
+use itip_view::{Row, ViewError, Window, list_text, rows_among};
 use std::alloc::{AllocError, Global};
 use std::marker::Model;
 
@@ -21,7 +22,7 @@ pub struct Changed {
 /// A replica: what it keeps of all that it has heard, its tick, and the UIDs that moved, each with the tick of its last move.
 #[derive(Debug, Drop)]
 pub struct Desk {
-    state: State,
+    kept: IndexedState,
     tick: u64,
     moves: MovedUids,
     alloc: Global,
@@ -35,7 +36,7 @@ impl Model for Desk {
 
     ghost coded = { shown_code };
 
-    ghost view = { λ d. record { kept = d.state; tick = d.tick; changed = d.moves } };
+    ghost view = { λ d. record { kept = d.kept; tick = d.tick; changed = d.moves } };
 
     ghost invariant = { λ d. FallFrom d.tick d.moves };
 }
@@ -44,7 +45,9 @@ impl Desk {
     ghost use Rattle.itip_state.specs.Kept.{AreKept, AreMoved, Moves, HasEachOnce};
     ghost use Rattle.itip_desk.specs.Desk.{IsDeskOf, IsDeltaOf, IsCarriedOn};
     ghost use Rattle.itip_desk.specs.Heard.{TickStep};
-    ghost use Rattle.itip_view.specs.Rows.{AreTooMany};
+    ghost use Rattle.std.specs.Prelude.{◌≤◌};
+    ghost use Rattle.itip_view.specs.Rows.{AreRows, AreTooMany, row_limit};
+    ghost use Rattle.itip_view.specs.Showing.{Shows, AreRowsWhere, AreTooManyWhere, IsListTextFor};
     ghost use Rattle.itip_view.specs.ListText.{IsListText};
 
     /// A desk that has heard nothing, at this tick. It takes no memory.
@@ -52,7 +55,7 @@ impl Desk {
         ensures { IsDeskOf [] tick result }
     {
         Desk {
-            state: State::empty(alloc),
+            kept: IndexedState::empty(alloc),
             tick,
             moves: MovedUids::new(alloc),
             alloc,
@@ -70,7 +73,7 @@ impl Desk {
     pub fn state(&self) -> &State
         ensures { result.now ≡ self.now.kept }
     {
-        &self.state
+        self.kept.state()
     }
 
     /// The number of kept items, of which each stands once in what the desk shows; `usize::MAX` where there are more. It takes no memory.
@@ -78,7 +81,7 @@ impl Desk {
         ensures number { result ≡ min (length self.now.kept) usize.MAX }
         ensures once { HasEachOnce self.now.kept }
     {
-        self.state.entries()
+        self.kept.state().entries()
     }
 
     /// Hears a batch. Where UIDs move the tick rises by one, and they carry it.
@@ -94,7 +97,7 @@ impl Desk {
         ensures spent { IsErrOf result DeskError.TicksSpent → (self.old.tick ≡ u64.MAX) × ((uid : List ℕ) × Moves self.old.kept batch.now uid) }
         ensures err { OnErr result (self.new ≡ self.old) }
     {
-        let news = self.state.news(batch.as_slice())?;
+        let news = self.kept.state().news(batch.as_slice())?;
         let uids = uids(self.alloc, &news)?;
         if uids.is_empty() {
             return Ok(Changed {
@@ -107,7 +110,7 @@ impl Desk {
         }
         let places = self.moves.len();
         self.moves.add_places(&uids)?;
-        if let Err(refused) = self.state.hear(&news) {
+        if let Err(refused) = self.kept.hear(&news) {
             self.moves.truncate(places);
             return Err(refused.into());
         }
@@ -124,18 +127,53 @@ impl Desk {
         ensures { IfOk result (IsDeltaOf self.now tick) }
     {
         let uids = self.moves.after(tick)?;
-        let part = self.state.part(&uids)?;
+        let part = self.kept.state().part(&uids)?;
         Batch::of_shared(part.shared_items()?)
     }
 
-    /// The text of the task list in a window.
+    /// The rows of the task list in a window, in their order, at most 100,000. No UID is looked at whose rows can't stand in it.
+    ///
+    /// Refused where more rows stand there (31), or when out of memory (32).
+    pub fn rows(&self, window: Window) -> Result<Vec<Row>, ViewError>
+        ensures rows { IfOk result (λ rows. AreRows self.now.kept window rows.items) }
+        ensures few { IfOk result (λ rows. length rows.items ≤ row_limit) }
+        ensures many { IsErrOf result ViewError.TooManyRows → AreTooMany self.now.kept window }
+    {
+        let uids = self.kept.uids_in(window)?;
+        rows_among(self.alloc, self.kept.state(), uids, window, None)
+    }
+
+    /// The rows in a window that show the attendee of an address, in their order, at most 100,000. No UID is looked at whose items don't name the attendee.
+    ///
+    /// Refused where more rows there show the attendee (31), or when out of memory (32).
+    pub fn rows_for(&self, window: Window, address: &str) -> Result<Vec<Row>, ViewError>
+        ensures rows { IfOk result (λ rows. AreRowsWhere (Shows address.now) self.now.kept window rows.items) }
+        ensures few { IfOk result (λ rows. length rows.items ≤ row_limit) }
+        ensures many { IsErrOf result ViewError.TooManyRows → AreTooManyWhere (Shows address.now) self.now.kept window }
+    {
+        let uids = self.kept.uids_naming(address)?;
+        rows_among(self.alloc, self.kept.state(), uids, window, Some(address))
+    }
+
+    /// The text of the task list in a window. No UID is looked at whose rows can't stand in it.
     ///
     /// Refused where more than 100,000 rows stand there (31), or when out of memory (32).
     pub fn list(&self, window: Window) -> Result<Vec<u8>, ViewError>
         ensures text { IfOk result (λ text. (heard : List Item) → AreKept self.now.kept heard → IsListText heard window text.items) }
         ensures many { IsErrOf result ViewError.TooManyRows → (heard : List Item) → AreKept self.now.kept heard → AreTooMany heard window }
     {
-        let rows = rows(self.alloc, &self.state, window)?;
+        let rows = self.rows(window)?;
         Ok(list_text(self.alloc, &rows)?)
+    }
+
+    /// The text of the rows in a window that show the attendee of an address. No UID is looked at whose items don't name the attendee.
+    ///
+    /// Refused where more than 100,000 rows there show the attendee (31), or when out of memory (32).
+    pub fn list_for(&self, window: Window, address: &str) -> Result<Vec<u8>, ViewError>
+        ensures text { IfOk result (λ text. (heard : List Item) → AreKept self.now.kept heard → IsListTextFor address.now heard window text.items) }
+        ensures many { IsErrOf result ViewError.TooManyRows → (heard : List Item) → AreKept self.now.kept heard → AreTooManyWhere (Shows address.now) heard window }
+    {
+        let shown = self.rows_for(window, address)?;
+        Ok(list_text(self.alloc, &shown)?)
     }
 }

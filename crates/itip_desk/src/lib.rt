@@ -3,7 +3,11 @@
 
 mod batch;
 mod desk;
+mod entry;
 mod error;
+mod found;
+mod index;
+mod indexed;
 mod laws;
 mod moves;
 

@@ -34,7 +34,8 @@ pub fn shape(alloc: Global, todo: &Todo) -> Result<Shape, NoMemory>
     }
 }
 
-fn recurs(todo: &Todo) -> bool
+/// Whether a to-do has RRULE, RDATE or EXDATE. It takes no memory.
+pub fn recurs(todo: &Todo) -> bool
     ensures { IsTrue result ↔ Recurs todo.now }
 {
     are_given(

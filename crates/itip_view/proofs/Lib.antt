@@ -11,6 +11,9 @@ pub mod PlaceRows
 pub mod Placing
 pub mod Collecting
 pub mod OfPart
+pub mod Showing
+pub mod Once
+pub mod Needing
 pub mod Gathering
 pub mod Occurring
 pub mod RangeOrder

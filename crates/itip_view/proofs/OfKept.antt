@@ -7,6 +7,7 @@ use Rattle.itip_state.specs.Kept.{AreKept}
 use Rattle.itip_state.proofs.Keeping.{kept_again}
 use Rattle.itip_view.specs.Rows.{IsInstanceRow, IsOccurrenceRow, IsRangeRow, IsSingleRow, IsOpaqueRow, NoneStandsAtStart, IsRow, AreRows, AreTooMany}
 use Rattle.itip_view.specs.ListText.{IsListText}
+use Rattle.itip_view.specs.Showing.{Shows, AreRowsWhere, AreTooManyWhere, IsListTextFor}
 use Rattle.itip_view.specs.declared.row.Row.{Row}
 use Rattle.itip_view.specs.declared.window.Window.{Window}
 use Rattle.itip_view.proofs.Alike.{KeepAlike, alike_back, none_stands_alike, rules_alike, none_rules_alike, live_series_alike, live_instance_alike, instance_shown, occurrence_shown, range_shown, series_shown}
@@ -124,6 +125,34 @@ pub text_of_kept : (kept heard : List Item) → AreKept kept heard → (window :
 text_of_kept kept heard are window text is = record {
   rows = is.rows;
   are_rows = rows_of_kept kept heard are window is.rows is.are_rows;
+  few = is.few;
+  text_is = is.text_is;
+}
+
+module _ (P : Row → Type 0) (kept heard : List Item) (are : AreKept kept heard) (window : Window) where
+  pub rows_where_of_kept : (rows : List Row) → AreRowsWhere P kept window rows → AreRowsWhere P heard window rows
+  rows_where_of_kept rows of =
+      let same = kept_again kept heard are in
+      record {
+        ascend = of.ascend;
+        each = λ row h. row_of_same kept heard same window row (of.each row h);
+        holds = of.holds;
+        all = λ row is. of.all row (row_of_same heard kept (alike_back kept heard same) window row is);
+      }
+
+  pub many_where_of_kept : AreTooManyWhere P kept window → AreTooManyWhere P heard window
+  many_where_of_kept over = record {
+    some = over.some;
+    ascend = over.ascend;
+    each = λ row h. row_of_same kept heard (kept_again kept heard are) window row (over.each row h);
+    holds = over.holds;
+    many = over.many;
+  }
+
+pub text_for_of_kept : (address : List ℕ) (kept heard : List Item) → AreKept kept heard → (window : Window) (text : List ℕ) → IsListTextFor address kept window text → IsListTextFor address heard window text
+text_for_of_kept address kept heard are window text is = record {
+  rows = is.rows;
+  are_rows = rows_where_of_kept (Shows address) kept heard are window is.rows is.are_rows;
   few = is.few;
   text_is = is.text_is;
 }

@@ -9,3 +9,6 @@ pub mod OfUid
 pub mod Ruling
 pub mod InUid
 pub mod ListText
+pub mod Showing
+pub mod Shown
+pub mod RowDays

@@ -9,6 +9,9 @@ ghost use Rattle.itip_view.specs.Standing.{Stands, StandsFrom, Rules, NoneRules,
 ghost use Rattle.itip_view.specs.Answers.{Counts};
 ghost use Rattle.itip_view.specs.Rows.{IsRow, AreRows, AreTooMany, row_cmp};
 ghost use Rattle.itip_view.specs.ListText.{IsListText};
+ghost use Rattle.itip_todo.specs.Table.{attendee_key};
+ghost use Rattle.itip_view.specs.RowDays.{HasRowsIn, NamesIn};
+ghost use Rattle.itip_view.specs.Showing.{Shows, AreRowsWhere, AreTooManyWhere, IsListTextFor};
 ghost use Rattle.itip_view.specs.declared.row.Row.{Row};
 ghost use Rattle.itip_view.specs.declared.window.Window.{Window};
 
@@ -36,6 +39,10 @@ pub fn view_of_kept()
     ensures rows { (kept heard : List Item) → AreKept kept heard → (window : Window) (rows : List Row) → AreRows kept window rows → AreRows heard window rows }
     ensures text { (kept heard : List Item) → AreKept kept heard → (window : Window) (text : List ℕ) → IsListText kept window text → IsListText heard window text }
     ensures many { (kept heard : List Item) → AreKept kept heard → (window : Window) → AreTooMany kept window → AreTooMany heard window }
+    ensures text_for { (kept heard : List Item) → AreKept kept heard → (window : Window) (address text : List ℕ) → IsListTextFor address kept window text →
+        IsListTextFor address heard window text }
+    ensures many_for { (kept heard : List Item) → AreKept kept heard → (window : Window) (address : List ℕ) → AreTooManyWhere (Shows address) kept window →
+        AreTooManyWhere (Shows address) heard window }
 {}
 
 /// What was heard has one list in a window, or too many rows for one, and never both. A UID and an identifier have one row, and the order tells all rows
@@ -48,4 +55,17 @@ pub fn one_list()
     ensures rows { (heard : List Item) (window : Window) (rows others : List Row) → AreRows heard window rows → AreRows heard window others → rows ≡ others }
     ensures text { (heard : List Item) (window : Window) (text other : List ℕ) → IsListText heard window text → IsListText heard window other → text ≡ other }
     ensures apart { (heard : List Item) (window : Window) (text : List ℕ) → IsListText heard window text → AreTooMany heard window → ⊥ }
+    ensures rows_for { (heard : List Item) (window : Window) (address : List ℕ) (rows others : List Row) → AreRowsWhere (Shows address) heard window rows →
+        AreRowsWhere (Shows address) heard window others → rows ≡ others }
+    ensures text_for { (heard : List Item) (window : Window) (address text other : List ℕ) → IsListTextFor address heard window text →
+        IsListTextFor address heard window other → text ≡ other }
+    ensures apart_for { (heard : List Item) (window : Window) (address text : List ℕ) → IsListTextFor address heard window text →
+        AreTooManyWhere (Shows address) heard window → ⊥ }
+{}
+
+/// A row needs an item of its UID whose rows can stand in the window; and an item of its UID that can have rows names each attendee that it shows (our own rules).
+pub fn rows_need_items()
+    ensures days { (heard : List Item) (window : Window) (row : Row) → IsRow heard window row → HasRowsIn heard window row.uid }
+    ensures names { (heard : List Item) (window : Window) (address : List ℕ) (row : Row) → IsRow heard window row → Shows address row →
+        NamesIn heard (attendee_key address) row.uid }
 {}

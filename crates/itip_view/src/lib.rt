@@ -3,6 +3,7 @@
 
 mod answers;
 mod dates;
+mod days;
 mod error;
 mod laws;
 mod list;
@@ -10,17 +11,20 @@ mod of_uid;
 mod progress;
 mod ranges;
 mod row;
+mod shown;
 mod standing;
+mod turn;
 mod view;
 mod whole;
 mod window;
 
+pub use days::{RowDays, has_rows, row_days};
 pub use error::{BadWindow, ViewError};
-pub use laws::{answers_of_kept, one_list, standing_of_kept, view_of_kept};
+pub use laws::{answers_of_kept, one_list, rows_need_items, standing_of_kept, view_of_kept};
 pub use list::{list_text, write_list};
 pub use ranges::Ranges;
 pub use row::{Row, RowId, ShownAttendee};
 pub use standing::{is_live, standing_item, stands_beside};
 pub use std::alloc::AllocError as NoMemory;
-pub use view::rows;
+pub use view::{rows, rows_among, rows_of};
 pub use window::Window;

@@ -1,15 +1,17 @@
 //! The rows of a state.
-ghost use Rattle.std.specs.Prelude.{◌≤◌, IfOk, IsErrOf, length};
+ghost use Rattle.std.specs.Prelude.{◌≤◌, IfOk, IsErrOf, length, map};
+ghost use Rattle.std.specs.Option.{option_map};
 ghost use Rattle.itip_view.specs.Rows.{AreRows, AreTooMany, row_limit};
+ghost use Rattle.itip_view.specs.Showing.{AreRowsWhere, AreTooManyWhere, IsAmong, IsOf};
 
 use crate::error::ViewError;
-use crate::of_uid::rows_of_uid;
 use crate::row::Row;
+use crate::shown::shown_rows;
+use crate::turn::{ROW_LIMIT, in_order, rows_in_turn};
 use crate::window::Window;
 use itip_state::State;
+use itip_todo::Uid;
 use std::alloc::Global;
-
-const ROW_LIMIT: usize = 100_000;
 
 /// The rows of a state in a window, in their order, at most 100,000.
 ///
@@ -20,14 +22,44 @@ pub fn rows(alloc: Global, state: &State, window: Window) -> Result<Vec<Row>, Vi
     ensures many { IsErrOf result ViewError.TooManyRows → AreTooMany state.now window }
 {
     let uids = state.uids()?;
-    let mut rows = Vec::new(alloc);
-    for uid in &uids {
-        let items = state.of_uid(uid)?;
-        let mut more = rows_of_uid(alloc, &items, window)?;
-        if more.len() > ROW_LIMIT - rows.len() {
-            return Err(ViewError::TooManyRows);
-        }
-        rows.append(&mut more)?;
+    rows_in_turn(alloc, state, &uids, window, None)
+}
+
+/// The rows of one UID in a window, in their order, at most 100,000; where an address is given, those that show its attendee. No other UID is looked at.
+///
+/// Refused where there are more of these (31), or when out of memory (32).
+pub fn rows_of(
+    alloc: Global,
+    state: &State,
+    uid: &Uid,
+    window: Window,
+    shown: Option<&str>,
+) -> Result<Vec<Row>, ViewError>
+    ensures rows { IfOk result (λ rows. AreRowsWhere (IsOf uid.now (option_map (λ a. a.now) shown.entry)) state.now window rows.items) }
+    ensures few { IfOk result (λ rows. length rows.items ≤ row_limit) }
+    ensures many { IsErrOf result ViewError.TooManyRows → AreTooManyWhere (IsOf uid.now (option_map (λ a. a.now) shown.entry)) state.now window }
+{
+    let rows = shown_rows(alloc, state, uid, window, shown)?;
+    if rows.len() > ROW_LIMIT {
+        return Err(ViewError::TooManyRows);
     }
     Ok(rows)
+}
+
+/// The rows of these UIDs in a window, in their order, at most 100,000; where an address is given, those that show its attendee. No other UID is looked at.
+///
+/// The UIDs stand in any order, perhaps more than once. Refused where there are more rows (31), or when out of memory (32).
+pub fn rows_among(
+    alloc: Global,
+    state: &State,
+    uids: Vec<&Uid>,
+    window: Window,
+    shown: Option<&str>,
+) -> Result<Vec<Row>, ViewError>
+    ensures rows { IfOk result (λ rows. AreRowsWhere (IsAmong (map (λ uid. uid.now) uids.entry.items) (option_map (λ a. a.now) shown.entry)) state.now window rows.items) }
+    ensures few { IfOk result (λ rows. length rows.items ≤ row_limit) }
+    ensures many { IsErrOf result ViewError.TooManyRows → AreTooManyWhere (IsAmong (map (λ uid. uid.now) uids.entry.items) (option_map (λ a. a.now) shown.entry)) state.now window }
+{
+    let uids = in_order(uids)?;
+    rows_in_turn(alloc, state, &uids, window, shown)
 }

@@ -1,5 +1,6 @@
-use Rattle.itip_view.proofs.OneList.{one_view, one_list_text, text_or_too_many}
+use Rattle.itip_view.proofs.OneList.{one_view, one_list_text, text_or_too_many, one_where, one_text_for, text_for_or_too_many}
 use Rattle.itip_view.proofs.OneRow.{one_row, tied_rows}
+use Rattle.itip_view.specs.Showing.{Shows}
 use Rattle.itip_view.proofs.laws.one_list.Goals as goal
 
 pub returns-clause-row : goal.returns-clause-row
@@ -16,3 +17,12 @@ returns-clause-text c = one_list_text
 
 pub returns-clause-apart : goal.returns-clause-apart
 returns-clause-apart c = text_or_too_many
+
+pub returns-clause-rows_for : goal.returns-clause-rows_for
+returns-clause-rows_for c heard window address = one_where (Shows address) heard window
+
+pub returns-clause-text_for : goal.returns-clause-text_for
+returns-clause-text_for c heard window address = one_text_for address heard window
+
+pub returns-clause-apart_for : goal.returns-clause-apart_for
+returns-clause-apart_for c heard window address = text_for_or_too_many address heard window

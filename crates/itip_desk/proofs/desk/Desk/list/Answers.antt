@@ -3,31 +3,25 @@ use Rattle.std.proofs.lemmas.Result.{err_from_is_err_and}
 use Rattle.itip_view.specs.declared.error.ViewError.{ViewError}
 use Rattle.itip_view.specs.declared.error.ViewError.TheVariants.{TooManyRows}
 use Rattle.itip_message.specs.declared.item.Item.{Item}
-use Rattle.itip_view.specs.Rows.{AreTooMany}
 use Rattle.itip_view.specs.ListText.{IsListText, list_text}
 use Rattle.itip_view.proofs.OfKept.{text_of_kept, too_many_of_kept}
-use Rattle.itip_desk.specs.Desk.{Shown}
+use Rattle.itip_desk.proofs.Listing.{error_of}
 use Rattle.itip_desk.proofs.desk.Desk.list.Goals as goal
-
-error_of : {T : Type 0} (d e : ViewError) → (r : Result T ViewError) → r ≡ Err d → r ≡ Err e → d ≡ e
-error_of {T} d e r h k = ap (λ (r : Result T ViewError). elim r [ Ok x ↦ d | Err f ↦ f ]) (sym h ∙ k)
 
 pub returns-in_err-rows-clause-many : goal.returns-in_err-rows-clause-many
 returns-in_err-rows-clause-many c = λ spent heard are.
-    let kept : c.self.inside.state ≡ c.args.self.now.kept = ap (λ (d : Shown). d.kept) c.self.view_is in
     let p = err_from_is_err_and c.from_residual.result c.from_residual.ensures.1 in
     let given : p.0 ≡ c.in_err-rows.field-0.0 = p.2 in
     let same : p.0 ≡ TooManyRows = error_of p.0 TooManyRows c.from_residual.result p.1 spent in
-    too_many_of_kept c.args.self.now.kept heard are c.args.window (subst (λ (k : List Item). AreTooMany k c.args.window) kept (c.in_err-rows.ensures.many (ap Err (sym given ∙ same))))
+    too_many_of_kept c.args.self.now.kept heard are c.args.window (c.in_err-rows.ensures.many (ap Err (sym given ∙ same)))
 
 pub returns-clause-text : goal.returns-clause-text
 returns-clause-text c = λ heard are.
-    let kept : c.self.inside.state ≡ c.args.self.now.kept = ap (λ (d : Shown). d.kept) c.self.view_is in
     let made = c.in_ok-list_text.field-0.items in
-    let text : IsListText c.self.inside.state c.args.window made = record {
+    let text : IsListText c.args.self.now.kept c.args.window made = record {
       rows = c.in_ok-rows.rows.items;
       are_rows = c.in_ok-rows.ensures.rows;
       few = c.in_ok-rows.ensures.few;
       text_is = c.in_ok-list_text.ensures ∙ ap list_text c.deref.ensures.value;
     } in
-    text_of_kept c.args.self.now.kept heard are c.args.window made (subst (λ (k : List Item). IsListText k c.args.window made) kept text)
+    text_of_kept c.args.self.now.kept heard are c.args.window made text

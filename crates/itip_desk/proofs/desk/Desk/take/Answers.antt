@@ -19,9 +19,9 @@ news c = map (λ item. item.now) c.in_ok-news.news.items
 
 are_news : (c : In_ok-uids) → AreNews c.args.self.now.kept c.args.batch.now (news c)
 are_news c =
-    let kept : c.self.inside.state ≡ c.args.self.now.kept = ap (λ (d : Shown). d.kept) c.self.view_is in
+    let kept : c.state.result.now ≡ c.args.self.now.kept = c.state.ensures ∙ ap (λ (d : Shown). d.kept) c.self.view_is in
     subst (λ (k : List Item). AreNews k c.args.batch.now (news c)) kept
-    (subst (λ (step : List Item). AreNews c.self.inside.state step (news c)) c.as_slice.ensures.items c.in_ok-news.ensures.news)
+    (subst (λ (step : List Item). AreNews c.state.result.now step (news c)) c.as_slice.ensures.items c.in_ok-news.ensures.news)
 
 -- the UIDs are those that the batch moves
 moved : (c : In_ok-uids) → AreMoved c.in_ok-uids.uids.items c.args.self.now.kept c.args.batch.now
@@ -32,13 +32,13 @@ moved c =
 -- what the desk keeps is a state
 state : (c : In_ok-uids) → IsState c.args.self.now.kept
 state c =
-    let kept : c.self.inside.state ≡ c.args.self.now.kept = ap (λ (d : Shown). d.kept) c.self.view_is in
+    let kept : c.state.result.now ≡ c.args.self.now.kept = c.state.ensures ∙ ap (λ (d : Shown). d.kept) c.self.view_is in
     subst IsState kept c.in_ok-news.ensures.state
 
 -- hearing the news is hearing the batch
-kept_with : (c : In_ok-uids) (new : List Item) → AreKept new (c.self.inside.state ++ news c) → AreKept new (c.args.self.now.kept ++ c.args.batch.now)
+kept_with : (c : In_ok-uids) (new : List Item) → AreKept new (c.self.inside.kept ++ news c) → AreKept new (c.args.self.now.kept ++ c.args.batch.now)
 kept_with c new are_new =
-    let kept : c.self.inside.state ≡ c.args.self.now.kept = ap (λ (d : Shown). d.kept) c.self.view_is in
+    let kept : c.self.inside.kept ≡ c.args.self.now.kept = ap (λ (d : Shown). d.kept) c.self.view_is in
     are_kept_by new (c.args.self.now.kept ++ news c) (c.args.self.now.kept ++ c.args.batch.now) (news_kept c.args.self.now.kept c.args.batch.now (news c) (are_news c))
     (subst (λ (k : List Item). AreKept new (k ++ news c)) kept are_new)
 
@@ -78,7 +78,7 @@ returns-then-self-clause-spent c = λ _.
     (sym at ∙ c.if-self.true, some_moved c.in_ok-uids.uids.items c.args.self.now.kept c.args.batch.now (moved before) some)
 
 pub returns-clause-kept : goal.returns-clause-kept
-returns-clause-kept c = kept_with (goal.at.returns-clause-kept c).In_ok-uids c.hear.new.self (subst (λ xs. AreKept c.hear.new.self (c.self.inside.state ++ map (λ item. item.now) xs)) c.deref-3.ensures.value c.in_default.ensures.ok)
+returns-clause-kept c = kept_with (goal.at.returns-clause-kept c).In_ok-uids c.hear.new.self (subst (λ xs. AreKept c.hear.new.self (c.self.inside.kept ++ map (λ item. item.now) xs)) c.deref-3.ensures.value c.in_default.ensures.ok)
 
 pub returns-clause-uids : goal.returns-clause-uids
 returns-clause-uids c = moved (goal.at.returns-clause-uids c).In_ok-uids
@@ -97,7 +97,7 @@ returns-clause-step c = λ steps start.
     let at : c.self.inside.tick ≡ c.args.self.now.tick = ap (λ (d : Shown). d.tick) c.self.view_is in
     let new : Shown = record { kept = c.hear.new.self; tick = c.self.inside.tick + 1; changed = c.mark.new.self } in
     let made = c.in_ok-add_places.ensures.places in
-    one_more_step steps start c.args.self.now new c.args.batch.now (kept_with before c.hear.new.self (subst (λ xs. AreKept c.hear.new.self (c.self.inside.state ++ map (λ item. item.now) xs)) c.deref-3.ensures.value c.in_default.ensures.ok))
+    one_more_step steps start c.args.self.now new c.args.batch.now (kept_with before c.hear.new.self (subst (λ xs. AreKept c.hear.new.self (c.self.inside.kept ++ map (λ item. item.now) xs)) c.deref-3.ensures.value c.in_default.ensures.ok))
     (inl (some_moved c.in_ok-uids.uids.items c.args.self.now.kept c.args.batch.now (moved before) some, ap (λ t. t + 1) at))
     (carry_step c.self.inside.moves made.0 c.mark.new.self made.2 c.in_ok-uids.uids.items (c.self.inside.tick + 1)
     (λ uid. c.mark.ensures.marked uid ∙ ap (λ us. cond (is_listed us uid) (Some (c.self.inside.tick + 1)) (at_uid c.add_places.new.self uid)) c.deref-4.ensures.value
