@@ -53,7 +53,7 @@ to it. In the end the desks exchange all that they keep, so that each has the sa
 On standard output there is `job N refused C` for each job that is refused, in the order of the jobs, and then the
 task list of each desk in the window. Desks are numbered from 0.
 
-  printf '!take 1\n%s\n' "$(cat message.ics)" | itipdesk office --desks 2 --workers 4 --from 20260101 --to 20270101
+  (echo '!take 1'; cat message.ics) | itipdesk office --desks 2 --workers 4 --from 20260101 --to 20270101
 
 Exit status:
   0  no job was refused
