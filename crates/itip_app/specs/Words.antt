@@ -27,3 +27,16 @@ pub record IsWindowOf (from to : List ℕ) (window : Window) : Type 0 where
 pub record IsCallOf (desks from to : List ℕ) (count : ℕ) (window : Window) : Type 0 where
   pub number : desks_of desks ≡ Some count
   pub days : IsWindowOf from to window
+
+-- there can be so many workers
+pub record AreWorkers (workers : ℕ) : Type 0 where
+  pub some : 1 ≤ workers
+  pub few : workers ≤ 8
+
+-- the same as a test
+abbrev pub are_workers : ℕ → Bool
+are_workers workers = nat_le 1 workers && nat_le workers 8
+
+-- Decimal digits whose value is from 1 to 8.
+abbrev pub workers_of : List ℕ → Option ℕ
+workers_of text = option_and_then (λ workers. if are_workers workers then Some workers else None) (number_of text)

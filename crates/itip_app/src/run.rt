@@ -1,19 +1,23 @@
-//! One run of the program: its words, then its script or its message.
+//! One run of the program: its words, then its script, its jobs or its message.
 ghost use Rattle.std.specs.Prelude.{◌≡◌};
-ghost use Rattle.itip_app.specs.Words.{AreDesks};
+ghost use Rattle.itip_app.specs.Words.{AreDesks, AreWorkers};
 
 use crate::check::check;
+use crate::office::office;
 use crate::words::{Call, NoCall, Task, read_words};
 use itip_office::run_script;
-use itip_streams::StreamFault;
 use std::fmt::Display;
 use std::rt::Env;
+use std::sync::Wait;
+use std::thread::Threads;
 use std::{env, io};
 
 const FAULT: u8 = 3;
 
 /// Runs the program and gives its status.
-pub(crate) fn status<R: AllocGlobal + Env + Input + Print + Eprint>(rt: &R) -> u8 {
+pub(crate) fn status<
+    R: AllocGlobal + Env + Input + Print + Eprint + Threads + Wait + Copy + Send + Sync + 'static,
+>(rt: &R) -> u8 {
     let words: Vec<String> = match env::args(rt).map(|words| words.collect(rt.alloc())) {
         Ok(Ok(words)) => words,
         Ok(Err(_)) => return complain(rt, &"no memory", FAULT),
@@ -21,6 +25,7 @@ pub(crate) fn status<R: AllocGlobal + Env + Input + Print + Eprint>(rt: &R) -> u
     };
     match read_words(rt.alloc(), words.as_slice()) {
         Ok(Task::Run(call)) => run(rt, call),
+        Ok(Task::Office { call, workers }) => run_jobs(rt, call, workers),
         Ok(Task::Check) => check_message(rt),
         Err(NoCall::Help(help)) => match help.print(rt) {
             Ok(()) => 0,
@@ -49,6 +54,26 @@ fn run<R: AllocGlobal + Input + Print + Eprint>(rt: &R, call: Call) -> u8
     ended(rt, done)
 }
 
+fn run_jobs<
+    R: AllocGlobal + Input + Print + Eprint + Threads + Wait + Copy + Send + Sync + 'static,
+>(rt: &R, call: Call, workers: u64) -> u8
+    requires desks { AreDesks call.desks }
+    requires workers { AreWorkers workers }
+{
+    let mut reader = rt.reader();
+    let mut writer = io::writer(rt);
+    let desks = call.desks as usize;
+    let done = office(
+        rt,
+        &mut reader,
+        &mut writer,
+        desks,
+        workers as usize,
+        call.window,
+    );
+    ended(rt, done)
+}
+
 fn check_message<R: AllocGlobal + Input + Print + Eprint>(rt: &R) -> u8 {
     let mut reader = rt.reader();
     let mut writer = io::writer(rt);
@@ -57,7 +82,7 @@ fn check_message<R: AllocGlobal + Input + Print + Eprint>(rt: &R) -> u8 {
 }
 
 /// The status of what was done: 1 where a refusal was written.
-fn ended<R: Eprint>(rt: &R, done: Result<bool, StreamFault>) -> u8 {
+fn ended<R: Eprint, E: Display + Drop>(rt: &R, done: Result<bool, E>) -> u8 {
     match done {
         Ok(false) => 0,
         Ok(true) => 1,

@@ -1,7 +1,7 @@
 //! The words that the program is called with.
 ghost use Rattle.std.specs.Prelude.{◌≡◌, ℕ, IfOk, IfSome, IfNone};
-ghost use Rattle.itip_app.specs.Words.{AreDesks, desks_of, IsWindowOf, IsCallOf};
-ghost use Rattle.itip_app.specs.Tasks.{IfRun};
+ghost use Rattle.itip_app.specs.Words.{AreDesks, desks_of, workers_of, IsWindowOf, IsCallOf};
+ghost use Rattle.itip_app.specs.Tasks.{IfRun, IfOffice, AreOffice};
 ghost use Rattle.itip_app.specs.declared.words.NoCall.TheVariants.{NoMemory};
 ghost use Rattle.itip_view.specs.declared.window.Window.{Window};
 
@@ -14,6 +14,9 @@ use std::alloc::{AllocError, Global};
 
 /// The most desks of a run.
 const MAX_DESKS: u64 = 16;
+
+/// The most workers of an office.
+const MAX_WORKERS: u64 = 8;
 
 /// What a script is, and what is written.
 const RUN_HELP: &str =
@@ -36,11 +39,35 @@ Exit status:
   2  the words or the window are bad
   3  a read or a write failed, or there was no memory";
 
+/// What the jobs of a script are, and what is written.
+const OFFICE_HELP: &str =
+    "A script is read from standard input. Its jobs are the lines that begin with `!`, numbered from 0:
+
+  !take D         desk D takes the message on the lines behind the command
+  !carry A B      what desk A keeps comes to desk B
+  !look D         a worker makes the task list of desk D in the window
+
+Workers take the jobs and do them side by side, in no order that is told; one thread for each desk merges what comes
+to it. In the end the desks exchange all that they keep, so that each has the same list, whatever the order was.
+
+On standard output there is `job N refused C` for each job that is refused, in the order of the jobs, and then the
+task list of each desk in the window. Desks are numbered from 0.
+
+  (echo '!take 1'; cat message.ics) | itipdesk office --desks 2 --workers 4 --from 20260101 --to 20270101
+
+Exit status:
+  0  no job was refused
+  1  a job or a list was refused
+  2  the words or the window are bad
+  3  a read or a write failed, there was no memory, or no thread could be made";
+
 /// What a call of the program asks for.
 #[derive(Clone, Copy)]
 pub(crate) enum Task {
     /// A script is run.
     Run(Call),
+    /// The jobs of a script are run, by so many workers.
+    Office { call: Call, workers: u64 },
     /// A message is read, and its items are shown.
     Check,
 }
@@ -81,11 +108,15 @@ impl From<Error> for NoCall {
 
 /// Reads the words, the first of which is the program's name.
 pub(crate) fn read_words(alloc: Global, words: &[String]) -> Result<Task, NoCall>
-    ensures desks { IfOk result (IfRun (λ call. AreDesks call.desks)) }
+    ensures run { IfOk result (IfRun (λ call. AreDesks call.desks)) }
+    ensures office { IfOk result (IfOffice AreOffice) }
 {
     let matches = command(alloc)?.try_get_matches_from(words)?;
     if matches.subcommand_matches("check").is_some() {
         return Ok(Task::Check);
+    }
+    if let Some(words) = matches.subcommand_matches("office") {
+        return office_of(words).ok_or(NoCall::BadWords);
     }
     match matches.subcommand_matches("run").and_then(call_of) {
         Some(call) => Ok(Task::Run(call)),
@@ -94,6 +125,35 @@ pub(crate) fn read_words(alloc: Global, words: &[String]) -> Result<Task, NoCall
 }
 
 fn command<'a>(alloc: Global) -> Result<Command<'a>, AllocError> {
+    let run = with_desks_and_window(alloc, Command::new(alloc, "run"))?
+        .about("Runs a script from standard input")
+        .after_help(RUN_HELP);
+    let workers = Arg::new(alloc, "workers")
+        .long("workers")
+        .value_name("N")
+        .default_value("1")
+        .help("How many workers there are: 1 to 8");
+    let office = with_desks_and_window(alloc, Command::new(alloc, "office"))?
+        .about("Runs the jobs of a script from standard input on threads")
+        .after_help(OFFICE_HELP)
+        .arg(workers)?;
+    let check = Command::new(alloc, "check").about(
+        "Reads a message from standard input and shows its items",
+    );
+    Command::new(alloc, "itipdesk")
+        .bin_name("itipdesk")?
+        .about("A desk for to-dos under iTIP (RFC 5546)")
+        .subcommand_required(true)
+        .subcommand(run)?
+        .subcommand(office)?
+        .subcommand(check)
+}
+
+/// A word with the options that a script needs.
+fn with_desks_and_window<'a>(
+    alloc: Global,
+    command: Command<'a>,
+) -> Result<Command<'a>, AllocError> {
     let desks = Arg::new(alloc, "desks")
         .long("desks")
         .value_name("D")
@@ -109,21 +169,7 @@ fn command<'a>(alloc: Global) -> Result<Command<'a>, AllocError> {
         .value_name("YYYYMMDD")
         .required(true)
         .help("The day after the last that lists show, at most 3660 days later");
-    let run = Command::new(alloc, "run")
-        .about("Runs a script from standard input")
-        .after_help(RUN_HELP)
-        .arg(desks)?
-        .arg(from)?
-        .arg(to)?;
-    let check = Command::new(alloc, "check").about(
-        "Reads a message from standard input and shows its items",
-    );
-    Command::new(alloc, "itipdesk")
-        .bin_name("itipdesk")?
-        .about("A desk for to-dos under iTIP (RFC 5546)")
-        .subcommand_required(true)
-        .subcommand(run)?
-        .subcommand(check)
+    command.arg(desks)?.arg(from)?.arg(to)
 }
 
 fn call_of(matches: &ArgMatches<'_>) -> Option<Call>
@@ -134,6 +180,14 @@ fn call_of(matches: &ArgMatches<'_>) -> Option<Call>
         matches.get_str("from")?,
         matches.get_str("to")?,
     )
+}
+
+fn office_of(matches: &ArgMatches<'_>) -> Option<Task>
+    ensures { IfSome result (IfOffice AreOffice) }
+{
+    let call = call_of(matches)?;
+    let workers = workers_of(matches.get_str("workers")?)?;
+    Some(Task::Office { call, workers })
 }
 
 /// What the values of the words ask for, where they are what they have to be.
@@ -162,4 +216,11 @@ fn desks_of(text: &str) -> Option<u64>
     ensures { result ≡ desks_of text.now }
 {
     read_number(text.as_bytes()).filter(|desks| (1..=MAX_DESKS).contains(desks))
+}
+
+/// A decimal number from 1 to 8.
+fn workers_of(text: &str) -> Option<u64>
+    ensures { result ≡ workers_of text.now }
+{
+    read_number(text.as_bytes()).filter(|workers| (1..=MAX_WORKERS).contains(workers))
 }

@@ -8,3 +8,4 @@ pub mod Runnings
 pub mod Counting
 pub mod Determined
 pub mod Uids
+pub mod Jobs

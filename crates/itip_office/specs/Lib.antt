@@ -6,3 +6,5 @@ pub mod Cutting
 pub mod Spelling
 pub mod Replies
 pub mod Running
+pub mod Jobs
+pub mod LeftJobs

@@ -1,0 +1,14 @@
+-- What the threads of an office return (our own form).
+use Rattle.std.specs.Prelude.{ℕ, ◌+◌, List, [], ◌∷◌}
+use Rattle.itip_message.specs.declared.item.Item.{Item}
+use Rattle.itip_workers.specs.Answers.{Answer}
+use Rattle.itip_workers.specs.Merged.{AreMerged}
+
+-- what a keeper answered, and what it published
+abbrev pub Report : Type 0
+Report = List Answer × List (List Item)
+
+-- the reports of the keepers of desks, in their order from this desk on
+abbrev pub AreOfDesks : ℕ → List Report → Type 0
+AreOfDesks desk [] = Unit {0}
+AreOfDesks desk (report ∷ reports) = AreMerged desk report.0 report.1 × AreOfDesks (desk + 1) reports

@@ -1,0 +1,28 @@
+//! An office: jobs run on threads, over one running desk for each place.
+//!
+//! Workers take jobs from one channel: they read texts, carry deltas from desk to desk and look at lists. What is to be merged they send to the desk's keeper,
+//! which merges and publishes. Once all jobs are done the desks meet and exchange everything. Whatever the schedule, the desks end as those of one thread.
+#![tactic(auto)]
+
+mod error;
+mod exchange;
+mod gate;
+mod gather;
+mod held;
+mod job;
+mod keeper;
+mod merge;
+mod office;
+mod outcome;
+mod replies;
+mod team;
+mod worker;
+
+pub use error::OfficeError;
+pub use gate::{Gate, OpenGate};
+pub use job::{Job, Task};
+pub use keeper::keeper_loop;
+pub use merge::Merge;
+pub use office::{Office, run_office};
+pub use outcome::Outcome;
+pub use worker::worker_loop;

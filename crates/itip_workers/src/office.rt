@@ -1,0 +1,49 @@
+//! An office from its jobs to its desks.
+ghost use Rattle.std.specs.Prelude.{◌≤◌, IfOk};
+ghost use Rattle.itip_workers.specs.Ended.{HasEnded};
+
+use crate::error::OfficeError;
+use crate::exchange::{exchange, meet_all};
+use crate::gate::Gate;
+use crate::gather::gather;
+use crate::job::Job;
+use crate::outcome::Outcome;
+use crate::replies::replies;
+use crate::team::run_team;
+use itip_desk::Desk;
+use std::sync::Wait;
+use std::thread::Threads;
+
+/// What an office ends with.
+#[derive(Drop)]
+pub struct Office {
+    /// The desks, each of which has heard what the others heard.
+    pub desks: Vec<Desk>,
+    /// The outcome of each job, by its number, in the order of numbers.
+    pub replies: Vec<(u64, Outcome)>,
+}
+
+/// Runs jobs on threads: one for each worker, and one for the keeper of each desk. Desks are empty in the beginning. Once the jobs are done the desks meet, and
+/// each takes what the others keep.
+///
+/// Refused where memory was refused (40), where a thread could not be made (41), where the gate is closed (42), where a channel refused a send or a job has no
+/// answer (43), and where two jobs have one number, or an answer is of no job or not of its own desk (44): by 41 before all, and else by the first of 40, 42 and
+/// 43 among what the threads answer, and after them by 44. All threads have returned by then.
+pub fn run_office<
+    R: AllocGlobal + Threads + Wait + Copy + Send + Sync + 'static,
+    G: Gate + Send + Sync + Drop + 'static,
+>(rt: &R, desks: usize, workers: usize, jobs: Vec<Job>, gate: G) -> Result<Office, OfficeError>
+    requires desks { (1 ≤ desks) × (desks ≤ 16) }
+    requires workers { (1 ≤ workers) × (workers ≤ 8) }
+    ensures ended { IfOk result (λ office. HasEnded desks jobs.items office.replies.items office.desks.items) }
+{
+    let alloc = rt.alloc();
+    let sent = jobs.clone()?;
+    let mut jobs = jobs;
+    jobs.sort_by_key(|job| job.number)?;
+    let done = run_team(rt, desks, workers, sent, gate)?;
+    let (answers, keepers) = gather(rt, done)?;
+    let replies = replies(alloc, &jobs, answers)?;
+    let desks = exchange(alloc, meet_all(rt, keepers)?)?;
+    Ok(Office { desks, replies })
+}
