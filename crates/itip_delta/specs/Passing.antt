@@ -30,6 +30,10 @@ pub record Passes (bytes rest : List ℕ) (blank : Bool) : Type 0 where
   pub none_ends : AllByRecursion (λ line. ends_calendar line ≡ false) passed
   pub blank_is : blank ≡ list_all is_empty passed
 
+-- Lines of which none ends a calendar were passed, whatever octets come behind these.
+abbrev pub StaysPassing : List ℕ → List ℕ → Type 0
+StaysPassing bytes rest = (more : List ℕ) → (blank : Bool) × Passes (bytes ++ more) (rest ++ more) blank
+
 -- What the rest of some octets gives stands behind the items of what was read before it.
 pub record Continues (bytes rest : List ℕ) (items : List Item) : Type 0 where
   pub read : (given : List (List Item)) → AreMessages (messages_of rest) given
