@@ -19,7 +19,7 @@ pub struct Keeper {
 impl Keeper {
     ghost use Rattle.itip_live.specs.Ends.{published, pending, keeper_pair, told, receipt_pair};
 
-    /// Puts a batch behind those that are pending. It comes back where memory is refused, and nothing has changed then.
+    /// Puts a batch behind those that are pending. It comes back where memory is refused, or where `usize::MAX` batches are pending, and nothing has changed then.
     pub fn submit(&mut self, batch: Batch) -> Result<(), Batch>
         ensures published { published self.new ≡ published self.old }
         ensures pending { MatchResult result (λ _. pending self.new ≡ pending self.old ++ batch ∷ []) (λ back. (back ≡ batch) × (pending self.new ≡ pending self.old)) }

@@ -25,8 +25,8 @@ impl Pass {
 
     /// The text of the task list in a window, of a list of published batches that begins with all that this pass had seen; it has seen these then.
     ///
-    /// Refused where more than 100,000 rows stand there (31), where memory was refused (32), or where the pair lets nobody in or shows less than was seen (45):
-    /// then nothing more is seen.
+    /// Refused where more than 100,000 rows stand there (31), or where memory was refused (32); it has seen the batches all the same. Refused too where the pair
+    /// lets nobody in or shows less than was seen (45): then nothing more is seen.
     pub fn list(&mut self, window: Window) -> Result<Vec<u8>, PassError>
         ensures text { IfOk result (λ text. IsListText (heard (seen self.new)) window text.items) }
         ensures many { IsErrOf result PassError.TooManyRows → AreTooMany (heard (seen self.new)) window }
@@ -43,7 +43,8 @@ impl Pass {
 
     /// The kept items of the UIDs that moved after this tick of the desk, of a list of published batches as in `list`; the desk began at tick 0.
     ///
-    /// Refused where memory was refused (40), or where the pair lets nobody in or shows less than was seen (45): then nothing more is seen.
+    /// Refused where memory was refused (40); it has seen the batches all the same. Refused too where the pair lets nobody in or shows less than was seen (45): then
+    /// nothing more is seen.
     pub fn delta_since(&mut self, tick: u64) -> Result<Batch, PassError>
         ensures delta { IfOk result (λ batch. IsDeltaAfter (seen self.new) tick batch) }
         ensures causes { IfErr result (λ e. (e ≡ PassError.NoMemory) ⊎ (e ≡ PassError.NoEntry)) }

@@ -1,4 +1,4 @@
-//! Makes calls of running desks, and shows what they answer.
+//! Makes calls of running desks, and calls of which a request for memory may be refused, and shows what they answer.
 //!
 //! A line of standard input is a call: its word, and behind it the arguments in hexadecimal (`-` for an empty one),
 //! with a blank before each. A line of standard output is the answer to it, in hexadecimal. A fault is an answer too,
@@ -6,16 +6,20 @@
 //! and compares what is answered.
 #![tactic(auto)]
 
+mod again;
 mod beside;
 mod call;
+mod crossing;
 mod error;
 mod lists;
+mod picture;
 mod running;
 mod texts;
 mod watch;
 
 use crate::beside::beside;
 use crate::call::Call;
+use crate::crossing::{run_again, steps_again};
 use crate::error::CallError;
 use crate::running::run_steps;
 use crate::texts::number;
@@ -65,6 +69,8 @@ fn made<R: AllocGlobal + Threads + Wait + Sync>(
     match (word, arguments) {
         ("running", steps) => run_steps(rt, steps),
         ("beside", [batches]) => beside(rt, number(batches)?),
-        _ => Err(CallError::NoSuchCall),
+        ("steps_again", [one, other]) => steps_again(rt.alloc(), one, other),
+        ("run_again", [one, other]) => run_again(rt.alloc(), one, other),
+        _ => again::answer(rt, word, arguments),
     }
 }

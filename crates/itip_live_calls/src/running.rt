@@ -5,7 +5,9 @@ ghost use Rattle.itip_live.specs.Ends.{keeper_pair, pass_pair, receipt_pair};
 
 use crate::error::CallError;
 use crate::texts::{batch, number_of, text, window};
-use itip_live::{Keeper, Met, Pass, Receipt, meet, start_desk};
+use itip_desk::Batch;
+use itip_live::{Keeper, Met, Pass, PassError, Receipt, meet, start_desk};
+use itip_view::Window;
 use std::alloc::Global;
 use std::sync::Wait;
 
@@ -144,8 +146,8 @@ impl Running {
     fn list(&mut self, alloc: Global, pass: &str) -> Result<String, CallError> {
         let window = window()?;
         let list = match pass {
-            "0" => self.first.list(window)?,
-            "1" => self.second.list(window)?,
+            "0" => list_again(&mut self.first, window)?,
+            "1" => list_again(&mut self.second, window)?,
             _ => return Err(CallError::NoSuchCall),
         };
         let list = text(list.as_slice())?;
@@ -165,8 +167,8 @@ impl Running {
         let (pass, tick) = rest.split_once(' ').ok_or(CallError::NoSuchCall)?;
         let tick = number_of(tick)?;
         let delta = match pass {
-            "0" => self.first.delta_since(tick)?,
-            "1" => self.second.delta_since(tick)?,
+            "0" => since_again(&mut self.first, tick)?,
+            "1" => since_again(&mut self.second, tick)?,
             _ => return Err(CallError::NoSuchCall),
         };
         Ok(delta.as_slice().len())
@@ -183,6 +185,26 @@ impl Running {
         let _ = passes.push(first);
         let _ = passes.push(second);
         Ok(meet(rt, keeper, passes)?)
+    }
+}
+
+/// The list of a pass, asked for once more where memory is refused.
+fn list_again(pass: &mut Pass, window: Window) -> Result<Vec<u8>, CallError>
+    ensures { pass_pair pass.new ≡ pass_pair pass.old }
+{
+    match pass.list(window) {
+        Err(PassError::NoListMemory) => Ok(pass.list(window)?),
+        list => Ok(list?),
+    }
+}
+
+/// The delta of a pass, asked for once more where memory is refused.
+fn since_again(pass: &mut Pass, tick: u64) -> Result<Batch, CallError>
+    ensures { pass_pair pass.new ≡ pass_pair pass.old }
+{
+    match pass.delta_since(tick) {
+        Err(PassError::NoMemory) => Ok(pass.delta_since(tick)?),
+        delta => Ok(delta?),
     }
 }
 

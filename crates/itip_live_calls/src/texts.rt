@@ -1,7 +1,7 @@
 //! What arguments say: texts, numbers and messages.
 
 use crate::error::CallError;
-use itip_desk::Batch;
+use itip_desk::{Batch, Desk};
 use itip_message::read_message;
 use itip_view::Window;
 use std::alloc::Global;
@@ -23,6 +23,15 @@ pub(crate) fn number_of(text: &str) -> Result<u64, CallError> {
 /// The batch of a message.
 pub(crate) fn batch(alloc: Global, text: &[u8]) -> Result<Batch, CallError> {
     Ok(Batch::of_items(read_message(alloc, text)?)?)
+}
+
+/// A desk that has taken these messages, one after another.
+pub(crate) fn desk_after(alloc: Global, texts: &[Vec<u8>]) -> Result<Desk, CallError> {
+    let mut desk = Desk::empty_at(alloc, 0);
+    for text in texts {
+        desk.take(&batch(alloc, text)?)?;
+    }
+    Ok(desk)
 }
 
 /// The year 2026.

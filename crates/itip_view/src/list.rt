@@ -21,13 +21,17 @@ pub fn list_text(alloc: Global, rows: &[Row]) -> Result<Vec<u8>, AllocError>
     Ok(text)
 }
 
-/// Appends the text of rows; where memory is refused, perhaps a part of it.
+/// Appends the text of rows; where memory is refused, that of some of them.
 fn append_list(rows: &[Row], out: &mut Vec<u8>) -> Result<(), AllocError>
     ensures text { OnOk result (out.new.items ≡ out.old.items ++ list_text rows.now) }
     ensures extends { Extends out.old.items out.new.items }
 {
+    // A row is made apart, so that `out` has whole rows at each time, and what it had can be told from them.
+    let mut text = Vec::new(*out.allocator());
     for row in rows {
-        put_row(out, row)?;
+        text.clear();
+        put_row(&mut text, row)?;
+        out.extend_from_slice(&text)?;
     }
     Ok(())
 }
@@ -48,8 +52,7 @@ pub fn write_list(rows: &[Row], out: &mut Vec<u8>) -> Result<(), AllocError>
 }
 
 fn put_row(out: &mut Vec<u8>, row: &Row) -> Result<(), AllocError>
-    ensures text { OnOk result (out.new.items ≡ out.old.items ++ row_text row.now) }
-    ensures extends { Extends out.old.items out.new.items }
+    ensures { OnOk result (out.new.items ≡ out.old.items ++ row_text row.now) }
 {
     put_names(out, row)?;
     put_numbers(out, row)?;
@@ -61,8 +64,7 @@ fn put_row(out: &mut Vec<u8>, row: &Row) -> Result<(), AllocError>
 }
 
 fn put_names(out: &mut Vec<u8>, row: &Row) -> Result<(), AllocError>
-    ensures text { OnOk result (out.new.items ≡ out.old.items ++ names_text row.now) }
-    ensures extends { Extends out.old.items out.new.items }
+    ensures { OnOk result (out.new.items ≡ out.old.items ++ names_text row.now) }
 {
     put(out, "TODO ")?;
     put(out, row.uid.as_str())?;
@@ -71,8 +73,7 @@ fn put_names(out: &mut Vec<u8>, row: &Row) -> Result<(), AllocError>
 }
 
 fn put_attendees(out: &mut Vec<u8>, attendees: &[ShownAttendee]) -> Result<(), AllocError>
-    ensures text { OnOk result (out.new.items ≡ out.old.items ++ flat_map attendee_text attendees.now) }
-    ensures extends { Extends out.old.items out.new.items }
+    ensures { OnOk result (out.new.items ≡ out.old.items ++ flat_map attendee_text attendees.now) }
 {
     for attendee in attendees {
         put_attendee(out, attendee)?;
@@ -81,8 +82,7 @@ fn put_attendees(out: &mut Vec<u8>, attendees: &[ShownAttendee]) -> Result<(), A
 }
 
 fn put_id(out: &mut Vec<u8>, id: &RowId) -> Result<(), AllocError>
-    ensures text { OnOk result (out.new.items ≡ out.old.items ++ id_text id.now) }
-    ensures extends { Extends out.old.items out.new.items }
+    ensures { OnOk result (out.new.items ≡ out.old.items ++ id_text id.now) }
 {
     match id {
         RowId::Single => put(out, "-"),
@@ -92,8 +92,7 @@ fn put_id(out: &mut Vec<u8>, id: &RowId) -> Result<(), AllocError>
 }
 
 fn put_numbers(out: &mut Vec<u8>, row: &Row) -> Result<(), AllocError>
-    ensures text { OnOk result (out.new.items ≡ out.old.items ++ numbers_text row.now) }
-    ensures extends { Extends out.old.items out.new.items }
+    ensures { OnOk result (out.new.items ≡ out.old.items ++ numbers_text row.now) }
 {
     put(out, "\n  SEQ ")?;
     put_number(out, row.seq)?;
@@ -106,8 +105,7 @@ fn put_numbers(out: &mut Vec<u8>, row: &Row) -> Result<(), AllocError>
 }
 
 fn put_dates(out: &mut Vec<u8>, row: &Row) -> Result<(), AllocError>
-    ensures text { OnOk result (out.new.items ≡ out.old.items ++ dates_text row.now) }
-    ensures extends { Extends out.old.items out.new.items }
+    ensures { OnOk result (out.new.items ≡ out.old.items ++ dates_text row.now) }
 {
     put(out, "\n  START ")?;
     put_shown_moment(out, &row.start)?;
@@ -116,8 +114,7 @@ fn put_dates(out: &mut Vec<u8>, row: &Row) -> Result<(), AllocError>
 }
 
 fn put_summary(out: &mut Vec<u8>, row: &Row) -> Result<(), AllocError>
-    ensures text { OnOk result (out.new.items ≡ out.old.items ++ summary_text row.now) }
-    ensures extends { Extends out.old.items out.new.items }
+    ensures { OnOk result (out.new.items ≡ out.old.items ++ summary_text row.now) }
 {
     put(out, "\n  SUMMARY ")?;
     match &row.summary {
@@ -128,8 +125,7 @@ fn put_summary(out: &mut Vec<u8>, row: &Row) -> Result<(), AllocError>
 }
 
 fn put_progress(out: &mut Vec<u8>, row: &Row) -> Result<(), AllocError>
-    ensures text { OnOk result (out.new.items ≡ out.old.items ++ progress_text row.now) }
-    ensures extends { Extends out.old.items out.new.items }
+    ensures { OnOk result (out.new.items ≡ out.old.items ++ progress_text row.now) }
 {
     put(out, "  PROGRESS ")?;
     put_shown_number(out, row.progress)?;
@@ -137,8 +133,7 @@ fn put_progress(out: &mut Vec<u8>, row: &Row) -> Result<(), AllocError>
 }
 
 fn put_attendee(out: &mut Vec<u8>, attendee: &ShownAttendee) -> Result<(), AllocError>
-    ensures text { OnOk result (out.new.items ≡ out.old.items ++ attendee_text attendee.now) }
-    ensures extends { Extends out.old.items out.new.items }
+    ensures { OnOk result (out.new.items ≡ out.old.items ++ attendee_text attendee.now) }
 {
     put(out, "  ATTENDEE ")?;
     put(out, attendee.address.as_str())?;
@@ -150,8 +145,7 @@ fn put_attendee(out: &mut Vec<u8>, attendee: &ShownAttendee) -> Result<(), Alloc
 }
 
 fn put_shown_moment(out: &mut Vec<u8>, moment: &Option<Moment>) -> Result<(), AllocError>
-    ensures text { OnOk result (out.new.items ≡ out.old.items ++ shown shown_moment moment.now) }
-    ensures extends { Extends out.old.items out.new.items }
+    ensures { OnOk result (out.new.items ≡ out.old.items ++ shown shown_moment moment.now) }
 {
     match moment {
         Some(moment) => put_moment(out, moment),
@@ -160,8 +154,7 @@ fn put_shown_moment(out: &mut Vec<u8>, moment: &Option<Moment>) -> Result<(), Al
 }
 
 fn put_moment(out: &mut Vec<u8>, moment: &Moment) -> Result<(), AllocError>
-    ensures text { OnOk result (out.new.items ≡ out.old.items ++ shown_moment moment.now) }
-    ensures extends { Extends out.old.items out.new.items }
+    ensures { OnOk result (out.new.items ≡ out.old.items ++ shown_moment moment.now) }
 {
     if let Moment::Zoned(zone, _) = moment {
         put(out, "TZID=")?;
@@ -172,8 +165,7 @@ fn put_moment(out: &mut Vec<u8>, moment: &Moment) -> Result<(), AllocError>
 }
 
 fn put_status(out: &mut Vec<u8>, status: Option<Status>) -> Result<(), AllocError>
-    ensures text { OnOk result (out.new.items ≡ out.old.items ++ shown status_text status) }
-    ensures extends { Extends out.old.items out.new.items }
+    ensures { OnOk result (out.new.items ≡ out.old.items ++ shown status_text status) }
 {
     match status {
         Some(status) => put(out, status.as_str()),
@@ -182,8 +174,7 @@ fn put_status(out: &mut Vec<u8>, status: Option<Status>) -> Result<(), AllocErro
 }
 
 fn put_shown_number(out: &mut Vec<u8>, number: Option<u8>) -> Result<(), AllocError>
-    ensures text { OnOk result (out.new.items ≡ out.old.items ++ shown decimal number) }
-    ensures extends { Extends out.old.items out.new.items }
+    ensures { OnOk result (out.new.items ≡ out.old.items ++ shown decimal number) }
 {
     match number {
         Some(number) => put_number(out, number as u32),
@@ -192,16 +183,14 @@ fn put_shown_number(out: &mut Vec<u8>, number: Option<u8>) -> Result<(), AllocEr
 }
 
 fn put_number(out: &mut Vec<u8>, number: u32) -> Result<(), AllocError>
-    ensures text { OnOk result (out.new.items ≡ out.old.items ++ decimal number) }
-    ensures extends { Extends out.old.items out.new.items }
+    ensures { OnOk result (out.new.items ≡ out.old.items ++ decimal number) }
 {
     let digits = number.to_string(*out.allocator())?;
     put(out, digits.as_str())
 }
 
 fn put(out: &mut Vec<u8>, text: &str) -> Result<(), AllocError>
-    ensures text { OnOk result (out.new.items ≡ out.old.items ++ text.now) }
-    ensures extends { Extends out.old.items out.new.items }
+    ensures { OnOk result (out.new.items ≡ out.old.items ++ text.now) }
 {
     out.extend_from_slice(text.as_bytes())
 }

@@ -18,9 +18,9 @@ returns c =
     let done : List ℕ = c.put_progress.new.out.items in
     let people : List ℕ = flat_map attendee_text row.attendees in
     let end : List ℕ = people ++ progress_text row in
-    let all : told ≡ summed ++ people = c.in_ok-put_attendees.ensures.text ∙ ap (λ (them : List ShownAttendee). summed ++ flat_map attendee_text them) c.as_slice.ensures in
-    let far : done ≡ summed ++ end = then_more summed told done people (progress_text row) all c.in_ok-put_progress.ensures.text in
-    let last : done ≡ dated ++ (summary_text row ++ end) = then_more dated summed done (summary_text row) end c.in_ok-put_summary.ensures.text far in
-    let third : done ≡ numbered ++ (dates_text row ++ (summary_text row ++ end)) = then_more numbered dated done (dates_text row) (summary_text row ++ end) c.in_ok-put_dates.ensures.text last in
-    let second : done ≡ named ++ (numbers_text row ++ (dates_text row ++ (summary_text row ++ end))) = then_more named numbered done (numbers_text row) (dates_text row ++ (summary_text row ++ end)) c.in_ok-put_numbers.ensures.text third in
-    then_more start named done (names_text row) (numbers_text row ++ (dates_text row ++ (summary_text row ++ end))) c.in_ok-put_names.ensures.text second
+    let all : told ≡ summed ++ people = c.in_ok-put_attendees.ensures ∙ ap (λ (them : List ShownAttendee). summed ++ flat_map attendee_text them) c.as_slice.ensures in
+    let far : done ≡ summed ++ end = then_more summed told done people (progress_text row) all c.in_ok-put_progress.ensures in
+    let last : done ≡ dated ++ (summary_text row ++ end) = then_more dated summed done (summary_text row) end c.in_ok-put_summary.ensures far in
+    let third : done ≡ numbered ++ (dates_text row ++ (summary_text row ++ end)) = then_more numbered dated done (dates_text row) (summary_text row ++ end) c.in_ok-put_dates.ensures last in
+    let second : done ≡ named ++ (numbers_text row ++ (dates_text row ++ (summary_text row ++ end))) = then_more named numbered done (numbers_text row) (dates_text row ++ (summary_text row ++ end)) c.in_ok-put_numbers.ensures third in
+    then_more start named done (names_text row) (numbers_text row ++ (dates_text row ++ (summary_text row ++ end))) c.in_ok-put_names.ensures second

@@ -1,0 +1,60 @@
+/* Loaded before a program (LD_PRELOAD), refuses one of its requests for memory: the one of the number REFUSE, counted from 1.
+   Where COUNT names a file, the number of all requests is written to it at the end. For bin/refusals alone; no proof speaks of it. */
+#define _GNU_SOURCE
+#include <errno.h>
+#include <stdatomic.h>
+#include <stddef.h>
+#include <stdio.h>
+#include <stdlib.h>
+
+extern void *__libc_malloc(size_t);
+extern void *__libc_calloc(size_t, size_t);
+extern void *__libc_realloc(void *, size_t);
+extern void *__libc_memalign(size_t, size_t);
+
+static _Atomic unsigned long requests;
+static unsigned long refused;
+
+__attribute__((constructor)) static void begin(void)
+{
+    const char *number = getenv("REFUSE");
+    atomic_store(&requests, 0);
+    refused = number ? strtoul(number, NULL, 10) : 0;
+}
+
+__attribute__((destructor)) static void end(void)
+{
+    const char *path = getenv("COUNT");
+    unsigned long all = atomic_load(&requests);
+    FILE *file;
+    refused = 0;
+    file = path ? fopen(path, "w") : NULL;
+    if (file) {
+        fprintf(file, "%lu\n", all);
+        fclose(file);
+    }
+}
+
+static int is_refused(void)
+{
+    unsigned long number = atomic_fetch_add(&requests, 1) + 1;
+    if (number != refused)
+        return 0;
+    errno = ENOMEM;
+    return 1;
+}
+
+void *malloc(size_t size) { return is_refused() ? NULL : __libc_malloc(size); }
+void *calloc(size_t count, size_t size) { return is_refused() ? NULL : __libc_calloc(count, size); }
+void *realloc(void *old, size_t size) { return is_refused() ? NULL : __libc_realloc(old, size); }
+void *memalign(size_t align, size_t size) { return is_refused() ? NULL : __libc_memalign(align, size); }
+void *aligned_alloc(size_t align, size_t size) { return is_refused() ? NULL : __libc_memalign(align, size); }
+
+int posix_memalign(void **made, size_t align, size_t size)
+{
+    void *found = is_refused() ? NULL : __libc_memalign(align, size);
+    if (!found)
+        return ENOMEM;
+    *made = found;
+    return 0;
+}

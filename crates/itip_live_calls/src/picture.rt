@@ -1,0 +1,43 @@
+//! All that a desk or a world shows, as octets that can be compared.
+
+use crate::error::CallError;
+use crate::texts::window;
+use itip_delta::{World, write_delta};
+use itip_desk::Desk;
+use itip_message::Item;
+use std::alloc::Global;
+
+/// The canonical octets of items, in their order.
+pub(crate) fn octets(alloc: Global, items: &[Item]) -> Result<Vec<u8>, CallError> {
+    let mut octets = Vec::new(alloc);
+    for item in items {
+        octets.extend_from_slice(item.bytes.as_slice())?;
+    }
+    Ok(octets)
+}
+
+/// The tick of a desk, what changed since each tick, and its list.
+pub(crate) fn picture(alloc: Global, desk: &Desk) -> Result<Vec<u8>, CallError> {
+    let tick = desk.tick();
+    let entries = desk.entries();
+    let mut shown = format!(in alloc; "tick {tick} entries {entries}\n")?.into_bytes();
+    for since in 0..tick {
+        shown.extend_from_slice(&write_delta(alloc, &desk.delta_since(since)?)?)?;
+        shown.extend_from_slice(b"--\n")?;
+    }
+    shown.extend_from_slice(&desk.list(window()?)?)?;
+    Ok(shown)
+}
+
+/// What the desks of a world show, its packets, and the number of its replies.
+pub(crate) fn world_picture(alloc: Global, world: &World) -> Result<Vec<u8>, CallError> {
+    let replies = world.replies().len();
+    let mut shown = format!(in alloc; "replies {replies}\n")?.into_bytes();
+    for desk in world.desks() {
+        shown.extend_from_slice(&picture(alloc, desk)?)?;
+    }
+    for packet in world.packets() {
+        shown.extend_from_slice(packet.as_slice())?;
+    }
+    Ok(shown)
+}
