@@ -3,17 +3,22 @@ ghost use Rattle.std.specs.Prelude.{◌≡◌};
 ghost use Rattle.itip_app.specs.Words.{AreDesks};
 
 use crate::check::check;
+use crate::filter::filter;
 use crate::words::{Call, NoCall, Task, read_words};
 use itip_office::run_script;
 use itip_streams::StreamFault;
 use std::fmt::Display;
 use std::rt::Env;
+use std::thread::Threads;
 use std::{env, io};
 
 const FAULT: u8 = 3;
 
-/// Runs the program and gives its status.
-pub(crate) fn status<R: AllocGlobal + Env + Input + Print + Eprint>(rt: &R) -> u8 {
+/// Runs the program and gives its status; `is_terminal` says whether standard error is one.
+pub(crate) fn status<R: AllocGlobal + Env + Input + Print + Eprint + Threads + Sync>(
+    rt: &R,
+    is_terminal: bool,
+) -> u8 {
     let words: Vec<String> = match env::args(rt).map(|words| words.collect(rt.alloc())) {
         Ok(Ok(words)) => words,
         Ok(Err(_)) => return complain(rt, &"no memory", FAULT),
@@ -22,6 +27,7 @@ pub(crate) fn status<R: AllocGlobal + Env + Input + Print + Eprint>(rt: &R) -> u
     match read_words(rt.alloc(), words.as_slice()) {
         Ok(Task::Run(call)) => run(rt, call),
         Ok(Task::Check) => check_message(rt),
+        Ok(Task::Filter(task)) => ended(rt, filter(rt, task, is_terminal)),
         Err(NoCall::Help(help)) => match help.print(rt) {
             Ok(()) => 0,
             Err(_) => complain(rt, &"write failed", FAULT),

@@ -5,6 +5,7 @@ ghost use Rattle.itip_app.specs.Tasks.{IfRun};
 ghost use Rattle.itip_app.specs.declared.words.NoCall.TheVariants.{NoMemory};
 ghost use Rattle.itip_view.specs.declared.window.Window.{Window};
 
+use crate::filter::{Filter, compact_command, filter_of, list_command};
 use clap::error::ErrorKind;
 use clap::{Arg, ArgMatches, Command, Error};
 use itip_moment::read_date;
@@ -43,6 +44,8 @@ pub(crate) enum Task {
     Run(Call),
     /// A message is read, and its items are shown.
     Check,
+    /// Messages are read, and what counts is written.
+    Filter(Filter),
 }
 
 /// How a script is run: with so many desks, and lists of the days of a window.
@@ -87,6 +90,9 @@ pub(crate) fn read_words(alloc: Global, words: &[String]) -> Result<Task, NoCall
     if matches.subcommand_matches("check").is_some() {
         return Ok(Task::Check);
     }
+    if let Some(filter) = filter_of(&matches) {
+        return Ok(Task::Filter(filter));
+    }
     match matches.subcommand_matches("run").and_then(call_of) {
         Some(call) => Ok(Task::Run(call)),
         None => Err(NoCall::BadWords),
@@ -99,6 +105,25 @@ fn command<'a>(alloc: Global) -> Result<Command<'a>, AllocError> {
         .value_name("D")
         .default_value("1")
         .help("How many desks there are: 1 to 16");
+    let run = Command::new(alloc, "run")
+        .about("Runs a script from standard input")
+        .after_help(RUN_HELP)
+        .arg(desks)?;
+    let check = Command::new(alloc, "check").about(
+        "Reads a message from standard input and shows its items",
+    );
+    Command::new(alloc, "itipdesk")
+        .bin_name("itipdesk")?
+        .about("A desk for to-dos under iTIP (RFC 5546)")
+        .subcommand_required(true)
+        .subcommand(days(alloc, run)?)?
+        .subcommand(check)?
+        .subcommand(compact_command(alloc)?)?
+        .subcommand(list_command(alloc)?)
+}
+
+/// A command with the days of a window.
+pub(crate) fn days<'a>(alloc: Global, command: Command<'a>) -> Result<Command<'a>, AllocError> {
     let from = Arg::new(alloc, "from")
         .long("from")
         .value_name("YYYYMMDD")
@@ -109,21 +134,7 @@ fn command<'a>(alloc: Global) -> Result<Command<'a>, AllocError> {
         .value_name("YYYYMMDD")
         .required(true)
         .help("The day after the last that lists show, at most 3660 days later");
-    let run = Command::new(alloc, "run")
-        .about("Runs a script from standard input")
-        .after_help(RUN_HELP)
-        .arg(desks)?
-        .arg(from)?
-        .arg(to)?;
-    let check = Command::new(alloc, "check").about(
-        "Reads a message from standard input and shows its items",
-    );
-    Command::new(alloc, "itipdesk")
-        .bin_name("itipdesk")?
-        .about("A desk for to-dos under iTIP (RFC 5546)")
-        .subcommand_required(true)
-        .subcommand(run)?
-        .subcommand(check)
+    command.arg(from)?.arg(to)
 }
 
 fn call_of(matches: &ArgMatches<'_>) -> Option<Call>
@@ -148,7 +159,7 @@ fn call_of_texts(desks: &str, from: &str, to: &str) -> Option<Call>
 }
 
 /// The window from one date up to another, each spelled `YYYYMMDD`.
-fn window_of(from: &str, to: &str) -> Option<Window>
+pub(crate) fn window_of(from: &str, to: &str) -> Option<Window>
     ensures found { IfSome result (IsWindowOf from.now to.now) }
     ensures none { IfNone result ((window : Window) → IsWindowOf from.now to.now window → ⊥) }
 {

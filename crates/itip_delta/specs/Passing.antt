@@ -13,6 +13,10 @@ pub record IsFirstLine (bytes line after : List ℕ) : Type 0 where
   pub lines : lines_of bytes ≡ line ∷ lines_of after
   pub some : 0 < length line
 
+-- the first line of some octets, and what follows it, whatever octets come behind these
+abbrev pub StaysFirstLine : List ℕ → List ℕ → List ℕ → Type 0
+StaysFirstLine bytes line after = (more : List ℕ) → IsFirstLine (bytes ++ more) line (after ++ more)
+
 -- An octet of a break, or the blank behind one.
 abbrev pub is_left_out : ℕ → Bool → List ℕ → Bool
 is_left_out b behind after = b == 10 || is_return b after || (behind && is_blank b)

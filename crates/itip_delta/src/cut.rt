@@ -1,7 +1,7 @@
 //! Cutting a delta into messages. Nothing is copied: each message is a slice of the delta.
-ghost use Rattle.std.specs.Prelude.{◌≡◌, ◌≤◌, [], length, MatchOption, IfSome};
+ghost use Rattle.std.specs.Prelude.{◌≡◌, ◌<◌, ◌≤◌, [], length, MatchOption, IfSome};
 ghost use Rattle.itip_delta.specs.Scanned.{begins_blank, ends_line, line_length, is_return, says, said, is_empty, ends_calendar, messages_of, CutsMessage, StaysCut};
-ghost use Rattle.itip_delta.specs.Passing.{IsFirstLine, SaysFirst, is_left_out};
+ghost use Rattle.itip_delta.specs.Passing.{IsFirstLine, StaysFirstLine, SaysFirst, is_left_out};
 ghost use Rattle.itip_lines.specs.Cutting.{is_blank};
 
 const CR: u8 = b'\r';
@@ -33,10 +33,7 @@ pub fn whole_message(bytes: &[u8]) -> Option<(&[u8], &[u8])>
     ensures { IfSome result (λ cut. StaysCut bytes.now cut.0.now cut.1.now) }
 {
     let mut rest = bytes;
-    while let Some((line, after)) = first_line(rest) {
-        if after.is_empty() {
-            return None;
-        }
+    while let Some((line, after)) = whole_line(rest) {
         if ends_calendar(line) {
             let message = &bytes[..bytes.len() - after.len()];
             return Some((message, after));
@@ -44,6 +41,19 @@ pub fn whole_message(bytes: &[u8]) -> Option<(&[u8], &[u8])>
         rest = after;
     }
     None
+}
+
+/// The first line as it came, with its folds and its break, and what follows it, where an octet behind shows that it is at its end.
+fn whole_line(bytes: &[u8]) -> Option<(&[u8], &[u8])>
+    ensures stays { IfSome result (λ cut. StaysFirstLine bytes.now cut.0.now cut.1.now) }
+    ensures shorter { IfSome result (λ cut. length cut.1.now < length bytes.now) }
+{
+    let end = line_length(bytes);
+    if end < bytes.len() {
+        Some((&bytes[..end], &bytes[end..]))
+    } else {
+        None
+    }
 }
 
 /// The first line as it came, with its folds and its break, and what follows it.
