@@ -31,7 +31,7 @@ impl Inbox {
         ensures { KeepsMessages [] result.desk.kept result.refusals.items result.messages }
     {
         Inbox {
-            desk: Desk::new(alloc),
+            desk: Desk::empty_at(alloc, 0),
             refusals: Vec::new(alloc),
             messages: 0,
         }

@@ -4,20 +4,20 @@
 //! in any order, and the results once more. A refused message is not heard, and the others are.
 #![tactic(auto)]
 
-mod compact;
+mod kept;
 mod cut;
 mod inbox;
 mod laws;
-mod list;
+mod tasks;
 mod read;
 mod refusal;
 mod texts;
 mod watch;
 
-pub use compact::{compact, write_kept};
+pub use kept::{compact, write_kept};
 pub use inbox::Inbox;
 pub use laws::{compaction_of_compactions, one_compaction};
-pub use list::list;
+pub use tasks::list;
 pub use read::read_inbox;
 pub use refusal::Refusal;
 pub use watch::Watch;

@@ -6,7 +6,7 @@ ghost use Rattle.itip_state.specs.Kept.{AreKept};
 ghost use Rattle.itip_streams.specs.Written.{AppendsFront};
 ghost use Rattle.itip_inbox.specs.TaskList.{IsTaskList, WritesTaskList, IsListed};
 
-use crate::compact::tell;
+use crate::kept::tell;
 use crate::read::read_inbox;
 use crate::watch::Watch;
 use itip_desk::Desk;
