@@ -1,5 +1,5 @@
 -- Messages that are heard or refused, one after another.
-use Rattle.std.proofs.Common.{◌≡◌, ◌∙◌, sym, ap, refl, ℕ, ◌+◌, List, [], ◌∷◌, ◌++◌, length, subst, arith, append_assoc, append-nil, Result, Ok, Err}
+use Rattle.std.proofs.Common.{◌≡◌, ◌∙◌, sym, ap, refl, ℕ, suc, ◌+◌, List, [], ◌∷◌, ◌++◌, length, subst, arith, append_assoc, append-nil, Result, Ok, Err}
 use Rattle.std.specs.List.{AllZip}
 use Rattle.std.proofs.lemmas.List.{length-append}
 use Rattle.itip_message.specs.Message.{ReadsMessage, RefusesMessage}
@@ -20,10 +20,10 @@ heard_push (Err cause ∷ as') a = heard_push as' a
 refusals_push : (n : ℕ) (as' : List (Result (List Item) Fault)) (a : Result (List Item) Fault) → refusals_from n (as' ++ a ∷ []) ≡ refusals_from n as' ++ refusals_from (n + length as') (a ∷ [])
 refusals_push n [] a = let e : n ≡ n + 0 = omega arith in ap (λ (k : ℕ). refusals_from k (a ∷ [])) e
 refusals_push n (Ok items ∷ as') a =
-    let e : (n + 1) + length as' ≡ n + length (Ok {E = Fault} items ∷ as') = omega arith in
+    let e : (n + 1) + length as' ≡ n + suc (length as') = omega arith in
     refusals_push (n + 1) as' a ∙ ap (λ (k : ℕ). refusals_from (n + 1) as' ++ refusals_from k (a ∷ [])) e
 refusals_push n (Err cause ∷ as') a =
-    let e : (n + 1) + length as' ≡ n + length (Err {T = List Item} cause ∷ as') = omega arith in
+    let e : (n + 1) + length as' ≡ n + suc (length as') = omega arith in
     ap (λ (t : List Refusal). (record { message = n; cause = cause }) ∷ t) (refusals_push (n + 1) as' a ∙ ap (λ (k : ℕ). refusals_from (n + 1) as' ++ refusals_from k (a ∷ [])) e)
 
 answers_push : (ts : List (List ℕ)) (as' : List (Result (List Item) Fault)) (t : List ℕ) (a : Result (List Item) Fault) → AreAnswers ts as' → IsAnswer t a → AreAnswers (ts ++ t ∷ []) (as' ++ a ∷ [])
@@ -126,3 +126,15 @@ sort_ends messages texts heard kept refusals count so_far keeps =
       keeps = keeps;
       count_is = so_far.count_is ∙ ap (λ (ts : List (List ℕ)). length (messages ++ ts)) all;
     }
+
+pub taken_items : (before texts : List (List ℕ)) (all left : List (Result (List Item) ReadError)) (heard now : List Item) (refusals : List Refusal) (count next : ℕ) (answer : Result (List Item) ReadError) (items : List Item)
+    → SortsSoFar before texts all heard refusals count → all ≡ answer ∷ left → answer ≡ Ok items → next ≡ count + 1 → now ≡ heard ++ items → SortsSoFar before texts left now refusals next
+taken_items before texts all left heard now refusals count next answer items so_far step is more grown =
+    subst (λ (t : List Item). SortsSoFar before texts left t refusals next) (sym grown)
+    (sort_items before texts left heard refusals count next items (subst (λ (t : List (Result (List Item) ReadError)). SortsSoFar before texts t heard refusals count) (step ∙ ap (λ (a : Result (List Item) ReadError). a ∷ left) is) so_far) more)
+
+pub taken_refusal : (before texts : List (List ℕ)) (all left : List (Result (List Item) ReadError)) (heard : List Item) (refusals now : List Refusal) (count next : ℕ) (answer : Result (List Item) ReadError) (cause : Fault)
+    → SortsSoFar before texts all heard refusals count → all ≡ answer ∷ left → answer ≡ Err (error.Fault cause) → next ≡ count + 1 → now ≡ refusals ++ (record { message = next; cause = cause }) ∷ [] → SortsSoFar before texts left heard now next
+taken_refusal before texts all left heard refusals now count next answer cause so_far step is more grown =
+    subst (λ (t : List Refusal). SortsSoFar before texts left heard t next) (sym grown)
+    (sort_refusal before texts left heard refusals count next cause (subst (λ (t : List (Result (List Item) ReadError)). SortsSoFar before texts t heard refusals count) (step ∙ ap (λ (a : Result (List Item) ReadError). a ∷ left) is) so_far) more)
