@@ -123,6 +123,7 @@ fn threads<R: Threads>(rt: &R, reading: Reading) -> usize {
 }
 
 /// Names refusals on standard error, and shows the progress there. What can't be written there is left out.
+#[derive(Drop)]
 struct Teller<'a, R> {
     rt: &'a R,
     shows: bool,
