@@ -93,7 +93,7 @@ fn threads_of(text: &str) -> Option<u64> {
 }
 
 /// Filters standard input; says whether something was refused.
-pub(crate) fn filter<R: AllocGlobal + Input + Print + Eprint + Threads + Sync>(
+pub(crate) fn run_filter<R: AllocGlobal + Input + Print + Eprint + Threads + Sync>(
     rt: &R,
     filter: Filter,
     is_terminal: bool,

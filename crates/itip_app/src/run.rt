@@ -3,7 +3,7 @@ ghost use Rattle.std.specs.Prelude.{◌≡◌};
 ghost use Rattle.itip_app.specs.Words.{AreDesks};
 
 use crate::check::check;
-use crate::filter::filter;
+use crate::filter::run_filter;
 use crate::words::{Call, NoCall, Task, read_words};
 use itip_office::run_script;
 use itip_streams::StreamFault;
@@ -27,7 +27,7 @@ pub(crate) fn status<R: AllocGlobal + Env + Input + Print + Eprint + Threads + S
     match read_words(rt.alloc(), words.as_slice()) {
         Ok(Task::Run(call)) => run(rt, call),
         Ok(Task::Check) => check_message(rt),
-        Ok(Task::Filter(task)) => ended(rt, filter(rt, task, is_terminal)),
+        Ok(Task::Filter(task)) => ended(rt, run_filter(rt, task, is_terminal)),
         Err(NoCall::Help(help)) => match help.print(rt) {
             Ok(()) => 0,
             Err(_) => complain(rt, &"write failed", FAULT),
