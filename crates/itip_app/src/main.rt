@@ -1,17 +1,20 @@
-//! The program `itipdesk`: desks for to-dos under iTIP, driven by a script on standard input, one command after another or as jobs on threads; or a message
-//! shown as its items.
+//! The program `itipdesk`: desks for to-dos under iTIP, driven by a script on standard input, one command after another or as jobs on threads; messages
+//! filtered to what counts of them, or to their task list; or a message shown as its items.
 //!
 //! Its status is 0, or 1 where something printed was a refusal, 2 for bad words or a bad window, and 3 for a fault.
 #![tactic(auto)]
 
 mod check;
 mod fault;
+mod filter;
 mod office;
 mod run;
 mod words;
 
+use std::io::IsTerminal;
 use std::process::ExitCode;
 
 fn main(rt: HostRuntime) -> ExitCode {
-    ExitCode::from(run::status(&rt))
+    let is_terminal = rt.stderr().is_terminal();
+    ExitCode::from(run::status(&rt, is_terminal))
 }

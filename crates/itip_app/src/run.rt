@@ -3,6 +3,7 @@ ghost use Rattle.std.specs.Prelude.{◌≡◌};
 ghost use Rattle.itip_app.specs.Words.{AreDesks, AreWorkers};
 
 use crate::check::check;
+use crate::filter::run_filter;
 use crate::office::office;
 use crate::words::{Call, NoCall, Task, read_words};
 use itip_office::run_script;
@@ -14,10 +15,13 @@ use std::{env, io};
 
 const FAULT: u8 = 3;
 
-/// Runs the program and gives its status.
+/// Runs the program and gives its status; `is_terminal` says whether standard error is one.
 pub(crate) fn status<
     R: AllocGlobal + Env + Input + Print + Eprint + Threads + Wait + Copy + Send + Sync + 'static,
->(rt: &R) -> u8 {
+>(
+    rt: &R,
+    is_terminal: bool,
+) -> u8 {
     let words: Vec<String> = match env::args(rt).map(|words| words.collect(rt.alloc())) {
         Ok(Ok(words)) => words,
         Ok(Err(_)) => return complain(rt, &"no memory", FAULT),
@@ -27,6 +31,7 @@ pub(crate) fn status<
         Ok(Task::Run(call)) => run(rt, call),
         Ok(Task::Office { call, workers }) => run_jobs(rt, call, workers),
         Ok(Task::Check) => check_message(rt),
+        Ok(Task::Filter(task)) => ended(rt, run_filter(rt, task, is_terminal)),
         Err(NoCall::Help(help)) => match help.print(rt) {
             Ok(()) => 0,
             Err(_) => complain(rt, &"write failed", FAULT),

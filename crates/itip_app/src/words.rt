@@ -5,6 +5,7 @@ ghost use Rattle.itip_app.specs.Tasks.{IfRun, IfOffice, AreOffice};
 ghost use Rattle.itip_app.specs.declared.words.NoCall.TheVariants.{NoMemory};
 ghost use Rattle.itip_view.specs.declared.window.Window.{Window};
 
+use crate::filter::{Filter, compact_command, filter_of, list_command};
 use clap::error::ErrorKind;
 use clap::{Arg, ArgMatches, Command, Error};
 use itip_moment::read_date;
@@ -70,6 +71,8 @@ pub(crate) enum Task {
     Office { call: Call, workers: u64 },
     /// A message is read, and its items are shown.
     Check,
+    /// Messages are read, and what counts is written.
+    Filter(Filter),
 }
 
 /// How a script is run: with so many desks, and lists of the days of a window.
@@ -118,6 +121,9 @@ pub(crate) fn read_words(alloc: Global, words: &[String]) -> Result<Task, NoCall
     if let Some(words) = matches.subcommand_matches("office") {
         return office_of(words).ok_or(NoCall::BadWords);
     }
+    if let Some(filter) = filter_of(&matches) {
+        return Ok(Task::Filter(filter));
+    }
     match matches.subcommand_matches("run").and_then(call_of) {
         Some(call) => Ok(Task::Run(call)),
         None => Err(NoCall::BadWords),
@@ -125,18 +131,6 @@ pub(crate) fn read_words(alloc: Global, words: &[String]) -> Result<Task, NoCall
 }
 
 fn command<'a>(alloc: Global) -> Result<Command<'a>, AllocError> {
-    let run = with_desks_and_window(alloc, Command::new(alloc, "run"))?
-        .about("Runs a script from standard input")
-        .after_help(RUN_HELP);
-    let workers = Arg::new(alloc, "workers")
-        .long("workers")
-        .value_name("N")
-        .default_value("1")
-        .help("How many workers there are: 1 to 8");
-    let office = with_desks_and_window(alloc, Command::new(alloc, "office"))?
-        .about("Runs the jobs of a script from standard input on threads")
-        .after_help(OFFICE_HELP)
-        .arg(workers)?;
     let check = Command::new(alloc, "check").about(
         "Reads a message from standard input and shows its items",
     );
@@ -144,21 +138,44 @@ fn command<'a>(alloc: Global) -> Result<Command<'a>, AllocError> {
         .bin_name("itipdesk")?
         .about("A desk for to-dos under iTIP (RFC 5546)")
         .subcommand_required(true)
-        .subcommand(run)?
-        .subcommand(office)?
-        .subcommand(check)
+        .subcommand(run_command(alloc)?)?
+        .subcommand(office_command(alloc)?)?
+        .subcommand(check)?
+        .subcommand(compact_command(alloc)?)?
+        .subcommand(list_command(alloc)?)
 }
 
-/// A word with the options that a script needs.
-fn with_desks_and_window<'a>(
-    alloc: Global,
-    command: Command<'a>,
-) -> Result<Command<'a>, AllocError> {
-    let desks = Arg::new(alloc, "desks")
+fn run_command<'a>(alloc: Global) -> Result<Command<'a>, AllocError> {
+    let run = Command::new(alloc, "run")
+        .about("Runs a script from standard input")
+        .after_help(RUN_HELP)
+        .arg(desks_word(alloc))?;
+    days(alloc, run)
+}
+
+fn office_command<'a>(alloc: Global) -> Result<Command<'a>, AllocError> {
+    let workers = Arg::new(alloc, "workers")
+        .long("workers")
+        .value_name("N")
+        .default_value("1")
+        .help("How many workers there are: 1 to 8");
+    let office = Command::new(alloc, "office")
+        .about("Runs the jobs of a script from standard input on threads")
+        .after_help(OFFICE_HELP)
+        .arg(desks_word(alloc))?;
+    days(alloc, office)?.arg(workers)
+}
+
+fn desks_word<'a>(alloc: Global) -> Arg<'a> {
+    Arg::new(alloc, "desks")
         .long("desks")
         .value_name("D")
         .default_value("1")
-        .help("How many desks there are: 1 to 16");
+        .help("How many desks there are: 1 to 16")
+}
+
+/// A command with the days of a window.
+pub(crate) fn days<'a>(alloc: Global, command: Command<'a>) -> Result<Command<'a>, AllocError> {
     let from = Arg::new(alloc, "from")
         .long("from")
         .value_name("YYYYMMDD")
@@ -169,7 +186,7 @@ fn with_desks_and_window<'a>(
         .value_name("YYYYMMDD")
         .required(true)
         .help("The day after the last that lists show, at most 3660 days later");
-    command.arg(desks)?.arg(from)?.arg(to)
+    command.arg(from)?.arg(to)
 }
 
 fn call_of(matches: &ArgMatches<'_>) -> Option<Call>
@@ -202,7 +219,7 @@ fn call_of_texts(desks: &str, from: &str, to: &str) -> Option<Call>
 }
 
 /// The window from one date up to another, each spelled `YYYYMMDD`.
-fn window_of(from: &str, to: &str) -> Option<Window>
+pub(crate) fn window_of(from: &str, to: &str) -> Option<Window>
     ensures found { IfSome result (IsWindowOf from.now to.now) }
     ensures none { IfNone result ((window : Window) → IsWindowOf from.now to.now window → ⊥) }
 {

@@ -1,5 +1,5 @@
 pub mod Ascending
-mod Cuts
+pub mod Cuts
 pub mod Deltas
 pub mod Desks
 pub mod Events
@@ -11,5 +11,6 @@ pub mod Packets
 mod Plain
 pub mod Running
 mod SomeDelta
+mod StaysPassing
 mod Swaps
 mod Unfolding

@@ -13,6 +13,10 @@ pub record IsFirstLine (bytes line after : List ℕ) : Type 0 where
   pub lines : lines_of bytes ≡ line ∷ lines_of after
   pub some : 0 < length line
 
+-- the first line of some octets, and what follows it, whatever octets come behind these
+abbrev pub StaysFirstLine : List ℕ → List ℕ → List ℕ → Type 0
+StaysFirstLine bytes line after = (more : List ℕ) → IsFirstLine (bytes ++ more) line (after ++ more)
+
 -- An octet of a break, or the blank behind one.
 abbrev pub is_left_out : ℕ → Bool → List ℕ → Bool
 is_left_out b behind after = b == 10 || is_return b after || (behind && is_blank b)
@@ -29,6 +33,10 @@ pub record Passes (bytes rest : List ℕ) (blank : Bool) : Type 0 where
   pub lines : lines_of bytes ≡ passed ++ lines_of rest
   pub none_ends : AllByRecursion (λ line. ends_calendar line ≡ false) passed
   pub blank_is : blank ≡ list_all is_empty passed
+
+-- Lines of which none ends a calendar were passed, whatever octets come behind these.
+abbrev pub StaysPassing : List ℕ → List ℕ → Type 0
+StaysPassing bytes rest = (more : List ℕ) → (blank : Bool) × Passes (bytes ++ more) (rest ++ more) blank
 
 -- What the rest of some octets gives stands behind the items of what was read before it.
 pub record Continues (bytes rest : List ℕ) (items : List Item) : Type 0 where

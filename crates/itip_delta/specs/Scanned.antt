@@ -1,5 +1,5 @@
 -- The messages of a delta as one scan finds them: its lines as they came, in groups up to each line that ends a calendar (our own form).
-use Rattle.std.specs.Prelude.{◌≡◌, ◌<◌, ℕ, suc, Bool, true, false, ◌&&◌, ◌||◌, not, ◌==◌, List, [], ◌∷◌, length, map, if◌then◌else◌, codes}
+use Rattle.std.specs.Prelude.{◌≡◌, ◌<◌, ℕ, suc, Bool, true, false, ◌&&◌, ◌||◌, not, ◌==◌, List, [], ◌∷◌, ◌++◌, length, map, if◌then◌else◌, codes}
 use Rattle.std.specs.List.{onto_first, concat, list_all}
 use Rattle.std.specs.Char.{to_ascii_uppercase}
 use Rattle.itip_lines.specs.Cutting.{is_blank}
@@ -67,3 +67,7 @@ messages_of bytes = texts_of (groups_of (lines_of bytes))
 pub record CutsMessage (bytes message after : List ℕ) : Type 0 where
   pub messages : messages_of bytes ≡ message ∷ messages_of after
   pub shorter : length after < length bytes
+
+-- the first message of some octets, and what follows it, whatever octets come behind these
+abbrev pub StaysCut : List ℕ → List ℕ → List ℕ → Type 0
+StaysCut bytes message after = (more : List ℕ) → CutsMessage (bytes ++ more) message (after ++ more)

@@ -1,7 +1,7 @@
 //! Cutting a delta into messages. Nothing is copied: each message is a slice of the delta.
-ghost use Rattle.std.specs.Prelude.{◌≡◌, ◌≤◌, [], length, MatchOption};
-ghost use Rattle.itip_delta.specs.Scanned.{begins_blank, ends_line, line_length, is_return, says, said, is_empty, ends_calendar, messages_of, CutsMessage};
-ghost use Rattle.itip_delta.specs.Passing.{IsFirstLine, SaysFirst, is_left_out};
+ghost use Rattle.std.specs.Prelude.{◌≡◌, ◌<◌, ◌≤◌, [], length, MatchOption, IfSome};
+ghost use Rattle.itip_delta.specs.Scanned.{begins_blank, ends_line, line_length, is_return, says, said, is_empty, ends_calendar, messages_of, CutsMessage, StaysCut};
+ghost use Rattle.itip_delta.specs.Passing.{IsFirstLine, StaysFirstLine, SaysFirst, is_left_out};
 ghost use Rattle.itip_lines.specs.Cutting.{is_blank};
 
 const CR: u8 = b'\r';
@@ -9,7 +9,9 @@ const CR: u8 = b'\r';
 const LF: u8 = b'\n';
 
 /// The first message of some octets, and what follows it. Empty lines alone are no message.
-pub(crate) fn next_message(bytes: &[u8]) -> Option<(&[u8], &[u8])>
+///
+/// A message ends behind its line END:VCALENDAR, unfolded and without regard to case, or with the octets.
+pub fn next_message(bytes: &[u8]) -> Option<(&[u8], &[u8])>
     ensures { MatchOption result (messages_of bytes.now ≡ []) (λ cut. CutsMessage bytes.now cut.0.now cut.1.now) }
 {
     let mut rest = bytes;
@@ -23,6 +25,35 @@ pub(crate) fn next_message(bytes: &[u8]) -> Option<(&[u8], &[u8])>
         rest = after;
     }
     if all_empty { None } else { Some((bytes, &[])) }
+}
+
+/// The first message of some octets that others may follow, and what stands behind it. `None` where it is not known yet
+/// where the first message ends: a line is at its end only where an octet behind it shows that no fold goes on.
+pub fn whole_message(bytes: &[u8]) -> Option<(&[u8], &[u8])>
+    ensures { IfSome result (λ cut. StaysCut bytes.now cut.0.now cut.1.now) }
+{
+    let mut rest = bytes;
+    while let Some((line, after)) = whole_line(rest) {
+        if ends_calendar(line) {
+            let message = &bytes[..bytes.len() - after.len()];
+            return Some((message, after));
+        }
+        rest = after;
+    }
+    None
+}
+
+/// The first line as it came, with its folds and its break, and what follows it, where an octet behind shows that it is at its end.
+fn whole_line(bytes: &[u8]) -> Option<(&[u8], &[u8])>
+    ensures stays { IfSome result (λ cut. StaysFirstLine bytes.now cut.0.now cut.1.now) }
+    ensures shorter { IfSome result (λ cut. length cut.1.now < length bytes.now) }
+{
+    let end = line_length(bytes);
+    if end < bytes.len() {
+        Some((&bytes[..end], &bytes[end..]))
+    } else {
+        None
+    }
 }
 
 /// The first line as it came, with its folds and its break, and what follows it.

@@ -10,6 +10,7 @@ mod run;
 mod stop;
 mod world;
 
+pub use cut::{next_message, whole_message};
 pub use delta::{read_delta, write_delta};
 pub use event::{Event, Reply};
 pub use laws::{delta_cutting, delta_read_again, one_delta};

@@ -1,0 +1,3 @@
+mod Hearing
+mod Keeping
+mod Streams

@@ -1,0 +1,66 @@
+-- The compaction of an input: the octets of what is kept of all its messages (our own format).
+use Rattle.std.specs.Prelude.{◌≡◌, ◌↔◌, ◌⊎◌, ℕ, Bool, List, [], ◌∷◌, ◌++◌, Option}
+use Rattle.std.specs.List.{Contains, concat}
+use Rattle.std.specs.Io.KnownBytes.{Appends}
+use Rattle.itip_message.specs.declared.item.Item.{Item}
+use Rattle.itip_state.specs.Kept.{AreKept, IsItemsOf}
+use Rattle.itip_desk.specs.Octets.{AscendOctets}
+use Rattle.itip_delta.specs.Cutting.{IsCutInto}
+use Rattle.itip_delta.specs.Delta.{delta_octets}
+use Rattle.itip_inbox.specs.Inbox.{IsInbox, is_some_refused}
+use Rattle.itip_inbox.specs.declared.refusal.Refusal.{Refusal}
+
+-- the octets of the kept items of a set, by canonical octets, each once
+pub record AreKeptOctets (heard : List Item) (octets : List ℕ) : Type 0 where
+  pub batch : List Item
+  pub ascend : AscendOctets batch
+  pub kept : AreKept batch heard
+  pub octets_are : octets ≡ delta_octets batch
+
+-- The octets of what is kept of all messages of an input that are not refused, and whether one is.
+pub record IsCompaction (input octets : List ℕ) (refused : Bool) : Type 0 where
+  pub heard : List Item
+  pub refusals : List Refusal
+  pub inbox : IsInbox input heard refusals
+  pub kept : AreKeptOctets heard octets
+  pub refused_is : refused ≡ is_some_refused refusals
+
+-- The compaction of an input was written.
+pub record WritesCompaction (old new : Option (List ℕ)) (input : List ℕ) (refused : Bool) : Type 0 where
+  pub octets : List ℕ
+  pub compaction : IsCompaction input octets refused
+  pub appended : Appends old new octets
+
+-- The octets of items of a state were written.
+pub record WritesItems (old new : Option (List ℕ)) (kept : List Item) : Type 0 where
+  pub batch : List Item
+  pub items : IsItemsOf batch kept
+  pub appended : Appends old new (delta_octets batch)
+
+-- What was written, and what is kept to be written, are the octets of these items.
+pub record WritesSoFar (old new : Option (List ℕ)) (done : List Item) (kept : List ℕ) : Type 0 where
+  pub written : List ℕ
+  pub octets_are : delta_octets done ≡ written ++ kept
+  pub appended : Appends old new written
+
+-- each of these octets is the compaction of the part beside it
+abbrev pub AreCompactions : List (List ℕ) → List (List ℕ) → Type 0
+AreCompactions [] [] = Unit {0}
+AreCompactions [] (octets ∷ compacted) = ⊥
+AreCompactions (part ∷ parts) [] = ⊥
+AreCompactions (part ∷ parts) (octets ∷ compacted) = ((refused : Bool) × IsCompaction part octets refused) × AreCompactions parts compacted
+
+-- a message of a text
+pub record HasMessage (text message : List ℕ) : Type 0 where
+  pub messages : List (List ℕ)
+  pub cut : IsCutInto text messages
+  pub among : Contains messages message
+
+-- a message of one of these texts
+abbrev pub SomeHasMessage : List (List ℕ) → List ℕ → Type 0
+SomeHasMessage [] message = ⊥
+SomeHasMessage (text ∷ texts) message = HasMessage text message ⊎ SomeHasMessage texts message
+
+-- The whole has the messages of the parts, in some order, each once or more often.
+abbrev pub HasSameMessages : List ℕ → List (List ℕ) → Type 0
+HasSameMessages whole parts = (message : List ℕ) → HasMessage whole message ↔ SomeHasMessage parts message

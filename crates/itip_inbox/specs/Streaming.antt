@@ -1,0 +1,58 @@
+-- What is known while an input is read by and by (our own form).
+use Rattle.std.specs.Prelude.{◌≡◌, ◌≤◌, ℕ, List, [], ◌∷◌, ◌++◌, length, Option, Some, None, ⊤, Result, IfOk, IfErr, Bool, IsTrue}
+use Rattle.std.specs.Io.KnownBytes.{IsAtEnd}
+use Rattle.std.specs.List.{AllZip}
+use Rattle.itip_message.specs.Faults.{IfFault}
+use Rattle.itip_message.specs.Message.{ReadsMessage, RefusesMessage}
+use Rattle.itip_message.specs.declared.error.ReadError.{ReadError}
+use Rattle.itip_message.specs.declared.item.Item.{Item}
+use Rattle.itip_state.specs.Kept.{AreKept}
+use Rattle.itip_delta.specs.Scanned.{messages_of}
+use Rattle.itip_inbox.specs.Inbox.{Hears}
+use Rattle.itip_inbox.specs.declared.refusal.Refusal.{Refusal}
+
+-- what reading a text may give, memory aside
+abbrev pub MayAnswer : List ℕ → Result (List Item) ReadError → Type 0
+MayAnswer text answer = IfOk answer (ReadsMessage text) × IfErr answer (λ e. IfFault e (RefusesMessage text))
+
+-- The octets that are held, and those that are not read, are together the same as before.
+abbrev pub MovesIn : Option (List ℕ) → Option (List ℕ) → List ℕ → List ℕ → Type 0
+MovesIn None new before after = ⊤
+MovesIn (Some input) None before after = ⊥
+MovesIn (Some input) (Some rest) before after = before ++ input ≡ after ++ rest
+
+-- The messages of an input are these, and those of what is held and what is not read.
+abbrev pub LeavesMessages : Option (List ℕ) → Option (List ℕ) → List (List ℕ) → List ℕ → Type 0
+LeavesMessages None new messages held = ⊤
+LeavesMessages (Some input) None messages held = ⊥
+LeavesMessages (Some input) (Some rest) messages held = messages_of input ≡ messages ++ messages_of (held ++ rest)
+
+-- The first messages of some octets, and what is left, whatever octets come behind these.
+abbrev pub StaysCutInto : List ℕ → List (List ℕ) → List ℕ → Type 0
+StaysCutInto bytes texts left = (more : List ℕ) → messages_of (bytes ++ more) ≡ texts ++ messages_of (left ++ more)
+
+-- what is kept of the messages that came, the refusals, and the number of messages
+pub record KeepsMessages (messages : List (List ℕ)) (kept : List Item) (refusals : List Refusal) (count : ℕ) : Type 0 where
+  pub heard : List Item
+  pub hears : Hears messages heard refusals
+  pub keeps : AreKept kept heard
+  pub count_is : count ≡ length messages
+
+-- The messages of an input so far, and what is left of it.
+pub record ReadsSoFar (old new : Option (List ℕ)) (held : List ℕ) (kept : List Item) (refusals : List Refusal) (count : ℕ) : Type 0 where
+  pub messages : List (List ℕ)
+  pub keeps : KeepsMessages messages kept refusals count
+  pub leaves : LeavesMessages old new messages held
+
+-- Some of these answers were gone through, of texts that stand behind messages that came before.
+pub record SortsSoFar (before texts : List (List ℕ)) (left : List (Result (List Item) ReadError)) (heard : List Item) (refusals : List Refusal) (count : ℕ) : Type 0 where
+  pub done : List (List ℕ)
+  pub rest : List (List ℕ)
+  pub whole : texts ≡ done ++ rest
+  pub answered : AllZip MayAnswer rest left
+  pub hears : Hears (before ++ done) heard refusals
+  pub count_is : count ≡ length (before ++ done)
+
+-- Octets were read behind those that were held, up to the end where that is said.
+abbrev pub Fills : Option (List ℕ) → Option (List ℕ) → List ℕ → List ℕ → Bool → Type 0
+Fills old new before after ended = MovesIn old new before after × (IsTrue ended → IsAtEnd new)

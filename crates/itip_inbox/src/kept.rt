@@ -1,0 +1,83 @@
+//! The octets of what is kept of an input.
+ghost use Rattle.std.specs.Prelude.{◌≡◌, ◌≢◌, ◌++◌, ℕ, Bool, List, IfOk, IfErr, OnOk, OnErr, IsErrOf, IfSome};
+ghost use Rattle.std.specs.Io.KnownBytes.{Keeps};
+ghost use Rattle.itip_message.specs.declared.item.Item.{Item};
+ghost use Rattle.itip_state.specs.Kept.{IsItemsOf};
+ghost use Rattle.itip_delta.specs.Delta.{delta_octets};
+ghost use Rattle.itip_streams.specs.Written.{AppendsFront, MovesOut};
+ghost use Rattle.itip_inbox.specs.Compaction.{IsCompaction, WritesCompaction, WritesItems};
+ghost use Rattle.itip_inbox.specs.Inbox.{is_some_refused};
+
+use crate::read::read_inbox;
+use crate::refusal::Refusal;
+use crate::watch::Watch;
+use itip_desk::Desk;
+use itip_streams::{StreamFault, write_output};
+use std::alloc::Global;
+use std::io::{Read, Write};
+use std::thread::Threads;
+
+// How many octets are kept before they are written.
+const CHUNK: usize = 65_536;
+
+/// Reads an input to its end and writes the octets of what is kept of its messages, and says whether one was refused.
+///
+/// The octets are those of a delta: of the kept items, by canonical octets, each once. A refused message is told to `watch`.
+/// The whole input is read before anything is written. After a fault of reading nothing was written, after another fault a
+/// front of the output.
+pub fn compact<R: Read, W: Write, S: Watch>(
+    rt: &(impl Threads + Sync),
+    alloc: Global,
+    reader: &mut R,
+    writer: &mut W,
+    threads: usize,
+    watch: &mut S,
+) -> Result<bool, StreamFault>
+    ensures output { IfOk result (λ refused. IfSome (R.remaining reader.old) (λ input. WritesCompaction (W.contents writer.old) (W.contents writer.new) input refused)) }
+    ensures front { OnErr result (IfSome (R.remaining reader.old) (λ input. (octets : List ℕ) (refused : Bool) → IsCompaction input octets refused →
+        AppendsFront (W.contents writer.old) (W.contents writer.new) octets)) }
+    ensures unread { IsErrOf result StreamFault.Read → Keeps (W.contents writer.old) (W.contents writer.new) }
+{
+    let inbox = read_inbox(rt, alloc, reader, threads, watch)?;
+    let is_refused = tell(inbox.refusals.as_slice(), watch);
+    write_kept(alloc, &inbox.desk, writer)?;
+    Ok(is_refused)
+}
+
+/// Tells of each refused message, and says whether there is one.
+pub(crate) fn tell<S: Watch>(refusals: &[Refusal], watch: &mut S) -> bool
+    ensures { result ≡ is_some_refused refusals.now }
+{
+    for refusal in refusals {
+        watch.refused(refusal.message, refusal.cause.number());
+    }
+    !refusals.is_empty()
+}
+
+/// Writes the octets of what a desk keeps, by canonical octets, each item once. After a fault a front of them was written.
+pub fn write_kept<W: Write>(alloc: Global, desk: &Desk, writer: &mut W) -> Result<(), StreamFault>
+    ensures all { OnOk result (WritesItems (W.contents writer.old) (W.contents writer.new) desk.now.kept) }
+    ensures front { OnErr result ((batch : List Item) → IsItemsOf batch desk.now.kept → AppendsFront (W.contents writer.old) (W.contents writer.new) (delta_octets batch)) }
+    ensures fault { IfErr result (λ fault. fault ≢ StreamFault.Read) }
+{
+    let items = desk.state().shared_items()?;
+    let mut kept = Vec::new(alloc);
+    for item in &items {
+        kept.extend_from_slice(item.bytes.as_slice())?;
+        write_if_many(writer, &mut kept)?;
+    }
+    write_output(writer, kept.as_slice())
+}
+
+// Writes the octets that are kept once they are many.
+fn write_if_many<W: Write>(writer: &mut W, kept: &mut Vec<u8>) -> Result<(), StreamFault>
+    ensures moved { OnOk result (MovesOut (W.contents writer.old) (W.contents writer.new) kept.old.items kept.new.items) }
+    ensures front { OnErr result (AppendsFront (W.contents writer.old) (W.contents writer.new) kept.old.items) }
+    ensures fault { IfErr result (λ fault. fault ≡ StreamFault.Write) }
+{
+    if kept.len() >= CHUNK {
+        write_output(writer, kept.as_slice())?;
+        kept.clear();
+    }
+    Ok(())
+}

@@ -1,0 +1,23 @@
+//! Messages in, what counts out: an input of messages one after another, of which one desk hears all.
+//!
+//! What is kept of what was kept is what is kept of all. So parts of an input may be compacted apart, on any machine and
+//! in any order, and the results once more. A refused message is not heard, and the others are.
+#![tactic(auto)]
+
+mod kept;
+mod cut;
+mod inbox;
+mod laws;
+mod tasks;
+mod read;
+mod refusal;
+mod texts;
+mod watch;
+
+pub use kept::{compact, write_kept};
+pub use inbox::Inbox;
+pub use laws::{compaction_of_compactions, one_compaction};
+pub use tasks::list;
+pub use read::read_inbox;
+pub use refusal::Refusal;
+pub use watch::Watch;

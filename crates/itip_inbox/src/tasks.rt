@@ -1,0 +1,68 @@
+//! The task list of an input.
+ghost use Rattle.std.specs.Prelude.{◌≡◌, ◌≢◌, ℕ, Bool, List, IfOk, IfErr, OnErr, IsErrOf, IfSome};
+ghost use Rattle.std.specs.Io.KnownBytes.{Keeps};
+ghost use Rattle.itip_message.specs.declared.item.Item.{Item};
+ghost use Rattle.itip_state.specs.Kept.{AreKept};
+ghost use Rattle.itip_streams.specs.Written.{AppendsFront};
+ghost use Rattle.itip_inbox.specs.TaskList.{IsTaskList, WritesTaskList, IsListed};
+
+use crate::kept::tell;
+use crate::read::read_inbox;
+use crate::watch::Watch;
+use itip_desk::Desk;
+use itip_streams::{StreamFault, write_output};
+use itip_view::{ViewError, Window};
+use std::alloc::Global;
+use std::io::{Read, Write};
+use std::thread::Threads;
+
+const TOO_MANY_ROWS: &[u8] = b"refused 31\n";
+
+/// Reads an input to its end and writes the task list of its messages in a window, or `refused 31` where more than 100,000
+/// rows stand there. Says whether a message was refused, or the list.
+///
+/// A refused message is told to `watch`. The whole input is read before anything is written. After a fault of reading
+/// nothing was written, after another fault a front of the output.
+pub fn list<R: Read, W: Write, S: Watch>(
+    rt: &(impl Threads + Sync),
+    alloc: Global,
+    reader: &mut R,
+    writer: &mut W,
+    window: Window,
+    threads: usize,
+    watch: &mut S,
+) -> Result<bool, StreamFault>
+    ensures output { IfOk result (λ refused. IfSome (R.remaining reader.old) (λ input. WritesTaskList (W.contents writer.old) (W.contents writer.new) input window refused)) }
+    ensures front { OnErr result (IfSome (R.remaining reader.old) (λ input. (text : List ℕ) (refused : Bool) → IsTaskList input window text refused →
+        AppendsFront (W.contents writer.old) (W.contents writer.new) text)) }
+    ensures unread { IsErrOf result StreamFault.Read → Keeps (W.contents writer.old) (W.contents writer.new) }
+{
+    let inbox = read_inbox(rt, alloc, reader, threads, watch)?;
+    let is_refused = tell(inbox.refusals.as_slice(), watch);
+    let listed = list_of(alloc, &inbox.desk, window)?;
+    write_output(writer, listed.text.as_slice())?;
+    Ok(is_refused || listed.is_refusal)
+}
+
+#[derive(Drop)]
+struct Listed {
+    text: Vec<u8>,
+    is_refusal: bool,
+}
+
+fn list_of(alloc: Global, desk: &Desk, window: Window) -> Result<Listed, StreamFault>
+    ensures text { IfOk result (λ listed. (heard : List Item) → AreKept desk.now.kept heard → IsListed heard window listed.text.items listed.is_refusal) }
+    ensures fault { IfErr result (λ fault. fault ≡ StreamFault.Memory) }
+{
+    match desk.list(window) {
+        Ok(text) => Ok(Listed {
+            text,
+            is_refusal: false,
+        }),
+        Err(ViewError::TooManyRows) => Ok(Listed {
+            text: Vec::from_slice(alloc, TOO_MANY_ROWS)?,
+            is_refusal: true,
+        }),
+        Err(ViewError::NoMemory) => Err(StreamFault::Memory),
+    }
+}
