@@ -1,7 +1,7 @@
 //! Reading to-dos with few and with many attendees.
 
 use crate::error::BenchError;
-use crate::watch::{millis, now};
+use crate::watch::{micros, now};
 use itip_message::read_message;
 use std::alloc::{AllocError, Global};
 use std::rt::Clock;
@@ -26,7 +26,7 @@ fn measure<R: AllocGlobal + Clock + Print>(
     let text = message(rt.alloc(), attendees)?;
     let start = now(rt)?;
     read(rt.alloc(), text.as_str(), count)?;
-    let time = millis(rt, start)?;
+    let time = micros(rt, start)?;
     print(rt, count, attendees, text.len(), time)
 }
 
@@ -46,7 +46,7 @@ fn print<R: Print>(
     time: u128,
 ) -> Result<(), BenchError> {
     let octets = count.saturating_mul(length as u64);
-    println!(rt; "read {count} to-dos with {attendees} attendees {octets} bytes {time} ms")?;
+    println!(rt; "read {count} to-dos with {attendees} attendees {octets} bytes {time} us")?;
     Ok(())
 }
 

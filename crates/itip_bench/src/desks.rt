@@ -2,7 +2,7 @@
 
 use crate::error::BenchError;
 use crate::load::{Numbers, SEED, about, message};
-use crate::watch::{micros, millis, now};
+use crate::watch::{micros, now};
 use itip_desk::{Batch, Desk};
 use itip_message::{Item, read_message};
 use itip_state::State;
@@ -55,7 +55,7 @@ fn take_all<R: AllocGlobal + Clock + Print>(
     print_taken(rt, items.len(), size, desk.entries(), time)
 }
 
-/// Has a desk take these batches: how many milliseconds it took.
+/// Has a desk take these batches: how many microseconds it took.
 pub(crate) fn time_taking<R: Clock>(
     rt: &R,
     desk: &mut Desk,
@@ -63,7 +63,7 @@ pub(crate) fn time_taking<R: Clock>(
 ) -> Result<u128, BenchError> {
     let start = now(rt)?;
     take_batches(desk, batches)?;
-    millis(rt, start)
+    micros(rt, start)
 }
 
 /// Takes these batches, one after another.
@@ -83,7 +83,7 @@ fn print_taken<R: Print>(
 ) -> Result<(), BenchError> {
     let taken = items.saturating_mul(2);
     println!(rt;
-        "take {taken} items in batches of {size}, of which {entries} are kept, {time} ms"
+        "take {taken} items in batches of {size}, of which {entries} are kept, {time} us"
     )?;
     Ok(())
 }
@@ -132,11 +132,11 @@ fn merge_halves<R: AllocGlobal + Clock + Print>(rt: &R, items: &[Item]) -> Resul
 fn time_merging<R: Clock>(rt: &R, mine: &mut State, theirs: &State) -> Result<u128, BenchError> {
     let start = now(rt)?;
     mine.merge(theirs)?;
-    millis(rt, start)
+    micros(rt, start)
 }
 
 fn print_merged<R: Print>(rt: &R, entries: usize, time: u128) -> Result<(), BenchError> {
-    println!(rt; "merge two states to {entries} entries {time} ms")?;
+    println!(rt; "merge two states to {entries} entries {time} us")?;
     Ok(())
 }
 

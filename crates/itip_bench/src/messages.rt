@@ -4,7 +4,7 @@ use crate::desks::time_taking;
 use crate::error::BenchError;
 use crate::lists::list_octets;
 use crate::load::{Numbers, SEED, message};
-use crate::watch::{millis, now};
+use crate::watch::{micros, now};
 use itip_desk::{Batch, Desk};
 use itip_message::read_message;
 use itip_view::Window;
@@ -29,13 +29,13 @@ fn measure_reading<R: AllocGlobal + Clock + Print>(
     let (texts, octets) = messages(rt.alloc(), count)?;
     let start = now(rt)?;
     let batches = read(rt.alloc(), &texts)?;
-    let time = millis(rt, start)?;
+    let time = micros(rt, start)?;
     print_read(rt, count, octets, time)?;
     Ok(batches)
 }
 
 fn print_read<R: Print>(rt: &R, count: u64, octets: u64, time: u128) -> Result<(), BenchError> {
-    println!(rt; "read {count} messages {octets} bytes {time} ms")?;
+    println!(rt; "read {count} messages {octets} bytes {time} us")?;
     Ok(())
 }
 
@@ -46,7 +46,7 @@ fn measure_taking<R: Clock + Print>(
 ) -> Result<(), BenchError> {
     let time = time_taking(rt, desk, batches)?;
     let count = batches.len();
-    println!(rt; "take {count} items {time} ms")?;
+    println!(rt; "take {count} items {time} us")?;
     Ok(())
 }
 
@@ -54,7 +54,7 @@ fn measure_list<R: Clock + Print>(rt: &R, desk: &Desk) -> Result<(), BenchError>
     let window = Window::new(20_454, 20_819)?;
     let start = now(rt)?;
     let octets = list_octets(desk, window)?;
-    let time = millis(rt, start)?;
+    let time = micros(rt, start)?;
     print_list(rt, desk.entries(), octets, time)
 }
 
@@ -64,7 +64,7 @@ fn print_list<R: Print>(
     octets: usize,
     time: u128,
 ) -> Result<(), BenchError> {
-    println!(rt; "list {entries} to-dos {octets} bytes {time} ms")?;
+    println!(rt; "list {entries} to-dos {octets} bytes {time} us")?;
     Ok(())
 }
 

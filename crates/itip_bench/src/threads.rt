@@ -2,7 +2,7 @@
 
 use crate::error::BenchError;
 use crate::load::{Numbers, SEED, message, to_do};
-use crate::watch::{micros, millis, now};
+use crate::watch::{micros, now};
 use itip_message::{read_all, read_message};
 use std::alloc::{AllocError, Global};
 use std::rt::Clock;
@@ -20,13 +20,13 @@ pub(crate) fn measure_threads<R: AllocGlobal + Clock + Print + Threads + Sync>(
     let (texts, octets) = messages(rt.alloc(), count, &mut numbers)?;
     let start = now(rt)?;
     let read = read_all(rt, rt.alloc(), &texts)?.len();
-    let time = millis(rt, start)?;
+    let time = micros(rt, start)?;
     print_read(rt, read, octets, time)?;
     measure_large(rt, &mut numbers)
 }
 
 fn print_read<R: Print>(rt: &R, read: usize, octets: u64, time: u128) -> Result<(), BenchError> {
-    println!(rt; "read_all {read} messages {octets} bytes {time} ms")?;
+    println!(rt; "read_all {read} messages {octets} bytes {time} us")?;
     Ok(())
 }
 

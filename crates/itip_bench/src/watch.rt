@@ -8,10 +8,6 @@ pub(crate) fn now<R: Clock>(rt: &R) -> Result<Instant, BenchError> {
     Ok(Instant::now(rt)?)
 }
 
-pub(crate) fn millis<R: Clock>(rt: &R, start: Instant) -> Result<u128, BenchError> {
-    Ok(start.elapsed(rt)?.as_millis())
-}
-
 pub(crate) fn micros<R: Clock>(rt: &R, start: Instant) -> Result<u128, BenchError> {
     Ok(start.elapsed(rt)?.as_micros())
 }
