@@ -165,6 +165,12 @@ module _ (old news found after : List Item) (state : IsState old) (of : AreOfRow
       ))
       state hears
 
+  -- what no row can be governed by leaves the index as it is
+  pub index_stays : found ≡ [] → (index : BTreeSet Entry) → IsIndexOf old index → IsIndexOf after index
+  index_stays none index is e =
+      let same = untouched e (λ t. none_in t.item (subst (λ (items : List Item). Contains items t.item) none t.there)) in
+      (λ h. noted_alike old after e same ((is e).0 h), λ h. (is e).1 (noted_alike after old e (swapped e.uid old after same) h))
+
   pub index_after : (index o n changed : BTreeSet Entry) → IsIndexOf old index → AreEntriesOf old found o → AreEntriesOf after found n →
       ((e : Entry) → has changed e ≡ ((has index e || (has n e && not (has o e))) && not (has o e && not (has n e)))) → IsIndexOf after changed
   index_after index o n changed is before behind are e =
