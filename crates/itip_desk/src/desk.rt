@@ -139,7 +139,8 @@ impl Desk {
     pub fn uids_in(&self, window: Window) -> Result<Vec<&Uid>, AllocError>
         ensures { IfOk result (λ uids. (heard : List Item) (row : Row) → AreKept self.now.kept heard → IsRow heard window row → Contains (map (λ u. u.now) uids.items) row.uid) }
     {
-        self.kept.uids_in(window)
+        let found = self.kept.uids_in(window)?;
+        Ok(found)
     }
 
     /// The UIDs that are looked at for the rows of the attendee of an address. One that isn't among them has no row that shows the attendee.
@@ -147,7 +148,8 @@ impl Desk {
         ensures { IfOk result (λ uids. (heard : List Item) (window : Window) (row : Row) → AreKept self.now.kept heard → IsRow heard window row → Shows address.now row →
             Contains (map (λ u. u.now) uids.items) row.uid) }
     {
-        self.kept.uids_naming(address)
+        let found = self.kept.uids_naming(address)?;
+        Ok(found)
     }
 
     /// The rows of the task list in a window, in their order, at most 100,000. No UID is looked at whose rows can't stand in it.

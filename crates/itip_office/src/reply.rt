@@ -95,8 +95,8 @@ fn append_listed(output: &mut Vec<u8>, desk: u64, rows: &[Row]) -> Result<(), Al
 fn append_listed_for(output: &mut Vec<u8>, desk: u64, rows: &[Row]) -> Result<(), AllocError>
     ensures { OnOk result (output.new.items ≡ output.old.items ++ listed_for_text desk rows.now) }
 {
-    let count = rows.len();
-    let line = format!(in *output.allocator(); "mine {desk} rows {count}\n")?;
+    let shown = rows.len();
+    let line = format!(in *output.allocator(); "mine {desk} rows {shown}\n")?;
     output.extend_from_slice(line.as_bytes())?;
     write_list(rows, output)
 }
