@@ -1,5 +1,5 @@
 -- The index after a hearing.
-use Rattle.std.proofs.Common.{◌≡◌, ◌∙◌, ◌↔◌, ◌⊎◌, inl, inr, ℕ, List, [], ◌∷◌, ◌++◌, map, refl, sym, ap, subst, Bool, true, false, ◌||◌, ◌&&◌, not, cond, IsTrue, Option, Some, None, option_map, option_to_list, ◌+◌, ◌<◌, ◌≤◌, length, take, take_all, get_or, arith}
+use Rattle.std.proofs.Common.{◌≡◌, ◌∙◌, ◌↔◌, ◌⊎◌, inl, inr, ℕ, List, [], ◌∷◌, ◌++◌, map, refl, sym, ap, subst, Bool, true, false, ◌||◌, ◌&&◌, not, cond, IsTrue, Option, Some, None, Result, Ok, Err, OnOk, OnErr, option_map, option_to_list, ◌+◌, ◌<◌, ◌≤◌, length, take, take_all, get_or, arith}
 use Rattle.std.specs.List.{Contains, list_any}
 use Rattle.std.specs.Ordering.{is_eq}
 use Rattle.std.specs.BTreeMap.{is_at}
@@ -105,6 +105,15 @@ noted_alike x y e same n = record {
   there = (same n.item (sym (entry_uid n.item e n.gives)) (entry_rows n.item e n.gives)).0 n.there;
   gives = n.gives;
 }
+
+pub nothing_in : {A : Type 0} (xs : List A) → length xs ≡ 0 → xs ≡ []
+nothing_in [] none = refl
+nothing_in (x ∷ xs) none = absurd (omega (arith, none))
+
+-- what follows of either outcome follows
+pub either_way : {A E P Q G : Type 0} (r : Result A E) → OnOk r P → OnErr r Q → (P → G) → (Q → G) → G
+either_way (Ok x) p q f g = f p
+either_way (Err e) p q f g = g q
 
 -- an index that gained what is new and lost what is gone: P was given before, Q is given now, and only what T is true of has changed
 module _ (P Q T : Type 0) (on : (T → ⊥) → P → Q) (was : (T → ⊥) → Q → P) where

@@ -6,7 +6,7 @@ use Rattle.std.specs.declared.cmp.Ordering.TheVariants.{Less}
 use Rattle.std.proofs.lemmas.Bool.{and_parts, cases_lt}
 use Rattle.std.proofs.lemmas.Str.{IsUtf8-append, IsUtf8-nil, IsUtf8-encode, encode_ascii, inside_one}
 use Rattle.std.specs.Fmt.{decimal}
-use Rattle.std_alloc.proofs.string.Cased.{lowered}
+use Rattle.std.proofs.lemmas.List.{map-append}
 use lib.Utf8.{scalars, encode, encodes, low_scalar}
 use Rattle.itip_todo.specs.Lawful.{IsLawfulContent}
 use Rattle.itip_todo.specs.Table.{attendee_key}
@@ -26,7 +26,7 @@ use Rattle.itip_view.specs.declared.window.Window.{Window}
 use Rattle.itip_view.proofs.Needing.{row_needs_name}
 use Rattle.itip_office.specs.Running.{AreListedFor}
 
--- ---- a text in lower case is a text
+-- ---- texts but for the case of letters
 
 lower_is : (x : ℕ) → (to_ascii_lowercase x ≡ x) ⊎ ((x < 91) × (to_ascii_lowercase x ≡ x + 32))
 lower_is x =
@@ -81,22 +81,41 @@ low_front c rest (b ∷ bs) e small =
     let here : to_ascii_lowercase b ≡ c = sym (first_same c (to_ascii_lowercase b) rest (map to_ascii_lowercase bs) e) in
     (b, bs, refl, low_before b c here small, rest_same c (to_ascii_lowercase b) rest (map to_ascii_lowercase bs) e)
 
-raised_text : (cs bs : List ℕ) → scalars cs ≡ true → encodes cs ≡ map to_ascii_lowercase bs → IsUtf8 bs
-raised_text [] [] s e = IsUtf8-nil
-raised_text [] (b ∷ bs) s e = absurd cc
-raised_text (c ∷ cs) bs s e =
-    let p = and_parts _ _ s in
-    elim (cases_lt c 128) [
-      | inl small ↦
-          let split = low_front c (encodes cs) bs (ap (λ (l : List ℕ). l ++ encodes cs) (sym (encode_ascii c small)) ∙ e) small in
-          subst IsUtf8 (sym split.2) (ascii_then split.0 split.1 split.3 (raised_text cs split.1 p.1 split.4))
-      | inr big ↦
-          let split = same_front (encode c) (encodes cs) bs (all_high c big) e in
-          subst IsUtf8 (sym split.1) (IsUtf8-append (encode c) split.0 (IsUtf8-encode c p.0) (raised_text cs split.0 p.1 split.2))
+lower_low : (c : ℕ) → c < 128 → to_ascii_lowercase c < 128
+lower_low c low = elim (lower_is c) [
+  | inl same ↦ omega (arith, same)
+  | inr (small, moved) ↦ omega (arith, moved)
+]
+
+high_stays : (xs : List ℕ) → ((k : ℕ) → k < length xs → 128 ≤ get_or xs k 0) → map to_ascii_lowercase xs ≡ xs
+high_stays [] high = refl
+high_stays (x ∷ xs) high = ap₂ (λ (n : ℕ) (l : List ℕ). n ∷ l) (stays x (high 0 (omega arith))) (high_stays xs (λ k below. high (suc k) (omega arith)))
+  where
+    stays : (x : ℕ) → 128 ≤ x → to_ascii_lowercase x ≡ x
+    stays x big = elim (lower_is x) [
+      | inl same ↦ same
+      | inr (small, moved) ↦ absurd (omega (arith, small, big))
     ]
 
-text_of_key : (address : List ℕ) → IsUtf8 (attendee_key address) → IsUtf8 address
-text_of_key address u = raised_text u.0 address u.1.0 u.1.1
+-- what is a text but for the case of letters is a text
+cased_text : (cs bs : List ℕ) → scalars cs ≡ true → map to_ascii_lowercase (encodes cs) ≡ map to_ascii_lowercase bs → IsUtf8 bs
+cased_text [] [] s e = IsUtf8-nil
+cased_text [] (b ∷ bs) s e = absurd cc
+cased_text (c ∷ cs) bs s e =
+    let p = and_parts _ _ s in
+    let cut = sym (map-append to_ascii_lowercase (encode c) (encodes cs)) ∙ e in
+    elim (cases_lt c 128) [
+      | inl small ↦
+          let split = low_front (to_ascii_lowercase c) (map to_ascii_lowercase (encodes cs)) bs (ap (λ (l : List ℕ). map to_ascii_lowercase l ++ map to_ascii_lowercase (encodes cs)) (sym (encode_ascii c small)) ∙ cut) (lower_low c small) in
+          subst IsUtf8 (sym split.2) (ascii_then split.0 split.1 split.3 (cased_text cs split.1 p.1 split.4))
+      | inr big ↦
+          let stays : encode c ++ map to_ascii_lowercase (encodes cs) ≡ map to_ascii_lowercase bs = ap (λ (l : List ℕ). l ++ map to_ascii_lowercase (encodes cs)) (sym (high_stays (encode c) (all_high c big))) ∙ cut in
+          let split = same_front (encode c) (map to_ascii_lowercase (encodes cs)) bs (all_high c big) stays in
+          subst IsUtf8 (sym split.1) (IsUtf8-append (encode c) split.0 (IsUtf8-encode c p.0) (cased_text cs split.0 p.1 split.2))
+    ]
+
+text_of_key : (text address : List ℕ) → IsUtf8 text → attendee_key text ≡ attendee_key address → IsUtf8 address
+text_of_key text address u same = cased_text u.0 address u.1.0 (ap (map to_ascii_lowercase) u.1.1 ∙ same)
 
 -- ---- the addresses of a to-do
 
@@ -137,7 +156,7 @@ none_shows heard window address not row is shows =
     let named = row_needs_name heard address window row is shows in
     let parts = parts_of named.item.todo in
     let utf8 : IsUtf8 named.names.line.value = address_utf8 parts.attendees (attendees_lawful parts named.item.todo.lawful.lines) named.names.line named.names.there in
-    not (text_of_key address (subst IsUtf8 named.names.named (lowered named.names.line.value utf8)))
+    not (text_of_key named.names.line.value address utf8 named.names.named)
 
 pub none_listed : (heard : List Item) (window : Window) (address : List ℕ) → (¬ IsUtf8 address) → AreListedFor address heard window []
 none_listed heard window address not = record {
