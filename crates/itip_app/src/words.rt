@@ -25,6 +25,7 @@ const RUN_HELP: &str =
 
   !take D         desk D takes the message on the lines behind the command
   !list D         the task list of desk D in the window
+  !mine D ADDRESS the rows of that list that show the attendee of an address
   !post D T       desk D posts what changed after its tick T, as a packet
   !arrive K D     packet K reaches desk D
   !entries D      how many items desk D keeps

@@ -8,6 +8,7 @@ mod attendees;
 mod beside;
 mod desks;
 mod error;
+mod index;
 mod joins;
 mod lists;
 mod load;
@@ -23,6 +24,7 @@ mod watch;
 use crate::attendees::measure_attendees;
 use crate::desks::measure_desks;
 use crate::error::BenchError;
+use crate::index::measure_index;
 use crate::joins::measure_joins;
 use crate::lists::measure_lists;
 use crate::messages::measure_messages;
@@ -66,6 +68,7 @@ fn run<R: AllocGlobal + Clock + Env + Print + Threads + Wait + Sync>(
         "recurrence" => measure_recurrence(rt, size),
         "desks" => measure_desks(rt, size),
         "lists" => measure_lists(rt, size),
+        "index" => measure_index(rt, size),
         "reports" => measure_reports(rt, size),
         "running" => measure_running(rt, size),
         "takes" => print_takes(rt, size),

@@ -1,5 +1,5 @@
 -- The index after a hearing.
-use Rattle.std.proofs.Common.{◌≡◌, ◌∙◌, ◌↔◌, ◌⊎◌, inl, inr, ℕ, List, [], ◌∷◌, ◌++◌, map, refl, sym, ap, subst, Bool, true, false, ◌||◌, ◌&&◌, not, cond, IsTrue, Option, Some, None, option_map, option_to_list, ◌+◌, ◌<◌, ◌≤◌, length, take, take_all, get_or, arith}
+use Rattle.std.proofs.Common.{◌≡◌, ◌∙◌, ◌↔◌, ◌⊎◌, inl, inr, ℕ, List, [], ◌∷◌, ◌++◌, map, refl, sym, ap, subst, Bool, true, false, ◌||◌, ◌&&◌, not, cond, IsTrue, Option, Some, None, Result, Ok, Err, OnOk, OnErr, option_map, option_to_list, ◌+◌, ◌<◌, ◌≤◌, length, take, take_all, get_or, arith}
 use Rattle.std.specs.List.{Contains, list_any}
 use Rattle.std.specs.Ordering.{is_eq}
 use Rattle.std.specs.BTreeMap.{is_at}
@@ -106,6 +106,15 @@ noted_alike x y e same n = record {
   gives = n.gives;
 }
 
+pub nothing_in : {A : Type 0} (xs : List A) → length xs ≡ 0 → xs ≡ []
+nothing_in [] none = refl
+nothing_in (x ∷ xs) none = absurd (omega (arith, none))
+
+-- what follows of either outcome follows
+pub either_way : {A E P Q G : Type 0} (r : Result A E) → OnOk r P → OnErr r Q → (P → G) → (Q → G) → G
+either_way (Ok x) p q f g = f p
+either_way (Err e) p q f g = g q
+
 -- an index that gained what is new and lost what is gone: P was given before, Q is given now, and only what T is true of has changed
 module _ (P Q T : Type 0) (on : (T → ⊥) → P → Q) (was : (T → ⊥) → Q → P) where
   now_given : (i b a : Bool) → (i ≡ true → P) → (P × T → b ≡ true) → (a ≡ true → Q × T) → ((i || (a && not b)) && not (b && not a)) ≡ true → Q
@@ -164,6 +173,12 @@ module _ (old news found after : List Item) (state : IsState old) (of : AreOfRow
         ],
       ))
       state hears
+
+  -- what no row can be governed by leaves the index as it is
+  pub index_stays : found ≡ [] → (index : BTreeSet Entry) → IsIndexOf old index → IsIndexOf after index
+  index_stays none index is e =
+      let same = untouched e (λ t. none_in t.item (subst (λ (items : List Item). Contains items t.item) none t.there)) in
+      (λ h. noted_alike old after e same ((is e).0 h), λ h. (is e).1 (noted_alike after old e (swapped e.uid old after same) h))
 
   pub index_after : (index o n changed : BTreeSet Entry) → IsIndexOf old index → AreEntriesOf old found o → AreEntriesOf after found n →
       ((e : Entry) → has changed e ≡ ((has index e || (has n e && not (has o e))) && not (has o e && not (has n e)))) → IsIndexOf after changed

@@ -1,6 +1,8 @@
 //! A desk.
 ghost use Rattle.std.specs.Prelude.{◌≡◌, [], ◌++◌, ◌∷◌, IfOk, OnOk, OnErr, length, min, List, ℕ, IsErrOf};
 ghost use Rattle.itip_message.specs.declared.item.Item.{Item};
+ghost use Rattle.itip_view.specs.declared.row.Row.{Row};
+ghost use Rattle.itip_view.specs.declared.window.Window.{Window};
 
 use crate::batch::Batch;
 use crate::error::DeskError;
@@ -46,7 +48,9 @@ impl Desk {
     ghost use Rattle.itip_desk.specs.Desk.{IsDeskOf, IsDeltaOf, IsCarriedOn};
     ghost use Rattle.itip_desk.specs.Heard.{TickStep};
     ghost use Rattle.std.specs.Prelude.{◌≤◌};
-    ghost use Rattle.itip_view.specs.Rows.{AreRows, AreTooMany, row_limit};
+    ghost use Rattle.std.specs.Prelude.{map};
+    ghost use Rattle.std.specs.List.{Contains};
+    ghost use Rattle.itip_view.specs.Rows.{IsRow, AreRows, AreTooMany, row_limit};
     ghost use Rattle.itip_view.specs.Showing.{Shows, AreRowsWhere, AreTooManyWhere, IsListTextFor};
     ghost use Rattle.itip_view.specs.ListText.{IsListText};
 
@@ -129,6 +133,23 @@ impl Desk {
         let uids = self.moves.after(tick)?;
         let part = self.kept.state().part(&uids)?;
         Batch::of_shared(part.shared_items()?)
+    }
+
+    /// The UIDs that are looked at for the list of a window, perhaps more than once. One that isn't among them has no row there.
+    pub fn uids_in(&self, window: Window) -> Result<Vec<&Uid>, AllocError>
+        ensures { IfOk result (λ uids. (heard : List Item) (row : Row) → AreKept self.now.kept heard → IsRow heard window row → Contains (map (λ u. u.now) uids.items) row.uid) }
+    {
+        let found = self.kept.uids_in(window)?;
+        Ok(found)
+    }
+
+    /// The UIDs that are looked at for the rows of the attendee of an address. One that isn't among them has no row that shows the attendee.
+    pub fn uids_naming(&self, address: &str) -> Result<Vec<&Uid>, AllocError>
+        ensures { IfOk result (λ uids. (heard : List Item) (window : Window) (row : Row) → AreKept self.now.kept heard → IsRow heard window row → Shows address.now row →
+            Contains (map (λ u. u.now) uids.items) row.uid) }
+    {
+        let found = self.kept.uids_naming(address)?;
+        Ok(found)
     }
 
     /// The rows of the task list in a window, in their order, at most 100,000. No UID is looked at whose rows can't stand in it.

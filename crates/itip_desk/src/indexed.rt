@@ -89,14 +89,37 @@ impl IndexedState {
     }
 
     /// Hears these items. A refusal (out of memory) changes nothing.
-    ///
-    /// The index grows before anything is heard. What is asked for is in proportion to the items of the UIDs that series, instance and range items are about.
     pub(crate) fn hear(&mut self, news: &[&SharedItem]) -> Result<(), AllocError>
         ensures ok { OnOk result (AreKept self.new (self.old ++ map (λ item. item.now) news.now)) }
         ensures err { OnErr result (self.new ≡ self.old) }
     {
         let found = of_rows(self.alloc, news)?;
-        let change = changes_of(self.alloc, &self.state, &found)?;
+        if found.is_empty() {
+            self.hear_others(news)
+        } else {
+            self.hear_rows(news, &found)
+        }
+    }
+
+    /// Hears items that no row can be governed by. The index stays as it is.
+    fn hear_others(&mut self, news: &[&SharedItem]) -> Result<(), AllocError>
+        requires { AreOfRows [] (map (λ item. item.now) news.now) }
+        ensures ok { OnOk result (AreKept self.new (self.old ++ map (λ item. item.now) news.now)) }
+        ensures err { OnErr result (self.new ≡ self.old) }
+    {
+        self.state.lawful();
+        self.state.hear(news)
+    }
+
+    /// Hears these items, of which those that are found can govern rows.
+    ///
+    /// The index grows before anything is heard. What is asked for is in proportion to the items of the UIDs that the found ones are about.
+    fn hear_rows(&mut self, news: &[&SharedItem], found: &[&SharedItem]) -> Result<(), AllocError>
+        requires { AreOfRows (map (λ item. item.now) found.now) (map (λ item. item.now) news.now) }
+        ensures ok { OnOk result (AreKept self.new (self.old ++ map (λ item. item.now) news.now)) }
+        ensures err { OnErr result (self.new ≡ self.old) }
+    {
+        let change = changes_of(self.alloc, &self.state, found)?;
         grow(&mut self.index, &change.new, &change.old)?;
         if let Err(refused) = self.state.hear(news) {
             shrink(&mut self.index, &change.new, &change.old);

@@ -21,6 +21,9 @@ fn shown(alloc: Global, command: &Command<'_>) -> Result<String, CallError> {
     Ok(match command {
         Command::Take { desk, text } => format!(in alloc; "take {desk} {:?}", shown_bytes(text))?,
         Command::List { desk } => format!(in alloc; "list {desk}")?,
+        Command::Mine { desk, address } => {
+            format!(in alloc; "mine {desk} {:?}", shown_bytes(address))?
+        }
         Command::Post { desk, since } => format!(in alloc; "post {desk} {since}")?,
         Command::Arrive { packet, desk } => format!(in alloc; "arrive {packet} {desk}")?,
         Command::Report { desk, name } => format!(in alloc; "report {desk} {name:?}")?,

@@ -5,6 +5,7 @@ use crate::texts::{batch, number, text};
 use crate::views::window;
 use itip_desk::{Batch, Changed, Desk, DeskError};
 use itip_state::State;
+use itip_todo::Uid;
 use itip_view::Window;
 use std::alloc::Global;
 
@@ -18,6 +19,11 @@ pub(crate) fn answer(
         ("take_again", [texts @ .., last]) => take_again(alloc, texts, last),
         ("in_orders", [orders, texts @ ..]) => in_orders(alloc, text(orders)?, texts),
         ("shown", [from, to, texts @ ..]) => shown(alloc, window(from, to)?, texts),
+        ("shown_to", [address, from, to, texts @ ..]) => {
+            shown_to(alloc, text(address)?, window(from, to)?, texts)
+        }
+        ("found_in", [from, to, texts @ ..]) => found_in(alloc, window(from, to)?, texts),
+        ("found_for", [address, texts @ ..]) => found_for(alloc, text(address)?, texts),
         ("since", [tick, texts @ ..]) => since(alloc, number(tick)?, texts),
         _ => Err(CallError::NoSuchCall),
     }
@@ -116,6 +122,38 @@ fn desk_in_order(alloc: Global, order: &str, texts: &[Vec<u8>]) -> Result<Desk, 
 /// The list of a desk.
 fn shown(alloc: Global, window: Window, texts: &[Vec<u8>]) -> Result<Vec<u8>, CallError> {
     Ok(desk_after(alloc, texts)?.list(window)?)
+}
+
+/// The rows of a desk that show an attendee.
+fn shown_to(
+    alloc: Global,
+    address: &str,
+    window: Window,
+    texts: &[Vec<u8>],
+) -> Result<Vec<u8>, CallError> {
+    Ok(desk_after(alloc, texts)?.list_for(window, address)?)
+}
+
+/// The UIDs that a desk looks at for the list of a window.
+fn found_in(alloc: Global, window: Window, texts: &[Vec<u8>]) -> Result<Vec<u8>, CallError> {
+    let desk = desk_after(alloc, texts)?;
+    named(alloc, &desk.uids_in(window)?)
+}
+
+/// The UIDs that a desk looks at for the rows of an attendee.
+fn found_for(alloc: Global, address: &str, texts: &[Vec<u8>]) -> Result<Vec<u8>, CallError> {
+    let desk = desk_after(alloc, texts)?;
+    named(alloc, &desk.uids_naming(address)?)
+}
+
+/// UIDs with a blank before each.
+fn named(alloc: Global, uids: &[&Uid]) -> Result<Vec<u8>, CallError> {
+    let mut told = String::new(alloc);
+    for uid in uids {
+        told.push_str(" ")?;
+        told.push_str(uid.as_str())?;
+    }
+    Ok(told.into_bytes())
 }
 
 /// How many items the delta since a tick has.

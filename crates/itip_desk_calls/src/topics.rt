@@ -22,9 +22,14 @@ fn made(alloc: Global, word: &str, arguments: &[Vec<u8>]) -> Result<Vec<u8>, Cal
         "changes" => maps::answer(alloc, arguments),
         "window" | "items" | "rows" | "list" => views::answer(alloc, word, arguments),
         "report" => reports::answer(alloc, arguments),
-        "takes" | "take_again" | "in_orders" | "shown" | "since" => {
-            desks::answer(alloc, word, arguments)
-        }
+        "takes"
+        | "take_again"
+        | "in_orders"
+        | "shown"
+        | "shown_to"
+        | "found_in"
+        | "found_for"
+        | "since" => { desks::answer(alloc, word, arguments) }
         "keeps" | "merge" | "part" | "state" => states::answer(alloc, word, arguments),
         "agree" => agree::answer(alloc, arguments),
         "replies" | "desks" | "packets" | "packet" | "steps" => {

@@ -2,6 +2,7 @@ pub use Rattle.itip_desk.specs.Heard
 pub use Rattle.itip_desk.specs.Desk
 pub use Rattle.itip_view.specs.Rows
 pub use Rattle.itip_view.specs.ListText
+pub use Rattle.itip_view.specs.Showing
 pub mod Refusals
 pub mod Deltas
 pub mod History

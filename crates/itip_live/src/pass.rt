@@ -20,6 +20,7 @@ impl Pass {
     ghost use Rattle.itip_desk.specs.Heard.{heard};
     ghost use Rattle.itip_view.specs.ListText.{IsListText};
     ghost use Rattle.itip_view.specs.Rows.{AreTooMany};
+    ghost use Rattle.itip_view.specs.Showing.{Shows, AreTooManyWhere, IsListTextFor};
     ghost use Rattle.itip_live.specs.Deltas.{IsDeltaAfter};
     ghost use Rattle.itip_live.specs.Ends.{seen, pass_pair, told, receipt_pair};
 
@@ -37,6 +38,24 @@ impl Pass {
     {
         let end = self.end.take().unwrap();
         let (end, text) = end.list(window);
+        self.end = Some(end);
+        text
+    }
+
+    /// The text of the rows in a window that show the attendee of an address, of a list of published batches as in `list`.
+    ///
+    /// Refused where more than 100,000 rows there show the attendee (31), or where memory was refused (32); it has seen the batches all the same. Refused too where
+    /// the pair lets nobody in or shows less than was seen (45): then nothing more is seen.
+    pub fn list_for(&mut self, window: Window, address: &str) -> Result<Vec<u8>, PassError>
+        ensures text { IfOk result (λ text. IsListTextFor address.now (heard (seen self.new)) window text.items) }
+        ensures many { IsErrOf result PassError.TooManyRows → AreTooManyWhere (Shows address.now) (heard (seen self.new)) window }
+        ensures causes { IsErrOf result PassError.NoMemory → ⊥ }
+        ensures grows { IsPrefix (seen self.old) (seen self.new) }
+        ensures no_entry { IsErrOf result PassError.NoEntry → seen self.new ≡ seen self.old }
+        ensures pair { pass_pair self.new ≡ pass_pair self.old }
+    {
+        let end = self.end.take().unwrap();
+        let (end, text) = end.list_for(window, address);
         self.end = Some(end);
         text
     }

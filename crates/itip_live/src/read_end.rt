@@ -4,8 +4,9 @@ ghost use mathlib.Core.List.{IsPrefix};
 ghost use Rattle.left_right.specs.Sides.{view};
 ghost use Rattle.itip_desk.specs.Heard.{heard};
 ghost use Rattle.itip_desk.specs.Desk.{IsDeskOf};
-ghost use Rattle.itip_view.specs.ListText.{IsListText};
+ghost use Rattle.itip_view.specs.ListText.{IsListText, list_text};
 ghost use Rattle.itip_view.specs.Rows.{AreTooMany};
+ghost use Rattle.itip_view.specs.Showing.{Shows, AreTooManyWhere, IsListTextFor};
 ghost use Rattle.itip_live.specs.Deltas.{IsDeltaAfter};
 ghost use Rattle.itip_live.specs.Pair.{name_of};
 ghost use base.Stored.{Coded-set};
@@ -17,7 +18,7 @@ use crate::front::Front;
 use crate::receipt::Receipt;
 use crate::rule::{PublishedReader, PublishedReading, Sees};
 use itip_desk::{Batch, Desk};
-use itip_view::Window;
+use itip_view::{Row, Window, list_text};
 
 /// A reader, and what it has seen.
 #[derive(Drop)]
@@ -58,7 +59,7 @@ impl ReadEnd {
         }
     }
 
-    /// The text of the task list in a window.
+    /// The text of the task list in a window. It is made once the read is over, so that the keeper waits for the rows alone.
     pub(crate) fn list(self, window: Window) -> (ReadEnd, Result<Vec<u8>, PassError>)
         ensures text { IfOk result.1 (λ text. IsListText (heard result.0.front.seen.log) window text.items) }
         ensures many { IsErrOf result.1 PassError.TooManyRows → AreTooMany (heard result.0.front.seen.log) window }
@@ -69,10 +70,36 @@ impl ReadEnd {
     {
         match self.look() {
             Ok(look) => {
-                let text = look.desk().list(window);
+                let rows = look.desk().rows(window);
                 let end = look.close();
-                match text {
-                    Ok(text) => (end, Ok(text)),
+                match rows {
+                    Ok(rows) => (end, text_of(&rows)),
+                    Err(fault) => (end, Err(fault.into())),
+                }
+            }
+            Err(end) => (end, Err(PassError::NoEntry)),
+        }
+    }
+
+    /// The text of the rows in a window that show the attendee of an address. It is made once the read is over.
+    pub(crate) fn list_for(
+        self,
+        window: Window,
+        address: &str,
+    ) -> (ReadEnd, Result<Vec<u8>, PassError>)
+        ensures text { IfOk result.1 (λ text. IsListTextFor address.now (heard result.0.front.seen.log) window text.items) }
+        ensures many { IsErrOf result.1 PassError.TooManyRows → AreTooManyWhere (Shows address.now) (heard result.0.front.seen.log) window }
+        ensures causes { IsErrOf result.1 PassError.NoMemory → ⊥ }
+        ensures grows { IsPrefix self.front.seen.log result.0.front.seen.log }
+        ensures no_entry { IsErrOf result.1 PassError.NoEntry → result.0.front.seen.log ≡ self.front.seen.log }
+        ensures book { result.0.front.seen.book ≡ self.front.seen.book }
+    {
+        match self.look() {
+            Ok(look) => {
+                let rows = look.desk().rows_for(window, address);
+                let end = look.close();
+                match rows {
+                    Ok(rows) => (end, text_of(&rows)),
                     Err(fault) => (end, Err(fault.into())),
                 }
             }
@@ -112,6 +139,17 @@ impl ReadEnd {
         if !receipt.front.begins(&self.front) {
             self.front = receipt.front.again();
         }
+    }
+}
+
+/// The text of rows.
+fn text_of(rows: &Vec<Row>) -> Result<Vec<u8>, PassError>
+    ensures text { IfOk result (λ text. text.items ≡ list_text rows.now.items) }
+    ensures fault { IfErr result (λ e. e ≡ PassError.NoListMemory) }
+{
+    match list_text(*rows.allocator(), rows) {
+        Ok(text) => Ok(text),
+        Err(_) => Err(PassError::NoListMemory),
     }
 }
 

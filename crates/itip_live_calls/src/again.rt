@@ -30,6 +30,9 @@ pub(crate) fn answer<R: AllocGlobal + Threads + Sync>(
             since_again(alloc, &desk_after(alloc, texts)?, number(tick)?)
         }
         ("list_again", texts) => list_again(&desk_after(alloc, texts)?),
+        ("list_for_again", [address, texts @ ..]) => {
+            list_for_again(&desk_after(alloc, texts)?, text(address)?)
+        }
         _ => Err(CallError::NoSuchCall),
     }
 }
@@ -157,5 +160,13 @@ fn list_again(desk: &Desk) -> Result<Vec<u8>, CallError> {
     match desk.list(window) {
         Ok(list) => Ok(list),
         Err(_) => Ok(desk.list(window)?),
+    }
+}
+
+fn list_for_again(desk: &Desk, address: &str) -> Result<Vec<u8>, CallError> {
+    let window = window()?;
+    match desk.list_for(window, address) {
+        Ok(list) => Ok(list),
+        Err(_) => Ok(desk.list_for(window, address)?),
     }
 }

@@ -23,7 +23,7 @@ struct Running {
 
 /// Takes these steps, then meets, and tells what each gave.
 ///
-/// A step is a message, which is submitted, or one of `pending`, `publish`, `learn P`, `list P`, `seen P` and `since P TICK`, where P is the pass 0 or 1.
+/// A step is a message, which is submitted, or one of `pending`, `publish`, `learn P`, `list P`, `mine P ADDRESS`, `seen P` and `since P TICK`, where P is the pass 0 or 1.
 pub(crate) fn run_steps<R: AllocGlobal + Wait>(
     rt: &R,
     steps: &[Vec<u8>],
@@ -104,6 +104,7 @@ impl Running {
                 Ok(String::new(alloc))
             }
             "list" => self.list(alloc, rest),
+            "mine" => self.list_for(alloc, rest),
             "seen" => {
                 let seen = self.seen(rest)?;
                 Ok(format!(in alloc; "seen {seen}\n")?)
@@ -154,6 +155,18 @@ impl Running {
         Ok(format!(in alloc; "list\n{list}")?)
     }
 
+    fn list_for(&mut self, alloc: Global, rest: &str) -> Result<String, CallError> {
+        let (pass, address) = rest.split_once(' ').ok_or(CallError::NoSuchCall)?;
+        let window = window()?;
+        let list = match pass {
+            "0" => list_for_again(&mut self.first, window, address)?,
+            "1" => list_for_again(&mut self.second, window, address)?,
+            _ => return Err(CallError::NoSuchCall),
+        };
+        let list = text(list.as_slice())?;
+        Ok(format!(in alloc; "mine\n{list}")?)
+    }
+
     fn seen(&self, pass: &str) -> Result<u64, CallError> {
         match pass {
             "0" => Ok(self.first.seen()),
@@ -197,6 +210,16 @@ fn list_again(pass: &mut Pass, window: Window) -> Result<Vec<u8>, CallError>
 {
     match pass.list(window) {
         Err(PassError::NoListMemory) => Ok(pass.list(window)?),
+        list => Ok(list?),
+    }
+}
+
+/// The rows of an attendee, asked for once more where memory is refused.
+fn list_for_again(pass: &mut Pass, window: Window, address: &str) -> Result<Vec<u8>, CallError>
+    ensures { pass_pair pass.new ≡ pass_pair pass.old }
+{
+    match pass.list_for(window, address) {
+        Err(PassError::NoListMemory) => Ok(pass.list_for(window, address)?),
         list => Ok(list?),
     }
 }

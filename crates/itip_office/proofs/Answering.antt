@@ -5,7 +5,8 @@ use Rattle.std.proofs.lemmas.List.{length-append}
 use Rattle.itip_view.specs.declared.window.Window.{Window}
 use Rattle.itip_view.specs.declared.row.Row.{Row}
 use Rattle.itip_view.specs.Rows.{AreTooMany}
-use Rattle.itip_view.proofs.OfKept.{rows_of_kept, too_many_of_kept}
+use Rattle.itip_view.specs.Showing.{Shows, AreTooManyWhere}
+use Rattle.itip_view.proofs.OfKept.{rows_of_kept, too_many_of_kept, rows_where_of_kept, many_where_of_kept}
 use Rattle.itip_report.specs.Load.{load_lines}
 use Rattle.itip_report.specs.Progress.{progress_lines}
 use Rattle.itip_report.specs.Organizing.{IsResendOf, IsNext}
@@ -23,10 +24,10 @@ use Rattle.itip_delta.proofs.Desks.{history_at}
 use Rattle.itip_delta.proofs.Packets.{texts_length}
 use Rattle.itip_office.specs.declared.command.ReportName.{ReportName}
 use Rattle.itip_office.specs.declared.command.ReportName.TheVariants as name
-use Rattle.itip_office.specs.Orders.{Order, lists, counts, reports, resends, asks_next, malformed}
-use Rattle.itip_office.specs.Running.{Answer, refused, listed, counted, reported, resent, next_is, answer_to, event_of, HasTick, AreListed, TellOfRows, IsReportOf, IsOfRows, Step, Answers}
+use Rattle.itip_office.specs.Orders.{Order, lists, lists_for, counts, reports, resends, asks_next, malformed}
+use Rattle.itip_office.specs.Running.{Answer, refused, listed, listed_for, counted, reported, resent, next_is, answer_to, event_of, HasTick, AreListed, AreListedFor, TellOfRows, IsReportOf, IsOfRows, Step, Answers}
 use Rattle.itip_office.specs.Running.Happens.{is_done, at_no_desk, of_no_packet, spends_ticks}
-use Rattle.itip_office.specs.Running.Step.{happens, lists_rows, lists_too_many, lists_no_desk, counts_kept, counts_no_desk, reports_lines, reports_too_many, reports_no_desk, resends_messages, resends_no_desk, tells_next, tells_no_desk, is_refused}
+use Rattle.itip_office.specs.Running.Step.{happens, lists_rows, lists_too_many, lists_no_desk, lists_rows_for, lists_too_many_for, lists_no_desk_for, counts_kept, counts_no_desk, reports_lines, reports_too_many, reports_no_desk, resends_messages, resends_no_desk, tells_next, tells_no_desk, is_refused}
 
 same_length : (histories : Histories) (desks : List Shown) → AreDesksOf histories desks → length histories ≡ length desks
 same_length [] [] are = refl
@@ -69,6 +70,9 @@ module _ (window : Window) (world : ShownWorld) where
     pub answers_no_list : Answers window (lists desk) world (refused 50) world
     answers_no_list = answers (lists desk) (refused 50) (λ past is. lists_no_desk desk (no_history past is))
 
+    pub answers_no_list_for : (address : List ℕ) → Answers window (lists_for desk address) world (refused 50) world
+    answers_no_list_for address = answers (lists_for desk address) (refused 50) (λ past is. lists_no_desk_for desk address (no_history past is))
+
     pub answers_no_count : Answers window (counts desk) world (refused 50) world
     answers_no_count = answers (counts desk) (refused 50) (λ past is. counts_no_desk desk (no_history past is))
 
@@ -94,6 +98,16 @@ module _ (window : Window) (world : ShownWorld) where
     answers_too_many many = answers (lists desk) (refused 31) (λ past is.
         let h = history_at past.histories world.desks desk shown is.desks_are at in
         lists_too_many desk h.history h.there (too_many_of_kept shown.kept (heard h.history.steps) h.is.kept window many))
+
+    pub answers_list_for : (address : List ℕ) (rows : List Row) → AreListedFor address shown.kept window rows → Answers window (lists_for desk address) world (listed_for desk rows) world
+    answers_list_for address rows are = answers (lists_for desk address) (listed_for desk rows) (λ past is.
+        let h = history_at past.histories world.desks desk shown is.desks_are at in
+        lists_rows_for desk address h.history rows h.there (record { are_rows = rows_where_of_kept (Shows address) shown.kept (heard h.history.steps) h.is.kept window rows are.are_rows; few = are.few }))
+
+    pub answers_too_many_for : (address : List ℕ) → AreTooManyWhere (Shows address) shown.kept window → Answers window (lists_for desk address) world (refused 31) world
+    answers_too_many_for address many = answers (lists_for desk address) (refused 31) (λ past is.
+        let h = history_at past.histories world.desks desk shown is.desks_are at in
+        lists_too_many_for desk address h.history h.there (many_where_of_kept (Shows address) shown.kept (heard h.history.steps) h.is.kept window many))
 
     pub answers_report : (named : ReportName) (lines : List (List ℕ)) → IsReportOf named shown.kept window lines → Answers window (reports desk named) world (reported desk named lines) world
     answers_report named lines is_report = answers (reports desk named) (reported desk named lines) (λ past is.

@@ -22,7 +22,8 @@ use Rattle.itip_view.specs.declared.row.Row.{Row}
 use Rattle.itip_view.specs.Rows.{AreRows, AreTooMany}
 use Rattle.itip_view.specs.ListText.{list_text}
 use Rattle.itip_view.proofs.OfKept.{row_of_same}
-use Rattle.itip_view.proofs.OneList.{one_view, text_or_too_many}
+use Rattle.itip_view.specs.Showing.{Shows, AreRowsWhere, AreTooManyWhere}
+use Rattle.itip_view.proofs.OneList.{one_view, text_or_too_many, one_where, few_or_too_many}
 use Rattle.itip_report.specs.Load.{load_lines}
 use Rattle.itip_report.specs.Progress.{progress_lines}
 use Rattle.itip_report.specs.Organizing.{IsResendOf, IsNext}
@@ -46,9 +47,9 @@ use Rattle.itip_office.specs.declared.command.ReportName.{ReportName}
 use Rattle.itip_office.specs.declared.command.ReportName.TheVariants as name
 use Rattle.itip_office.specs.Orders.{Order}
 use Rattle.itip_office.specs.Script.{orders_of}
-use Rattle.itip_office.specs.Running.{Answer, listed, counted, reported, resent, next_is, answer_text, answer_to, event_of, is_refusal, HasTick, AreListed, TellOfRows, IsReportOf, IsOfRows, Happens, Step, Runs, Writes, IsOutput}
+use Rattle.itip_office.specs.Running.{Answer, listed, listed_for, counted, reported, resent, next_is, answer_text, answer_to, event_of, is_refusal, HasTick, AreListed, AreListedFor, TellOfRows, IsReportOf, IsOfRows, Happens, Step, Runs, Writes, IsOutput}
 use Rattle.itip_office.specs.Running.Happens.{is_done, at_no_desk, of_no_packet, spends_ticks}
-use Rattle.itip_office.specs.Running.Step.{happens, lists_rows, lists_too_many, lists_no_desk, counts_kept, counts_no_desk, reports_lines, reports_too_many, reports_no_desk, resends_messages, resends_no_desk, tells_next, tells_no_desk, is_refused}
+use Rattle.itip_office.specs.Running.Step.{happens, lists_rows, lists_too_many, lists_no_desk, lists_rows_for, lists_too_many_for, lists_no_desk_for, counts_kept, counts_no_desk, reports_lines, reports_too_many, reports_no_desk, resends_messages, resends_no_desk, tells_next, tells_no_desk, is_refused}
 use Rattle.itip_office.proofs.Counting.{same_count}
 use Rattle.itip_delta.proofs.Ascending.{IsIn, in_contained, contained_in}
 
@@ -247,6 +248,29 @@ rows_or_too_many a b window rows same are many = text_or_too_many a window (list
   each = λ row h. row_of_same b a (kept_iff b a (same_back a b same)) window row (many.each row h);
   many = many.many;
 })
+
+-- ---- lists of one attendee
+
+module _ (address : List ℕ) (a b : List Item) (window : Window) where
+  rows_for_same : (rows : List Row) → SameItems a b → AreRowsWhere (Shows address) b window rows → AreRowsWhere (Shows address) a window rows
+  rows_for_same rows same are = record {
+    ascend = are.ascend;
+    each = λ row h. row_of_same b a (kept_iff b a (same_back a b same)) window row (are.each row h);
+    holds = are.holds;
+    all = λ row is. are.all row (row_of_same a b (kept_iff a b same) window row is);
+  }
+
+  pub rows_for_one : (rows rows' : List Row) → SameItems a b → AreListedFor address a window rows → AreListedFor address b window rows' → rows ≡ rows'
+  rows_for_one rows rows' same are are' = one_where (Shows address) a window rows rows' are.are_rows (rows_for_same rows' same are'.are_rows)
+
+  pub rows_or_too_many_for : (rows : List Row) → SameItems a b → AreListedFor address a window rows → AreTooManyWhere (Shows address) b window → ⊥
+  rows_or_too_many_for rows same are many = few_or_too_many (Shows address) a window rows are.are_rows are.few (record {
+    some = many.some;
+    ascend = many.ascend;
+    each = λ row h. row_of_same b a (kept_iff b a (same_back a b same)) window row (many.each row h);
+    holds = many.holds;
+    many = many.many;
+  })
 
 -- ---- reports, messages to send again, sequences
 
@@ -480,6 +504,9 @@ step_one window old old' order a a' new new' same once (happens _ event _ _ asks
 step_one window old old' _ a _ new _ same once (happens _ event _ _ asks h) (lists_rows desk h' rows' at' is') = absurd (none_asked event asks)
 step_one window old old' _ a _ new _ same once (happens _ event _ _ asks h) (lists_too_many desk h' at' many') = absurd (none_asked event asks)
 step_one window old old' _ a _ new _ same once (happens _ event _ _ asks h) (lists_no_desk desk past') = absurd (none_asked event asks)
+step_one window old old' _ a _ new _ same once (happens _ event _ _ asks h) (lists_rows_for desk address h' rows' at' is') = absurd (none_asked event asks)
+step_one window old old' _ a _ new _ same once (happens _ event _ _ asks h) (lists_too_many_for desk address h' at' many') = absurd (none_asked event asks)
+step_one window old old' _ a _ new _ same once (happens _ event _ _ asks h) (lists_no_desk_for desk address past') = absurd (none_asked event asks)
 step_one window old old' _ a _ new _ same once (happens _ event _ _ asks h) (counts_kept desk h' count' at' is') = absurd (none_asked event asks)
 step_one window old old' _ a _ new _ same once (happens _ event _ _ asks h) (counts_no_desk desk past') = absurd (none_asked event asks)
 step_one window old old' _ _ a' _ new' same once (lists_rows desk h rows at is) (happens _ event _ _ asks h') = absurd (none_asked event asks)
@@ -497,6 +524,21 @@ step_one window old old' _ _ a' _ new' same once (lists_no_desk desk past) (happ
 step_one window old old' _ _ _ _ _ same once (lists_no_desk desk past) (lists_rows _ h' rows' at' is') = absurd (omega (arith, within_at old'.histories desk h' at', desks_same old old' same))
 step_one window old old' _ _ _ _ _ same once (lists_no_desk desk past) (lists_too_many _ h' at' many') = absurd (omega (arith, within_at old'.histories desk h' at', desks_same old old' same))
 step_one window old old' _ _ _ _ _ same once (lists_no_desk desk past) (lists_no_desk _ past') = (refl, same)
+step_one window old old' _ _ a' _ new' same once (lists_rows_for desk address h rows at is) (happens _ event _ _ asks h') = absurd (none_asked event asks)
+step_one window old old' _ _ _ _ _ same once (lists_rows_for desk address h rows at is) (lists_rows_for _ _ h' rows' at' is') =
+    (ap (listed_for desk) (rows_for_one address (heard h.steps) (heard h'.steps) window rows rows' (same_heard h.steps h'.steps (same_at old.histories old'.histories desk h h' same.desks at at').steps) is is'), same)
+step_one window old old' _ _ _ _ _ same once (lists_rows_for desk address h rows at is) (lists_too_many_for _ _ h' at' many) =
+    absurd (rows_or_too_many_for address (heard h.steps) (heard h'.steps) window rows (same_heard h.steps h'.steps (same_at old.histories old'.histories desk h h' same.desks at at').steps) is many)
+step_one window old old' _ _ _ _ _ same once (lists_rows_for desk address h rows at is) (lists_no_desk_for _ _ past) = absurd (omega (arith, within_at old.histories desk h at, desks_same old old' same))
+step_one window old old' _ _ a' _ new' same once (lists_too_many_for desk address h at many) (happens _ event _ _ asks h') = absurd (none_asked event asks)
+step_one window old old' _ _ _ _ _ same once (lists_too_many_for desk address h at many) (lists_rows_for _ _ h' rows' at' is') =
+    absurd (rows_or_too_many_for address (heard h'.steps) (heard h.steps) window rows' (same_back (heard h.steps) (heard h'.steps) (same_heard h.steps h'.steps (same_at old.histories old'.histories desk h h' same.desks at at').steps)) is' many)
+step_one window old old' _ _ _ _ _ same once (lists_too_many_for desk address h at many) (lists_too_many_for _ _ h' at' many') = (refl, same)
+step_one window old old' _ _ _ _ _ same once (lists_too_many_for desk address h at many) (lists_no_desk_for _ _ past) = absurd (omega (arith, within_at old.histories desk h at, desks_same old old' same))
+step_one window old old' _ _ a' _ new' same once (lists_no_desk_for desk address past) (happens _ event _ _ asks h') = absurd (none_asked event asks)
+step_one window old old' _ _ _ _ _ same once (lists_no_desk_for desk address past) (lists_rows_for _ _ h' rows' at' is') = absurd (omega (arith, within_at old'.histories desk h' at', desks_same old old' same))
+step_one window old old' _ _ _ _ _ same once (lists_no_desk_for desk address past) (lists_too_many_for _ _ h' at' many') = absurd (omega (arith, within_at old'.histories desk h' at', desks_same old old' same))
+step_one window old old' _ _ _ _ _ same once (lists_no_desk_for desk address past) (lists_no_desk_for _ _ past') = (refl, same)
 step_one window old old' _ _ a' _ new' same once (counts_kept desk h count at is) (happens _ event _ _ asks h') = absurd (none_asked event asks)
 step_one window old old' _ _ _ _ _ same once (counts_kept desk h count at is) (counts_kept _ h' count' at' is') =
     (ap (counted desk) (count_one (heard h.steps) (heard h'.steps) count count' (same_heard h.steps h'.steps (same_at old.histories old'.histories desk h h' same.desks at at').steps) is is'), same)

@@ -8,4 +8,5 @@ pub mod Runnings
 pub mod Counting
 pub mod Determined
 pub mod Uids
+pub mod Addresses
 pub mod Jobs

@@ -9,7 +9,7 @@ use Rattle.itip_office.specs.declared.command.Verb.{Verb}
 use Rattle.itip_office.specs.declared.command.Verb.TheVariants as verb
 use Rattle.itip_office.specs.declared.command.ReportName.{ReportName}
 use Rattle.itip_office.specs.declared.command.ReportName.TheVariants as name
-use Rattle.itip_office.specs.Orders.{Order, takes, lists, posts, arrives, reports, resends, asks_next, counts, malformed, is_digit, number_of, digits_value, uid_of, report_of, verb_of, before_space, after_space, spelled_by, spelled, ◌>>=◌}
+use Rattle.itip_office.specs.Orders.{Order, takes, lists, lists_for, posts, arrives, reports, resends, asks_next, counts, malformed, is_digit, number_of, digits_value, rest_of, report_of, verb_of, before_space, after_space, spelled_by, spelled, ◌>>=◌}
 use Rattle.itip_office.specs.Spelling.{Spells, SpellsNumber, SpellsBehind, name_text}
 
 abbrev HasNoSpace : List ℕ → Type 0
@@ -85,6 +85,7 @@ bound (Some x) f y e = (x, refl, e)
 abbrev verb_text : Verb → List ℕ
 verb_text verb.Take = codes "!take"
 verb_text verb.List = codes "!list"
+verb_text verb.Mine = codes "!mine"
 verb_text verb.Post = codes "!post"
 verb_text verb.Arrive = codes "!arrive"
 verb_text verb.Report = codes "!report"
@@ -103,12 +104,13 @@ verb_word : (word : List ℕ) (found : Verb) → verb_of word ≡ Some found →
 verb_word word found =
     word_step verb_text word verb.Take found _
     (word_step verb_text word verb.List found _
+    (word_step verb_text word verb.Mine found _
     (word_step verb_text word verb.Post found _
     (word_step verb_text word verb.Arrive found _
     (word_step verb_text word verb.Report found _
     (word_step verb_text word verb.Resend found _
     (word_step verb_text word verb.Next found _
-    (word_step verb_text word verb.Entries found None (λ e. absurd cc))))))))
+    (word_step verb_text word verb.Entries found None (λ e. absurd cc)))))))))
 
 report_word : (word : List ℕ) (found : ReportName) → report_of word ≡ Some found → word ≡ name_text found
 report_word word found =
@@ -118,8 +120,8 @@ report_word word found =
     (word_step name_text word name.Orphans found _
     (word_step name_text word name.Refresh found None (λ e. absurd cc)))))
 
-uid_some : (bytes uid : List ℕ) → uid_of bytes ≡ Some uid → (bytes ≡ uid) × (0 < length bytes)
-uid_some bytes uid e =
+rest_some : (bytes uid : List ℕ) → rest_of bytes ≡ Some uid → (bytes ≡ uid) × (0 < length bytes)
+rest_some bytes uid e =
     elim (eqb (length bytes) 0) as (λ t. eqb (length bytes) 0 ≡ t → cond t None (Some bytes) ≡ Some uid → (bytes ≡ uid) × (0 < length bytes)) [
       | true ↦ λ _ s. absurd cc
       | false ↦ λ t s. (cc, let ne = eqb-false (length bytes) 0 t in omega (arith, ne))
@@ -165,9 +167,9 @@ number_and line message behind v number x read give plain known by s reads =
     ∙ ap (λ (t : List ℕ). read t >>= λ y. Some (give number y)) parts.1
     ∙ ap (λ o. o >>= λ y. Some (give number y)) reads
 
-uid_reads : (uid : List ℕ) → 0 < length uid → uid_of uid ≡ Some uid
-uid_reads [] some = absurd (omega arith)
-uid_reads (b ∷ uid) some = ap (λ (t : Bool). cond t None (Some (b ∷ uid))) (ne_eqb (suc (length uid)) 0 (λ e. absurd (omega arith)))
+rest_reads : (uid : List ℕ) → 0 < length uid → rest_of uid ≡ Some uid
+rest_reads [] some = absurd (omega arith)
+rest_reads (b ∷ uid) some = ap (λ (t : Bool). cond t None (Some (b ∷ uid))) (ne_eqb (suc (length uid)) 0 (λ e. absurd (omega arith)))
 
 report_reads : (named : ReportName) → report_of (name_text named) ≡ Some named
 report_reads name.Load = refl
@@ -179,6 +181,7 @@ report_reads name.Refresh = refl
 plain_verb : (v : Verb) → IsPlain v
 plain_verb verb.Take = space_free (codes "!take") refl
 plain_verb verb.List = space_free (codes "!list") refl
+plain_verb verb.Mine = space_free (codes "!mine") refl
 plain_verb verb.Post = space_free (codes "!post") refl
 plain_verb verb.Arrive = space_free (codes "!arrive") refl
 plain_verb verb.Report = space_free (codes "!report") refl
@@ -189,6 +192,7 @@ plain_verb verb.Entries = space_free (codes "!entries") refl
 known_verb : (v : Verb) → verb_of (verb_text v) ≡ Some v
 known_verb verb.Take = refl
 known_verb verb.List = refl
+known_verb verb.Mine = refl
 known_verb verb.Post = refl
 known_verb verb.Arrive = refl
 known_verb verb.Report = refl
@@ -201,11 +205,12 @@ pub spelled_gives : (line message : List ℕ) (order : Order) → Spells line me
 spelled_gives line message (takes desk text) s =
     one_number line message verb.Take desk (λ n. takes n message) (plain_verb verb.Take) refl (λ rest. refl) s.0 ∙ ap (λ (t : List ℕ). Some (takes desk t)) (sym s.1)
 spelled_gives line message (lists desk) s = one_number line message verb.List desk lists (plain_verb verb.List) refl (λ rest. refl) s
+spelled_gives line message (lists_for desk address) s = number_and line message address verb.Mine desk address rest_of lists_for (plain_verb verb.Mine) refl (λ rest. refl) s.front (rest_reads address s.some)
 spelled_gives line message (posts desk since) s = number_and line message s.digits verb.Post desk since number_of posts (plain_verb verb.Post) refl (λ rest. refl) s.front s.value
 spelled_gives line message (arrives packet desk) s = number_and line message s.digits verb.Arrive packet desk number_of arrives (plain_verb verb.Arrive) refl (λ rest. refl) s.front s.value
 spelled_gives line message (reports desk named) s = number_and line message (name_text named) verb.Report desk named report_of reports (plain_verb verb.Report) refl (λ rest. refl) s (report_reads named)
-spelled_gives line message (resends desk uid) s = number_and line message uid verb.Resend desk uid uid_of resends (plain_verb verb.Resend) refl (λ rest. refl) s.front (uid_reads uid s.some)
-spelled_gives line message (asks_next desk uid) s = number_and line message uid verb.Next desk uid uid_of asks_next (plain_verb verb.Next) refl (λ rest. refl) s.front (uid_reads uid s.some)
+spelled_gives line message (resends desk uid) s = number_and line message uid verb.Resend desk uid rest_of resends (plain_verb verb.Resend) refl (λ rest. refl) s.front (rest_reads uid s.some)
+spelled_gives line message (asks_next desk uid) s = number_and line message uid verb.Next desk uid rest_of asks_next (plain_verb verb.Next) refl (λ rest. refl) s.front (rest_reads uid s.some)
 spelled_gives line message (counts desk) s = one_number line message verb.Entries desk counts (plain_verb verb.Entries) refl (λ rest. refl) s
 spelled_gives line message malformed s = absurd s
 
@@ -251,6 +256,10 @@ by_verb line message order verb.Take known e =
     let f = find_number line verb.Take order (λ n. takes n message) known e in subst (λ (o : Order). Spells line message o) f.2 (f.1, refl)
 by_verb line message order verb.List known e =
     let f = find_number line verb.List order lists known e in subst (λ (o : Order). Spells line message o) f.2 f.1
+by_verb line message order verb.Mine known e =
+    let f = find_behind line verb.Mine order rest_of lists_for known (λ b x s. (rest_some b x s).1) e in
+    let address = rest_some (after_space (after_space line)) f.1 f.3 in
+    subst (λ (o : Order). Spells line message o) f.4 (record { some = subst (λ (t : List ℕ). 0 < length t) address.0 address.1; front = subst (λ (t : List ℕ). SpellsBehind line (codes "!mine") f.0 t) address.0 f.2 })
 by_verb line message order verb.Post known e =
     let f = find_behind line verb.Post order number_of posts known number_some e in
     subst (λ (o : Order). Spells line message o) f.4 (record { digits = after_space (after_space line); value = f.3; front = f.2 })
@@ -261,12 +270,12 @@ by_verb line message order verb.Report known e =
     let f = find_behind line verb.Report order report_of reports known report_some e in
     subst (λ (o : Order). Spells line message o) f.4 (subst (λ (t : List ℕ). SpellsBehind line (codes "!report") f.0 t) (report_word (after_space (after_space line)) f.1 f.3) f.2)
 by_verb line message order verb.Resend known e =
-    let f = find_behind line verb.Resend order uid_of resends known (λ b x s. (uid_some b x s).1) e in
-    let uid = uid_some (after_space (after_space line)) f.1 f.3 in
+    let f = find_behind line verb.Resend order rest_of resends known (λ b x s. (rest_some b x s).1) e in
+    let uid = rest_some (after_space (after_space line)) f.1 f.3 in
     subst (λ (o : Order). Spells line message o) f.4 (record { some = subst (λ (t : List ℕ). 0 < length t) uid.0 uid.1; front = subst (λ (t : List ℕ). SpellsBehind line (codes "!resend") f.0 t) uid.0 f.2 })
 by_verb line message order verb.Next known e =
-    let f = find_behind line verb.Next order uid_of asks_next known (λ b x s. (uid_some b x s).1) e in
-    let uid = uid_some (after_space (after_space line)) f.1 f.3 in
+    let f = find_behind line verb.Next order rest_of asks_next known (λ b x s. (rest_some b x s).1) e in
+    let uid = rest_some (after_space (after_space line)) f.1 f.3 in
     subst (λ (o : Order). Spells line message o) f.4 (record { some = subst (λ (t : List ℕ). 0 < length t) uid.0 uid.1; front = subst (λ (t : List ℕ). SpellsBehind line (codes "!next") f.0 t) uid.0 f.2 })
 by_verb line message order verb.Entries known e =
     let f = find_number line verb.Entries order counts known e in subst (λ (o : Order). Spells line message o) f.2 f.1

@@ -14,6 +14,8 @@ pub data Order : Type 0 where
   -- the desk takes the text
   takes : ℕ → List ℕ → Order
   lists : ℕ → Order
+  -- of a desk and the address of an attendee
+  lists_for : ℕ → List ℕ → Order
   -- the desk posts what changed after a tick
   posts : ℕ → ℕ → Order
   -- a packet arrives at a desk
@@ -28,6 +30,7 @@ pub data Order : Type 0 where
 abbrev pub order_of : Command → Order
 order_of (command.Take desk text) = takes desk text.now
 order_of (command.List desk) = lists desk
+order_of (command.Mine desk address) = lists_for desk address.now
 order_of (command.Post desk since) = posts desk since
 order_of (command.Arrive packet desk) = arrives packet desk
 order_of (command.Report desk name) = reports desk name
@@ -68,9 +71,9 @@ number_of word =
     if nat_lt 0 (length word) && (list_all is_digit word && nat_lt (digits_value 0 word) (2 ^ 64))
     then Some (digits_value 0 word) else None
 
--- a UID is any bytes but none
-abbrev pub uid_of : List ℕ → Option (List ℕ)
-uid_of bytes = if length bytes == 0 then None else Some bytes
+-- a UID or an address is any bytes but none
+abbrev pub rest_of : List ℕ → Option (List ℕ)
+rest_of bytes = if length bytes == 0 then None else Some bytes
 
 abbrev pub report_of : List ℕ → Option ReportName
 report_of word =
@@ -90,6 +93,7 @@ abbrev pub verb_of : List ℕ → Option Verb
 verb_of word =
     if bytes_eq word (codes "!take") then Some verb.Take else
     if bytes_eq word (codes "!list") then Some verb.List else
+    if bytes_eq word (codes "!mine") then Some verb.Mine else
     if bytes_eq word (codes "!post") then Some verb.Post else
     if bytes_eq word (codes "!arrive") then Some verb.Arrive else
     if bytes_eq word (codes "!report") then Some verb.Report else
@@ -97,10 +101,12 @@ verb_of word =
     if bytes_eq word (codes "!next") then Some verb.Next else
     if bytes_eq word (codes "!entries") then Some verb.Entries else None
 
--- Behind the word and a space stand the arguments, with a space between two. A UID is all that is left.
+-- Behind the word and a space stand the arguments, with a space between two. A UID or an address is all that is left.
 abbrev pub spelled_by : Verb → List ℕ → List ℕ → Option Order
 spelled_by verb.Take arguments message = number_of arguments >>= λ desk. Some (takes desk message)
 spelled_by verb.List arguments message = number_of arguments >>= λ desk. Some (lists desk)
+spelled_by verb.Mine arguments message =
+    number_of (before_space arguments) >>= λ desk. rest_of (after_space arguments) >>= λ address. Some (lists_for desk address)
 spelled_by verb.Post arguments message =
     number_of (before_space arguments) >>= λ desk. number_of (after_space arguments) >>= λ since. Some (posts desk since)
 spelled_by verb.Arrive arguments message =
@@ -108,9 +114,9 @@ spelled_by verb.Arrive arguments message =
 spelled_by verb.Report arguments message =
     number_of (before_space arguments) >>= λ desk. report_of (after_space arguments) >>= λ named. Some (reports desk named)
 spelled_by verb.Resend arguments message =
-    number_of (before_space arguments) >>= λ desk. uid_of (after_space arguments) >>= λ uid. Some (resends desk uid)
+    number_of (before_space arguments) >>= λ desk. rest_of (after_space arguments) >>= λ uid. Some (resends desk uid)
 spelled_by verb.Next arguments message =
-    number_of (before_space arguments) >>= λ desk. uid_of (after_space arguments) >>= λ uid. Some (asks_next desk uid)
+    number_of (before_space arguments) >>= λ desk. rest_of (after_space arguments) >>= λ uid. Some (asks_next desk uid)
 spelled_by verb.Entries arguments message = number_of arguments >>= λ desk. Some (counts desk)
 
 -- The command that a line spells, with the bytes of the message behind it.

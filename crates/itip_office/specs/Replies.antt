@@ -31,6 +31,10 @@ counted_text desk entries = codes "entries " ++ decimal desk ++ codes " " ++ dec
 abbrev pub listed_text : ℕ → List Row → List ℕ
 listed_text desk rows = codes "list " ++ decimal desk ++ codes " rows " ++ decimal (length rows) ++ 10 ∷ list_text rows
 
+-- the same of the rows that show an attendee
+abbrev pub listed_for_text : ℕ → List Row → List ℕ
+listed_for_text desk rows = codes "mine " ++ decimal desk ++ codes " rows " ++ decimal (length rows) ++ 10 ∷ list_text rows
+
 -- the line before those of a report, with how many they are
 abbrev pub report_head : ℕ → ReportName → ℕ → List ℕ
 report_head desk named count = codes "report " ++ decimal desk ++ codes " " ++ name_text named ++ codes " " ++ decimal count ++ 10 ∷ []

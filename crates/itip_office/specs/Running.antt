@@ -6,6 +6,7 @@ use Rattle.std.specs.String.{string_bytes}
 use Rattle.std.specs.Io.KnownBytes.{Appends}
 use Rattle.itip_view.specs.declared.window.Window.{Window}
 use Rattle.itip_view.specs.Rows.{AreRows, AreTooMany, row_limit}
+use Rattle.itip_view.specs.Showing.{Shows, AreRowsWhere, AreTooManyWhere}
 use Rattle.itip_view.specs.declared.row.Row.{Row}
 use Rattle.itip_desk.specs.Heard.{heard}
 use Rattle.itip_message.specs.declared.item.Item.{Item}
@@ -23,8 +24,8 @@ use Rattle.itip_office.specs.declared.answer.Answer.{Answer as Given}
 use Rattle.itip_office.specs.declared.answer.Answer.TheVariants as given
 use Rattle.itip_office.specs.declared.command.ReportName.{ReportName}
 use Rattle.itip_office.specs.declared.command.ReportName.TheVariants as name
-use Rattle.itip_office.specs.Orders.{Order, takes, lists, posts, arrives, reports, resends, asks_next, counts, malformed}
-use Rattle.itip_office.specs.Replies.{refused_text, taken_text, posted_text, arrived_text, counted_text, listed_text, reported_text, resent_text, next_text}
+use Rattle.itip_office.specs.Orders.{Order, takes, lists, lists_for, posts, arrives, reports, resends, asks_next, counts, malformed}
+use Rattle.itip_office.specs.Replies.{refused_text, taken_text, posted_text, arrived_text, counted_text, listed_text, listed_for_text, reported_text, resent_text, next_text}
 use Rattle.itip_office.specs.Script.{orders_of}
 use Rattle.itip_streams.specs.Written.{AppendsFront}
 
@@ -40,6 +41,8 @@ pub data Answer : Type 0 where
   arrived : ℕ → ℕ → ℕ → ℕ → Answer
   -- the rows of the list of a desk
   listed : ℕ → List Row → Answer
+  -- the rows of the list of a desk that show an attendee
+  listed_for : ℕ → List Row → Answer
   -- how many items a desk keeps
   counted : ℕ → ℕ → Answer
   -- the lines of a report of a desk
@@ -55,6 +58,7 @@ answer_text (took desk tick changed) = taken_text desk tick changed
 answer_text (posted packet items) = posted_text packet items
 answer_text (arrived packet desk tick changed) = arrived_text packet desk tick changed
 answer_text (listed desk rows) = listed_text desk rows
+answer_text (listed_for desk rows) = listed_for_text desk rows
 answer_text (counted desk entries) = counted_text desk entries
 answer_text (reported desk named lines) = reported_text desk named lines
 answer_text (resent desk bytes) = resent_text desk bytes
@@ -66,6 +70,7 @@ is_refusal (took desk tick changed) = false
 is_refusal (posted packet items) = false
 is_refusal (arrived packet desk tick changed) = false
 is_refusal (listed desk rows) = false
+is_refusal (listed_for desk rows) = false
 is_refusal (counted desk entries) = false
 is_refusal (reported desk named lines) = false
 is_refusal (resent desk bytes) = false
@@ -78,6 +83,7 @@ answer_of (given.Took desk heard) = took desk heard.tick heard.changed
 answer_of (given.Posted packet items) = posted packet items
 answer_of (given.Arrived packet desk heard) = arrived packet desk heard.tick heard.changed
 answer_of (given.Listed desk rows) = listed desk rows.items
+answer_of (given.ListedFor desk rows) = listed_for desk rows.items
 answer_of (given.Counted desk entries) = counted desk entries
 answer_of (given.Reported desk named lines) = reported desk named (map string_bytes lines.items)
 answer_of (given.Resent desk messages) = resent desk (option_map (λ bytes. bytes.items) messages)
@@ -89,6 +95,7 @@ event_of (takes desk text) = Some (Deliver desk text)
 event_of (posts desk since) = Some (Post desk since)
 event_of (arrives packet desk) = Some (Arrive packet desk)
 event_of (lists desk) = None
+event_of (lists_for desk address) = None
 event_of (reports desk name) = None
 event_of (resends desk uid) = None
 event_of (asks_next desk uid) = None
@@ -116,6 +123,11 @@ HasTick (Refused number) = Unit {0}
 -- the rows of the window, of which there are no more than the limit
 pub record AreListed (heard : List Item) (window : Window) (rows : List Row) : Type 0 where
   pub are_rows : AreRows heard window rows
+  pub few : length rows ≤ row_limit
+
+-- the rows of the window that show the attendee of an address, of which there are no more than the limit
+pub record AreListedFor (address : List ℕ) (heard : List Item) (window : Window) (rows : List Row) : Type 0 where
+  pub are_rows : AreRowsWhere (Shows address) heard window rows
   pub few : length rows ≤ row_limit
 
 -- The lines tell of the rows of the window, of which there are no more than the limit.
@@ -156,6 +168,11 @@ pub data Step (window : Window) (old : Past) : Order → Answer → Past → Typ
   lists_too_many : (desk : ℕ) (history : History)
       → slice_get old.histories desk ≡ Some history → AreTooMany (heard history.steps) window → Step window old (lists desk) (refused 31) old
   lists_no_desk : (desk : ℕ) → length old.histories ≤ desk → Step window old (lists desk) (refused 50) old
+  lists_rows_for : (desk : ℕ) (address : List ℕ) (history : History) (rows : List Row)
+      → slice_get old.histories desk ≡ Some history → AreListedFor address (heard history.steps) window rows → Step window old (lists_for desk address) (listed_for desk rows) old
+  lists_too_many_for : (desk : ℕ) (address : List ℕ) (history : History)
+      → slice_get old.histories desk ≡ Some history → AreTooManyWhere (Shows address) (heard history.steps) window → Step window old (lists_for desk address) (refused 31) old
+  lists_no_desk_for : (desk : ℕ) (address : List ℕ) → length old.histories ≤ desk → Step window old (lists_for desk address) (refused 50) old
   counts_kept : (desk : ℕ) (history : History) (count : ℕ)
       → slice_get old.histories desk ≡ Some history → CountsKept (heard history.steps) count → Step window old (counts desk) (counted desk count) old
   counts_no_desk : (desk : ℕ) → length old.histories ≤ desk → Step window old (counts desk) (refused 50) old

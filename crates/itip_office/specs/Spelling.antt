@@ -2,7 +2,7 @@
 use Rattle.std.specs.Prelude.{◌≡◌, ◌<◌, ◌++◌, ℕ, List, ◌∷◌, length, Some, codes}
 use Rattle.itip_office.specs.declared.command.ReportName.{ReportName}
 use Rattle.itip_office.specs.declared.command.ReportName.TheVariants as name
-use Rattle.itip_office.specs.Orders.{Order, takes, lists, posts, arrives, reports, resends, asks_next, counts, malformed, number_of}
+use Rattle.itip_office.specs.Orders.{Order, takes, lists, lists_for, posts, arrives, reports, resends, asks_next, counts, malformed, number_of}
 
 -- a word, a space and a number
 pub record SpellsNumber (line : List ℕ) (verb : List ℕ) (number : ℕ) : Type 0 where
@@ -22,9 +22,9 @@ pub record SpellsNumbers (line : List ℕ) (verb : List ℕ) (first second : ℕ
   pub front : SpellsBehind line verb first digits
 
 -- a word, a number and the rest of the line, which isn't empty
-pub record SpellsUid (line : List ℕ) (verb : List ℕ) (number : ℕ) (uid : List ℕ) : Type 0 where
-  pub some : 0 < length uid
-  pub front : SpellsBehind line verb number uid
+pub record SpellsRest (line : List ℕ) (verb : List ℕ) (number : ℕ) (rest : List ℕ) : Type 0 where
+  pub some : 0 < length rest
+  pub front : SpellsBehind line verb number rest
 
 abbrev pub name_text : ReportName → List ℕ
 name_text name.Load = codes "load"
@@ -37,10 +37,11 @@ name_text name.Refresh = codes "refresh"
 abbrev pub Spells : List ℕ → List ℕ → Order → Type 0
 Spells line message (takes desk text) = SpellsNumber line (codes "!take") desk × (text ≡ message)
 Spells line message (lists desk) = SpellsNumber line (codes "!list") desk
+Spells line message (lists_for desk address) = SpellsRest line (codes "!mine") desk address
 Spells line message (posts desk since) = SpellsNumbers line (codes "!post") desk since
 Spells line message (arrives packet desk) = SpellsNumbers line (codes "!arrive") packet desk
 Spells line message (reports desk named) = SpellsBehind line (codes "!report") desk (name_text named)
-Spells line message (resends desk uid) = SpellsUid line (codes "!resend") desk uid
-Spells line message (asks_next desk uid) = SpellsUid line (codes "!next") desk uid
+Spells line message (resends desk uid) = SpellsRest line (codes "!resend") desk uid
+Spells line message (asks_next desk uid) = SpellsRest line (codes "!next") desk uid
 Spells line message (counts desk) = SpellsNumber line (codes "!entries") desk
 Spells line message malformed = ⊥

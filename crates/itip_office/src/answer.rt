@@ -51,6 +51,11 @@ pub(crate) enum Answer {
         desk: u64,
         rows: Vec<Row>,
     },
+    /// The rows of the list of a desk that show an attendee.
+    ListedFor {
+        desk: u64,
+        rows: Vec<Row>,
+    },
     /// How many items a desk keeps.
     Counted {
         desk: u64,

@@ -1,7 +1,7 @@
 //! What a line of a script asks for.
 ghost use Rattle.std.specs.Prelude.{◌≡◌};
 ghost use Rattle.std.specs.Option.{option_map};
-ghost use Rattle.itip_office.specs.Orders.{order_of, spelled, spelled_by, verb_of, report_of, uid_of};
+ghost use Rattle.itip_office.specs.Orders.{order_of, spelled, spelled_by, verb_of, report_of, rest_of};
 
 use crate::word::{is_word, read_number, split_word};
 
@@ -27,6 +27,8 @@ pub enum Command<'a> {
     Take { desk: u64, text: &'a [u8] },
     /// `!list d`
     List { desk: u64 },
+    /// `!mine d address`: the rows that show an attendee. An address is the rest of the line, of any bytes, and not empty.
+    Mine { desk: u64, address: &'a [u8] },
     /// `!post d t`: what changed at the desk after tick `t`.
     Post { desk: u64, since: u64 },
     /// `!arrive k d`: packet `k` reaches desk `d`.
@@ -48,6 +50,7 @@ pub enum Command<'a> {
 pub(crate) enum Verb {
     Take,
     List,
+    Mine,
     Post,
     Arrive,
     Report,
@@ -80,6 +83,11 @@ fn spelled_by<'a>(verb: Verb, arguments: &'a [u8], message: &'a [u8]) -> Option<
             let desk = read_number(arguments)?;
             Some(Command::List { desk })
         }
+        Verb::Mine => {
+            let desk = read_number(first)?;
+            let address = rest_of(second)?;
+            Some(Command::Mine { desk, address })
+        }
         Verb::Post => {
             let desk = read_number(first)?;
             let since = read_number(second)?;
@@ -97,12 +105,12 @@ fn spelled_by<'a>(verb: Verb, arguments: &'a [u8], message: &'a [u8]) -> Option<
         }
         Verb::Resend => {
             let desk = read_number(first)?;
-            let uid = uid_of(second)?;
+            let uid = rest_of(second)?;
             Some(Command::Resend { desk, uid })
         }
         Verb::Next => {
             let desk = read_number(first)?;
-            let uid = uid_of(second)?;
+            let uid = rest_of(second)?;
             Some(Command::Next { desk, uid })
         }
         Verb::Entries => {
@@ -119,6 +127,8 @@ pub(crate) fn verb_of(word: &[u8]) -> Option<Verb>
         Some(Verb::Take)
     } else if is_word(word, b"!list") {
         Some(Verb::List)
+    } else if is_word(word, b"!mine") {
+        Some(Verb::Mine)
     } else if is_word(word, b"!post") {
         Some(Verb::Post)
     } else if is_word(word, b"!arrive") {
@@ -154,8 +164,9 @@ fn report_of(word: &[u8]) -> Option<ReportName>
     }
 }
 
-fn uid_of(bytes: &[u8]) -> Option<&[u8]>
-    ensures { option_map (λ u. u.now) result ≡ uid_of bytes.now }
+// What a line ends with, where it is there at all.
+fn rest_of(bytes: &[u8]) -> Option<&[u8]>
+    ensures { option_map (λ rest. rest.now) result ≡ rest_of bytes.now }
 {
     if bytes.is_empty() { None } else { Some(bytes) }
 }

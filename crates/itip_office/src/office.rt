@@ -54,6 +54,7 @@ impl Office {
                 desk: *desk as usize,
             }),
             Command::List { desk } => self.list(*desk),
+            Command::Mine { desk, address } => self.list_for(*desk, address),
             Command::Entries { desk } => Ok(self.entries(*desk)),
             Command::Report { desk, name } => self.report(*desk, *name),
             Command::Resend { desk, uid } => self.resend(*desk, uid),

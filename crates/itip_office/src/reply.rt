@@ -3,7 +3,7 @@ ghost use Rattle.std.specs.Prelude.{◌≡◌, ◌++◌, map, OnOk};
 ghost use Rattle.std.specs.List.{flat_map};
 ghost use Rattle.std.specs.Option.{option_map};
 ghost use Rattle.std.specs.String.{string_bytes};
-ghost use Rattle.itip_office.specs.Replies.{refused_text, taken_text, posted_text, arrived_text, counted_text, listed_text, reported_text, resent_text, next_text, ended};
+ghost use Rattle.itip_office.specs.Replies.{refused_text, taken_text, posted_text, arrived_text, counted_text, listed_text, listed_for_text, reported_text, resent_text, next_text, ended};
 ghost use Rattle.itip_office.specs.Running.{answer_of, answer_text};
 ghost use Rattle.itip_office.specs.Spelling.{name_text};
 
@@ -27,6 +27,7 @@ impl Answer {
                 heard,
             } => append_arrived(output, packet, desk, heard),
             Answer::Listed { desk, rows } => append_listed(output, desk, &rows),
+            Answer::ListedFor { desk, rows } => append_listed_for(output, desk, &rows),
             Answer::Counted { desk, entries } => append_counted(output, desk, entries),
             Answer::Reported { desk, name, lines } => append_reported(output, desk, name, &lines),
             Answer::Resent { desk, messages } => append_resent(output, desk, messages.as_deref()),
@@ -86,6 +87,16 @@ fn append_listed(output: &mut Vec<u8>, desk: u64, rows: &[Row]) -> Result<(), Al
 {
     let count = rows.len();
     let line = format!(in *output.allocator(); "list {desk} rows {count}\n")?;
+    output.extend_from_slice(line.as_bytes())?;
+    write_list(rows, output)
+}
+
+/// Appends the text of rows that show an attendee, behind the line that says how many they are.
+fn append_listed_for(output: &mut Vec<u8>, desk: u64, rows: &[Row]) -> Result<(), AllocError>
+    ensures { OnOk result (output.new.items ≡ output.old.items ++ listed_for_text desk rows.now) }
+{
+    let shown = rows.len();
+    let line = format!(in *output.allocator(); "mine {desk} rows {shown}\n")?;
     output.extend_from_slice(line.as_bytes())?;
     write_list(rows, output)
 }

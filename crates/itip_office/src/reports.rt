@@ -3,9 +3,10 @@ ghost use Rattle.std.specs.Prelude.{◌≡◌, IfOk, IfErr, IsErrOf, map};
 ghost use Rattle.std.specs.Option.{option_map};
 ghost use Rattle.std.specs.String.{string_bytes};
 ghost use Rattle.itip_view.specs.Rows.{AreTooMany};
+ghost use Rattle.itip_view.specs.Showing.{Shows, AreTooManyWhere};
 ghost use Rattle.itip_report.specs.Organizing.{IsResendOf, IsNext};
-ghost use Rattle.itip_office.specs.Orders.{lists, counts, reports, resends, asks_next};
-ghost use Rattle.itip_office.specs.Running.{Answers, answer_of, IsReportOf, IsOfRows};
+ghost use Rattle.itip_office.specs.Orders.{lists, lists_for, counts, reports, resends, asks_next};
+ghost use Rattle.itip_office.specs.Running.{Answers, answer_of, AreListedFor, IsReportOf, IsOfRows};
 
 use crate::answer::{Answer, NO_DESK, TOO_MANY_ROWS};
 use crate::command::ReportName;
@@ -15,7 +16,7 @@ use itip_report::{cancelled, load_by_attendee, next_seq, orphans, progress, refr
 use itip_state::State;
 use itip_streams::StreamFault;
 use itip_todo::Uid;
-use itip_view::{ViewError, Window, rows};
+use itip_view::{Row, ViewError, Window};
 use std::alloc::{AllocError, Global};
 
 impl Office {
@@ -36,8 +37,23 @@ impl Office {
         let Some(listed) = self.desk(desk) else {
             return Ok(Answer::Refused(NO_DESK));
         };
-        match rows(self.alloc, listed.state(), self.window) {
+        match listed.rows(self.window) {
             Ok(rows) => Ok(Answer::Listed { desk, rows }),
+            Err(ViewError::TooManyRows) => Ok(Answer::Refused(TOO_MANY_ROWS)),
+            Err(ViewError::NoMemory) => Err(StreamFault::Memory),
+        }
+    }
+
+    /// Answers with the rows of the list of a desk that show the attendee of an address.
+    pub(crate) fn list_for(&self, desk: u64, address: &[u8]) -> Result<Answer, StreamFault>
+        ensures answers { IfOk result (λ answer. Answers self.now.window (lists_for desk address.now) self.now.world (answer_of answer) self.now.world) }
+        ensures fault { IfErr result (λ fault. fault ≡ StreamFault.Memory) }
+    {
+        let Some(listed) = self.desk(desk) else {
+            return Ok(Answer::Refused(NO_DESK));
+        };
+        match rows_for(self.alloc, listed, self.window, address) {
+            Ok(rows) => Ok(Answer::ListedFor { desk, rows }),
             Err(ViewError::TooManyRows) => Ok(Answer::Refused(TOO_MANY_ROWS)),
             Err(ViewError::NoMemory) => Err(StreamFault::Memory),
         }
@@ -61,7 +77,7 @@ impl Office {
         let Some(asked) = self.desk(desk) else {
             return Ok(Answer::Refused(NO_DESK));
         };
-        match report_lines(self.alloc, asked.state(), self.window, name) {
+        match report_lines(self.alloc, asked, self.window, name) {
             Ok(lines) => Ok(Answer::Reported { desk, name, lines }),
             Err(ViewError::TooManyRows) => Ok(Answer::Refused(TOO_MANY_ROWS)),
             Err(ViewError::NoMemory) => Err(StreamFault::Memory),
@@ -95,26 +111,42 @@ impl Office {
 
 fn report_lines(
     alloc: Global,
-    state: &State,
+    desk: &Desk,
     window: Window,
     name: ReportName,
 ) -> Result<Vec<String>, ViewError>
-    ensures lines { IfOk result (λ lines. IsReportOf name state.now window (map string_bytes lines.items)) }
+    ensures lines { IfOk result (λ lines. IsReportOf name desk.now.kept window (map string_bytes lines.items)) }
     ensures of_rows { IsErrOf result ViewError.TooManyRows → IsOfRows name }
-    ensures many { IsErrOf result ViewError.TooManyRows → AreTooMany state.now window }
+    ensures many { IsErrOf result ViewError.TooManyRows → AreTooMany desk.now.kept window }
 {
     match name {
         ReportName::Load => {
-            let rows = rows(alloc, state, window)?;
+            let rows = desk.rows(window)?;
             Ok(load_by_attendee(alloc, &rows)?)
         }
         ReportName::Progress => {
-            let rows = rows(alloc, state, window)?;
+            let rows = desk.rows(window)?;
             Ok(progress(alloc, &rows)?)
         }
-        ReportName::Cancelled => Ok(cancelled(alloc, state)?),
-        ReportName::Orphans => Ok(orphans(alloc, state)?),
-        ReportName::Refresh => Ok(refresh_wanted(alloc, state)?),
+        ReportName::Cancelled => Ok(cancelled(alloc, desk.state())?),
+        ReportName::Orphans => Ok(orphans(alloc, desk.state())?),
+        ReportName::Refresh => Ok(refresh_wanted(alloc, desk.state())?),
+    }
+}
+
+// The address of an attendee is a text, so octets that are none show in no row.
+fn rows_for(
+    alloc: Global,
+    desk: &Desk,
+    window: Window,
+    address: &[u8],
+) -> Result<Vec<Row>, ViewError>
+    ensures rows { IfOk result (λ rows. AreListedFor address.now desk.now.kept window rows.items) }
+    ensures many { IsErrOf result ViewError.TooManyRows → AreTooManyWhere (Shows address.now) desk.now.kept window }
+{
+    match str::from_utf8(address) {
+        Ok(text) => desk.rows_for(window, text),
+        Err(_) => Ok(Vec::new(alloc)),
     }
 }
 

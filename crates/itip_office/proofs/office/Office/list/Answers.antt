@@ -1,7 +1,4 @@
-use Rattle.std.proofs.Common.{Err, List, subst, ap}
-use Rattle.itip_message.specs.declared.item.Item.{Item}
-use Rattle.itip_view.specs.Rows.{AreTooMany}
-use Rattle.itip_office.specs.Running.{AreListed}
+use Rattle.std.proofs.Common.{Err, ap}
 use Rattle.itip_office.proofs.Answering.{answers_list, answers_too_many, answers_no_list}
 use Rattle.itip_office.proofs.office.Office.list.Goals as goal
 
@@ -12,10 +9,10 @@ pub returns-in-Ok-clause-answers : goal.returns-in-Ok-clause-answers
 returns-in-Ok-clause-answers c =
     let office = c.args.self.now in
     answers_list office.window office.world c.args.desk c.in-Some.listed.now c.in-Some.ensures c.in-Ok.rows.items
-    (subst (λ (items : List Item). AreListed items office.window c.in-Ok.rows.items) c.state.ensures (record { are_rows = c.in-Ok.ensures.rows; few = c.in-Ok.ensures.few }))
+    (record { are_rows = c.in-Ok.ensures.rows; few = c.in-Ok.ensures.few })
 
 pub returns-in-Err-TooManyRows-clause-answers : goal.returns-in-Err-TooManyRows-clause-answers
 returns-in-Err-TooManyRows-clause-answers c =
     let office = c.args.self.now in
     answers_too_many office.window office.world c.args.desk c.in-Some.listed.now c.in-Some.ensures
-    (subst (λ (items : List Item). AreTooMany items office.window) c.state.ensures (c.in-Err-TooManyRows.ensures.many (ap (λ e. Err e) c.in-Err-TooManyRows.field-0-is)))
+    (c.in-Err-TooManyRows.ensures.many (ap (λ e. Err e) c.in-Err-TooManyRows.field-0-is))

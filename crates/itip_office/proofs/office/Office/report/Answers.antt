@@ -1,8 +1,5 @@
-use Rattle.std.proofs.Common.{Err, List, map, subst, ap}
+use Rattle.std.proofs.Common.{Err, map, ap}
 use Rattle.std.specs.String.{string_bytes}
-use Rattle.itip_message.specs.declared.item.Item.{Item}
-use Rattle.itip_view.specs.Rows.{AreTooMany}
-use Rattle.itip_office.specs.Running.{IsReportOf}
 use Rattle.itip_office.proofs.Answering.{answers_report, answers_no_rows, answers_no_report}
 use Rattle.itip_office.proofs.office.Office.report.Goals as goal
 
@@ -12,13 +9,10 @@ returns-in_default-clause-answers c = answers_no_report c.args.self.now.window c
 pub returns-in-Ok-clause-answers : goal.returns-in-Ok-clause-answers
 returns-in-Ok-clause-answers c =
     let office = c.args.self.now in
-    let lines = map string_bytes c.in-Ok.lines.items in
-    answers_report office.window office.world c.args.desk c.in-Some.asked.now c.in-Some.ensures c.args.name lines
-    (subst (λ (items : List Item). IsReportOf c.args.name items office.window lines) c.state.ensures c.in-Ok.ensures.lines)
+    answers_report office.window office.world c.args.desk c.in-Some.asked.now c.in-Some.ensures c.args.name (map string_bytes c.in-Ok.lines.items) c.in-Ok.ensures.lines
 
 pub returns-in-Err-TooManyRows-clause-answers : goal.returns-in-Err-TooManyRows-clause-answers
 returns-in-Err-TooManyRows-clause-answers c =
     let office = c.args.self.now in
     let over = ap (λ e. Err e) c.in-Err-TooManyRows.field-0-is in
-    answers_no_rows office.window office.world c.args.desk c.in-Some.asked.now c.in-Some.ensures c.args.name (c.in-Err-TooManyRows.ensures.of_rows over)
-    (subst (λ (items : List Item). AreTooMany items office.window) c.state.ensures (c.in-Err-TooManyRows.ensures.many over))
+    answers_no_rows office.window office.world c.args.desk c.in-Some.asked.now c.in-Some.ensures c.args.name (c.in-Err-TooManyRows.ensures.of_rows over) (c.in-Err-TooManyRows.ensures.many over)
