@@ -1,2 +1,6 @@
 pub mod Texts
 pub mod Merging
+pub mod Reports
+pub mod Whole
+pub mod Sharing
+pub mod Ending

@@ -42,7 +42,7 @@ pub fn run_office<
     let mut jobs = jobs;
     jobs.sort_by_key(|job| job.number)?;
     let done = run_team(rt, desks, workers, sent, gate)?;
-    let (answers, keepers) = gather(rt, done)?;
+    let (answers, keepers) = gather(rt, desks, done)?;
     let replies = replies(alloc, &jobs, answers)?;
     let desks = exchange(alloc, meet_all(rt, keepers)?)?;
     Ok(Office { desks, replies })
