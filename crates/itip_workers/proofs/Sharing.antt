@@ -1,8 +1,8 @@
 -- Desks that each take what the others keep, as what is kept of all that they heard.
-use Rattle.std.proofs.Common.{◌≡◌, ℕ, ◌+◌, ◌<◌, List, [], ◌∷◌, ◌++◌, length, take, get_or, ◌↔◌, inl, inr, refl, sym, ap, subst, ◌∙◌, append_assoc, append-nil}
+use Rattle.std.proofs.Common.{◌≡◌, ℕ, ◌+◌, ◌<◌, List, [], ◌∷◌, ◌++◌, length, take, get_or, All, ◌↔◌, inl, inr, refl, sym, ap, subst, ◌∙◌, append_assoc, append-nil}
 use Rattle.std.specs.List.{Contains, AllZip, flat_map}
 use Rattle.std.proofs.lemmas.List.{take_more}
-use Rattle.std.proofs.lemmas.List.Elements.{Contains-append_cases, Contains-append_left, Contains-append_right}
+use Rattle.std.proofs.lemmas.List.Elements.{All-push, Contains-append_cases, Contains-append_left, Contains-append_right}
 use Rattle.itip_message.specs.declared.item.Item.{Item}
 use Rattle.itip_state.specs.Kept.{AreKept, IsKept}
 use Rattle.itip_state.proofs.Members.{none_in, cons_cases, cons_first, cons_later}
@@ -140,3 +140,25 @@ left_next hs d desks l = by l.left l.are l.within
       is = are.0;
       rest = record { left = left; are = are.1; within = λ x there. within x (cons_later h left x there) };
     }
+
+pub deltas_more : (desks : List Shown) (i : ℕ) (d : Shown) (deltas new : List (List Item)) (b : List Item) → i < length desks → d ≡ get_or desks i d → AreDeltasOf (take i desks) deltas → IsDeltaOf d 0 b
+    → new ≡ deltas ++ b ∷ [] → AreDeltasOf (take (i + 1) desks) new
+deltas_more desks i d deltas new b within at are one pushed =
+    let more : take (i + 1) desks ≡ take i desks ++ d ∷ [] = take_more desks i d within ∙ ap (λ (x : Shown). take i desks ++ x ∷ []) (sym at) in
+    subst (λ (l : List Shown). AreDeltasOf l new) (sym more)
+    (subst (λ (l : List (List Item)). AreDeltasOf (take i desks ++ d ∷ []) l) (sym pushed) (zip_push (λ (d : Shown) (b : List Item). IsDeltaOf d 0 b) (take i desks) deltas d b are one))
+
+pub meets_next : (all left rest : List History) (desks new : List Shown) (h : History) (d : Shown) → rest ≡ h ∷ left → Meets all rest desks → IsDeskOf h 0 d → new ≡ desks ++ d ∷ [] → Meets all left new
+meets_next all left rest desks new h d first met is pushed =
+    subst (λ (l : List Shown). Meets all left l) (sym pushed) (meets_more all left desks h d (subst (λ (l : List History). Meets all l desks) first met) is)
+
+-- one more desk has taken all deltas
+pub shares_more : (hs : List History) (desks : List Shown) (deltas : List (List Item)) (d r : Shown) (rest left ended new : List Shown) → AreDesksOf hs desks → AreDeltasOf desks deltas → rest ≡ d ∷ left
+    → new ≡ ended ++ r ∷ [] → Carries deltas d r → AreLeft hs rest × All (λ (x : Shown). AreKept x.kept (all_heard hs)) ended → AreLeft hs left × All (λ (x : Shown). AreKept x.kept (all_heard hs)) new
+shares_more hs desks deltas d r rest left ended new are gives first pushed one was =
+    let next : IsNext hs d left = left_next hs d left (subst (AreLeft hs) first was.0) in
+    let P : Shown → Type 0 = λ x. AreKept x.kept (all_heard hs) in (
+      next.rest,
+      subst (λ (l : List Shown). All P l) (sym pushed)
+      (All-push P ended r was.1 (shared hs desks deltas are gives next.history next.there r.kept (one next.history 0 next.is).kept)),
+    )
