@@ -1,6 +1,7 @@
 -- The reports of keepers, in the order of their desks, and what they tell of all answers.
 use Rattle.std.proofs.Common.{◌≡◌, ℕ, ◌+◌, ◌<◌, List, [], ◌∷◌, ◌++◌, length, map, All, ◌⊎◌, inl, inr, refl, sym, ap, subst, ◌∙◌, append-nil, arith}
 use Rattle.std.specs.List.{Contains}
+use Rattle.std.proofs.lemmas.List.{map-append, length-map}
 use Rattle.std.proofs.lemmas.List.Concat.{flat_map-append}
 use Rattle.std.proofs.lemmas.List.Elements.{All-nil, All-cons, All-head, All-tail, All-append, All-weaker, All-contains, Contains-append_cases, Contains-append_left, Contains-append_right}
 use Rattle.itip_message.specs.declared.item.Item.{Item}
@@ -20,6 +21,11 @@ use Rattle.itip_workers.specs.Ended.{ReadsTask, IsTaken, HasNoCarry, Tells, all_
 pub numbered_more : (first : ℕ) (xs : List ℕ) (x : ℕ) → AreNumbered first xs → x ≡ first + length xs → AreNumbered first (xs ++ x ∷ [])
 numbered_more first [] x are e = (omega (arith, e), tt)
 numbered_more first (y ∷ ys) x are e = (are.0, numbered_more (first + 1) ys x are.1 (omega (arith, e)))
+
+pub numbered_push : {X : Type 0} (f : X → ℕ) (old new : List X) (x : X) → new ≡ old ++ x ∷ [] → AreNumbered 0 (map f old) → f x ≡ length old → AreNumbered 0 (map f new)
+numbered_push f old new x pushed are at =
+    let same : length (map f old) ≡ length old = length-map old f in
+    subst (AreNumbered 0) (sym (ap (map f) pushed ∙ map-append f old (x ∷ []))) (numbered_more 0 (map f old) (f x) are (omega (arith, at, same)))
 
 pub reports_more : (first : ℕ) (rs : List Report) (r : Report) → AreOfDesks first rs → AreMerged (first + length rs) r.0 r.1 → AreOfDesks first (rs ++ r ∷ [])
 reports_more first [] r are one = (let e : first + 0 ≡ first = omega arith in subst (λ (n : ℕ). AreMerged n r.0 r.1) e one, tt)

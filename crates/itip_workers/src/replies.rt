@@ -60,9 +60,13 @@ fn is_of(jobs: &[Job], answered: &Job) -> bool {
 fn are_all_answered(jobs: &[Job], answers: &[(Job, Outcome)]) -> bool
     ensures { IsTrue result → map (λ a. a.0) answers.now ≡ jobs.now }
 {
-    jobs.len() == answers.len()
-        && jobs
-            .iter()
-            .zip(answers)
-            .all(|(job, answer)| job.is_same(&answer.0))
+    if jobs.len() != answers.len() {
+        return false;
+    }
+    for at in 0..jobs.len() {
+        if !jobs[at].is_same(&answers[at].0) {
+            return false;
+        }
+    }
+    true
 }

@@ -157,8 +157,8 @@ impl<R: AllocGlobal + Threads + Wait + Copy + Send + Sync + 'static> Team<R> {
     }
 
     fn join(self, rt: &R) -> Result<Done<R>, OfficeError>
-        ensures alone { IfOk result (λ done. (desks : ℕ) → All (λ t. t.promise.desks ≡ desks) self.workers.items → All (λ a. AnswersAlone desks a.0.task a.1) done.alone.items) }
-        ensures kept { IfOk result (λ done. AreNumbered 0 (map (λ t. t.promise.desk) self.keepers.items) → AreOfDesks 0 (map (λ k. (k.answers.items, published k.held.keeper)) done.kept.items)) }
+        ensures alone { (desks : ℕ) → All (λ t. t.promise.desks ≡ desks) self.workers.items → IfOk result (λ done. All (λ a. AnswersAlone desks a.0.task a.1) done.alone.items) }
+        ensures kept { AreNumbered 0 (map (λ t. t.promise.desk) self.keepers.items) → IfOk result (λ done. AreOfDesks 0 (map (λ k. (k.answers.items, published k.held.keeper)) done.kept.items)) }
         ensures count { IfOk result (λ done. length done.kept.items ≡ length self.keepers.items) }
     {
         let Team { keepers, workers } = self;
@@ -326,7 +326,7 @@ fn join_workers<R: AllocGlobal + Threads>(
     rt: &R,
     workers: Vec<WorkerThread>,
 ) -> Result<Vec<(Job, Outcome)>, OfficeError>
-    ensures { IfOk result (λ all. (desks : ℕ) → All (λ t. t.promise.desks ≡ desks) workers.items → All (λ a. AnswersAlone desks a.0.task a.1) all.items) }
+    ensures { (desks : ℕ) → All (λ t. t.promise.desks ≡ desks) workers.items → IfOk result (λ all. All (λ a. AnswersAlone desks a.0.task a.1) all.items) }
 {
     let mut all = Ok(Vec::new(rt.alloc()));
     for worker in workers {
@@ -356,7 +356,7 @@ fn join_keepers<R: AllocGlobal + Threads + Wait + Copy>(
     rt: &R,
     keepers: Vec<KeeperThread<R>>,
 ) -> Result<Vec<Kept<R>>, OfficeError>
-    ensures kept { IfOk result (λ all. AreNumbered 0 (map (λ t. t.promise.desk) keepers.items) → AreOfDesks 0 (map (λ k. (k.answers.items, published k.held.keeper)) all.items)) }
+    ensures kept { AreNumbered 0 (map (λ t. t.promise.desk) keepers.items) → IfOk result (λ all. AreOfDesks 0 (map (λ k. (k.answers.items, published k.held.keeper)) all.items)) }
     ensures count { IfOk result (λ all. length all.items ≡ length keepers.items) }
 {
     let mut all = Ok(Vec::new(rt.alloc()));
@@ -370,17 +370,19 @@ fn with_kept<R: AllocGlobal + Wait + Copy>(
     all: Result<Vec<Kept<R>>, OfficeError>,
     more: Result<Kept<R>, OfficeError>,
 ) -> Result<Vec<Kept<R>>, OfficeError>
-    ensures kept { (n : ℕ) → IfOk all (λ v. (length v.items ≡ n) × AreOfDesks 0 (map (λ k. (k.answers.items, published k.held.keeper)) v.items)) → IfOk more (λ k. AreMerged n k.answers.items (published k.held.keeper)) → IfOk result (λ v. AreOfDesks 0 (map (λ k. (k.answers.items, published k.held.keeper)) v.items)) }
+    ensures kept { (n : ℕ) → IfOk all (λ v. (length v.items ≡ n) × AreOfDesks 0 (map (λ k. (k.answers.items, published k.held.keeper)) v.items)) → IfOk more (λ k. AreMerged n k.answers.items (published k.held.keeper)) → IfOk result (λ v. (length v.items ≡ n + 1) × AreOfDesks 0 (map (λ k. (k.answers.items, published k.held.keeper)) v.items)) }
     ensures count { (n : ℕ) → IfOk all (λ v. length v.items ≡ n) → IfOk result (λ v. length v.items ≡ n + 1) }
 {
-    match (all, more) {
-        (Ok(mut all), Ok(more)) => {
+    match all {
+        Ok(mut all) => {
+            let more = more?;
             all.push(more)?;
             Ok(all)
         }
-        (Err(one), Err(other)) => Err(one.or(other)),
-        (Err(error), Ok(_)) => Err(error),
-        (Ok(_), Err(error)) => Err(error),
+        Err(error) => match more {
+            Ok(_) => Err(error),
+            Err(other) => Err(error.or(other)),
+        },
     }
 }
 
