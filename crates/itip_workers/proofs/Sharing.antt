@@ -1,5 +1,5 @@
 -- Desks that each take what the others keep, as what is kept of all that they heard.
-use Rattle.std.proofs.Common.{◌≡◌, ℕ, ◌+◌, ◌<◌, List, [], ◌∷◌, ◌++◌, length, take, get_or, All, ◌↔◌, inl, inr, refl, sym, ap, subst, ◌∙◌, append_assoc, append-nil}
+use Rattle.std.proofs.Common.{◌≡◌, ℕ, ◌+◌, ◌<◌, List, [], ◌∷◌, ◌++◌, length, take, get_or, All, suc, ◌↔◌, inl, inr, refl, sym, ap, subst, ◌∙◌, append_assoc, append-nil}
 use Rattle.std.specs.List.{Contains, AllZip, flat_map}
 use Rattle.std.proofs.lemmas.List.{take_more}
 use Rattle.std.proofs.lemmas.List.Elements.{All-push, Contains-append_cases, Contains-append_left, Contains-append_right}
@@ -27,6 +27,12 @@ zip_push R [] [] x y are one = (one, tt)
 zip_push R [] (b ∷ ys) x y are one = absurd are
 zip_push R (a ∷ xs) [] x y are one = absurd are
 zip_push R (a ∷ xs) (b ∷ ys) x y are one = (are.0, zip_push R xs ys x y are.1 one)
+
+pub zip_length : {A B : Type 0} (R : A → B → Type 0) (xs : List A) (ys : List B) → AllZip R xs ys → length ys ≡ length xs
+zip_length R [] [] are = refl
+zip_length R [] (b ∷ ys) are = absurd are
+zip_length R (a ∷ xs) [] are = absurd are
+zip_length R (a ∷ xs) (b ∷ ys) are = ap suc (zip_length R xs ys are.1)
 
 -- one more desk that is met
 pub record Meets (all left : List History) (desks : List Shown) : Type 0 where

@@ -15,8 +15,20 @@ use itip_live::meet;
 use std::alloc::Global;
 use std::sync::Wait;
 
-/// The published desks of these keepers.
-pub(crate) fn meet_all<R: AllocGlobal + Wait + Copy>(
+/// The published desks of these keepers, each of which has taken what the others keep.
+pub(crate) fn ended_desks<R: AllocGlobal + Wait + Copy>(
+    rt: &R,
+    keepers: Vec<Held<R>>,
+) -> Result<Vec<Desk>, OfficeError>
+    ensures count { IfOk result (λ ended. length ended.items ≡ length keepers.items) }
+    ensures kept { IfOk result (λ ended. All (λ desk. AreKept desk.kept (all_heard (map (λ h. published h.keeper) keepers.items))) ended.items) }
+{
+    let desks = meet_all(rt, keepers)?;
+    exchange(rt.alloc(), desks)
+}
+
+// The published desks of these keepers.
+fn meet_all<R: AllocGlobal + Wait + Copy>(
     rt: &R,
     keepers: Vec<Held<R>>,
 ) -> Result<Vec<Desk>, OfficeError>
@@ -39,11 +51,11 @@ fn published_desk<R: AllocGlobal + Wait + Copy>(held: Held<R>) -> Result<Desk, O
     }
 }
 
-/// The desks, each of which has taken what the others keep.
-pub(crate) fn exchange(alloc: Global, desks: Vec<Desk>) -> Result<Vec<Desk>, OfficeError>
+// The desks, each of which has taken what the others keep.
+fn exchange(alloc: Global, desks: Vec<Desk>) -> Result<Vec<Desk>, OfficeError>
     ensures count { IfOk result (λ ended. length ended.items ≡ length desks.items) }
-    ensures kept { IfOk result (λ ended. (histories : List (List (List Item))) → AllZip (λ batches desk. IsDeskOf batches 0 desk) histories desks.items
-        → All (λ desk. AreKept desk.kept (all_heard histories)) ended.items) }
+    ensures kept { (histories : List (List (List Item))) → AllZip (λ batches desk. IsDeskOf batches 0 desk) histories desks.items
+        → IfOk result (λ ended. All (λ desk. AreKept desk.kept (all_heard histories)) ended.items) }
 {
     let deltas = deltas(alloc, &desks)?;
     let mut ended = Vec::new(alloc);
