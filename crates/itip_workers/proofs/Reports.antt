@@ -32,6 +32,11 @@ reports_more first [] r are one = (let e : first + 0 ≡ first = omega arith in 
 reports_more first (q ∷ qs) r are one =
     (are.0, reports_more (first + 1) qs r are.1 (let e : first + length (q ∷ qs) ≡ (first + 1) + length qs = omega arith in subst (λ (n : ℕ). AreMerged n r.0 r.1) e one))
 
+pub reports_push : {X : Type 0} (f : X → Report) (old new : List X) (x : X) → new ≡ old ++ x ∷ [] → AreOfDesks 0 (map f old) → AreMerged (length old) (f x).0 (f x).1 → AreOfDesks 0 (map f new)
+reports_push f old new x pushed are one =
+    let same : length old ≡ 0 + length (map f old) = (let e : length (map f old) ≡ length old = length-map old f in omega (arith, e)) in
+    subst (AreOfDesks 0) (sym (ap (map f) pushed ∙ map-append f old (x ∷ []))) (reports_more 0 (map f old) (f x) are (subst (λ (n : ℕ). AreMerged n (f x).0 (f x).1) same one))
+
 -- what is answered alone takes no text
 alone_took : (desks : ℕ) (task : Task) (outcome : Outcome) → AnswersAlone desks task outcome → IsTook outcome → ⊥
 alone_took desks (Text desk bytes) (Took at items) (inl a) took = let e : Took at items ≡ Refused 50 = a.1 in cc

@@ -1,0 +1,14 @@
+use Rattle.std.proofs.Common.{rules, ◌≡◌, List, [], ◌∷◌, ◌++◌, length, All, sym, subst}
+use Rattle.std.proofs.lemmas.List.Elements.{All-push}
+use Rattle.itip_workers.specs.Answers.{Answer, AnswersAlone}
+use Rattle.itip_workers.proofs.worker.worker_loop.Goals as goal
+
+pub loop-preserved-else-not-done : goal.loop-preserved-else-not-done
+loop-preserved-else-not-done g c =
+    let P : Answer → Type 0 = λ a. AnswersAlone (length c.args.keepers.items) a.0.task a.1 in
+    let answer = c.in-Some-done.answer in
+    let pushed : c.push.new.self.items ≡ c.loop.answers.items ++ answer ∷ [] = search rules in
+    let one : P answer = search rules in (
+      search rules,
+      subst (λ (l : List Answer). All P l) (sym pushed) (All-push P c.loop.answers.items answer c.loop.invariant.1 one),
+    )
