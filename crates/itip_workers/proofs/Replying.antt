@@ -40,3 +40,7 @@ map_both (a ∷ answers) = ap (λ (l : List ℕ). a.0.number ∷ l) (map_both an
 pub ascend_answers : (jobs : List Job) (answers : List Answer) → map (λ (a : Answer). a.0) answers ≡ jobs → IsStrictlyIncreasing (map (λ (j : Job). j.number) jobs)
     → IsStrictlyIncreasing (map (λ (a : Answer). a.0.number) answers)
 ascend_answers jobs answers are ascend = subst IsStrictlyIncreasing (sym (ap (map (λ (j : Job). j.number)) are) ∙ map_both answers) ascend
+
+pub none_left : (answers : List Answer) → length answers ≡ 0 → answers ≡ []
+none_left [] none = refl
+none_left (a ∷ answers) none = absurd (omega (arith, none))

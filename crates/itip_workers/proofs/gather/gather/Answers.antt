@@ -1,4 +1,4 @@
-use Rattle.std.proofs.Common.{rules, ◌≡◌, ◌<◌, List, [], ◌∷◌, ◌++◌, suc, length, map, All, ap, sym, subst, ◌∙◌, arith}
+use Rattle.std.proofs.Common.{rules, ◌≡◌, ◌<◌, List, [], ◌∷◌, ◌++◌, suc, length, map, All, ap, sym, subst, ◌∙◌, arith, refl}
 use Rattle.std.specs.Vec.Iter.{into_iter_items}
 use Rattle.std.proofs.lemmas.List.{map-append, length_push}
 use Rattle.itip_message.specs.declared.item.Item.{Item}
@@ -25,7 +25,7 @@ loop-one-preserved g c =
     let keepers : c.push.new.self.items ≡ c.loop-one.keepers.items ++ one.held ∷ [] = search rules in
     let count : length c.push.new.self.items ≡ suc (length c.loop-one.keepers.items) = ap length keepers ∙ omega (arith, length_push c.loop-one.keepers.items one.held) in
     let answers : c.append.new.self.items ≡ c.loop-one.answers.items ++ one.answers.items = search rules in
-    let are : All (λ (a : Answer). desk_of a.0.task ≡ desk) one.answers.items = subst (λ (l : List Answer). All (λ (a : Answer). desk_of a.0.task ≡ desk) l) c.deref.ensures.value (c.if-not-are_for.ensures c.if-not-are_for.false) in
+    let are : All (λ (a : Answer). desk_of a.0.task ≡ desk) one.answers.items = subst (λ (l : List Answer). All (λ (a : Answer). desk_of a.0.task ≡ desk) l) c.deref.ensures.value (c.if-not-are_for.ensures refl) in
     let histories : List (List (List Item)) = map (λ h. published h.keeper) c.loop-one.keepers.items in
     let batches = published one.held.keeper in
     let below : desk < c.args.desks = let at = was.at in let sum = was.count in omega (arith, at, sum, long) in

@@ -1,10 +1,10 @@
-use Rattle.std.proofs.Common.{rules, ◌≡◌, List, [], ◌++◌, map, ap, sym, subst, ◌∙◌, append-nil}
+use Rattle.std.proofs.Common.{rules, ◌≡◌, List, [], ◌++◌, map, ap, sym, subst, ◌∙◌, append-nil, arith}
 use Rattle.std.specs.Prelude.{IsPermutation}
 use Rattle.std.specs.List.Sorted.{IsStrictlyIncreasing}
 use Rattle.std.specs.Vec.Iter.{into_iter_items}
 use Rattle.itip_workers.specs.declared.job.Job.{Job}
 use Rattle.itip_workers.specs.Answers.{Answer}
-use Rattle.itip_workers.proofs.Replying.{ascend_answers}
+use Rattle.itip_workers.proofs.Replying.{ascend_answers, none_left}
 use Rattle.itip_workers.proofs.replies.replies.Goals as goal
 
 pub returns : goal.returns
@@ -13,7 +13,9 @@ returns c =
     let whole : answers ≡ c.sort_by_key.new.self.items = search rules in
     let sorted_are : map (λ (a : Answer). a.0) c.sort_by_key.new.self.items ≡ c.args.jobs.now = search rules in
     let jobs_are : map (λ (a : Answer). a.0) answers ≡ c.args.jobs.now = ap (map (λ (a : Answer). a.0)) whole ∙ sorted_are in
-    let empty : into_iter_items c.loop-job.job-iterator ≡ [] = search rules in
+    let ended = c.in-None.ensures.steps.0 in
+    let long = c.loop-job.job-iterator.rest.ok.0 in
+    let empty : into_iter_items c.loop-job.job-iterator ≡ [] = none_left (into_iter_items c.loop-job.job-iterator) (omega (arith, ended, long)) in
     let once : IsStrictlyIncreasing (map (λ (j : Job). j.number) c.args.jobs.now) = search rules in
     record {
       answers = answers;
