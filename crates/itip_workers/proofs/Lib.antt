@@ -1,3 +1,4 @@
+pub mod Windows
 pub mod Texts
 pub mod Merging
 pub mod Reports

@@ -1,5 +1,5 @@
 -- Desks that each take what the others keep, as what is kept of all that they heard.
-use Rattle.std.proofs.Common.{◌≡◌, ℕ, ◌+◌, ◌<◌, List, [], ◌∷◌, ◌++◌, length, take, get_or, All, suc, ◌↔◌, inl, inr, refl, sym, ap, subst, ◌∙◌, append_assoc, append-nil}
+use Rattle.std.proofs.Common.{◌≡◌, ℕ, ◌+◌, ◌<◌, List, [], ◌∷◌, ◌++◌, length, take, get_or, map, All, suc, arith, ◌↔◌, inl, inr, refl, sym, ap, subst, ◌∙◌, append_assoc, append-nil}
 use Rattle.std.specs.List.{Contains, AllZip, flat_map}
 use Rattle.std.proofs.lemmas.List.{take_more}
 use Rattle.std.proofs.lemmas.List.Elements.{All-push, Contains-append_cases, Contains-append_left, Contains-append_right}
@@ -153,6 +153,10 @@ deltas_more desks i d deltas new b within at are one pushed =
     let more : take (i + 1) desks ≡ take i desks ++ d ∷ [] = take_more desks i d within ∙ ap (λ (x : Shown). take i desks ++ x ∷ []) (sym at) in
     subst (λ (l : List Shown). AreDeltasOf l new) (sym more)
     (subst (λ (l : List (List Item)). AreDeltasOf (take i desks ++ d ∷ []) l) (sym pushed) (zip_push (λ (d : Shown) (b : List Item). IsDeltaOf d 0 b) (take i desks) deltas d b are one))
+
+pub meets_ended : {X : Type 0} (f : X → History) (rest : List X) (all : List History) (desks : List Shown) → length rest ≡ 0 → Meets all (map f rest) desks → AreDesksOf all desks
+meets_ended f [] all desks none met = meets_all all desks met
+meets_ended f (x ∷ rest) all desks none met = absurd (omega (arith, none))
 
 pub meets_next : (all left rest : List History) (desks new : List Shown) (h : History) (d : Shown) → rest ≡ h ∷ left → Meets all rest desks → IsDeskOf h 0 d → new ≡ desks ++ d ∷ [] → Meets all left new
 meets_next all left rest desks new h d first met is pushed =
