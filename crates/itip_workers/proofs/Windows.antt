@@ -1,7 +1,7 @@
 -- Windows of the same days are one.
 use Rattle.std.proofs.Common.{◌≡◌, ℤ}
 use Rattle.std.proofs.Props.{props}
-use mathlib.Core.HLevel.{IsProp, is_prop→PathP}
+use mathlib.Core.HLevel.{is_prop→PathP}
 use Rattle.itip_view.specs.Window.{IsWindow}
 use Rattle.itip_view.specs.declared.window.Window.{Window}
 
