@@ -5,6 +5,7 @@ use itip_desk::DeskError;
 use itip_live::{LiveError, PassError};
 use itip_message::{Fault, ReadError};
 use itip_view::{BadWindow, ViewError};
+use itip_workers::OfficeError;
 use std::alloc::{AllocError, AllocFailed, Global};
 use std::io;
 use thiserror::Error;
@@ -35,6 +36,8 @@ pub(crate) enum CallError {
     Live(LiveError),
     #[error("{0:?}")]
     Pass(PassError),
+    #[error("{0:?}")]
+    Office(OfficeError),
 }
 
 impl CallError {
@@ -115,6 +118,15 @@ impl From<LiveError> for CallError {
         match error {
             LiveError::NoMemory => CallError::NoMemory,
             fault => CallError::Live(fault),
+        }
+    }
+}
+
+impl From<OfficeError> for CallError {
+    fn from(error: OfficeError) -> CallError {
+        match error {
+            OfficeError::NoMemory => CallError::NoMemory,
+            fault => CallError::Office(fault),
         }
     }
 }

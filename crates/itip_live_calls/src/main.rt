@@ -11,7 +11,9 @@ mod beside;
 mod call;
 mod crossing;
 mod error;
+mod gates;
 mod lists;
+mod office;
 mod picture;
 mod running;
 mod texts;
@@ -21,6 +23,7 @@ use crate::beside::beside;
 use crate::call::Call;
 use crate::crossing::{run_again, steps_again};
 use crate::error::CallError;
+use crate::office::{deaf_keeper, office};
 use crate::running::run_steps;
 use crate::texts::number;
 use std::io::{BufRead, BufReader};
@@ -38,7 +41,9 @@ fn main(rt: HostRuntime) -> ExitCode {
     }
 }
 
-fn run<R: AllocGlobal + Input + Print + Threads + Wait + Sync>(rt: &R) -> Result<(), CallError> {
+fn run<R: AllocGlobal + Input + Print + Threads + Wait + Copy + Send + Sync + 'static>(
+    rt: &R,
+) -> Result<(), CallError> {
     let alloc = rt.alloc();
     for line in BufReader::new(alloc, rt.reader())?.lines(alloc) {
         let line = line?;
@@ -49,7 +54,7 @@ fn run<R: AllocGlobal + Input + Print + Threads + Wait + Sync>(rt: &R) -> Result
 }
 
 /// What the call of a line answers.
-fn answer<R: AllocGlobal + Threads + Wait + Sync>(
+fn answer<R: AllocGlobal + Threads + Wait + Copy + Send + Sync + 'static>(
     rt: &R,
     line: &str,
 ) -> Result<Vec<u8>, CallError> {
@@ -61,7 +66,7 @@ fn answer<R: AllocGlobal + Threads + Wait + Sync>(
     }
 }
 
-fn made<R: AllocGlobal + Threads + Wait + Sync>(
+fn made<R: AllocGlobal + Threads + Wait + Copy + Send + Sync + 'static>(
     rt: &R,
     word: &str,
     arguments: &[Vec<u8>],
@@ -69,6 +74,10 @@ fn made<R: AllocGlobal + Threads + Wait + Sync>(
     match (word, arguments) {
         ("running", steps) => run_steps(rt, steps),
         ("beside", [batches]) => beside(rt, number(batches)?),
+        ("office", [desks, workers, gate, jobs @ ..]) => {
+            office(rt, number(desks)?, number(workers)?, gate, jobs)
+        }
+        ("deaf_keeper", [job]) => deaf_keeper(rt, job),
         ("steps_again", [one, other]) => steps_again(rt.alloc(), one, other),
         ("run_again", [one, other]) => run_again(rt.alloc(), one, other),
         _ => again::answer(rt, word, arguments),

@@ -1,5 +1,5 @@
 -- What the threads of an office return (our own form).
-use Rattle.std.specs.Prelude.{ℕ, ◌+◌, List, [], ◌∷◌}
+use Rattle.std.specs.Prelude.{◌≡◌, ℕ, ◌+◌, List, [], ◌∷◌}
 use Rattle.itip_message.specs.declared.item.Item.{Item}
 use Rattle.itip_workers.specs.Answers.{Answer}
 use Rattle.itip_workers.specs.Merged.{AreMerged}
@@ -7,6 +7,11 @@ use Rattle.itip_workers.specs.Merged.{AreMerged}
 -- what a keeper answered, and what it published
 abbrev pub Report : Type 0
 Report = List Answer × List (List Item)
+
+-- numbers that count up by one from this one on
+abbrev pub AreNumbered : ℕ → List ℕ → Type 0
+AreNumbered first [] = Unit {0}
+AreNumbered first (number ∷ numbers) = (number ≡ first) × AreNumbered (first + 1) numbers
 
 -- the reports of the keepers of desks, in their order from this desk on
 abbrev pub AreOfDesks : ℕ → List Report → Type 0

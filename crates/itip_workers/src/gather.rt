@@ -1,7 +1,9 @@
 //! Gathering what the threads answered.
-ghost use Rattle.std.specs.Prelude.{◌≡◌, length, map, All, IfOk, IsTrue};
+ghost use Rattle.std.specs.Prelude.{◌≡◌, ◌≤◌, length, map, All, IfOk, IsTrue};
 ghost use Rattle.itip_live.specs.Ends.{published};
 ghost use Rattle.itip_workers.specs.Texts.{desk_of};
+ghost use Rattle.itip_workers.specs.Answers.{AnswersAlone};
+ghost use Rattle.itip_workers.specs.Team.{AreOfDesks};
 ghost use Rattle.itip_workers.specs.Ended.{Tells, all_heard};
 
 use crate::error::OfficeError;
@@ -14,8 +16,15 @@ use std::sync::Wait;
 /// All answers in one list, and the keepers in the order of desks. 44 where a keeper answered a job that is for another desk.
 pub(crate) fn gather<R: AllocGlobal + Wait + Copy>(
     rt: &R,
+    desks: usize,
     done: Done<R>,
-) -> Result<(Vec<(Job, Outcome)>, Vec<Held<R>>), OfficeError> {
+) -> Result<(Vec<(Job, Outcome)>, Vec<Held<R>>), OfficeError>
+    requires alone { All (λ a. AnswersAlone desks a.0.task a.1) done.alone.items }
+    requires kept { AreOfDesks 0 (map (λ k. (k.answers.items, published k.held.keeper)) done.kept.items) }
+    requires count { length done.kept.items ≡ desks }
+    ensures tells { IfOk result (λ r. Tells desks r.0.items (all_heard (map (λ h. published h.keeper) r.1.items))) }
+    ensures count { IfOk result (λ r. length r.1.items ≡ desks) }
+{
     let Done { alone, kept } = done;
     let mut answers = alone;
     let mut keepers = Vec::new(rt.alloc());

@@ -69,10 +69,22 @@ impl Task {
                     desk: at,
                     window: other,
                 },
-            ) => { desk == at && window == other }
+            ) => { desk == at && is_same_window(*window, *other) }
             _ => false,
         }
     }
+}
+
+fn is_same_window(one: Window, other: Window) -> bool
+    ensures { IsTrue result → one ≡ other }
+{
+    has_same_days(one, other)
+}
+
+fn has_same_days(one: Window, other: Window) -> bool
+    ensures { IsTrue result → (one.from ≡ other.from) × (one.to ≡ other.to) }
+{
+    one == other
 }
 
 impl Clone for Job {

@@ -3,7 +3,7 @@ ghost use Rattle.std.specs.Prelude.{◌≤◌, IfOk};
 ghost use Rattle.itip_workers.specs.Ended.{HasEnded};
 
 use crate::error::OfficeError;
-use crate::exchange::{exchange, meet_all};
+use crate::exchange::ended_desks;
 use crate::gate::Gate;
 use crate::gather::gather;
 use crate::job::Job;
@@ -42,8 +42,8 @@ pub fn run_office<
     let mut jobs = jobs;
     jobs.sort_by_key(|job| job.number)?;
     let done = run_team(rt, desks, workers, sent, gate)?;
-    let (answers, keepers) = gather(rt, done)?;
+    let (answers, keepers) = gather(rt, desks, done)?;
     let replies = replies(alloc, &jobs, answers)?;
-    let desks = exchange(alloc, meet_all(rt, keepers)?)?;
+    let desks = ended_desks(rt, keepers)?;
     Ok(Office { desks, replies })
 }

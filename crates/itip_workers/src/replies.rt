@@ -1,8 +1,7 @@
 //! The outcomes of jobs, in the order of their numbers.
-ghost use Rattle.std.specs.Prelude.{◌≡◌, length, map, All, IfOk, IsTrue, IsPermutation};
-ghost use Rattle.std.specs.List.{AllZip};
+ghost use Rattle.std.specs.Prelude.{◌≡◌, map, IfOk, IsTrue};
 ghost use Rattle.std.specs.List.Sorted.{IsStrictlyIncreasing};
-ghost use Rattle.itip_workers.specs.Ended.{AreReplies};
+ghost use Rattle.itip_workers.specs.Ended.{AreRepliesFrom};
 
 use crate::error::OfficeError;
 use crate::job::Job;
@@ -16,7 +15,9 @@ pub(crate) fn replies(
     alloc: Global,
     jobs: &[Job],
     answers: Vec<(Job, Outcome)>,
-) -> Result<Vec<(u64, Outcome)>, OfficeError> {
+) -> Result<Vec<(u64, Outcome)>, OfficeError>
+    ensures { IfOk result (λ replies. AreRepliesFrom answers.items jobs.now replies.items) }
+{
     let mut answers = answers;
     answers.sort_by_key(|answer| answer.0.number)?;
     if !is_each_once(jobs) || !is_each_answered_once(&answers) || !are_of(jobs, &answers) {
@@ -59,9 +60,13 @@ fn is_of(jobs: &[Job], answered: &Job) -> bool {
 fn are_all_answered(jobs: &[Job], answers: &[(Job, Outcome)]) -> bool
     ensures { IsTrue result → map (λ a. a.0) answers.now ≡ jobs.now }
 {
-    jobs.len() == answers.len()
-        && jobs
-            .iter()
-            .zip(answers)
-            .all(|(job, answer)| job.is_same(&answer.0))
+    if jobs.len() != answers.len() {
+        return false;
+    }
+    for at in 0..jobs.len() {
+        if !jobs[at].is_same(&answers[at].0) {
+            return false;
+        }
+    }
+    true
 }

@@ -1,9 +1,9 @@
 //! The threads of an office.
-ghost use Rattle.std.specs.Prelude.{◌≡◌, ◌<◌, ◌≤◌, [], length, All, IfOk, OnOk};
+ghost use Rattle.std.specs.Prelude.{◌≡◌, ◌+◌, ◌<◌, ◌≤◌, ℕ, [], length, map, All, IfOk, OnOk};
 ghost use Rattle.itip_live.specs.Ends.{published, pending};
 ghost use Rattle.itip_workers.specs.Answers.{AnswersAlone};
 ghost use Rattle.itip_workers.specs.Merged.{AreMerged};
-ghost use Rattle.itip_workers.specs.Team.{AreOfDesks};
+ghost use Rattle.itip_workers.specs.Team.{AreOfDesks, AreNumbered};
 
 use crate::error::OfficeError;
 use crate::gate::Gate;
@@ -78,6 +78,9 @@ pub(crate) fn run_team<
     G: Gate + Send + Sync + Drop + 'static,
 >(rt: &R, desks: usize, workers: usize, jobs: Vec<Job>, gate: G) -> Result<Done<R>, OfficeError>
     requires workers { (1 ≤ workers) × (workers ≤ 8) }
+    ensures alone { IfOk result (λ done. All (λ a. AnswersAlone desks a.0.task a.1) done.alone.items) }
+    ensures kept { IfOk result (λ done. AreOfDesks 0 (map (λ k. (k.answers.items, published k.held.keeper)) done.kept.items)) }
+    ensures count { IfOk result (λ done. length done.kept.items ≡ desks) }
 {
     let alloc = rt.alloc();
     let mut team = Team {
@@ -100,56 +103,64 @@ impl<R: AllocGlobal + Threads + Wait + Copy + Send + Sync + 'static> Team<R> {
         jobs: Vec<Job>,
         gate: G,
     ) -> Result<(), OfficeError>
+        requires none { (self.old.keepers.items ≡ []) × (self.old.workers.items ≡ []) }
         requires workers { (1 ≤ workers) × (workers ≤ 8) }
+        ensures keepers { OnOk result (AreNumbered 0 (map (λ t. t.promise.desk) self.new.keepers.items)) }
+        ensures count { OnOk result (length self.new.keepers.items ≡ desks) }
+        ensures workers { OnOk result (All (λ t. t.promise.desks ≡ desks) self.new.workers.items) }
     {
         let alloc = rt.alloc();
         let gate = Arc::new(alloc, gate)?;
         let jobs = queue(rt, jobs)?;
         let mut benches = benches(alloc, workers)?;
-        for desk in 0..desks {
-            self.start_keeper(rt, desk as u64, benches.as_mut_slice(), &gate)?;
-        }
-        for bench in benches {
-            self.start_worker(rt, desks, bench, &jobs, &gate)?;
-        }
-        Ok(())
+        self.start_keepers(rt, desks, benches.as_mut_slice(), &gate)?;
+        self.start_workers(rt, desks, benches, &jobs, &gate)
     }
 
-    fn start_keeper<G: Gate + Send + Sync + Drop + 'static>(
-        &mut self,
-        rt: &R,
-        desk: u64,
-        benches: &mut [Bench],
-        gate: &Arc<G>,
-    ) -> Result<(), OfficeError>
-        requires workers { (1 ≤ length benches.old) × (length benches.old ≤ 8) }
-    {
-        let (keeper, passes) = start_desk(rt, benches.len()).map_err(live_error)?;
-        let held = Held { keeper, rt: *rt };
-        let (to, merges) = unbounded(rt.alloc())?;
-        seat(benches, passes, &to)?;
-        let thread = keeper_thread(rt, desk, held, merges, Arc::try_clone(gate)?)?;
-        self.keepers.push(thread)?;
-        Ok(())
-    }
-
-    fn start_worker<G: Gate + Send + Sync + Drop + 'static>(
+    fn start_keepers<G: Gate + Send + Sync + Drop + 'static>(
         &mut self,
         rt: &R,
         desks: usize,
-        bench: Bench,
-        jobs: &Receiver<Job>,
+        benches: &mut [Bench],
         gate: &Arc<G>,
-    ) -> Result<(), OfficeError> {
-        if bench.passes.len() != desks || bench.keepers.len() != desks {
-            return Err(OfficeError::NoPlace);
+    ) -> Result<(), OfficeError>
+        requires none { self.old.keepers.items ≡ [] }
+        requires workers { (1 ≤ length benches.old) × (length benches.old ≤ 8) }
+        ensures keepers { OnOk result (AreNumbered 0 (map (λ t. t.promise.desk) self.new.keepers.items)) }
+        ensures count { OnOk result (length self.new.keepers.items ≡ desks) }
+        ensures workers { self.new.workers.items ≡ self.old.workers.items }
+    {
+        for desk in 0..desks {
+            let thread = start_keeper(rt, desk as u64, benches, gate)?;
+            self.keepers.push(thread)?;
         }
-        let thread = worker_thread(rt, desks, bench, jobs.clone()?, Arc::try_clone(gate)?)?;
-        self.workers.push(thread)?;
         Ok(())
     }
 
-    fn join(self, rt: &R) -> Result<Done<R>, OfficeError> {
+    fn start_workers<G: Gate + Send + Sync + Drop + 'static>(
+        &mut self,
+        rt: &R,
+        desks: usize,
+        benches: Vec<Bench>,
+        jobs: &Receiver<Job>,
+        gate: &Arc<G>,
+    ) -> Result<(), OfficeError>
+        requires none { self.old.workers.items ≡ [] }
+        ensures keepers { self.new.keepers.items ≡ self.old.keepers.items }
+        ensures workers { OnOk result (All (λ t. t.promise.desks ≡ desks) self.new.workers.items) }
+    {
+        for bench in benches {
+            let thread = start_worker(rt, desks, bench, jobs, gate)?;
+            self.workers.push(thread)?;
+        }
+        Ok(())
+    }
+
+    fn join(self, rt: &R) -> Result<Done<R>, OfficeError>
+        ensures alone { (desks : ℕ) → All (λ t. t.promise.desks ≡ desks) self.workers.items → IfOk result (λ done. All (λ a. AnswersAlone desks a.0.task a.1) done.alone.items) }
+        ensures kept { AreNumbered 0 (map (λ t. t.promise.desk) self.keepers.items) → IfOk result (λ done. AreOfDesks 0 (map (λ k. (k.answers.items, published k.held.keeper)) done.kept.items)) }
+        ensures count { IfOk result (λ done. length done.kept.items ≡ length self.keepers.items) }
+    {
         let Team { keepers, workers } = self;
         let alone = join_workers(rt, workers);
         let kept = join_keepers(rt, keepers);
@@ -160,6 +171,44 @@ impl<R: AllocGlobal + Threads + Wait + Copy + Send + Sync + 'static> Team<R> {
             (Ok(_), Err(error)) => Err(error),
         }
     }
+}
+
+fn start_keeper<
+    R: AllocGlobal + Threads + Wait + Copy + Send + Sync + 'static,
+    G: Gate + Send + Sync + Drop + 'static,
+>(
+    rt: &R,
+    desk: u64,
+    benches: &mut [Bench],
+    gate: &Arc<G>,
+) -> Result<KeeperThread<R>, OfficeError>
+    requires workers { (1 ≤ length benches.old) × (length benches.old ≤ 8) }
+    ensures desk { IfOk result (λ thread. thread.promise.desk ≡ desk) }
+    ensures workers { length benches.new ≡ length benches.old }
+{
+    let (keeper, passes) = start_desk(rt, benches.len()).map_err(live_error)?;
+    let held = Held { keeper, rt: *rt };
+    let (to, merges) = unbounded(rt.alloc())?;
+    seat(benches, passes, &to)?;
+    keeper_thread(rt, desk, held, merges, Arc::try_clone(gate)?)
+}
+
+fn start_worker<
+    R: AllocGlobal + Threads + Wait + Copy + Send + Sync + 'static,
+    G: Gate + Send + Sync + Drop + 'static,
+>(
+    rt: &R,
+    desks: usize,
+    bench: Bench,
+    jobs: &Receiver<Job>,
+    gate: &Arc<G>,
+) -> Result<WorkerThread, OfficeError>
+    ensures desks { IfOk result (λ thread. thread.promise.desks ≡ desks) }
+{
+    if bench.passes.len() != desks || bench.keepers.len() != desks {
+        return Err(OfficeError::NoPlace);
+    }
+    worker_thread(rt, desks, bench, jobs.clone()?, Arc::try_clone(gate)?)
 }
 
 // A channel with all jobs in it, and nobody who sends more.
@@ -276,7 +325,9 @@ fn work<R: AllocGlobal + Wait, G: Gate + Drop>(
 fn join_workers<R: AllocGlobal + Threads>(
     rt: &R,
     workers: Vec<WorkerThread>,
-) -> Result<Vec<(Job, Outcome)>, OfficeError> {
+) -> Result<Vec<(Job, Outcome)>, OfficeError>
+    ensures { (desks : ℕ) → All (λ t. t.promise.desks ≡ desks) workers.items → IfOk result (λ all. All (λ a. AnswersAlone desks a.0.task a.1) all.items) }
+{
     let mut all = Ok(Vec::new(rt.alloc()));
     for worker in workers {
         all = with_answers(all, worker.join(rt));
@@ -287,7 +338,9 @@ fn join_workers<R: AllocGlobal + Threads>(
 fn with_answers(
     all: Result<Vec<(Job, Outcome)>, OfficeError>,
     more: Result<Vec<(Job, Outcome)>, OfficeError>,
-) -> Result<Vec<(Job, Outcome)>, OfficeError> {
+) -> Result<Vec<(Job, Outcome)>, OfficeError>
+    ensures { (desks : ℕ) → IfOk all (λ v. All (λ a. AnswersAlone desks a.0.task a.1) v.items) → IfOk more (λ v. All (λ a. AnswersAlone desks a.0.task a.1) v.items) → IfOk result (λ v. All (λ a. AnswersAlone desks a.0.task a.1) v.items) }
+{
     match (all, more) {
         (Ok(mut all), Ok(mut more)) => {
             all.append(&mut more)?;
@@ -302,7 +355,10 @@ fn with_answers(
 fn join_keepers<R: AllocGlobal + Threads + Wait + Copy>(
     rt: &R,
     keepers: Vec<KeeperThread<R>>,
-) -> Result<Vec<Kept<R>>, OfficeError> {
+) -> Result<Vec<Kept<R>>, OfficeError>
+    ensures kept { AreNumbered 0 (map (λ t. t.promise.desk) keepers.items) → IfOk result (λ all. AreOfDesks 0 (map (λ k. (k.answers.items, published k.held.keeper)) all.items)) }
+    ensures count { IfOk result (λ all. length all.items ≡ length keepers.items) }
+{
     let mut all = Ok(Vec::new(rt.alloc()));
     for keeper in keepers {
         all = with_kept(all, keeper.join(rt));
@@ -313,15 +369,20 @@ fn join_keepers<R: AllocGlobal + Threads + Wait + Copy>(
 fn with_kept<R: AllocGlobal + Wait + Copy>(
     all: Result<Vec<Kept<R>>, OfficeError>,
     more: Result<Kept<R>, OfficeError>,
-) -> Result<Vec<Kept<R>>, OfficeError> {
-    match (all, more) {
-        (Ok(mut all), Ok(more)) => {
+) -> Result<Vec<Kept<R>>, OfficeError>
+    ensures kept { (n : ℕ) → IfOk all (λ v. (length v.items ≡ n) × AreOfDesks 0 (map (λ k. (k.answers.items, published k.held.keeper)) v.items)) → IfOk more (λ k. AreMerged n k.answers.items (published k.held.keeper)) → IfOk result (λ v. (length v.items ≡ n + 1) × AreOfDesks 0 (map (λ k. (k.answers.items, published k.held.keeper)) v.items)) }
+    ensures count { (n : ℕ) → IfOk all (λ v. length v.items ≡ n) → IfOk result (λ v. length v.items ≡ n + 1) }
+{
+    match all {
+        Ok(mut all) => {
+            let more = more?;
             all.push(more)?;
             Ok(all)
         }
-        (Err(one), Err(other)) => Err(one.or(other)),
-        (Err(error), Ok(_)) => Err(error),
-        (Ok(_), Err(error)) => Err(error),
+        Err(error) => match more {
+            Ok(_) => Err(error),
+            Err(other) => Err(error.or(other)),
+        },
     }
 }
 

@@ -4,4 +4,4 @@ use Rattle.itip_workers.specs.Merged.{GrewBy}
 use Rattle.itip_workers.proofs.keeper.merge_all.Given as goal
 
 abbrev pub invariant-loop : goal.invariant-loop
-invariant-loop l = (pending l.keeper ≡ []) × GrewBy l.desk (published l.initial.keeper) (published l.keeper) l.answers.items × (keeper_pair l.keeper ≡ keeper_pair l.initial.keeper)
+invariant-loop g l = (pending l.keeper ≡ []) × GrewBy l.desk (published l.initial.keeper) (published l.keeper) l.answers.items × (keeper_pair l.keeper ≡ keeper_pair l.initial.keeper)

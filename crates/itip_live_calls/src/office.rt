@@ -1,0 +1,136 @@
+//! Jobs on threads, whose workers and keepers a gate holds.
+
+use crate::error::CallError;
+use crate::gates::HoldingGate;
+use crate::texts::{number_of, text, window};
+use crossbeam_channel::unbounded;
+use itip_lines::Bytes;
+use itip_live::{Pass, meet, start_desk};
+use itip_workers::{Job, Office, OpenGate, Outcome, Task, run_office, worker_loop};
+use std::alloc::Global;
+use std::sync::Wait;
+use std::thread::Threads;
+
+/// Runs jobs on threads under a gate, and tells the outcome of each, and how much each desk keeps.
+///
+/// A job is its number and `take D`, `carry A B` or `look D`, and behind the line of a take its message.
+pub(crate) fn office<R: AllocGlobal + Threads + Wait + Copy + Send + Sync + 'static>(
+    rt: &R,
+    desks: u64,
+    workers: u64,
+    gate: &[u8],
+    jobs: &[Vec<u8>],
+) -> Result<Vec<u8>, CallError> {
+    let alloc = rt.alloc();
+    let gate = HoldingGate::of_lines(alloc, gate)?;
+    let mut all = Vec::new(alloc);
+    for job in jobs {
+        all.push(job_of(alloc, job)?)?;
+    }
+    if desks < 1 || desks > 16 || workers < 1 || workers > 8 {
+        return Err(CallError::NoSuchCall);
+    }
+    let office = run_office(rt, desks as usize, workers as usize, all, gate)?;
+    told(alloc, &office)
+}
+
+fn job_of(alloc: Global, job: &[u8]) -> Result<Job, CallError> {
+    let job = text(job)?;
+    let (line, message) = job.split_once('\n').unwrap_or((job, ""));
+    let (number, task) = line.split_once(' ').ok_or(CallError::NoSuchCall)?;
+    Ok(Job {
+        number: number_of(number)?,
+        task: task_of(alloc, task, message)?,
+    })
+}
+
+fn task_of(alloc: Global, task: &str, message: &str) -> Result<Task, CallError> {
+    let (word, rest) = task.split_once(' ').ok_or(CallError::NoSuchCall)?;
+    match word {
+        "take" => {
+            let mut bytes = Vec::new(alloc);
+            bytes.extend_from_slice(message.as_bytes())?;
+            Ok(Task::Text {
+                desk: number_of(rest)?,
+                bytes: Bytes::new(bytes),
+            })
+        }
+        "carry" => {
+            let (from, to) = rest.split_once(' ').ok_or(CallError::NoSuchCall)?;
+            Ok(Task::Carry {
+                from: number_of(from)?,
+                to: number_of(to)?,
+            })
+        }
+        "look" => Ok(Task::Look {
+            desk: number_of(rest)?,
+            window: window()?,
+        }),
+        _ => Err(CallError::NoSuchCall),
+    }
+}
+
+fn told(alloc: Global, office: &Office) -> Result<Vec<u8>, CallError> {
+    let mut told = Vec::new(alloc);
+    for (number, outcome) in &office.replies {
+        let line = outcome_line(alloc, *number, outcome)?;
+        told.extend_from_slice(line.as_bytes())?;
+        if let Outcome::Looked { text } = outcome {
+            told.extend_from_slice(text.as_slice())?;
+        }
+    }
+    for (number, desk) in office.desks.iter().enumerate() {
+        let entries = desk.entries();
+        let line = format!(in alloc; "desk {number} entries {entries}\n")?;
+        told.extend_from_slice(line.as_bytes())?;
+    }
+    Ok(told)
+}
+
+fn outcome_line(alloc: Global, number: u64, outcome: &Outcome) -> Result<String, CallError> {
+    Ok(match outcome {
+        Outcome::Took { desk, items } => {
+            format!(in alloc; "{number} took desk {desk} items {items}\n")?
+        }
+        Outcome::Carried { from, to, items } => {
+            format!(in alloc; "{number} carried from {from} to {to} items {items}\n")?
+        }
+        Outcome::Looked { .. } => format!(in alloc; "{number} looked\n")?,
+        Outcome::Refused(cause) => format!(in alloc; "{number} refused {cause}\n")?,
+    })
+}
+
+/// A worker that has a text for a keeper who takes nothing.
+pub(crate) fn deaf_keeper<R: AllocGlobal + Wait>(
+    rt: &R,
+    job: &[u8],
+) -> Result<Vec<u8>, CallError> {
+    let alloc = rt.alloc();
+    let job = job_of(alloc, job)?;
+    let (keeper, passes) = start_desk(rt, 1)?;
+    let answered = answered_alone(rt, passes, job);
+    let _ = meet(rt, keeper, Vec::new(alloc));
+    Ok(format!(in alloc; "{}", answered?)?.into_bytes())
+}
+
+/// How many jobs a worker answers itself, of one.
+fn answered_alone<R: AllocGlobal + Wait>(
+    rt: &R,
+    passes: Vec<Pass>,
+    job: Job,
+) -> Result<usize, CallError> {
+    let alloc = rt.alloc();
+    let (to_keeper, merges) = unbounded(alloc)?;
+    drop(merges);
+    let (to_worker, jobs) = unbounded(alloc)?;
+    if to_worker.send(rt, job).is_err() {
+        return Err(CallError::NoMemory);
+    }
+    drop(to_worker);
+    let mut keepers = Vec::new(alloc);
+    keepers.push(to_keeper)?;
+    if passes.len() != 1 {
+        return Err(CallError::NoMemory);
+    }
+    Ok(worker_loop(rt, passes, jobs, keepers, &OpenGate)?.len())
+}
