@@ -14,7 +14,7 @@ mod refusal;
 mod texts;
 mod watch;
 
-pub use kept::{compact, write_kept};
+pub use kept::{compact, tell, write_kept};
 pub use inbox::Inbox;
 pub use laws::{compaction_of_compactions, one_compaction};
 pub use tasks::list;
