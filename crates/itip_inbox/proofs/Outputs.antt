@@ -1,6 +1,6 @@
 -- What is written of an input.
-use Rattle.std.proofs.Common.{◌≡◌, ◌∙◌, sym, ap, refl, subst, ℕ, ◌+◌, ◌<◌, ◌≤◌, ◌⊎◌, ◌||◌, Bool, true, false, List, [], ◌∷◌, ◌++◌, length, take, drop, get_or, inl, inr, append_assoc, append-nil, take-append-drop, Option, Some, None, codes}
-use Rattle.std.specs.Prelude.{IfSome}
+use Rattle.std.proofs.Common.{◌≡◌, ◌∙◌, sym, ap, refl, subst, ℕ, ◌+◌, ◌<◌, ◌≤◌, ◌⊎◌, ◌||◌, Bool, true, false, List, [], ◌∷◌, ◌++◌, length, take, drop, get_or, inl, inr, append_assoc, append-nil, take-append-drop, Option, Some, None, Result, Ok, Err, codes}
+use Rattle.std.specs.Prelude.{IfSome, OnErr}
 use Rattle.std.specs.Io.KnownBytes.{Appends}
 use Rattle.std.proofs.KnownBytes.{Appends-nil, Appends-trans}
 use Rattle.std.proofs.lemmas.List.{take_more, take_all}
@@ -18,6 +18,11 @@ use Rattle.itip_inbox.specs.Compaction.{AreKeptOctets, IsCompaction, WritesCompa
 use Rattle.itip_inbox.specs.TaskList.{IsTextFor, AreTooManyFor, IsListed, IsTaskList, WritesTaskList}
 use Rattle.itip_inbox.proofs.Octets.{octets_none, octets_both, octets_push}
 use Rattle.itip_inbox.proofs.OneInbox.{one_inbox}
+
+-- a fact that holds, at a fault
+pub on_err : {T E P : Type 0} (r : Result T E) → P → OnErr r P
+on_err (Ok x) p = tt
+on_err (Err e) p = p
 
 -- ---- a front
 
@@ -51,6 +56,10 @@ items_moved old mid new done kept rest so_far moved = record {
   octets_are = so_far.octets_are ∙ ap (λ (t : List ℕ). so_far.written ++ t) moved.whole ∙ sym (append_assoc so_far.written moved.front rest);
   appended = Appends-trans old mid new so_far.written moved.front so_far.appended moved.appended;
 }
+
+-- the items of a set, as they are gone through
+pub gone_through : (items all kept set : List Item) → all ≡ items → IsItemsOf items kept → kept ≡ set → IsItemsOf all set
+gone_through items all kept set same is to = subst (λ (xs : List Item). IsItemsOf xs set) (sym same) (subst (λ (ys : List Item). IsItemsOf items ys) to is)
 
 -- items of a set are the same list
 same_items : (items batch set : List Item) → IsItemsOf items set → IsItemsOf batch set → items ≡ batch

@@ -20,6 +20,6 @@ pub loop-answer-preserved : goal.loop-answer-preserved
 loop-answer-preserved c = (
   λ before texts heard start.
       taken_refusal before texts _ (into_iter_items c.next.new.self) (heard ++ c.loop-answer.heard.items) c.loop-answer.self.refusals.items c.push.new.self.items c.loop-answer.self.messages c.in_ok-self.field-0 c.in-Some.answer c.in-Err-Fault.cause
-          (c.loop-answer.invariant.0 before texts heard start) c.in-Some.ensures.steps.0 ? c.in_ok-self.ensures.more c.in_ok-push-in-Err-Fault.ensures.items,
+          (c.loop-answer.invariant.0 before texts heard start) c.in-Some.ensures.steps.0 (let a = c.in-Err-Fault.is in let b = c.in-Err-Fault.field-0-is in let d = c.in-Err-Fault.cause-is in ?) c.in_ok-self.ensures.more c.in_ok-push-in-Err-Fault.ensures.items,
   c.loop-answer.invariant.1,
 )
