@@ -8,8 +8,7 @@ use itip_records::{csv_text, json_text};
 use itip_streams::{StreamFault, write_output};
 use itip_view::{Row, ViewError, Window};
 use rayon::current_num_threads;
-use std::alloc::AllocError;
-use std::alloc::Global;
+use std::alloc::{AllocError, Global};
 use std::io;
 use std::io::{Read, Write};
 use std::thread::Threads;
@@ -86,7 +85,9 @@ pub(crate) fn list_command<'a>(alloc: Global) -> Result<Command<'a>, AllocError>
         .long("format")
         .value_name("FORMAT")
         .default_value("text")
-        .help("How rows are written: text, csv (one record an attendee) or json (one object a row)");
+        .help(
+            "How rows are written: text, csv (one record an attendee) or json (one object a row)",
+        );
     let command = Command::new(alloc, "list")
         .about("Reads messages from standard input and writes their task list")
         .after_help(INPUT_HELP);
@@ -102,7 +103,9 @@ fn reading_words<'a>(alloc: Global, command: Command<'a>) -> Result<Command<'a>,
     let progress = Arg::new(alloc, "progress")
         .long("progress")
         .action(ArgAction::SetTrue)
-        .help("Shows how many messages and octets were read, also where standard error is no terminal");
+        .help(
+            "Shows how many messages and octets were read, also where standard error is no terminal",
+        );
     command.arg(threads)?.arg(progress)
 }
 
@@ -121,9 +124,11 @@ pub(crate) fn filter_of(
 }
 
 fn list_of(alloc: Global, words: &ArgMatches<'_>) -> Result<Option<Filter>, AllocError> {
-    let (Some(reading), Some(window), Some(format)) =
-        (reading_of(words), asked_window(words), asked_format(words))
-    else {
+    let (Some(reading), Some(window), Some(format)) = (
+        reading_of(words),
+        asked_window(words),
+        asked_format(words),
+    ) else {
         return Ok(None);
     };
     let attendee = match words.get_str("attendee") {
@@ -177,7 +182,14 @@ pub(crate) fn run_filter<R: AllocGlobal + Input + Print + Eprint + Threads + Syn
         Filter::Compact(reading) => {
             let threads = threads(rt, reading);
             let mut watch = Teller::new(rt, reading, is_terminal);
-            compact(rt, rt.alloc(), &mut reader, &mut writer, threads, &mut watch)
+            compact(
+                rt,
+                rt.alloc(),
+                &mut reader,
+                &mut writer,
+                threads,
+                &mut watch,
+            )
         }
         Filter::List(reading, question) => {
             let threads = threads(rt, reading);
@@ -226,11 +238,7 @@ fn records_text(alloc: Global, notation: Notation, rows: &[Row]) -> Result<Vec<u
     }
 }
 
-fn rows_for(
-    desk: &Desk,
-    window: Window,
-    attendee: Option<&str>,
-) -> Result<Vec<Row>, ViewError> {
+fn rows_for(desk: &Desk, window: Window, attendee: Option<&str>) -> Result<Vec<Row>, ViewError> {
     match attendee {
         Some(address) => desk.rows_for(window, address),
         None => desk.rows(window),

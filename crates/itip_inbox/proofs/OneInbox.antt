@@ -45,4 +45,3 @@ pub compaction_once : (input octets others : List ℕ) (refused other : Bool) �
 compaction_once input octets others refused other a b =
     let one = one_inbox input a.heard b.heard a.refusals b.refusals a.inbox b.inbox in
     one_octets b.heard octets others (subst (λ (h : List Item). AreKeptOctets h octets) one.0 a.kept) b.kept
-

@@ -174,8 +174,7 @@ all_parts (p ∷ ps) (o ∷ os) each = part_more p o ps os each.0.0 each.0.1 (al
 covers_same : (left heard : List Item) → Covers left heard → (i : Item) → IsKept left i ↔ IsKept heard i
 covers_same left heard covers i =
     let iff = kept_of_parts heard [] left [] covers (covers_itself []) i in
-    let back = λ (list : List Item). append-nil list in
-    (
+    let back = λ (list : List Item). append-nil list in (
       λ h. subst (λ (xs : List Item). IsKept xs i) (back heard) (iff.0 (subst (λ (xs : List Item). IsKept xs i) (sym (back left)) h)),
       λ h. subst (λ (xs : List Item). IsKept xs i) (back left) (iff.1 (subst (λ (xs : List Item). IsKept xs i) (sym (back heard)) h)),
     )

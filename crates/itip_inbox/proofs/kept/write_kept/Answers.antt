@@ -22,13 +22,13 @@ pub returns-in_err-extend_from_slice-clause-front : goal.returns-in_err-extend_f
 returns-in_err-extend_from_slice-clause-front g c =
     on_err c.from_residual-in_err-extend_from_slice.result (λ batch other.
     items_front (g.W.Write.contents c.args.writer.now) (g.W.Write.contents c.loop-item.writer) (g.W.Write.contents c.loop-item.writer) c.deref-item-items.result.now batch c.args.desk.now.kept c.loop-item.item-index c.loop-item.kept.items
-        c.loop-item.invariant (front_none (g.W.Write.contents c.loop-item.writer) c.loop-item.kept.items) (gone_through c.in_ok-items.items.items c.deref-item-items.result.now c.state.result.now c.args.desk.now.kept c.deref-item-items.ensures.value c.in_ok-items.ensures c.state.ensures) other)
+    c.loop-item.invariant (front_none (g.W.Write.contents c.loop-item.writer) c.loop-item.kept.items) (gone_through c.in_ok-items.items.items c.deref-item-items.result.now c.state.result.now c.args.desk.now.kept c.deref-item-items.ensures.value c.in_ok-items.ensures c.state.ensures) other)
 
 pub returns-in_err-write_if_many-clause-front : goal.returns-in_err-write_if_many-clause-front
 returns-in_err-write_if_many-clause-front g c =
     on_err c.from_residual-in_err-write_if_many.result (λ batch other.
     items_front (g.W.Write.contents c.args.writer.now) (g.W.Write.contents c.loop-item.writer) (g.W.Write.contents c.write_if_many.new.writer) c.deref-item-items.result.now batch c.args.desk.now.kept (c.loop-item.item-index + 1) c.extend_from_slice.new.self.items
-        (more g (goal.at.returns-in_err-write_if_many-clause-front g c).In_ok-extend_from_slice) c.in_err-write_if_many.ensures.front (gone_through c.in_ok-items.items.items c.deref-item-items.result.now c.state.result.now c.args.desk.now.kept c.deref-item-items.ensures.value c.in_ok-items.ensures c.state.ensures) other)
+    (more g (goal.at.returns-in_err-write_if_many-clause-front g c).In_ok-extend_from_slice) c.in_err-write_if_many.ensures.front (gone_through c.in_ok-items.items.items c.deref-item-items.result.now c.state.result.now c.args.desk.now.kept c.deref-item-items.ensures.value c.in_ok-items.ensures c.state.ensures) other)
 
 pub loop-item-preserved : goal.loop-item-preserved
 loop-item-preserved g c =
@@ -40,10 +40,10 @@ returns-clause-all g c =
     let past : length c.deref-item-items.result.now ≤ c.loop-item.item-index = omega arith in
     on_ok_weaker c.write_output.result (λ all.
     items_end (g.W.Write.contents c.args.writer.now) (g.W.Write.contents c.loop-item.writer) (g.W.Write.contents c.write_output.new.writer) c.deref-item-items.result.now c.args.desk.now.kept c.loop-item.item-index c.loop-item.kept.items
-        c.loop-item.invariant past (subst (λ (t : List ℕ). Appends (g.W.Write.contents c.loop-item.writer) (g.W.Write.contents c.write_output.new.writer) t) c.as_slice-2.ensures.value all) (gone_through c.in_ok-items.items.items c.deref-item-items.result.now c.state.result.now c.args.desk.now.kept c.deref-item-items.ensures.value c.in_ok-items.ensures c.state.ensures)) c.write_output.ensures.all
+    c.loop-item.invariant past (subst (λ (t : List ℕ). Appends (g.W.Write.contents c.loop-item.writer) (g.W.Write.contents c.write_output.new.writer) t) c.as_slice-2.ensures.value all) (gone_through c.in_ok-items.items.items c.deref-item-items.result.now c.state.result.now c.args.desk.now.kept c.deref-item-items.ensures.value c.in_ok-items.ensures c.state.ensures)) c.write_output.ensures.all
 
 pub returns-clause-front : goal.returns-clause-front
 returns-clause-front g c =
     on_err_weaker c.write_output.result (λ front batch other.
     items_front (g.W.Write.contents c.args.writer.now) (g.W.Write.contents c.loop-item.writer) (g.W.Write.contents c.write_output.new.writer) c.deref-item-items.result.now batch c.args.desk.now.kept c.loop-item.item-index c.loop-item.kept.items
-        c.loop-item.invariant (subst (λ (t : List ℕ). AppendsFront (g.W.Write.contents c.loop-item.writer) (g.W.Write.contents c.write_output.new.writer) t) c.as_slice-2.ensures.value front) (gone_through c.in_ok-items.items.items c.deref-item-items.result.now c.state.result.now c.args.desk.now.kept c.deref-item-items.ensures.value c.in_ok-items.ensures c.state.ensures) other) c.write_output.ensures.front
+    c.loop-item.invariant (subst (λ (t : List ℕ). AppendsFront (g.W.Write.contents c.loop-item.writer) (g.W.Write.contents c.write_output.new.writer) t) c.as_slice-2.ensures.value front) (gone_through c.in_ok-items.items.items c.deref-item-items.result.now c.state.result.now c.args.desk.now.kept c.deref-item-items.ensures.value c.in_ok-items.ensures c.state.ensures) other) c.write_output.ensures.front

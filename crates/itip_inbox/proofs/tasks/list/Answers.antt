@@ -19,7 +19,7 @@ returns-clause-output g c =
     let refused : c.tell-is_refused.result ≡ is_some_refused c.in_ok-inbox.inbox.refusals.items = c.tell-is_refused.ensures ∙ ap is_some_refused c.as_slice.ensures.value in
     let one : c.if-is_refused.result ≡ (c.tell-is_refused.result || c.in_ok-listed.listed.is_refusal) =
     elim c.if-is_refused.branch [
-      | then-is_refused w ↦ w.result-is ∙ ap (λ (b : Bool). b || c.in_ok-listed.listed.is_refusal) (sym w.if-is_refused.true)
+      | then-is_refused w ↦ w.result-is ∙ w.if-is_refused.true ∙ ap (λ (b : Bool). b || c.in_ok-listed.listed.is_refusal) (sym w.if-is_refused.true)
       | else-is_refused w ↦ w.result-is ∙ ap (λ (b : Bool). b || c.in_ok-listed.listed.is_refusal) (sym w.if-is_refused.false)
     ] in
     list_written (g.W.Write.contents c.args.writer.now) (g.W.Write.contents c.write_output.new.writer) (g.R.Read.remaining c.args.reader.now) c.in_ok-inbox.inbox.desk.kept c.in_ok-inbox.inbox.refusals.items

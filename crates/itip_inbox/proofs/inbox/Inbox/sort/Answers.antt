@@ -16,8 +16,8 @@ pub loop-answer-preserved-in-Ok : goal.loop-answer-preserved-in-Ok
 loop-answer-preserved-in-Ok c = (
   λ before texts heard start.
       taken_items before texts _ (into_iter_items c.next.new.self) (heard ++ c.loop-answer.heard.items) _ c.loop-answer.self.refusals.items c.loop-answer.self.messages c.in_ok-self.field-0 c.in-Some.answer c.into_vec.result.items
-          (c.loop-answer.invariant.0 before texts heard start) c.in-Some.ensures.steps.0 (c.in-Ok.is ∙ ap Ok (sym c.into_vec.ensures)) c.in_ok-self.ensures.more
-          (ap (λ (t : List Item). heard ++ t) c.in_ok-append-in-Ok.ensures.items ∙ sym (append_assoc heard c.loop-answer.heard.items c.into_vec.result.items)),
+      (c.loop-answer.invariant.0 before texts heard start) c.in-Some.ensures.steps.0 (c.in-Ok.is ∙ ap Ok (sym c.into_vec.ensures)) c.in_ok-self.ensures.more
+      (ap (λ (t : List Item). heard ++ t) c.in_ok-append-in-Ok.ensures.items ∙ sym (append_assoc heard c.loop-answer.heard.items c.into_vec.result.items)),
   c.loop-answer.invariant.1,
 )
 
@@ -25,6 +25,6 @@ pub loop-answer-preserved : goal.loop-answer-preserved
 loop-answer-preserved c = (
   λ before texts heard start.
       taken_refusal before texts _ (into_iter_items c.next.new.self) (heard ++ c.loop-answer.heard.items) c.loop-answer.self.refusals.items c.push.new.self.items c.loop-answer.self.messages c.in_ok-self.field-0 c.in-Some.answer c.in-Err-Fault.cause
-          (c.loop-answer.invariant.0 before texts heard start) c.in-Some.ensures.steps.0 (refused c.in-Some.answer c.in-Err-Fault.cause c.in-Err-Fault.field-0 c.in-Err-Fault.is (first_of (cc, first_of (search rules, grind (arith))))) c.in_ok-self.ensures.more c.in_ok-push-in-Err-Fault.ensures.items,
+      (c.loop-answer.invariant.0 before texts heard start) c.in-Some.ensures.steps.0 (refused c.in-Some.answer c.in-Err-Fault.cause c.in-Err-Fault.field-0 c.in-Err-Fault.is (first_of (cc, first_of (search rules, grind (arith))))) c.in_ok-self.ensures.more c.in_ok-push-in-Err-Fault.ensures.items,
   c.loop-answer.invariant.1,
 )
