@@ -3,9 +3,17 @@ use Rattle.std.specs.Option.{option_map}
 use Rattle.std.specs.Io.KnownBytes.{Appends}
 use Rattle.itip_streams.specs.Written.{AppendsFront}
 use Rattle.itip_inbox.specs.Inbox.{is_some_refused}
-use Rattle.itip_inbox.proofs.Outputs.{on_err, list_written, list_front}
+use Rattle.itip_inbox.proofs.Outputs.{on_err, list_written, list_front, list_unread}
 use Rattle.itip_inbox.proofs.tasks.list.Goals as goal
 use Rattle.itip_inbox.proofs.tasks.list.Goals.{then-is_refused, else-is_refused}
+
+pub returns-in_err-inbox-clause-front : goal.returns-in_err-inbox-clause-front
+returns-in_err-inbox-clause-front g c =
+    on_err c.from_residual.result (list_unread (g.W.Write.contents c.args.writer.now) (g.R.Read.remaining c.args.reader.now) c.args.window (option_map (λ (a : Bor (List ℕ)). a.now) c.args.attendee))
+
+pub returns-in_err-listed-clause-front : goal.returns-in_err-listed-clause-front
+returns-in_err-listed-clause-front g c =
+    on_err c.from_residual-in_err-listed.result (list_unread (g.W.Write.contents c.args.writer.now) (g.R.Read.remaining c.args.reader.now) c.args.window (option_map (λ (a : Bor (List ℕ)). a.now) c.args.attendee))
 
 pub returns-in_err-write_output-clause-front : goal.returns-in_err-write_output-clause-front
 returns-in_err-write_output-clause-front g c =
