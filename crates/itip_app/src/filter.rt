@@ -1,14 +1,16 @@
 //! The words `compact` and `list`: messages in, what counts out.
 use crate::words::{days, window_of};
 use clap::{Arg, ArgAction, ArgMatches, Command};
-use itip_inbox::{Watch, compact, list};
+use itip_desk::Desk;
+use itip_inbox::{Watch, compact, list, read_inbox, tell};
 use itip_office::read_number;
-use itip_streams::StreamFault;
-use itip_view::Window;
+use itip_records::{csv_text, json_text};
+use itip_streams::{StreamFault, write_output};
+use itip_view::{Row, ViewError, Window};
 use rayon::current_num_threads;
-use std::alloc::AllocError;
-use std::alloc::Global;
+use std::alloc::{AllocError, Global};
 use std::io;
+use std::io::{Read, Write};
 use std::thread::Threads;
 
 /// The most threads that read messages.
@@ -24,13 +26,38 @@ Exit status:
   2  the words or the window are bad
   3  a read or a write failed, or there was no memory";
 
+const TOO_MANY_ROWS: &[u8] = b"refused 31\n";
+
 /// What is written of the messages.
-#[derive(Clone, Copy)]
+#[derive(Drop)]
 pub(crate) enum Filter {
     /// The octets of what is kept.
     Compact(Reading),
-    /// The task list of a window.
-    List(Reading, Window),
+    /// The task list.
+    List(Reading, Question),
+}
+
+/// Which rows of the task list are written, and how.
+#[derive(Drop)]
+pub(crate) struct Question {
+    window: Window,
+    /// The address that the rows show, where it matters.
+    attendee: Option<String>,
+    format: Format,
+}
+
+#[derive(Clone, Copy)]
+enum Format {
+    /// The text of the list.
+    Text,
+    /// Records for other programs.
+    Records(Notation),
+}
+
+#[derive(Clone, Copy)]
+enum Notation {
+    Csv,
+    Json,
 }
 
 /// How the messages are read.
@@ -50,10 +77,22 @@ pub(crate) fn compact_command<'a>(alloc: Global) -> Result<Command<'a>, AllocErr
 }
 
 pub(crate) fn list_command<'a>(alloc: Global) -> Result<Command<'a>, AllocError> {
+    let attendee = Arg::new(alloc, "attendee")
+        .long("attendee")
+        .value_name("ADDRESS")
+        .help("Only the rows that show the attendee of this address, as mailto:a@example.com");
+    let format = Arg::new(alloc, "format")
+        .long("format")
+        .value_name("FORMAT")
+        .default_value("text")
+        .help(
+            "How rows are written: text, csv (one record an attendee) or json (one object a row)",
+        );
     let command = Command::new(alloc, "list")
         .about("Reads messages from standard input and writes their task list")
         .after_help(INPUT_HELP);
-    reading_words(alloc, days(alloc, command)?)
+    let command = days(alloc, command)?.arg(attendee)?.arg(format)?;
+    reading_words(alloc, command)
 }
 
 fn reading_words<'a>(alloc: Global, command: Command<'a>) -> Result<Command<'a>, AllocError> {
@@ -64,18 +103,57 @@ fn reading_words<'a>(alloc: Global, command: Command<'a>) -> Result<Command<'a>,
     let progress = Arg::new(alloc, "progress")
         .long("progress")
         .action(ArgAction::SetTrue)
-        .help("Shows how many messages and octets were read, also where standard error is no terminal");
+        .help(
+            "Shows how many messages and octets were read, also where standard error is no terminal",
+        );
     command.arg(threads)?.arg(progress)
 }
 
 /// The filter that the words ask for; `None` where they are of another task, or bad.
-pub(crate) fn filter_of(matches: &ArgMatches<'_>) -> Option<Filter> {
+pub(crate) fn filter_of(
+    alloc: Global,
+    matches: &ArgMatches<'_>,
+) -> Result<Option<Filter>, AllocError> {
     if let Some(words) = matches.subcommand_matches("compact") {
-        return Some(Filter::Compact(reading_of(words)?));
+        return Ok(reading_of(words).map(Filter::Compact));
     }
-    let words = matches.subcommand_matches("list")?;
-    let window = window_of(words.get_str("from")?, words.get_str("to")?)?;
-    Some(Filter::List(reading_of(words)?, window))
+    match matches.subcommand_matches("list") {
+        Some(words) => list_of(alloc, words),
+        None => Ok(None),
+    }
+}
+
+fn list_of(alloc: Global, words: &ArgMatches<'_>) -> Result<Option<Filter>, AllocError> {
+    let (Some(reading), Some(window), Some(format)) = (
+        reading_of(words),
+        asked_window(words),
+        asked_format(words),
+    ) else {
+        return Ok(None);
+    };
+    let attendee = match words.get_str("attendee") {
+        Some(address) => Some(String::from_str(alloc, address)?),
+        None => None,
+    };
+    let question = Question {
+        window,
+        attendee,
+        format,
+    };
+    Ok(Some(Filter::List(reading, question)))
+}
+
+fn asked_window(words: &ArgMatches<'_>) -> Option<Window> {
+    window_of(words.get_str("from")?, words.get_str("to")?)
+}
+
+fn asked_format(words: &ArgMatches<'_>) -> Option<Format> {
+    match words.get_str("format")? {
+        "text" => Some(Format::Text),
+        "csv" => Some(Format::Records(Notation::Csv)),
+        "json" => Some(Format::Records(Notation::Json)),
+        _ => None,
+    }
 }
 
 fn reading_of(words: &ArgMatches<'_>) -> Option<Reading> {
@@ -104,13 +182,66 @@ pub(crate) fn run_filter<R: AllocGlobal + Input + Print + Eprint + Threads + Syn
         Filter::Compact(reading) => {
             let threads = threads(rt, reading);
             let mut watch = Teller::new(rt, reading, is_terminal);
-            compact(rt, rt.alloc(), &mut reader, &mut writer, threads, &mut watch)
+            compact(
+                rt,
+                rt.alloc(),
+                &mut reader,
+                &mut writer,
+                threads,
+                &mut watch,
+            )
         }
-        Filter::List(reading, window) => {
+        Filter::List(reading, question) => {
             let threads = threads(rt, reading);
             let mut watch = Teller::new(rt, reading, is_terminal);
-            list(rt, rt.alloc(), &mut reader, &mut writer, window, threads, &mut watch)
+            answer(rt, &mut reader, &mut writer, &question, threads, &mut watch)
         }
+    }
+}
+
+/// Writes the task list of an input; says whether something was refused.
+fn answer<R: AllocGlobal + Threads + Sync, I: Read, W: Write, S: Watch>(
+    rt: &R,
+    reader: &mut I,
+    writer: &mut W,
+    question: &Question,
+    threads: usize,
+    watch: &mut S,
+) -> Result<bool, StreamFault> {
+    let alloc = rt.alloc();
+    let window = question.window;
+    let attendee = question.attendee.as_ref().map(String::as_str);
+    let notation = match question.format {
+        Format::Text => return list(rt, alloc, reader, writer, window, attendee, threads, watch),
+        Format::Records(notation) => notation,
+    };
+    let inbox = read_inbox(rt, alloc, reader, threads, watch)?;
+    let is_refused = tell(inbox.refusals.as_slice(), watch);
+    match rows_for(&inbox.desk, window, attendee) {
+        Ok(rows) => {
+            let text = records_text(alloc, notation, rows.as_slice())?;
+            write_output(writer, text.as_slice())?;
+            Ok(is_refused)
+        }
+        Err(ViewError::TooManyRows) => {
+            write_output(writer, TOO_MANY_ROWS)?;
+            Ok(true)
+        }
+        Err(ViewError::NoMemory) => Err(StreamFault::Memory),
+    }
+}
+
+fn records_text(alloc: Global, notation: Notation, rows: &[Row]) -> Result<Vec<u8>, AllocError> {
+    match notation {
+        Notation::Csv => csv_text(alloc, rows),
+        Notation::Json => json_text(alloc, rows),
+    }
+}
+
+fn rows_for(desk: &Desk, window: Window, attendee: Option<&str>) -> Result<Vec<Row>, ViewError> {
+    match attendee {
+        Some(address) => desk.rows_for(window, address),
+        None => desk.rows(window),
     }
 }
 

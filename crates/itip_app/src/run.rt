@@ -18,10 +18,7 @@ const FAULT: u8 = 3;
 /// Runs the program and gives its status; `is_terminal` says whether standard error is one.
 pub(crate) fn status<
     R: AllocGlobal + Env + Input + Print + Eprint + Threads + Wait + Copy + Send + Sync + 'static,
->(
-    rt: &R,
-    is_terminal: bool,
-) -> u8 {
+>(rt: &R, is_terminal: bool) -> u8 {
     let words: Vec<String> = match env::args(rt).map(|words| words.collect(rt.alloc())) {
         Ok(Ok(words)) => words,
         Ok(Err(_)) => return complain(rt, &"no memory", FAULT),

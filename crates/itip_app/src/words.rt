@@ -64,7 +64,7 @@ Exit status:
   3  a read or a write failed, there was no memory, or no thread could be made";
 
 /// What a call of the program asks for.
-#[derive(Clone, Copy)]
+#[derive(Drop)]
 pub(crate) enum Task {
     /// A script is run.
     Run(Call),
@@ -122,7 +122,7 @@ pub(crate) fn read_words(alloc: Global, words: &[String]) -> Result<Task, NoCall
     if let Some(words) = matches.subcommand_matches("office") {
         return office_of(words).ok_or(NoCall::BadWords);
     }
-    if let Some(filter) = filter_of(&matches) {
+    if let Some(filter) = filter_of(alloc, &matches)? {
         return Ok(Task::Filter(filter));
     }
     match matches.subcommand_matches("run").and_then(call_of) {

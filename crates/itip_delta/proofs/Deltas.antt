@@ -116,7 +116,7 @@ written_begins [] = refl
 written_begins (item ∷ items) = ap (λ (t : List ℕ). begins_blank (t ++ delta_octets items)) (bytes_are item)
 
 -- the messages of what was written are the texts of the items
-messages_written : (items : List Item) → messages_of (delta_octets items) ≡ map (λ (i : Item). i.bytes) items
+pub messages_written : (items : List Item) → messages_of (delta_octets items) ≡ map (λ (i : Item). i.bytes) items
 unfolding messages_of delta_octets
 messages_written [] = refl
 messages_written (item ∷ items) = one_text item (delta_octets items) (written_begins items) ∙ ap (λ (ts : List (List ℕ)). item.bytes ∷ ts) (messages_written items)

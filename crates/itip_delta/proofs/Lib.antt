@@ -6,7 +6,7 @@ pub mod Events
 mod FirstLines
 mod Folded
 mod Messages
-mod OneCut
+pub mod OneCut
 pub mod Packets
 mod Plain
 pub mod Running

@@ -1,3 +1,7 @@
 mod Hearing
 mod Keeping
 mod Streams
+mod OneInbox
+mod Octets
+mod Parts
+mod Outputs

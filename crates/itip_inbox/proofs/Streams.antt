@@ -95,3 +95,8 @@ all_more octets rest message after texts now so_far cut is =
 
 pub all_done : (octets rest : List ℕ) (texts : List (List ℕ)) → messages_of octets ≡ texts ++ messages_of rest → messages_of rest ≡ [] → texts ≡ messages_of octets
 all_done octets rest texts so_far none = sym (so_far ∙ ap (λ (t : List (List ℕ)). texts ++ t) none ∙ append-nil texts)
+
+-- a share as it is held, and its messages as they are heard
+pub shared : (octets held : List ℕ) (texts heard : List (List ℕ)) (left : List ℕ) → octets ≡ held → heard ≡ texts → StaysCutInto octets texts left → StaysCutInto held heard left
+shared octets held texts heard left same are cut =
+    subst (λ (t : List ℕ). StaysCutInto t heard left) same (subst (λ (ts : List (List ℕ)). StaysCutInto octets ts left) (sym are) cut)

@@ -45,7 +45,7 @@ pub fn compact<R: Read, W: Write, S: Watch>(
 }
 
 /// Tells of each refused message, and says whether there is one.
-pub(crate) fn tell<S: Watch>(refusals: &[Refusal], watch: &mut S) -> bool
+pub fn tell<S: Watch>(refusals: &[Refusal], watch: &mut S) -> bool
     ensures { result ≡ is_some_refused refusals.now }
 {
     for refusal in refusals {

@@ -4,20 +4,20 @@
 //! in any order, and the results once more. A refused message is not heard, and the others are.
 #![tactic(auto)]
 
-mod kept;
 mod cut;
 mod inbox;
+mod kept;
 mod laws;
-mod tasks;
 mod read;
 mod refusal;
+mod tasks;
 mod texts;
 mod watch;
 
-pub use kept::{compact, write_kept};
 pub use inbox::Inbox;
+pub use kept::{compact, tell, write_kept};
 pub use laws::{compaction_of_compactions, one_compaction};
-pub use tasks::list;
 pub use read::read_inbox;
 pub use refusal::Refusal;
+pub use tasks::list;
 pub use watch::Watch;

@@ -1,10 +1,11 @@
 //! The task list of an input.
 ghost use Rattle.std.specs.Prelude.{◌≡◌, ◌≢◌, ℕ, Bool, List, IfOk, IfErr, OnErr, IsErrOf, IfSome};
 ghost use Rattle.std.specs.Io.KnownBytes.{Keeps};
+ghost use Rattle.std.specs.Option.{option_map};
 ghost use Rattle.itip_message.specs.declared.item.Item.{Item};
 ghost use Rattle.itip_state.specs.Kept.{AreKept};
 ghost use Rattle.itip_streams.specs.Written.{AppendsFront};
-ghost use Rattle.itip_inbox.specs.TaskList.{IsTaskList, WritesTaskList, IsListed};
+ghost use Rattle.itip_inbox.specs.TaskList.{IsTaskList, WritesTaskList, IsListed, IsTextFor, AreTooManyFor};
 
 use crate::kept::tell;
 use crate::read::read_inbox;
@@ -19,7 +20,8 @@ use std::thread::Threads;
 const TOO_MANY_ROWS: &[u8] = b"refused 31\n";
 
 /// Reads an input to its end and writes the task list of its messages in a window, or `refused 31` where more than 100,000
-/// rows stand there. Says whether a message was refused, or the list.
+/// rows stand there; where an attendee is named, only of the rows that show this address. Says whether a message was
+/// refused, or the list.
 ///
 /// A refused message is told to `watch`. The whole input is read before anything is written. After a fault of reading
 /// nothing was written, after another fault a front of the output.
@@ -29,17 +31,18 @@ pub fn list<R: Read, W: Write, S: Watch>(
     reader: &mut R,
     writer: &mut W,
     window: Window,
+    attendee: Option<&str>,
     threads: usize,
     watch: &mut S,
 ) -> Result<bool, StreamFault>
-    ensures output { IfOk result (λ refused. IfSome (R.remaining reader.old) (λ input. WritesTaskList (W.contents writer.old) (W.contents writer.new) input window refused)) }
-    ensures front { OnErr result (IfSome (R.remaining reader.old) (λ input. (text : List ℕ) (refused : Bool) → IsTaskList input window text refused →
+    ensures output { IfOk result (λ refused. IfSome (R.remaining reader.old) (λ input. WritesTaskList (W.contents writer.old) (W.contents writer.new) input window (option_map (λ a. a.now) attendee.entry) refused)) }
+    ensures front { OnErr result (IfSome (R.remaining reader.old) (λ input. (text : List ℕ) (refused : Bool) → IsTaskList input window (option_map (λ a. a.now) attendee.entry) text refused →
         AppendsFront (W.contents writer.old) (W.contents writer.new) text)) }
     ensures unread { IsErrOf result StreamFault.Read → Keeps (W.contents writer.old) (W.contents writer.new) }
 {
     let inbox = read_inbox(rt, alloc, reader, threads, watch)?;
     let is_refused = tell(inbox.refusals.as_slice(), watch);
-    let listed = list_of(alloc, &inbox.desk, window)?;
+    let listed = list_of(alloc, &inbox.desk, window, attendee)?;
     write_output(writer, listed.text.as_slice())?;
     Ok(is_refused || listed.is_refusal)
 }
@@ -50,11 +53,16 @@ struct Listed {
     is_refusal: bool,
 }
 
-fn list_of(alloc: Global, desk: &Desk, window: Window) -> Result<Listed, StreamFault>
-    ensures text { IfOk result (λ listed. (heard : List Item) → AreKept desk.now.kept heard → IsListed heard window listed.text.items listed.is_refusal) }
+fn list_of(
+    alloc: Global,
+    desk: &Desk,
+    window: Window,
+    attendee: Option<&str>,
+) -> Result<Listed, StreamFault>
+    ensures text { IfOk result (λ listed. (heard : List Item) → AreKept desk.now.kept heard → IsListed heard window (option_map (λ a. a.now) attendee.entry) listed.text.items listed.is_refusal) }
     ensures fault { IfErr result (λ fault. fault ≡ StreamFault.Memory) }
 {
-    match desk.list(window) {
+    match text_for(desk, window, attendee) {
         Ok(text) => Ok(Listed {
             text,
             is_refusal: false,
@@ -64,5 +72,15 @@ fn list_of(alloc: Global, desk: &Desk, window: Window) -> Result<Listed, StreamF
             is_refusal: true,
         }),
         Err(ViewError::NoMemory) => Err(StreamFault::Memory),
+    }
+}
+
+fn text_for(desk: &Desk, window: Window, attendee: Option<&str>) -> Result<Vec<u8>, ViewError>
+    ensures text { IfOk result (λ text. (heard : List Item) → AreKept desk.now.kept heard → IsTextFor (option_map (λ a. a.now) attendee.entry) heard window text.items) }
+    ensures many { IsErrOf result ViewError.TooManyRows → (heard : List Item) → AreKept desk.now.kept heard → AreTooManyFor (option_map (λ a. a.now) attendee.entry) heard window }
+{
+    match attendee {
+        Some(address) => desk.list_for(window, address),
+        None => desk.list(window),
     }
 }

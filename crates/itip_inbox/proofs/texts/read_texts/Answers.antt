@@ -1,13 +1,13 @@
 use Rattle.std.proofs.Common.{ap, ◌∙◌}
 use Rattle.rayon.proofs.ListFacts.{IfOk-then}
 use Rattle.rayon.proofs.ToStd.{slice-AllZip}
-use Rattle.rayon.specs.Lists.{min_len_base}
+use Rattle.rayon.specs.Lists.{iter_slice, min_len_base}
 use Rattle.itip_inbox.specs.Streaming.{MayAnswer}
 use Rattle.itip_inbox.proofs.texts.read_texts.Goals as goal
 
 pub returns : goal.returns
 returns g c =
-    let slice = ap (λ it. (min_len_base it).slice.now) c.map.ensures.base ∙ ap (λ it. it.slice.now) c.with_min_len-map.ensures.base ∙ c.par_iter.ensures in
+    let slice = ap (λ it. iter_slice (min_len_base it)) c.map.ensures.base ∙ ap (λ it. iter_slice it) c.with_min_len.ensures.base ∙ c.par_iter.ensures in
     IfOk-then c.collect.result _ _ c.collect.ensures (λ v h.
     let chain = h.1 in
     rw h.2 (slice-AllZip chain.0 c.args.texts.now (chain.1 ∙ slice) MayAnswer h.0 chain.2))

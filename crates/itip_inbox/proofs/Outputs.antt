@@ -1,0 +1,167 @@
+-- What is written of an input.
+use Rattle.std.proofs.Common.{◌≡◌, ◌∙◌, sym, ap, refl, subst, ℕ, ◌+◌, ◌<◌, ◌≤◌, ◌⊎◌, ◌||◌, Bool, true, false, List, [], ◌∷◌, ◌++◌, length, take, drop, get_or, inl, inr, append_assoc, append-nil, take-append-drop, Option, Some, None, Result, Ok, Err, codes}
+use Rattle.std.specs.Prelude.{IfSome, OnErr}
+use Rattle.std.specs.Io.KnownBytes.{Appends}
+use Rattle.std.proofs.KnownBytes.{Appends-nil, Appends-trans}
+use Rattle.std.proofs.lemmas.List.{take_more, take_all}
+use Rattle.itip_message.specs.declared.item.Item.{Item}
+use Rattle.itip_state.specs.Kept.{AreKept, SameItems, IsItemsOf}
+use Rattle.itip_view.specs.Showing.{Shows}
+use Rattle.itip_view.specs.declared.window.Window.{Window}
+use Rattle.itip_view.proofs.OneList.{one_list_text, text_or_too_many, one_text_for, text_for_or_too_many}
+use Rattle.itip_delta.specs.Delta.{delta_octets}
+use Rattle.itip_delta.proofs.Deltas.{one_order}
+use Rattle.itip_streams.specs.Written.{AppendsFront, MovesOut}
+use Rattle.itip_inbox.specs.declared.refusal.Refusal.{Refusal}
+use Rattle.itip_inbox.specs.Inbox.{Holds, is_some_refused}
+use Rattle.itip_inbox.specs.Compaction.{AreKeptOctets, IsCompaction, WritesCompaction, WritesItems, WritesSoFar}
+use Rattle.itip_inbox.specs.TaskList.{IsTextFor, AreTooManyFor, IsListed, IsTaskList, WritesTaskList}
+use Rattle.itip_inbox.proofs.Octets.{octets_none, octets_both, octets_push}
+use Rattle.itip_inbox.proofs.OneInbox.{one_inbox}
+
+-- a fact that holds, at a fault
+pub on_err : {T E P : Type 0} (r : Result T E) → P → OnErr r P
+on_err (Ok x) p = tt
+on_err (Err e) p = p
+
+-- ---- a front
+
+-- nothing of an output is written yet
+pub front_none : (o : Option (List ℕ)) (output : List ℕ) → AppendsFront o o output
+front_none o output = record { front = []; rest = output; whole = refl; appended = Appends-nil o }
+
+-- ---- items, one after another
+
+pub items_none : (o : Option (List ℕ)) (kept : List ℕ) → kept ≡ [] → WritesSoFar o o [] kept
+items_none o kept none = record { written = []; octets_are = octets_none ∙ sym none; appended = Appends-nil o }
+
+items_push : (old mid : Option (List ℕ)) (done : List Item) (item : Item) (kept grown : List ℕ) → WritesSoFar old mid done kept → grown ≡ kept ++ item.bytes → WritesSoFar old mid (done ++ item ∷ []) grown
+items_push old mid done item kept grown so_far is = record {
+  written = so_far.written;
+  octets_are = octets_push done item ∙ ap (λ (t : List ℕ). t ++ item.bytes) so_far.octets_are ∙ append_assoc so_far.written kept item.bytes ∙ ap (λ (t : List ℕ). so_far.written ++ t) (sym is);
+  appended = so_far.appended;
+}
+
+-- one item more is kept
+pub items_more : (old mid : Option (List ℕ)) (items : List Item) (i : ℕ) (item : Item) (kept grown bytes : List ℕ) → WritesSoFar old mid (take i items) kept → i < length items → item ≡ get_or items i item
+    → bytes ≡ item.bytes → grown ≡ kept ++ bytes → WritesSoFar old mid (take (i + 1) items) grown
+items_more old mid items i item kept grown bytes so_far within is its grown_is =
+    let one_more : take (i + 1) items ≡ take i items ++ item ∷ [] = take_more items i item within ∙ ap (λ (x : Item). take i items ++ x ∷ []) (sym is) in
+    subst (λ (done : List Item). WritesSoFar old mid done grown) (sym one_more) (items_push old mid (take i items) item kept grown so_far (grown_is ∙ ap (λ (t : List ℕ). kept ++ t) its))
+
+-- a front of what is kept is written
+pub items_moved : (old mid new : Option (List ℕ)) (done : List Item) (kept rest : List ℕ) → WritesSoFar old mid done kept → MovesOut mid new kept rest → WritesSoFar old new done rest
+items_moved old mid new done kept rest so_far moved = record {
+  written = so_far.written ++ moved.front;
+  octets_are = so_far.octets_are ∙ ap (λ (t : List ℕ). so_far.written ++ t) moved.whole ∙ sym (append_assoc so_far.written moved.front rest);
+  appended = Appends-trans old mid new so_far.written moved.front so_far.appended moved.appended;
+}
+
+-- the items of a set, as they are gone through
+pub gone_through : (items all kept set : List Item) → all ≡ items → IsItemsOf items kept → kept ≡ set → IsItemsOf all set
+gone_through items all kept set same is to = subst (λ (xs : List Item). IsItemsOf xs set) (sym same) (subst (λ (ys : List Item). IsItemsOf items ys) to is)
+
+-- items of a set are the same list
+same_items : (items batch set : List Item) → IsItemsOf items set → IsItemsOf batch set → items ≡ batch
+same_items items batch set a b = one_order items batch a.ascend b.ascend (λ i. (λ h. (b.same i).1 ((a.same i).0 h), λ h. (a.same i).1 ((b.same i).0 h)))
+
+-- where what is kept is written in part, a front of all is
+pub items_front : (old mid new : Option (List ℕ)) (items batch set : List Item) (i : ℕ) (kept : List ℕ) → WritesSoFar old mid (take i items) kept → AppendsFront mid new kept → IsItemsOf items set → IsItemsOf batch set
+    → AppendsFront old new (delta_octets batch)
+items_front old mid new items batch set i kept so_far front is other =
+    let all : delta_octets batch ≡ delta_octets (take i items) ++ delta_octets (drop i items) =
+    ap delta_octets (sym (same_items items batch set is other)) ∙ ap delta_octets (sym (take-append-drop i items)) ∙ octets_both (take i items) (drop i items) in
+    record {
+      front = so_far.written ++ front.front;
+      rest = front.rest ++ delta_octets (drop i items);
+      whole = all ∙ ap (λ (t : List ℕ). t ++ delta_octets (drop i items)) (so_far.octets_are ∙ ap (λ (t : List ℕ). so_far.written ++ t) front.whole ∙ sym (append_assoc so_far.written front.front front.rest))
+          ∙ append_assoc (so_far.written ++ front.front) front.rest (delta_octets (drop i items));
+      appended = Appends-trans old mid new so_far.written front.front so_far.appended front.appended;
+    }
+
+-- all is written
+pub items_end : (old mid new : Option (List ℕ)) (items set : List Item) (i : ℕ) (kept : List ℕ) → WritesSoFar old mid (take i items) kept → length items ≤ i → Appends mid new kept → IsItemsOf items set → WritesItems old new set
+items_end old mid new items set i kept so_far past appended is = record {
+  batch = items;
+  items = is;
+  appended = subst (λ (t : List ℕ). Appends old new t) (sym so_far.octets_are ∙ ap delta_octets (take_all i items past)) (Appends-trans old mid new so_far.written kept so_far.appended appended);
+}
+
+-- ---- compaction
+
+-- the items of what is kept are the kept items of what was heard
+kept_items : (batch kept heard : List Item) → IsItemsOf batch kept → AreKept kept heard → AreKept batch heard
+kept_items batch kept heard is keeps i = (λ h. (keeps i).0 ((is.same i).0 h), λ k. (is.same i).1 ((keeps i).1 k))
+
+pub compaction_written : (old new read : Option (List ℕ)) (kept : List Item) (refusals : List Refusal) (refused : Bool) → IfSome read (λ input. Holds input kept refusals) → WritesItems old new kept
+    → refused ≡ is_some_refused refusals → IfSome read (λ input. WritesCompaction old new input refused)
+compaction_written old new None kept refusals refused holds written is = tt
+compaction_written old new (Some input) kept refusals refused holds written is = record {
+  octets = delta_octets written.batch;
+  compaction = record {
+    heard = holds.heard;
+    refusals = refusals;
+    inbox = holds.inbox;
+    kept = record { batch = written.batch; ascend = written.items.ascend; kept = kept_items written.batch kept holds.heard written.items holds.keeps; octets_are = refl };
+    refused_is = is;
+  };
+  appended = written.appended;
+}
+
+-- the batch of a compaction is that of what is kept
+its_batch : (input octets : List ℕ) (kept : List Item) (refusals : List Refusal) (refused : Bool) → Holds input kept refusals → (is : IsCompaction input octets refused) → IsItemsOf is.kept.batch kept
+its_batch input octets kept refusals refused holds is =
+    let one : is.heard ≡ holds.heard = (one_inbox input is.heard holds.heard is.refusals refusals is.inbox holds.inbox).0 in
+    let are : AreKept is.kept.batch holds.heard = subst (λ (heard : List Item). AreKept is.kept.batch heard) one is.kept.kept in
+    record { ascend = is.kept.ascend; same = λ i. (λ h. (holds.keeps i).1 ((are i).0 h), λ h. (are i).1 ((holds.keeps i).0 h)) }
+
+pub compaction_front : (old new read : Option (List ℕ)) (kept : List Item) (refusals : List Refusal) → IfSome read (λ input. Holds input kept refusals)
+    → ((batch : List Item) → IsItemsOf batch kept → AppendsFront old new (delta_octets batch))
+    → IfSome read (λ input. (octets : List ℕ) (refused : Bool) → IsCompaction input octets refused → AppendsFront old new octets)
+compaction_front old new None kept refusals holds fronts = tt
+compaction_front old new (Some input) kept refusals holds fronts = λ octets refused is.
+    subst (λ (t : List ℕ). AppendsFront old new t) (sym is.kept.octets_are) (fronts is.kept.batch (its_batch input octets kept refusals refused holds is))
+
+pub compaction_unread : (o read : Option (List ℕ)) → IfSome read (λ input. (octets : List ℕ) (refused : Bool) → IsCompaction input octets refused → AppendsFront o o octets)
+compaction_unread o None = tt
+compaction_unread o (Some input) = λ octets refused is. front_none o octets
+
+-- ---- the task list
+
+text_once : (attendee : Option (List ℕ)) (heard : List Item) (window : Window) (text other : List ℕ) → IsTextFor attendee heard window text → IsTextFor attendee heard window other → text ≡ other
+text_once None heard window text other a b = one_list_text heard window text other a b
+text_once (Some address) heard window text other a b = one_text_for address heard window text other a b
+
+text_apart : (attendee : Option (List ℕ)) (heard : List Item) (window : Window) (text : List ℕ) → IsTextFor attendee heard window text → AreTooManyFor attendee heard window → ⊥
+text_apart None heard window text a b = text_or_too_many heard window text a b
+text_apart (Some address) heard window text a b = text_for_or_too_many address heard window text a b
+
+listed_once : (heard : List Item) (window : Window) (attendee : Option (List ℕ)) (text other : List ℕ) (refusal more : Bool) → IsListed heard window attendee text refusal → IsListed heard window attendee other more → text ≡ other
+listed_once heard window attendee text other refusal more (inl a) (inl b) = text_once attendee heard window text other a.0 b.0
+listed_once heard window attendee text other refusal more (inl a) (inr b) = absurd (text_apart attendee heard window text a.0 b.0)
+listed_once heard window attendee text other refusal more (inr a) (inl b) = absurd (text_apart attendee heard window other b.0 a.0)
+listed_once heard window attendee text other refusal more (inr a) (inr b) = a.1 ∙ sym b.1
+
+pub list_written : (old new read : Option (List ℕ)) (kept : List Item) (refusals : List Refusal) (window : Window) (attendee : Option (List ℕ)) (text : List ℕ) (refusal refused : Bool)
+    → IfSome read (λ input. Holds input kept refusals) → ((heard : List Item) → AreKept kept heard → IsListed heard window attendee text refusal) → Appends old new text
+    → refused ≡ (is_some_refused refusals || refusal) → IfSome read (λ input. WritesTaskList old new input window attendee refused)
+list_written old new None kept refusals window attendee text refusal refused holds listed appended is = tt
+list_written old new (Some input) kept refusals window attendee text refusal refused holds listed appended is = record {
+  text = text;
+  list = record { heard = holds.heard; refusals = refusals; inbox = holds.inbox; refusal = refusal; listed = listed holds.heard holds.keeps; refused_is = is };
+  appended = appended;
+}
+
+pub list_front : (old new read : Option (List ℕ)) (kept : List Item) (refusals : List Refusal) (window : Window) (attendee : Option (List ℕ)) (text : List ℕ) (refusal : Bool)
+    → IfSome read (λ input. Holds input kept refusals) → ((heard : List Item) → AreKept kept heard → IsListed heard window attendee text refusal) → AppendsFront old new text
+    → IfSome read (λ input. (other : List ℕ) (refused : Bool) → IsTaskList input window attendee other refused → AppendsFront old new other)
+list_front old new None kept refusals window attendee text refusal holds listed front = tt
+list_front old new (Some input) kept refusals window attendee text refusal holds listed front = λ other refused is.
+    let one : is.heard ≡ holds.heard = (one_inbox input is.heard holds.heard is.refusals refusals is.inbox holds.inbox).0 in
+    let same : text ≡ other =
+    listed_once holds.heard window attendee text other refusal is.refusal (listed holds.heard holds.keeps) (subst (λ (heard : List Item). IsListed heard window attendee other is.refusal) one is.listed) in
+    subst (λ (t : List ℕ). AppendsFront old new t) same front
+
+pub list_unread : (o read : Option (List ℕ)) (window : Window) (attendee : Option (List ℕ)) → IfSome read (λ input. (text : List ℕ) (refused : Bool) → IsTaskList input window attendee text refused → AppendsFront o o text)
+list_unread o None window attendee = tt
+list_unread o (Some input) window attendee = λ text refused is. front_none o text
