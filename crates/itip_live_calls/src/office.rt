@@ -101,10 +101,7 @@ fn outcome_line(alloc: Global, number: u64, outcome: &Outcome) -> Result<String,
 }
 
 /// A worker that has a text for a keeper who takes nothing.
-pub(crate) fn deaf_keeper<R: AllocGlobal + Wait>(
-    rt: &R,
-    job: &[u8],
-) -> Result<Vec<u8>, CallError> {
+pub(crate) fn deaf_keeper<R: AllocGlobal + Wait>(rt: &R, job: &[u8]) -> Result<Vec<u8>, CallError> {
     let alloc = rt.alloc();
     let job = job_of(alloc, job)?;
     let (keeper, passes) = start_desk(rt, 1)?;

@@ -27,7 +27,7 @@ tells_permuted desks given answers set order tells = record {
   each = All-permutation (λ (a : Answer). IsOutcome desks a.0.task a.1) given answers order tells.each;
   told = λ item taken. tells.told item (taken_of answers given (λ a h. Contains-permutation answers given a (IsPermutation-sym given answers order) h) item taken);
   exact = λ none item there. taken_of given answers (λ a h. Contains-permutation given answers a order h) item
-    (tells.exact (All-permutation (λ (a : Answer). ¬ IsCarry a.0.task) answers given (IsPermutation-sym given answers order) none) item there);
+      (tells.exact (All-permutation (λ (a : Answer). ¬ IsCarry a.0.task) answers given (IsPermutation-sym given answers order) none) item there);
 }
 
 pub has_ended : (desks : ℕ) (jobs sorted : List Job) (given : List Answer) (replies : List (ℕ × Outcome)) (set : List Item) (ended : List Shown) → IsPermutation jobs sorted

@@ -84,7 +84,7 @@ merged_told desk [] batches merged a among items reads item there = absurd (none
 merged_told desk (x ∷ answers) [] merged a among items reads item there = absurd merged
 merged_told desk (x ∷ answers) (b ∷ batches) merged a among items reads item there = elim (cons_cases x answers a among) [
   | inl same ↦ Contains-append_left b (heard batches) item
-    (batch_has desk b a.0.task a.1 (subst (λ (y : Answer). AnswersMerged desk b y.0.task y.1) same merged.0) items reads item there)
+      (batch_has desk b a.0.task a.1 (subst (λ (y : Answer). AnswersMerged desk b y.0.task y.1) same merged.0) items reads item there)
   | inr later ↦ Contains-append_right b (heard batches) item (merged_told desk answers batches merged.1 a later items reads item there)
 ]
 
@@ -114,7 +114,7 @@ merged_exact desk (a ∷ answers) [] merged none item there = absurd merged
 merged_exact desk (a ∷ answers) (b ∷ batches) merged none item there = elim (Contains-append_cases b (heard batches) item there) [
   | inl here ↦ first (text_taken desk b a.0.task a.1 merged.0 (All-head (λ (x : Answer). ¬ IsCarry x.0.task) a answers none) item here)
   | inr later ↦ taken_among answers (a ∷ answers) (cons_later a answers) item
-    (merged_exact desk answers batches merged.1 (All-tail (λ (x : Answer). ¬ IsCarry x.0.task) a answers none) item later)
+      (merged_exact desk answers batches merged.1 (All-tail (λ (x : Answer). ¬ IsCarry x.0.task) a answers none) item later)
 ]
   where
     first : IsTook a.1 × ((items : List Item) × ReadsTask a.0.task items × Contains items item) → IsTaken (a ∷ answers) item
@@ -134,13 +134,13 @@ tells_more desks desk answers merged set batches below tells are by = record {
   each = All-append (λ (a : Answer). IsOutcome desks a.0.task a.1) answers merged tells.each (merged_each desks desk below merged batches are by);
   told = λ item taken. elim (Contains-append_cases answers merged taken.answer taken.among) [
     | inl left ↦ Contains-append_left set (heard batches) item
-      (tells.told item (record { answer = taken.answer; among = left; took = taken.took; items = taken.items; reads = taken.reads; there = taken.there }))
+        (tells.told item (record { answer = taken.answer; among = left; took = taken.took; items = taken.items; reads = taken.reads; there = taken.there }))
     | inr right ↦ Contains-append_right set (heard batches) item (merged_told desk merged batches by taken.answer right taken.items taken.reads item taken.there)
   ];
   exact = λ none item there. elim (Contains-append_cases set (heard batches) item there) [
     | inl left ↦ taken_among answers (answers ++ merged) (Contains-append_left answers merged) item (tells.exact (part none answers (Contains-append_left answers merged)) item left)
     | inr right ↦ taken_among merged (answers ++ merged) (Contains-append_right answers merged) item
-      (merged_exact desk merged batches by (part none merged (Contains-append_right answers merged)) item right)
+        (merged_exact desk merged batches by (part none merged (Contains-append_right answers merged)) item right)
   ];
 }
   where

@@ -170,5 +170,5 @@ shares_more hs desks deltas d r rest left ended new are gives first pushed one w
     let P : Shown → Type 0 = λ x. AreKept x.kept (all_heard hs) in (
       next.rest,
       subst (λ (l : List Shown). All P l) (sym pushed)
-      (All-push P ended r was.1 (shared hs desks deltas are gives next.history next.there r.kept (one next.history 0 next.is).kept)),
+          (All-push P ended r was.1 (shared hs desks deltas are gives next.history next.there r.kept (one next.history 0 next.is).kept)),
     )

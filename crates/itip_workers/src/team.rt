@@ -176,12 +176,7 @@ impl<R: AllocGlobal + Threads + Wait + Copy + Send + Sync + 'static> Team<R> {
 fn start_keeper<
     R: AllocGlobal + Threads + Wait + Copy + Send + Sync + 'static,
     G: Gate + Send + Sync + Drop + 'static,
->(
-    rt: &R,
-    desk: u64,
-    benches: &mut [Bench],
-    gate: &Arc<G>,
-) -> Result<KeeperThread<R>, OfficeError>
+>(rt: &R, desk: u64, benches: &mut [Bench], gate: &Arc<G>) -> Result<KeeperThread<R>, OfficeError>
     requires workers { (1 ≤ length benches.old) × (length benches.old ≤ 8) }
     ensures desk { IfOk result (λ thread. thread.promise.desk ≡ desk) }
     ensures workers { length benches.new ≡ length benches.old }

@@ -30,11 +30,11 @@ loop-one-preserved g c =
     let batches = published one.held.keeper in
     let below : desk < c.args.desks = let at = was.at in let sum = was.count in omega (arith, at, sum, long) in
     let more : all_heard (map (λ h. published h.keeper) c.push.new.self.items) ≡ all_heard histories ++ heard batches = ap (λ (l : List (Held g.row.R.Denot)). all_heard (map (λ h. published h.keeper) l)) keepers
-      ∙ ap all_heard (map-append (λ (h : Held g.row.R.Denot). published h.keeper) c.loop-one.keepers.items (one.held ∷ [])) ∙ heard_more histories batches in
+    ∙ ap all_heard (map-append (λ (h : Held g.row.R.Denot). published h.keeper) c.loop-one.keepers.items (one.held ∷ [])) ∙ heard_more histories batches in
     record {
       at = (let at = was.at in omega (arith, at, count));
       count = (let sum = was.count in omega (arith, sum, long, count));
       left = left.1;
       tells = subst (λ (l : List Answer). Tells c.args.desks l (all_heard (map (λ h. published h.keeper) c.push.new.self.items))) (sym answers)
-      (subst (Tells c.args.desks (c.loop-one.answers.items ++ one.answers.items)) (sym more) (tells_more c.args.desks desk c.loop-one.answers.items one.answers.items (all_heard histories) batches below was.tells are left.0));
+          (subst (Tells c.args.desks (c.loop-one.answers.items ++ one.answers.items)) (sym more) (tells_more c.args.desks desk c.loop-one.answers.items one.answers.items (all_heard histories) batches below was.tells are left.0));
     }

@@ -11,6 +11,6 @@ loop-preserved g c =
     let pushed : c.push.new.self.items ≡ c.loop.answers.items ++ answer ∷ [] = c.in_ok-push.ensures.items in (
       c.in_ok-answer.ensures.nothing,
       subst (λ (l : List Answer). GrewBy c.args.desk (published c.args.keeper.now) (published c.merge_one.new.keeper) l) (sym pushed)
-      (grew_more c.args.desk (published c.args.keeper.now) (published c.loop.keeper) (published c.merge_one.new.keeper) c.loop.answers.items answer c.loop.invariant.1 c.in_ok-answer.ensures.published),
+          (grew_more c.args.desk (published c.args.keeper.now) (published c.loop.keeper) (published c.merge_one.new.keeper) c.loop.answers.items answer c.loop.invariant.1 c.in_ok-answer.ensures.published),
       search rules,
     )

@@ -9,5 +9,5 @@ abbrev pub invariant-loop-keeper : goal.invariant-loop-keeper
 invariant-loop-keeper g l = (n : ℕ) × (n + length (into_iter_items l.keeper-iterator) ≡ length l.fn.keepers.items)
     × IfOk l.all (λ all. length all.items ≡ n)
     × (AreNumbered 0 (map (λ t. t.promise.desk) l.fn.keepers.items)
-      → AreNumbered n (map (λ t. t.promise.desk) (into_iter_items l.keeper-iterator))
-      × IfOk l.all (λ all. (length all.items ≡ n) × AreOfDesks 0 (map (λ k. (k.answers.items, published k.held.keeper)) all.items)))
+    → AreNumbered n (map (λ t. t.promise.desk) (into_iter_items l.keeper-iterator))
+    × IfOk l.all (λ all. (length all.items ≡ n) × AreOfDesks 0 (map (λ k. (k.answers.items, published k.held.keeper)) all.items)))
