@@ -59,7 +59,7 @@ fn only_value<'a>(lines: &'a [Line], name: &str) -> Option<&'a Text>
 }
 
 /// The method of a name in upper case.
-fn method_named(name: &str) -> Option<Method>
+pub(crate) fn method_named(name: &str) -> Option<Method>
     ensures { result ≡ method_named name.now }
 {
     if name == "REQUEST" {

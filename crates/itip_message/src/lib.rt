@@ -23,7 +23,7 @@ pub use canonical::write_item;
 pub use error::{Fault, ReadError};
 pub use item::Item;
 pub use key::Key;
-pub use kind::{Kind, Method};
+pub use kind::{BadMethod, Kind, Method};
 pub use laws::{equal_octets, one_reading, order_of_revisions, read_again};
 pub use many::read_all;
 pub use read::read_message;

@@ -7,3 +7,4 @@ pub mod Moment
 pub mod Order
 pub mod OrderLaws
 pub mod Shift
+pub mod Shown

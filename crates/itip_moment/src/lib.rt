@@ -11,6 +11,7 @@ mod laws;
 mod moment;
 mod read;
 mod shift;
+mod shown;
 mod stamp;
 mod write;
 mod zone_name;
@@ -22,6 +23,7 @@ pub use laws::{
 };
 pub use moment::{Form, Moment};
 pub use read::{read_date, read_moment, read_stamp};
+pub use shown::BadText;
 pub use stamp::Stamp;
 pub use std::alloc::AllocError as NoMemory;
 pub use write::{write_moment, write_stamp};

@@ -12,11 +12,7 @@ pub fn write_stamp(stamp: &Stamp, out: &mut Vec<u8>) -> Result<(), NoMemory>
     ensures ok { OnOk result (out.new.items ≡ out.old.items ++ stamp_text stamp.now) }
     ensures err { OnErr result (out.new.items ≡ out.old.items) }
 {
-    let [y1, y2, y3, y4, m1, m2, d1, d2] = date_bytes(stamp.day);
-    let [h1, h2, n1, n2, s1, s2] = clock_bytes(stamp.second);
-    out.extend_from_slice(&[
-        y1, y2, y3, y4, m1, m2, d1, d2, b'T', h1, h2, n1, n2, s1, s2, b'Z',
-    ])
+    out.extend_from_slice(&stamp_bytes(stamp))
 }
 
 /// Appends the value text of a moment (RFC 5545 3.3.4 and 3.3.5), without its TZID.
@@ -38,12 +34,28 @@ fn write_local(stamp: &Stamp, out: &mut Vec<u8>) -> Result<(), NoMemory>
         ≡ out.old.items ++ local_text stamp.now.day stamp.now.second) }
     ensures err { OnErr result (out.new.items ≡ out.old.items) }
 {
-    let [y1, y2, y3, y4, m1, m2, d1, d2] = date_bytes(stamp.day);
-    let [h1, h2, n1, n2, s1, s2] = clock_bytes(stamp.second);
-    out.extend_from_slice(&[y1, y2, y3, y4, m1, m2, d1, d2, b'T', h1, h2, n1, n2, s1, s2])
+    out.extend_from_slice(&local_bytes(stamp))
 }
 
-fn date_bytes(day: i32) -> [u8; 8]
+pub(crate) fn stamp_bytes(stamp: &Stamp) -> [u8; 16]
+    ensures { result ≡ stamp_text stamp.now }
+{
+    let [y1, y2, y3, y4, m1, m2, d1, d2] = date_bytes(stamp.day);
+    let [h1, h2, n1, n2, s1, s2] = clock_bytes(stamp.second);
+    [
+        y1, y2, y3, y4, m1, m2, d1, d2, b'T', h1, h2, n1, n2, s1, s2, b'Z',
+    ]
+}
+
+pub(crate) fn local_bytes(stamp: &Stamp) -> [u8; 15]
+    ensures { result ≡ local_text stamp.now.day stamp.now.second }
+{
+    let [y1, y2, y3, y4, m1, m2, d1, d2] = date_bytes(stamp.day);
+    let [h1, h2, n1, n2, s1, s2] = clock_bytes(stamp.second);
+    [y1, y2, y3, y4, m1, m2, d1, d2, b'T', h1, h2, n1, n2, s1, s2]
+}
+
+pub(crate) fn date_bytes(day: i32) -> [u8; 8]
     requires { IsDayNumber day }
     ensures { result ≡ date_text day }
 {

@@ -9,7 +9,8 @@ use Rattle.itip_message.specs.declared.item.Item.{Item}
 use Rattle.itip_message.specs.declared.key.Key.{Key}
 use Rattle.itip_message.specs.declared.key.Key.TheVariants.{Series, Instance, Range, Answer, Refresh}
 use Rattle.itip_state.specs.Kept.{IsBest, IsKept}
-use Rattle.itip_view.specs.ListText.{shown, shown_moment}
+use Rattle.itip_moment.specs.Shown.{shown_moment}
+use Rattle.itip_view.specs.ListText.{shown}
 use Rattle.itip_view.specs.Standing.{IsCancelled, Stands, StandsFrom, Governs}
 use Rattle.itip_report.specs.Lines.{AreLinesOf}
 use Rattle.itip_report.specs.declared.report.Report.{Report}

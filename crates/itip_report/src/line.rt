@@ -4,7 +4,8 @@ ghost use Rattle.std.specs.Option.{option_copied};
 ghost use Rattle.std.specs.String.{string_bytes};
 ghost use Rattle.itip_moment.specs.Written.{moment_text};
 ghost use Rattle.itip_message.specs.KeyParts.{attendee_of};
-ghost use Rattle.itip_view.specs.ListText.{shown, shown_moment};
+ghost use Rattle.itip_moment.specs.Shown.{shown_moment};
+ghost use Rattle.itip_view.specs.ListText.{shown};
 ghost use Rattle.itip_report.specs.Reports.{named, word_of, mark_of, line_of};
 
 use crate::NoMemory;

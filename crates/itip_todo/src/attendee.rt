@@ -1,9 +1,10 @@
-ghost use Rattle.std.specs.Prelude.{◌≡◌, ◌++◌, ◌<◌, drop, length, IfOk};
+ghost use Rattle.std.specs.Prelude.{◌≡◌, ◌++◌, ◌<◌, drop, length, IfOk, Some};
 ghost use Rattle.itip_todo.specs.Participation.{partstat_of, partstat_named, partstat_text, param_value};
 ghost use Rattle.itip_todo.specs.Table.{attendee_key};
 
 use itip_lines::{NoMemory, Param, Text};
 use std::alloc::Global;
+use std::fmt;
 
 /// The participation of an attendee (RFC 5545 3.2.12). Absent and unknown ones are `NeedsAction`.
 #[derive(Clone, Copy, Debug, PartialEq, Eq)]
@@ -31,6 +32,14 @@ impl PartStat {
             PartStat::Completed => "COMPLETED",
             PartStat::InProcess => "IN-PROCESS",
         }
+    }
+}
+
+impl fmt::Display for PartStat {
+    ghost output = { λ partstat. Some (partstat_text partstat) };
+
+    fn fmt<W: fmt::Write>(&self, f: &mut fmt::Formatter<W>) -> fmt::Result {
+        f.write_str(self.as_str())
     }
 }
 

@@ -32,7 +32,7 @@ pub use laws::{reading_laws, writing_laws};
 pub use property::Property;
 pub use property_name::{PropertyName, has_period};
 pub use read::read_todo;
-pub use status::Status;
+pub use status::{BadStatus, Status};
 pub use std::alloc::AllocError as NoMemory;
 pub use todo::Todo;
 pub use uid::Uid;

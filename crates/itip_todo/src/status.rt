@@ -1,5 +1,10 @@
-ghost use Rattle.std.specs.Prelude.{◌≡◌};
+ghost use Rattle.std.specs.Prelude.{◌≡◌, Some};
+ghost use Rattle.std.specs.Result.{result_ok};
 ghost use Rattle.itip_todo.specs.StatusText.{status_text, status_of};
+
+use std::fmt;
+use std::str::FromStr;
+use thiserror::Error;
 
 /// The status of a to-do (RFC 5545 3.8.1.11).
 #[derive(Clone, Copy, Debug, PartialEq, Eq)]
@@ -38,5 +43,29 @@ impl Status {
             Status::InProcess => "IN-PROCESS",
             Status::Cancelled => "CANCELLED",
         }
+    }
+}
+
+/// A text names no status of a to-do.
+#[derive(Clone, Copy, PartialEq, Eq, Debug, Error)]
+#[error("no status has this name")]
+pub struct BadStatus;
+
+impl fmt::Display for Status {
+    ghost output = { λ status. Some (status_text status) };
+
+    fn fmt<W: fmt::Write>(&self, f: &mut fmt::Formatter<W>) -> fmt::Result {
+        f.write_str(self.as_str())
+    }
+}
+
+/// Names are read without regard to case.
+impl FromStr for Status {
+    type Err = BadStatus;
+
+    ghost from_str_gives = { λ text status. result_ok status ≡ status_of text };
+
+    fn from_str(text: &str) -> Result<Status, BadStatus> {
+        Status::named(text).ok_or(BadStatus)
     }
 }

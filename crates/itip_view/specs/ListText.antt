@@ -2,9 +2,7 @@
 use Rattle.std.specs.Prelude.{◌≡◌, ◌≤◌, length, ℕ, List, ◌++◌, codes, Option, Some, None}
 use Rattle.std.specs.Fmt.{decimal}
 use Rattle.std.specs.List.{flat_map}
-use Rattle.itip_moment.specs.Written.{moment_text}
-use Rattle.itip_moment.specs.declared.moment.Moment.{Moment}
-use Rattle.itip_moment.specs.declared.moment.Moment.TheVariants.{Date, Floating, Utc, Zoned}
+use Rattle.itip_moment.specs.Shown.{shown_moment}
 use Rattle.itip_todo.specs.Participation.{partstat_text}
 use Rattle.itip_todo.specs.StatusText.{status_text}
 use Rattle.itip_message.specs.declared.item.Item.{Item}
@@ -14,13 +12,6 @@ use Rattle.itip_view.specs.declared.row.RowId.{RowId}
 use Rattle.itip_view.specs.declared.row.RowId.TheVariants.{Single, At, Opaque}
 use Rattle.itip_view.specs.declared.row.ShownAttendee.{ShownAttendee}
 use Rattle.itip_view.specs.declared.window.Window.{Window}
-
--- a moment as it is shown: its value, behind the zone that it is in
-abbrev pub shown_moment : Moment → List ℕ
-shown_moment (Date day) = moment_text (Date day)
-shown_moment (Floating at) = moment_text (Floating at)
-shown_moment (Utc at) = moment_text (Utc at)
-shown_moment (Zoned zone at) = codes "TZID=" ++ (zone.bytes ++ (codes ":" ++ moment_text (Zoned zone at)))
 
 -- "-" stands for what is absent
 abbrev pub shown : {A : Type 0} → (A → List ℕ) → Option A → List ℕ

@@ -12,6 +12,7 @@ mod progress;
 mod ranges;
 mod row;
 mod shown;
+mod shown_row;
 mod standing;
 mod turn;
 mod view;

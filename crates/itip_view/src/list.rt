@@ -3,8 +3,9 @@ ghost use Rattle.std.specs.Prelude.{◌≡◌, ◌++◌, ◌∷◌, [], IfOk, On
 ghost use Rattle.std.specs.Fmt.{decimal};
 ghost use Rattle.std.specs.List.{flat_map};
 ghost use Rattle.itip_lines.specs.Writing.{Extends};
+ghost use Rattle.itip_moment.specs.Shown.{shown_moment};
 ghost use Rattle.itip_todo.specs.StatusText.{status_text};
-ghost use Rattle.itip_view.specs.ListText.{list_text, row_text, attendee_text, id_text, names_text, numbers_text, dates_text, summary_text, progress_text, shown, shown_moment};
+ghost use Rattle.itip_view.specs.ListText.{list_text, row_text, attendee_text, id_text, names_text, numbers_text, dates_text, summary_text, progress_text, shown};
 
 use crate::row::{Row, RowId, ShownAttendee};
 use itip_lines::Text;
