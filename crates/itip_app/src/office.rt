@@ -3,7 +3,7 @@ ghost use Rattle.std.specs.Prelude.{◌≤◌};
 
 use crate::cause::Cause;
 use crate::fault::OfficeFault;
-use crate::why::{tell, tell_jobs};
+use crate::why::{tell, tell_jobs, tell_of_script};
 use itip_desk::Desk;
 use itip_lines::Bytes;
 use itip_office::{JobCommand, JobCommands, read_script};
@@ -54,7 +54,7 @@ pub(crate) fn office<
         let line = format!(in alloc; "refused {SCRIPT_TOO_LONG}\n")?;
         write_output(writer, line.as_bytes())?;
         if why {
-            tell(rt, "script", 0, SCRIPT_TOO_LONG, Cause::LongScript);
+            tell_of_script(rt, SCRIPT_TOO_LONG);
         }
         return Ok(true);
     };
@@ -72,7 +72,7 @@ pub(crate) fn office<
         if append_desk(&mut output, number, desk, window)? {
             is_refused = true;
             if why {
-                tell(rt, "list", number as u64, TOO_MANY_ROWS, Cause::TooManyRows);
+                tell(rt, "desk", number as u64, TOO_MANY_ROWS, Cause::TooManyRows);
             }
         }
         write_output(writer, output.as_slice())?;

@@ -8,6 +8,12 @@ pub(crate) fn tell<R: Eprint>(rt: &R, name: &str, number: u64, refusal: u32, cau
     let _ = eprintln!(rt; "{name} {number}: refused {refusal}: {cause}");
 }
 
+/// Says why a script was refused as a whole.
+pub(crate) fn tell_of_script<R: Eprint>(rt: &R, refusal: u32) {
+    let cause = Cause::LongScript;
+    let _ = eprintln!(rt; "script: refused {refusal}: {cause}");
+}
+
 /// Says of each command of a script that is refused where and why.
 #[derive(Drop)]
 pub(crate) struct Explainer<'a, R> {
@@ -38,7 +44,7 @@ impl<'a, R: Eprint> Watch for Explainer<'a, R> {
     }
 
     fn refused_script(&mut self, cause: u32) {
-        tell(self.rt, "script", 0, cause, Cause::LongScript);
+        tell_of_script(self.rt, cause);
     }
 }
 
