@@ -19,10 +19,7 @@ const FAULT: u8 = 3;
 /// Runs the program and gives its status; `is_terminal` says whether standard error is one.
 pub(crate) fn status<
     R: AllocGlobal + Env + Input + Print + Eprint + Threads + Wait + Copy + Send + Sync + 'static,
->(
-    rt: &R,
-    is_terminal: bool,
-) -> u8 {
+>(rt: &R, is_terminal: bool) -> u8 {
     let words: Vec<String> = match env::args(rt).map(|words| words.collect(rt.alloc())) {
         Ok(Ok(words)) => words,
         Ok(Err(_)) => return complain(rt, &"no memory", FAULT),
@@ -58,7 +55,14 @@ fn run<R: AllocGlobal + Input + Print + Eprint>(rt: &R, call: Call) -> u8
     let desks = call.desks as usize;
     let done = if call.why {
         let mut watch = Explainer::new(rt);
-        run_script_watched(rt.alloc(), &mut reader, &mut writer, desks, call.window, &mut watch)
+        run_script_watched(
+            rt.alloc(),
+            &mut reader,
+            &mut writer,
+            desks,
+            call.window,
+            &mut watch,
+        )
     } else {
         run_script(rt.alloc(), &mut reader, &mut writer, desks, call.window)
     };

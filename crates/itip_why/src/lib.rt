@@ -10,6 +10,6 @@ mod places;
 mod refusal;
 mod starts;
 
+pub use explanation::{Rule, Why};
 pub use refusal::{explain, why_refused};
 pub use std::alloc::AllocError as NoMemory;
-pub use explanation::{Rule, Why};

@@ -83,9 +83,7 @@ pub(crate) fn bad_value(
 ) -> Result<Place, AllocError> {
     for (at, todo) in outline.todos.iter().enumerate() {
         for entry in &todo.entries {
-            if entry.is_of(property)
-                && is_refused(alloc, entry.line, Fault::BadValue(property))?
-            {
+            if entry.is_of(property) && is_refused(alloc, entry.line, Fault::BadValue(property))? {
                 return Ok(place_at(at, entry));
             }
         }
@@ -119,12 +117,19 @@ pub(crate) fn bad_range(
 
 fn removes(todo: &Outlined<'_>) -> bool {
     let entries = todo.entries.as_slice();
-    entries.iter().any(|entry| entry.is_of(PropertyName::Attendee))
-        && !entries.iter().any(|entry| entry.is_of(PropertyName::Status))
+    entries
+        .iter()
+        .any(|entry| entry.is_of(PropertyName::Attendee))
+        && !entries
+            .iter()
+            .any(|entry| entry.is_of(PropertyName::Status))
 }
 
 fn has_range(line: &Line) -> bool {
-    line.params.as_slice().iter().any(|param| param.name.as_str() == "RANGE")
+    line.params
+        .as_slice()
+        .iter()
+        .any(|param| param.name.as_str() == "RANGE")
 }
 
 /// The first attendee whose address stands before in the to-do.

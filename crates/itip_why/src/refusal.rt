@@ -3,13 +3,13 @@ ghost use Rattle.std.specs.Prelude.{◌≡◌, IfOk, IfSome, IfNone, List};
 ghost use Rattle.itip_message.specs.Message.{ReadsMessage, RefusesMessage};
 ghost use Rattle.itip_message.specs.declared.item.Item.{Item};
 
+use crate::explanation::{Rule, Why};
 use crate::head::{is_cancel, odd_line};
 use crate::outline::{Outline, outline_of};
 use crate::places::{
     NOWHERE, Place, bad_range, bad_value, beyond, missing, recurring, same_attendee,
 };
 use crate::starts::{Start, number_at, starts};
-use crate::explanation::{Rule, Why};
 use itip_lines::{LineError, read_lines};
 use itip_message::{Fault, ReadError, read_message};
 use itip_todo::PropertyName;
@@ -150,11 +150,7 @@ fn of_limits(outline: &Outline<'_>) -> Why
         return told(Fault::TooMany, Rule::ManyTodos, Place { todo: None, line });
     }
     match beyond(outline, PropertyName::Attendee, ATTENDEE_LIMIT) {
-        Some(place) => told(
-            Fault::TooMany,
-            Rule::Todo(itip_todo::Fault::TooMany),
-            place,
-        ),
+        Some(place) => told(Fault::TooMany, Rule::Todo(itip_todo::Fault::TooMany), place),
         None => told(Fault::TooMany, Rule::LargeForm, only_todo(outline)),
     }
 }

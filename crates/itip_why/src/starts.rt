@@ -1,4 +1,6 @@
 //! Where the unfolded lines of a text begin.
+ghost use Rattle.std.specs.Prelude.{◌+◌, ◌<◌, length};
+ghost use Rattle.itip_lines.specs.Scanned.{left_behind};
 
 use std::alloc::{AllocError, Global};
 
@@ -47,7 +49,9 @@ fn push(found: &mut Vec<Start>, start: Start) -> Result<(), AllocError> {
 }
 
 /// What stands before the first line break, and what stands behind it.
-fn cut_break(text: &[u8]) -> (&[u8], Option<&[u8]>) {
+fn cut_break(text: &[u8]) -> (&[u8], Option<&[u8]>)
+    ensures { left_behind result.1 < length text.now + 1 }
+{
     match text.iter().position(|b| *b == b'\n') {
         Some(at) => (without_return(&text[..at]), Some(&text[at + 1..])),
         None => (text, None),
@@ -68,7 +72,7 @@ fn behind_blank(stretch: &[u8]) -> Option<&[u8]> {
     }
 }
 
-/// The number of the physical line in which this unfolded line begins, both of the first one being the least.
+/// The number of the physical line in which the unfolded line of this index begins.
 pub(crate) fn number_at(starts: &[Start], at: usize) -> Option<u64> {
     starts.get(at).map(|start| start.number)
 }
