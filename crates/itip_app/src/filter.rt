@@ -6,7 +6,8 @@ use itip_office::read_number;
 use itip_streams::StreamFault;
 use itip_view::Window;
 use rayon::current_num_threads;
-use std::alloc::{AllocError, Global};
+use std::alloc::AllocError;
+use std::alloc::Global;
 use std::io;
 use std::thread::Threads;
 
@@ -63,9 +64,7 @@ fn reading_words<'a>(alloc: Global, command: Command<'a>) -> Result<Command<'a>,
     let progress = Arg::new(alloc, "progress")
         .long("progress")
         .action(ArgAction::SetTrue)
-        .help(
-            "Shows how many messages and octets were read, also where standard error is no terminal",
-        );
+        .help("Shows how many messages and octets were read, also where standard error is no terminal");
     command.arg(threads)?.arg(progress)
 }
 
@@ -105,27 +104,12 @@ pub(crate) fn run_filter<R: AllocGlobal + Input + Print + Eprint + Threads + Syn
         Filter::Compact(reading) => {
             let threads = threads(rt, reading);
             let mut watch = Teller::new(rt, reading, is_terminal);
-            compact(
-                rt,
-                rt.alloc(),
-                &mut reader,
-                &mut writer,
-                threads,
-                &mut watch,
-            )
+            compact(rt, rt.alloc(), &mut reader, &mut writer, threads, &mut watch)
         }
         Filter::List(reading, window) => {
             let threads = threads(rt, reading);
             let mut watch = Teller::new(rt, reading, is_terminal);
-            list(
-                rt,
-                rt.alloc(),
-                &mut reader,
-                &mut writer,
-                window,
-                threads,
-                &mut watch,
-            )
+            list(rt, rt.alloc(), &mut reader, &mut writer, window, threads, &mut watch)
         }
     }
 }
