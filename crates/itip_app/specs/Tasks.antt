@@ -9,14 +9,14 @@ use Rattle.itip_app.specs.Words.{AreDesks, AreWorkers}
 abbrev pub IfRun : (Call → Type 0) → Task → Type 0
 IfRun P (Run call) = P call
 IfRun P (Office call workers) = Unit {0}
-IfRun P Check = Unit {0}
+IfRun P (Check why) = Unit {0}
 IfRun P (Filter filter) = Unit {0}
 
 -- of a task: P of how the jobs of a script are run and by how many workers, where they are
 abbrev pub IfOffice : (Call → ℕ → Type 0) → Task → Type 0
 IfOffice P (Run call) = Unit {0}
 IfOffice P (Office call workers) = P call workers
-IfOffice P Check = Unit {0}
+IfOffice P (Check why) = Unit {0}
 IfOffice P (Filter filter) = Unit {0}
 
 -- there can be such an office

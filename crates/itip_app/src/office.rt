@@ -1,7 +1,9 @@
 //! Running the jobs of a script on threads.
 ghost use Rattle.std.specs.Prelude.{◌≤◌};
 
+use crate::cause::Cause;
 use crate::fault::OfficeFault;
+use crate::why::{tell, tell_jobs, tell_of_script};
 use itip_desk::Desk;
 use itip_lines::Bytes;
 use itip_office::{JobCommand, JobCommands, read_script};
@@ -30,9 +32,9 @@ struct Jobs {
 /// order of the jobs, and then the list of each desk. Says whether something written was a refusal.
 ///
 /// The whole script is read before anything is done. A script of more than [`MAX_OCTETS`](itip_office::MAX_OCTETS) is refused as a whole (61). After a fault a
-/// front of the output was written, nothing of it but where a write failed or memory was refused.
+/// front of the output was written, nothing of it but where a write failed or memory was refused. With `why` standard error says where and why.
 pub(crate) fn office<
-    R: AllocGlobal + Threads + Wait + Copy + Send + Sync + 'static,
+    R: AllocGlobal + Eprint + Threads + Wait + Copy + Send + Sync + 'static,
     I: Read,
     W: Write,
 >(
@@ -42,6 +44,7 @@ pub(crate) fn office<
     desks: usize,
     workers: usize,
     window: Window,
+    why: bool,
 ) -> Result<bool, OfficeFault>
     requires desks { (1 ≤ desks) × (desks ≤ 16) }
     requires workers { (1 ≤ workers) × (workers ≤ 8) }
@@ -50,17 +53,28 @@ pub(crate) fn office<
     let Some(script) = read_script(alloc, reader)? else {
         let line = format!(in alloc; "refused {SCRIPT_TOO_LONG}\n")?;
         write_output(writer, line.as_bytes())?;
+        if why {
+            tell_of_script(rt, SCRIPT_TOO_LONG);
+        }
         return Ok(true);
     };
     let Jobs { jobs, others } = jobs_of(alloc, script.as_slice(), window)?;
-    drop(script);
+    let kept = why.then_some(script);
     let ended = run_office(rt, desks, workers, jobs, OpenGate)?;
     let refused = refusals(alloc, &ended.replies, &others)?;
+    if let Some(script) = kept {
+        tell_jobs(rt, script.as_slice(), desks as u64, &refused);
+    }
     let mut output = Vec::new(alloc);
     append_refusals(&mut output, &refused)?;
     let mut is_refused = !refused.is_empty();
     for (number, desk) in ended.desks.iter().enumerate() {
-        is_refused |= append_desk(&mut output, number, desk, window)?;
+        if append_desk(&mut output, number, desk, window)? {
+            is_refused = true;
+            if why {
+                tell(rt, "desk", number as u64, TOO_MANY_ROWS, Cause::TooManyRows);
+            }
+        }
         write_output(writer, output.as_slice())?;
         output.clear();
     }

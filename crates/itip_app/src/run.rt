@@ -5,8 +5,9 @@ ghost use Rattle.itip_app.specs.Words.{AreDesks, AreWorkers};
 use crate::check::check;
 use crate::filter::run_filter;
 use crate::office::office;
+use crate::why::Explainer;
 use crate::words::{Call, NoCall, Task, read_words};
-use itip_office::run_script;
+use itip_office::{run_script, run_script_watched};
 use std::fmt::Display;
 use std::rt::Env;
 use std::sync::Wait;
@@ -27,7 +28,7 @@ pub(crate) fn status<
     match read_words(rt.alloc(), words.as_slice()) {
         Ok(Task::Run(call)) => run(rt, call),
         Ok(Task::Office { call, workers }) => run_jobs(rt, call, workers),
-        Ok(Task::Check) => check_message(rt),
+        Ok(Task::Check { why }) => check_message(rt, why),
         Ok(Task::Filter(task)) => ended(rt, run_filter(rt, task, is_terminal)),
         Err(NoCall::Help(help)) => match help.print(rt) {
             Ok(()) => 0,
@@ -52,7 +53,19 @@ fn run<R: AllocGlobal + Input + Print + Eprint>(rt: &R, call: Call) -> u8
     let mut reader = rt.reader();
     let mut writer = io::writer(rt);
     let desks = call.desks as usize;
-    let done = run_script(rt.alloc(), &mut reader, &mut writer, desks, call.window);
+    let done = if call.why {
+        let mut watch = Explainer::new(rt);
+        run_script_watched(
+            rt.alloc(),
+            &mut reader,
+            &mut writer,
+            desks,
+            call.window,
+            &mut watch,
+        )
+    } else {
+        run_script(rt.alloc(), &mut reader, &mut writer, desks, call.window)
+    };
     ended(rt, done)
 }
 
@@ -72,14 +85,15 @@ fn run_jobs<
         desks,
         workers as usize,
         call.window,
+        call.why,
     );
     ended(rt, done)
 }
 
-fn check_message<R: AllocGlobal + Input + Print + Eprint>(rt: &R) -> u8 {
+fn check_message<R: AllocGlobal + Input + Print + Eprint>(rt: &R, why: bool) -> u8 {
     let mut reader = rt.reader();
     let mut writer = io::writer(rt);
-    let done = check(rt.alloc(), &mut reader, &mut writer);
+    let done = check(rt.alloc(), &mut reader, &mut writer, why.then_some(rt));
     ended(rt, done)
 }
 

@@ -7,7 +7,7 @@ ghost use Rattle.itip_view.specs.declared.window.Window.{Window};
 
 use crate::filter::{Filter, compact_command, filter_of, list_command};
 use clap::error::ErrorKind;
-use clap::{Arg, ArgMatches, Command, Error};
+use clap::{Arg, ArgAction, ArgMatches, Command, Error};
 use itip_moment::read_date;
 use itip_office::read_number;
 use itip_view::Window;
@@ -33,12 +33,28 @@ const RUN_HELP: &str =
   !resend D UID   the messages of a to-do to send again
   !next D UID     the next SEQUENCE to use for a to-do
 
-Each command has its reply on standard output, in order, or `refused N`. Desks and packets are numbered from 0.
+Each command has its reply on standard output, in order, or `refused N`. Desks, packets and commands are numbered from 0.
+With --why standard error has `take 3: refused 9: DTSTAMP is missing in to-do 2` for each that was refused, 3 the number
+of the command. Lines are numbered from 1 in the message, as they stand there.
+
+  (echo '!take 0'; cat message.ics; echo '!list 0') | itipdesk run --from 20260101 --to 20270101
 
 Exit status:
   0  no reply was a refusal
   1  a reply was a refusal
   2  the words or the window are bad
+  3  a read or a write failed, or there was no memory";
+
+/// What is shown of a message.
+const CHECK_HELP: &str =
+    "Standard output has `items N` and each item in canonical form, or `refused N`. With --why standard error says where and why.
+
+  itipdesk check --why < message.ics
+
+Exit status:
+  0  the message was read
+  1  it was refused
+  2  the words are bad
   3  a read or a write failed, or there was no memory";
 
 /// What the jobs of a script are, and what is written.
@@ -53,7 +69,8 @@ Workers take the jobs and do them side by side, in no order that is told; one th
 to it. In the end the desks exchange all that they keep, so that each has the same list, whatever the order was.
 
 On standard output there is `job N refused C` for each job that is refused, in the order of the jobs, and then the
-task list of each desk in the window. Desks are numbered from 0.
+task list of each desk in the window. Desks are numbered from 0. With --why standard error has
+`job 3: refused 9: DTSTAMP is missing in to-do 2` for each that was refused.
 
   (echo '!take 1'; cat message.ics) | itipdesk office --desks 2 --workers 4 --from 20260101 --to 20270101
 
@@ -71,7 +88,7 @@ pub(crate) enum Task {
     /// The jobs of a script are run, by so many workers.
     Office { call: Call, workers: u64 },
     /// A message is read, and its items are shown.
-    Check,
+    Check { why: bool },
     /// Messages are read, and what counts is written.
     Filter(Filter),
 }
@@ -81,6 +98,8 @@ pub(crate) enum Task {
 pub(crate) struct Call {
     pub(crate) desks: u64,
     pub(crate) window: Window,
+    /// Whether standard error says where and why something was refused.
+    pub(crate) why: bool,
 }
 
 /// Why nothing is run.
@@ -116,8 +135,9 @@ pub(crate) fn read_words(alloc: Global, words: &[String]) -> Result<Task, NoCall
     ensures office { IfOk result (IfOffice AreOffice) }
 {
     let matches = command(alloc)?.try_get_matches_from(words)?;
-    if matches.subcommand_matches("check").is_some() {
-        return Ok(Task::Check);
+    if let Some(words) = matches.subcommand_matches("check") {
+        let why = words.get_flag("why");
+        return Ok(Task::Check { why });
     }
     if let Some(words) = matches.subcommand_matches("office") {
         return office_of(words).ok_or(NoCall::BadWords);
@@ -132,9 +152,10 @@ pub(crate) fn read_words(alloc: Global, words: &[String]) -> Result<Task, NoCall
 }
 
 fn command<'a>(alloc: Global) -> Result<Command<'a>, AllocError> {
-    let check = Command::new(alloc, "check").about(
-        "Reads a message from standard input and shows its items",
-    );
+    let check = Command::new(alloc, "check")
+        .about("Reads a message from standard input and shows its items")
+        .after_help(CHECK_HELP)
+        .arg(why_word(alloc))?;
     Command::new(alloc, "itipdesk")
         .bin_name("itipdesk")?
         .about("A desk for to-dos under iTIP (RFC 5546)")
@@ -151,7 +172,7 @@ fn run_command<'a>(alloc: Global) -> Result<Command<'a>, AllocError> {
         .about("Runs a script from standard input")
         .after_help(RUN_HELP)
         .arg(desks_word(alloc))?;
-    days(alloc, run)
+    days(alloc, run)?.arg(why_word(alloc))
 }
 
 fn office_command<'a>(alloc: Global) -> Result<Command<'a>, AllocError> {
@@ -164,7 +185,7 @@ fn office_command<'a>(alloc: Global) -> Result<Command<'a>, AllocError> {
         .about("Runs the jobs of a script from standard input on threads")
         .after_help(OFFICE_HELP)
         .arg(desks_word(alloc))?;
-    days(alloc, office)?.arg(workers)
+    days(alloc, office)?.arg(workers)?.arg(why_word(alloc))
 }
 
 fn desks_word<'a>(alloc: Global) -> Arg<'a> {
@@ -173,6 +194,13 @@ fn desks_word<'a>(alloc: Global) -> Arg<'a> {
         .value_name("D")
         .default_value("1")
         .help("How many desks there are: 1 to 16")
+}
+
+fn why_word<'a>(alloc: Global) -> Arg<'a> {
+    Arg::new(alloc, "why")
+        .long("why")
+        .action(ArgAction::SetTrue)
+        .help("Says on standard error where and why something was refused")
 }
 
 /// A command with the days of a window.
@@ -197,6 +225,7 @@ fn call_of(matches: &ArgMatches<'_>) -> Option<Call>
         matches.get_str("desks")?,
         matches.get_str("from")?,
         matches.get_str("to")?,
+        matches.get_flag("why"),
     )
 }
 
@@ -209,14 +238,14 @@ fn office_of(matches: &ArgMatches<'_>) -> Option<Task>
 }
 
 /// What the values of the words ask for, where they are what they have to be.
-fn call_of_texts(desks: &str, from: &str, to: &str) -> Option<Call>
+fn call_of_texts(desks: &str, from: &str, to: &str, why: bool) -> Option<Call>
     ensures found { IfSome result (λ call. IsCallOf desks.now from.now to.now call.desks call.window) }
     ensures none { IfNone result ((count : ℕ) (window : Window) → IsCallOf desks.now from.now to.now count window → ⊥) }
     ensures desks { IfSome result (λ call. AreDesks call.desks) }
 {
     let desks = desks_of(desks)?;
     let window = window_of(from, to)?;
-    Some(Call { desks, window })
+    Some(Call { desks, window, why })
 }
 
 /// The window from one date up to another, each spelled `YYYYMMDD`.

@@ -85,4 +85,12 @@ impl Answer {
     {
         matches!(self, Answer::Refused(_))
     }
+
+    /// The number of the cause, where a command was refused.
+    pub(crate) fn refusal(&self) -> Option<u32> {
+        match self {
+            Answer::Refused(number) => Some(*number),
+            _ => None,
+        }
+    }
 }

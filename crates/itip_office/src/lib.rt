@@ -16,6 +16,7 @@ mod office;
 mod reply;
 mod reports;
 mod run;
+mod watch;
 mod word;
 
 pub use command::{Command, ReportName};
@@ -24,5 +25,6 @@ pub use input::{MAX_OCTETS, read_script};
 pub use itip_streams::StreamFault as ScriptFault;
 pub use job::{JobCommand, JobCommands};
 pub use laws::{one_cutting, one_output, one_spelling};
-pub use run::run_script;
+pub use run::{run_script, run_script_watched};
+pub use watch::Watch;
 pub use word::read_number;

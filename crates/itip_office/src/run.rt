@@ -12,6 +12,7 @@ use crate::cut::Commands;
 use crate::input::read_script;
 use crate::office::Office;
 use crate::reply::append_refused;
+use crate::watch::Watch;
 use itip_streams::{StreamFault, write_output};
 use itip_view::Window;
 use std::alloc::Global;
@@ -37,11 +38,30 @@ pub fn run_script<R: Read, W: Write>(
     ensures front { OnErr result (IfSome (R.remaining reader.old) (λ script. WritesFront window desks (W.contents writer.old) (W.contents writer.new) script)) }
     ensures unread { IsErrOf result StreamFault.Read → Keeps (W.contents writer.old) (W.contents writer.new) }
 {
+    run_script_watched(alloc, reader, writer, desks, window, &mut ())
+}
+
+/// Runs a script as [`run_script`] does. Beside the output `watch` is told of each command that was answered.
+pub fn run_script_watched<R: Read, W: Write, T: Watch>(
+    alloc: Global,
+    reader: &mut R,
+    writer: &mut W,
+    desks: usize,
+    window: Window,
+    watch: &mut T,
+) -> Result<bool, StreamFault>
+    requires some { 1 ≤ desks }
+    requires few { desks ≤ 16 }
+    ensures output { IfOk result (λ refusal. IfSome (R.remaining reader.old) (λ script. WritesAll window desks (W.contents writer.old) (W.contents writer.new) script refusal)) }
+    ensures front { OnErr result (IfSome (R.remaining reader.old) (λ script. WritesFront window desks (W.contents writer.old) (W.contents writer.new) script)) }
+    ensures unread { IsErrOf result StreamFault.Read → Keeps (W.contents writer.old) (W.contents writer.new) }
+{
     let Some(script) = read_script(alloc, reader)? else {
+        watch.refused_script(SCRIPT_TOO_LONG);
         return refuse_whole(alloc, writer);
     };
     let mut office = Office::start(alloc, desks, window)?;
-    run_commands(&mut office, script.as_slice(), writer)
+    run_commands(&mut office, script.as_slice(), writer, watch)
 }
 
 fn refuse_whole<W: Write>(alloc: Global, writer: &mut W) -> Result<bool, StreamFault>
@@ -56,10 +76,11 @@ fn refuse_whole<W: Write>(alloc: Global, writer: &mut W) -> Result<bool, StreamF
 }
 
 // Runs the commands of a script over desks that have heard nothing.
-fn run_commands<W: Write>(
+fn run_commands<W: Write, T: Watch>(
     office: &mut Office,
     script: &[u8],
     writer: &mut W,
+    watch: &mut T,
 ) -> Result<bool, StreamFault>
     ensures all { IfOk result (λ refusal. (desks : ℕ) → IsWorldOf (no_past desks) office.old.world →
         WritesCommands office.old.window desks (W.contents writer.old) (W.contents writer.new) (orders_of script.now) refusal) }
@@ -72,6 +93,7 @@ fn run_commands<W: Write>(
     for command in Commands::new(script) {
         let answer = office.answer(&command)?;
         is_refused |= answer.is_refusal();
+        watch.answered(&command, answer.refusal());
         answer.append(&mut replies)?;
         write_if_many(writer, &mut replies)?;
     }
