@@ -19,6 +19,7 @@ impl fmt::Display for RowId {
 }
 
 /// What is there, or `-`.
+#[derive(Drop)]
 struct OrDash<'a, T>(&'a Option<T>);
 
 impl<'a, T: fmt::Display> fmt::Display for OrDash<'a, T> {
