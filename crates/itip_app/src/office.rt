@@ -8,7 +8,7 @@ use itip_desk::Desk;
 use itip_lines::Bytes;
 use itip_office::{JobCommand, JobCommands, read_script};
 use itip_streams::{StreamFault, write_output};
-use itip_view::{ViewError, Window, rows, write_list};
+use itip_view::{ViewError, Window, write_list};
 use itip_workers::{Job, OpenGate, Outcome, Task, run_office};
 use std::alloc::Global;
 use std::io::{Read, Write};
@@ -148,7 +148,7 @@ fn append_desk(
     window: Window,
 ) -> Result<bool, StreamFault> {
     let alloc = *output.allocator();
-    match rows(alloc, desk.state(), window) {
+    match desk.rows(window) {
         Ok(rows) => {
             let count = rows.len();
             let head = format!(in alloc; "list {number} rows {count}\n")?;
