@@ -55,6 +55,7 @@ fn asked_by<'a>(command: &Command<'a>) -> Asked<'a> {
             ..asking("take", *desk)
         },
         Command::List { desk } => asking("list", *desk),
+        Command::Mine { desk, .. } => asking("mine", *desk),
         Command::Post { desk, .. } => asking("post", *desk),
         Command::Arrive { packet, desk } => Asked {
             packet: *packet,
