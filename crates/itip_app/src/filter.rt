@@ -16,13 +16,29 @@ use std::thread::Threads;
 /// The most threads that read messages.
 const MAX_THREADS: u64 = 8;
 
-const INPUT_HELP: &str =
+/// What is read and written where messages are compacted.
+const COMPACT_HELP: &str =
     "Messages are read from standard input, one after another. One that is refused is not heard;
-it is named on standard error, as `message 3: refused 9`.
+it is named on standard error, as `message 3: refused 9`. What is written can be read again, beside other messages.
+
+  cat desk.ics message.ics | itipdesk compact > newer.ics
 
 Exit status:
   0  nothing was refused
-  1  a message was refused, or the list had too many rows
+  1  a message was refused
+  2  the words are bad
+  3  a read or a write failed, or there was no memory";
+
+/// What is read and written where the task list of messages is made.
+const LIST_HELP: &str =
+    "Messages are read from standard input, one after another. One that is refused is not heard;
+it is named on standard error, as `message 3: refused 9`. Where the list has too many rows, it is `refused 31`.
+
+  cat desk.ics message.ics | itipdesk list --from 20260101 --to 20270101 --format csv
+
+Exit status:
+  0  nothing was refused
+  1  a message was refused, or the list
   2  the words or the window are bad
   3  a read or a write failed, or there was no memory";
 
@@ -72,7 +88,7 @@ pub(crate) struct Reading {
 pub(crate) fn compact_command<'a>(alloc: Global) -> Result<Command<'a>, AllocError> {
     let command = Command::new(alloc, "compact")
         .about("Reads messages from standard input and writes what is kept of them")
-        .after_help(INPUT_HELP);
+        .after_help(COMPACT_HELP);
     reading_words(alloc, command)
 }
 
@@ -90,7 +106,7 @@ pub(crate) fn list_command<'a>(alloc: Global) -> Result<Command<'a>, AllocError>
         );
     let command = Command::new(alloc, "list")
         .about("Reads messages from standard input and writes their task list")
-        .after_help(INPUT_HELP);
+        .after_help(LIST_HELP);
     let command = days(alloc, command)?.arg(attendee)?.arg(format)?;
     reading_words(alloc, command)
 }
