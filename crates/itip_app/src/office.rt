@@ -84,12 +84,13 @@ pub(crate) fn office<
 fn jobs_of(alloc: Global, script: &[u8], window: Window) -> Result<Jobs, StreamFault> {
     let mut jobs = Vec::new(alloc);
     let mut others = Vec::new(alloc);
-    for (at, command) in JobCommands::new(script).enumerate() {
-        let number = at as u64;
+    let mut number: u64 = 0;
+    for command in JobCommands::new(script) {
         match task_of(alloc, command, window)? {
             Some(task) => jobs.push(Job { number, task })?,
             None => others.push(number)?,
         }
+        number = number.saturating_add(1);
     }
     Ok(Jobs { jobs, others })
 }

@@ -86,14 +86,16 @@ pub(crate) fn tell_jobs<R: AllocGlobal + Eprint>(
     refused: &[(u64, u32)],
 ) {
     let mut left = refused;
-    for (at, job) in JobCommands::new(script).enumerate() {
+    let mut at: u64 = 0;
+    for job in JobCommands::new(script) {
         if let Some(((number, refusal), others)) = left.split_first()
-            && *number == at as u64
+            && *number == at
         {
             let cause = Cause::of(rt.alloc(), &asked_by_job(&job, desks), *refusal);
             tell(rt, "job", *number, *refusal, cause);
             left = others;
         }
+        at = at.saturating_add(1);
     }
 }
 

@@ -230,7 +230,8 @@ fn call_of(matches: &ArgMatches<'_>) -> Option<Call>
 }
 
 fn office_of(matches: &ArgMatches<'_>) -> Option<Task>
-    ensures { IfSome result (IfOffice AreOffice) }
+    ensures run { IfSome result (IfRun (λ call. AreDesks call.desks)) }
+    ensures office { IfSome result (IfOffice AreOffice) }
 {
     let call = call_of(matches)?;
     let workers = workers_of(matches.get_str("workers")?)?;
