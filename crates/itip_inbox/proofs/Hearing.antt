@@ -1,5 +1,5 @@
 -- Messages that are heard or refused, one after another.
-use Rattle.std.proofs.Common.{◌≡◌, ◌∙◌, sym, ap, refl, ℕ, suc, ◌+◌, List, [], ◌∷◌, ◌++◌, length, subst, arith, append_assoc, append-nil, Result, Ok, Err}
+use Rattle.std.proofs.Common.{◌≡◌, ◌∙◌, sym, ap, refl, ℕ, suc, ◌+◌, List, [], ◌∷◌, ◌++◌, length, map, Bor, subst, arith, append_assoc, append-nil, Result, Ok, Err}
 use Rattle.std.specs.List.{AllZip}
 use Rattle.std.proofs.lemmas.List.{length-append}
 use Rattle.itip_message.specs.Message.{ReadsMessage, RefusesMessage}
@@ -10,7 +10,7 @@ use Rattle.itip_message.specs.declared.item.Item.{Item}
 use Rattle.itip_state.specs.Kept.{AreKept}
 use Rattle.itip_inbox.specs.declared.refusal.Refusal.{Refusal}
 use Rattle.itip_inbox.specs.Inbox.{IsAnswer, AreAnswers, heard_of, refusals_from, Hears}
-use Rattle.itip_inbox.specs.Streaming.{MayAnswer, KeepsMessages, SortsSoFar}
+use Rattle.itip_inbox.specs.Streaming.{MayAnswer, KeepsMessages, SortsSoFar, TakesSoFar}
 
 heard_push : (as' : List (Result (List Item) Fault)) (a : Result (List Item) Fault) → heard_of (as' ++ a ∷ []) ≡ heard_of as' ++ heard_of (a ∷ [])
 heard_push [] a = refl
@@ -61,6 +61,13 @@ module _ (messages : List (List ℕ)) (heard : List Item) (refusals : List Refus
         refusals_are = (λ i. so_far.refusals_are i ++ (record { message = e i; cause = cause }) ∷ []) ∙ sym (refusals_push 1 so_far.answers (Err cause));
       }
 
+-- the answers of texts, as they are seen
+pub answers_of : (texts : List (Bor (List ℕ))) (answers : List (Result (List Item) ReadError)) → AllZip (λ (t : Bor (List ℕ)) a. MayAnswer t.now a) texts answers → AllZip MayAnswer (map (λ (t : Bor (List ℕ)). t.now) texts) answers
+answers_of [] [] all = tt
+answers_of [] (a ∷ as') all = absurd all
+answers_of (t ∷ ts) [] all = absurd all
+answers_of (t ∷ ts) (a ∷ as') all = (all.0, answers_of ts as' all.1)
+
 -- ---- going through answers
 
 module _ (before texts : List (List ℕ)) (left : List (Result (List Item) ReadError)) (heard : List Item) (refusals : List Refusal) (count next : ℕ) where
@@ -95,46 +102,59 @@ module _ (before texts : List (List ℕ)) (left : List (Result (List Item) ReadE
         count_is = number ∙ sym more ∙ ap length to;
       }
 
-  pub sort_items : (items : List Item) → SortsSoFar before texts (Ok items ∷ left) heard refusals count → next ≡ count + 1 → SortsSoFar before texts left (heard ++ items) refusals next
+  sort_items : (items : List Item) → SortsSoFar before texts (Ok items ∷ left) heard refusals count → next ≡ count + 1 → SortsSoFar before texts left (heard ++ items) refusals next
   sort_items items so_far = item_at items so_far.done so_far.rest so_far.whole so_far.answered so_far.hears so_far.count_is
 
-  pub sort_refusal : (cause : Fault) → SortsSoFar before texts (Err (error.Fault cause) ∷ left) heard refusals count → next ≡ count + 1 → SortsSoFar before texts left heard (refusals ++ (record { message = next; cause = cause }) ∷ []) next
+  sort_refusal : (cause : Fault) → SortsSoFar before texts (Err (error.Fault cause) ∷ left) heard refusals count → next ≡ count + 1 → SortsSoFar before texts left heard (refusals ++ (record { message = next; cause = cause }) ∷ []) next
   sort_refusal cause so_far = refusal_at cause so_far.done so_far.rest so_far.whole so_far.answered so_far.hears so_far.count_is
 
-pub sort_begins : (messages texts : List (List ℕ)) (answers : List (Result (List Item) ReadError)) (kept : List Item) (refusals : List Refusal) (count : ℕ) → AllZip MayAnswer texts answers
-    → (keeps : KeepsMessages messages kept refusals count) → SortsSoFar messages texts answers keeps.heard refusals count
-sort_begins messages texts answers kept refusals count answered keeps = record {
-  done = [];
-  rest = texts;
-  whole = refl;
-  answered = answered;
-  hears = subst (λ (ms : List (List ℕ)). Hears ms keeps.heard refusals) (sym (append-nil messages)) keeps.hears;
-  count_is = keeps.count_is ∙ ap length (sym (append-nil messages));
+pub take_begins : (messages texts : List (List ℕ)) (answers : List (Result (List Item) ReadError)) (kept : List Item) (refusals : List Refusal) (count : ℕ) → AllZip MayAnswer texts answers
+    → KeepsMessages messages kept refusals count → TakesSoFar messages texts answers kept refusals count
+take_begins messages texts answers kept refusals count answered keeps = record {
+  heard = keeps.heard;
+  sorts = record {
+    done = [];
+    rest = texts;
+    whole = refl;
+    answered = answered;
+    hears = subst (λ (ms : List (List ℕ)). Hears ms keeps.heard refusals) (sym (append-nil messages)) keeps.hears;
+    count_is = keeps.count_is ∙ ap length (sym (append-nil messages));
+  };
+  keeps = keeps.keeps;
 }
 
 none_left : (rest : List (List ℕ)) → AllZip MayAnswer rest [] → rest ≡ []
 none_left [] answered = refl
 none_left (t ∷ rest) answered = absurd answered
 
-pub sort_ends : (messages texts : List (List ℕ)) (heard kept : List Item) (refusals : List Refusal) (count : ℕ) → SortsSoFar messages texts [] heard refusals count → AreKept kept heard
-    → KeepsMessages (messages ++ texts) kept refusals count
-sort_ends messages texts heard kept refusals count so_far keeps =
-    let all : so_far.done ≡ texts = sym (append-nil so_far.done) ∙ ap (λ (t : List (List ℕ)). so_far.done ++ t) (sym (none_left so_far.rest so_far.answered)) ∙ sym so_far.whole in
+pub take_ends : (messages texts : List (List ℕ)) (kept : List Item) (refusals : List Refusal) (count : ℕ) → TakesSoFar messages texts [] kept refusals count → KeepsMessages (messages ++ texts) kept refusals count
+take_ends messages texts kept refusals count so_far =
+    let sorts = so_far.sorts in
+    let all : sorts.done ≡ texts = sym (append-nil sorts.done) ∙ ap (λ (t : List (List ℕ)). sorts.done ++ t) (sym (none_left sorts.rest sorts.answered)) ∙ sym sorts.whole in
     record {
-      heard = heard;
-      hears = subst (λ (ts : List (List ℕ)). Hears (messages ++ ts) heard refusals) all so_far.hears;
-      keeps = keeps;
-      count_is = so_far.count_is ∙ ap (λ (ts : List (List ℕ)). length (messages ++ ts)) all;
+      heard = so_far.heard;
+      hears = subst (λ (ts : List (List ℕ)). Hears (messages ++ ts) so_far.heard refusals) all sorts.hears;
+      keeps = so_far.keeps;
+      count_is = sorts.count_is ∙ ap (λ (ts : List (List ℕ)). length (messages ++ ts)) all;
     }
 
-pub taken_items : (before texts : List (List ℕ)) (all left : List (Result (List Item) ReadError)) (heard now : List Item) (refusals : List Refusal) (count next : ℕ) (answer : Result (List Item) ReadError) (items : List Item)
-    → SortsSoFar before texts all heard refusals count → all ≡ answer ∷ left → answer ≡ Ok items → next ≡ count + 1 → now ≡ heard ++ items → SortsSoFar before texts left now refusals next
-taken_items before texts all left heard now refusals count next answer items so_far step is more grown =
-    subst (λ (t : List Item). SortsSoFar before texts left t refusals next) (sym grown)
-    (sort_items before texts left heard refusals count next items (subst (λ (t : List (Result (List Item) ReadError)). SortsSoFar before texts t heard refusals count) (step ∙ ap (λ (a : Result (List Item) ReadError). a ∷ left) is) so_far) more)
+pub take_items : (before texts : List (List ℕ)) (all left : List (Result (List Item) ReadError)) (kept now : List Item) (refusals : List Refusal) (count next : ℕ) (answer : Result (List Item) ReadError) (items : List Item)
+    → TakesSoFar before texts all kept refusals count → all ≡ answer ∷ left → answer ≡ Ok items → next ≡ count + 1 → ((heard : List Item) → AreKept kept heard → AreKept now (heard ++ items))
+    → TakesSoFar before texts left now refusals next
+take_items before texts all left kept now refusals count next answer items so_far step is more keeps = record {
+  heard = so_far.heard ++ items;
+  sorts = sort_items before texts left so_far.heard refusals count next items
+      (subst (λ (t : List (Result (List Item) ReadError)). SortsSoFar before texts t so_far.heard refusals count) (step ∙ ap (λ (a : Result (List Item) ReadError). a ∷ left) is) so_far.sorts) more;
+  keeps = keeps so_far.heard so_far.keeps;
+}
 
-pub taken_refusal : (before texts : List (List ℕ)) (all left : List (Result (List Item) ReadError)) (heard : List Item) (refusals now : List Refusal) (count next : ℕ) (answer : Result (List Item) ReadError) (cause : Fault)
-    → SortsSoFar before texts all heard refusals count → all ≡ answer ∷ left → answer ≡ Err (error.Fault cause) → next ≡ count + 1 → now ≡ refusals ++ (record { message = next; cause = cause }) ∷ [] → SortsSoFar before texts left heard now next
-taken_refusal before texts all left heard refusals now count next answer cause so_far step is more grown =
-    subst (λ (t : List Refusal). SortsSoFar before texts left heard t next) (sym grown)
-    (sort_refusal before texts left heard refusals count next cause (subst (λ (t : List (Result (List Item) ReadError)). SortsSoFar before texts t heard refusals count) (step ∙ ap (λ (a : Result (List Item) ReadError). a ∷ left) is) so_far) more)
+pub take_refusal : (before texts : List (List ℕ)) (all left : List (Result (List Item) ReadError)) (kept : List Item) (refusals now : List Refusal) (count next : ℕ) (answer : Result (List Item) ReadError) (cause : Fault)
+    → TakesSoFar before texts all kept refusals count → all ≡ answer ∷ left → answer ≡ Err (error.Fault cause) → next ≡ count + 1 → now ≡ refusals ++ (record { message = next; cause = cause }) ∷ []
+    → TakesSoFar before texts left kept now next
+take_refusal before texts all left kept refusals now count next answer cause so_far step is more grown = record {
+  heard = so_far.heard;
+  sorts = subst (λ (t : List Refusal). SortsSoFar before texts left so_far.heard t next) (sym grown)
+      (sort_refusal before texts left so_far.heard refusals count next cause
+      (subst (λ (t : List (Result (List Item) ReadError)). SortsSoFar before texts t so_far.heard refusals count) (step ∙ ap (λ (a : Result (List Item) ReadError). a ∷ left) is) so_far.sorts) more);
+  keeps = so_far.keeps;
+}

@@ -53,6 +53,18 @@ pub record SortsSoFar (before texts : List (List ℕ)) (left : List (Result (Lis
   pub hears : Hears (before ++ done) heard refusals
   pub count_is : count ≡ length (before ++ done)
 
+-- The same, and what is kept of what was heard.
+pub record TakesSoFar (before texts : List (List ℕ)) (left : List (Result (List Item) ReadError)) (kept : List Item) (refusals : List Refusal) (count : ℕ) : Type 0 where
+  pub heard : List Item
+  pub sorts : SortsSoFar before texts left heard refusals count
+  pub keeps : AreKept kept heard
+
+-- The first messages of some octets were heard, and these octets are left.
+pub record HearsFirst (octets left : List ℕ) (kept now : List Item) (refusals more : List Refusal) (count number : ℕ) : Type 0 where
+  pub texts : List (List ℕ)
+  pub cut : StaysCutInto octets texts left
+  pub hears : (messages : List (List ℕ)) → KeepsMessages messages kept refusals count → KeepsMessages (messages ++ texts) now more number
+
 -- Octets were read behind those that were held, up to the end where that is said.
 abbrev pub Fills : Option (List ℕ) → Option (List ℕ) → List ℕ → List ℕ → Bool → Type 0
 Fills old new before after ended = MovesIn old new before after × (IsTrue ended → IsAtEnd new)

@@ -1,8 +1,9 @@
-use Rattle.std.proofs.Common.{ap, ◌∙◌}
+use Rattle.std.proofs.Common.{ap, ◌∙◌, map, Bor, List, ℕ}
 use Rattle.rayon.proofs.ListFacts.{IfOk-then}
 use Rattle.rayon.proofs.ToStd.{slice-AllZip}
 use Rattle.rayon.specs.Lists.{iter_slice, min_len_base}
 use Rattle.itip_inbox.specs.Streaming.{MayAnswer}
+use Rattle.itip_inbox.proofs.Hearing.{answers_of}
 use Rattle.itip_inbox.proofs.texts.read_texts.Goals as goal
 
 pub returns : goal.returns
@@ -10,4 +11,4 @@ returns g c =
     let slice = ap (λ it. iter_slice (min_len_base it)) c.map.ensures.base ∙ ap (λ it. iter_slice it) c.with_min_len.ensures.base ∙ c.par_iter.ensures in
     IfOk-then c.collect.result _ _ c.collect.ensures (λ v h.
     let chain = h.1 in
-    rw h.2 (slice-AllZip chain.0 c.args.texts.now (chain.1 ∙ slice) MayAnswer h.0 chain.2))
+    rw h.2 (answers_of c.args.texts.now _ (slice-AllZip chain.0 c.args.texts.now (chain.1 ∙ slice) (λ (t : Bor (List ℕ)) a. MayAnswer t.now a) h.0 chain.2)))
