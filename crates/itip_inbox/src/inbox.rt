@@ -49,24 +49,23 @@ impl Inbox {
             KeepsMessages (messages ++ map (λ text. text.now) texts.now) self.new.state self.new.refusals.items self.new.messages) }
         ensures fault { IfErr result (λ fault. fault ≢ StreamFault.Write) }
     {
-        let answers = read_texts(rt, alloc, texts, threads)?;
-        self.take(alloc, answers)
+        let answers = read_texts(rt, alloc, &self.state, texts, threads)?;
+        self.take(answers)
     }
 
-    /// Hears the items of messages, and notes the refused ones. After a fault a part of them is heard or noted.
+    /// Hears the news of messages, and notes the refused ones. After a fault a part of them is heard or noted.
     fn take(
         &mut self,
-        alloc: Global,
         answers: Vec<Result<ListOf<SharedItem>, ReadError>>,
     ) -> Result<(), StreamFault>
-        ensures takes { OnOk result ((before texts : List (List ℕ)) → TakesSoFar before texts answers.items self.old.state self.old.refusals.items self.old.messages →
-            TakesSoFar before texts [] self.new.state self.new.refusals.items self.new.messages) }
+        ensures takes { OnOk result ((before texts : List (List ℕ)) (first : List Item) → TakesSoFar before texts first answers.items self.old.state self.old.refusals.items self.old.messages →
+            TakesSoFar before texts first [] self.new.state self.new.refusals.items self.new.messages) }
         ensures fault { IfErr result (λ fault. fault ≢ StreamFault.Write) }
     {
         for answer in answers {
             self.messages = one_more(self.messages)?;
             match answer {
-                Ok(items) => hear_items(&mut self.state, alloc, items.as_slice())?,
+                Ok(news) => hear_news(&mut self.state, news.as_slice())?,
                 Err(ReadError::Fault(cause)) => self.refusals.push(Refusal {
                     message: self.messages,
                     cause,
@@ -89,22 +88,12 @@ fn one_more(count: u64) -> Result<u64, StreamFault>
     }
 }
 
-/// Hears the items of a message. What the state tells already is passed by.
-fn hear_items(state: &mut State, alloc: Global, items: &[SharedItem]) -> Result<(), AllocError>
-    ensures { OnOk result ((heard : List Item) → AreKept state.old heard → AreKept state.new (heard ++ items.now)) }
-{
-    let news = state.news(items)?;
-    hear_news(state, alloc, news.as_slice())
-}
-
 /// Hears items one after another. After a refusal (out of memory) a part of them is heard.
-// A state keeps a copy, which has no spare room: what was made while a text was read has, and lies among what is let go.
-fn hear_news(state: &mut State, alloc: Global, news: &[&SharedItem]) -> Result<(), AllocError>
-    ensures { OnOk result ((heard : List Item) → AreKept state.old heard → AreKept state.new (heard ++ map (λ item. item.now) news.now)) }
+fn hear_news(state: &mut State, news: &[SharedItem]) -> Result<(), AllocError>
+    ensures { OnOk result ((heard : List Item) → AreKept state.old heard → AreKept state.new (heard ++ news.now)) }
 {
     for item in news {
-        let copy = SharedItem::new(alloc, item.item().clone()?)?;
-        state.hear(&[&copy])?;
+        state.hear(&[item])?;
     }
     Ok(())
 }
