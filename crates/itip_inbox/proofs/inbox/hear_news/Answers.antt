@@ -1,9 +1,12 @@
-use Rattle.std.proofs.Common.{◌≡◌, ◌∙◌, ◌+◌, sym, ap, subst, List, [], ◌∷◌, ◌++◌, take}
+use Rattle.std.proofs.Common.{◌≡◌, ◌∙◌, ◌+◌, sym, ap, subst, List, [], ◌∷◌, ◌++◌, append-nil, take}
 use Rattle.std.proofs.lemmas.List.{take_more, take_all}
 use Rattle.itip_message.specs.declared.item.Item.{Item}
 use Rattle.itip_state.specs.Kept.{AreKept}
 use Rattle.itip_inbox.proofs.Keeping.{keeps_one}
 use Rattle.itip_inbox.proofs.inbox.hear_news.Goals as goal
+
+pub loop-item-init : goal.loop-item-init
+loop-item-init c = λ heard keeps. subst (λ (xs : List Item). AreKept c.args.state.now xs) (sym (append-nil heard)) keeps
 
 pub loop-item-preserved : goal.loop-item-preserved
 loop-item-preserved c = λ heard keeps.

@@ -20,7 +20,7 @@ loop-item-init g c = items_none (g.W.Write.contents c.args.writer.now) c.new-kep
 
 pub returns-in_err-extend_from_slice-clause-front : goal.returns-in_err-extend_from_slice-clause-front
 returns-in_err-extend_from_slice-clause-front g c =
-    on_err c.from_residual-in_err-extend_from_slice.result
+    on_err c.from_residual.result
     (items_front (g.W.Write.contents c.args.writer.now) (g.W.Write.contents c.loop-item.writer) (g.W.Write.contents c.loop-item.writer) c.args.items.now c.loop-item.item-index c.loop-item.kept.items
     c.loop-item.invariant (front_none (g.W.Write.contents c.loop-item.writer) c.loop-item.kept.items))
 
