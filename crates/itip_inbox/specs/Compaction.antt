@@ -1,6 +1,6 @@
 -- The compaction of an input: the octets of what is kept of all its messages (our own format).
 use Rattle.std.specs.Prelude.{◌≡◌, ◌↔◌, ◌⊎◌, ℕ, Bool, List, [], ◌∷◌, ◌++◌, Option}
-use Rattle.std.specs.List.{Contains, concat}
+use Rattle.std.specs.List.{Contains}
 use Rattle.std.specs.Io.KnownBytes.{Appends}
 use Rattle.itip_message.specs.declared.item.Item.{Item}
 use Rattle.itip_state.specs.Kept.{AreKept}

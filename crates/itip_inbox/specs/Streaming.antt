@@ -1,5 +1,5 @@
 -- What is known while an input is read by and by (our own form).
-use Rattle.std.specs.Prelude.{◌≡◌, ◌≤◌, ℕ, List, [], ◌∷◌, ◌++◌, length, Option, Some, None, ⊤, Result, IfOk, IfErr, Bool, IsTrue}
+use Rattle.std.specs.Prelude.{◌≡◌, ℕ, List, ◌++◌, length, Option, Some, None, ⊤, Result, IfOk, IfErr, Bool, IsTrue}
 use Rattle.std.specs.Io.KnownBytes.{IsAtEnd}
 use Rattle.std.specs.List.{AllZip, Contains}
 use Rattle.itip_message.specs.Faults.{IfFault}

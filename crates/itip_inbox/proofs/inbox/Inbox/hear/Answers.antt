@@ -1,4 +1,4 @@
-use Rattle.std.proofs.Common.{List, ◌++◌, map, sym, subst}
+use Rattle.std.proofs.Common.{map}
 use Rattle.std.proofs.lemmas.Result.{on_ok_weaker}
 use Rattle.itip_inbox.proofs.Hearing.{take_begins, take_ends}
 use Rattle.itip_inbox.proofs.inbox.Inbox.hear.Goals as goal

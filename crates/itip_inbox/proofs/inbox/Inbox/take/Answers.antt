@@ -1,4 +1,4 @@
-use Rattle.std.proofs.Common.{◌≡◌, ◌∙◌, sym, ap, refl, List, subst, arith, rules, Result, Ok, Err}
+use Rattle.std.proofs.Common.{◌≡◌, ◌∙◌, sym, ap, List, arith, rules, Result, Ok, Err}
 use Rattle.std.specs.Vec.Iter.{into_iter_items}
 use Rattle.itip_message.specs.declared.error.Fault.{Fault}
 use Rattle.itip_message.specs.declared.error.ReadError.{ReadError}
