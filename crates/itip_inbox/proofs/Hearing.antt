@@ -1,5 +1,5 @@
 -- Messages that are heard or refused, one after another.
-use Rattle.std.proofs.Common.{◌≡◌, ◌∙◌, sym, ap, refl, ℕ, suc, ◌+◌, List, [], ◌∷◌, ◌++◌, length, subst, arith, append_assoc, append-nil, Result, Ok, Err}
+use Rattle.std.proofs.Common.{◌≡◌, ◌∙◌, sym, ap, refl, ℕ, suc, ◌+◌, List, [], ◌∷◌, ◌++◌, length, map, Bor, subst, arith, append_assoc, append-nil, Result, Ok, Err}
 use Rattle.std.specs.List.{AllZip}
 use Rattle.std.proofs.lemmas.List.{length-append}
 use Rattle.itip_message.specs.Message.{ReadsMessage, RefusesMessage}
@@ -8,9 +8,11 @@ use Rattle.itip_message.specs.declared.error.ReadError.{ReadError}
 use Rattle.itip_message.specs.declared.error.ReadError.TheVariants as error
 use Rattle.itip_message.specs.declared.item.Item.{Item}
 use Rattle.itip_state.specs.Kept.{AreKept}
+use Rattle.itip_state.proofs.Keeping.{AreAmong}
 use Rattle.itip_inbox.specs.declared.refusal.Refusal.{Refusal}
 use Rattle.itip_inbox.specs.Inbox.{IsAnswer, AreAnswers, heard_of, refusals_from, Hears}
-use Rattle.itip_inbox.specs.Streaming.{MayAnswer, KeepsMessages, SortsSoFar}
+use Rattle.itip_inbox.specs.Streaming.{MayTell, KeepsMessages, TakesSoFar}
+use Rattle.itip_inbox.proofs.Keeping.{keeps_news, kept_among, among_more}
 
 heard_push : (as' : List (Result (List Item) Fault)) (a : Result (List Item) Fault) → heard_of (as' ++ a ∷ []) ≡ heard_of as' ++ heard_of (a ∷ [])
 heard_push [] a = refl
@@ -61,80 +63,97 @@ module _ (messages : List (List ℕ)) (heard : List Item) (refusals : List Refus
         refusals_are = (λ i. so_far.refusals_are i ++ (record { message = e i; cause = cause }) ∷ []) ∙ sym (refusals_push 1 so_far.answers (Err cause));
       }
 
+-- the answers of texts, as they are seen
+pub answers_of : (first : List Item) (texts : List (Bor (List ℕ))) (answers : List (Result (List Item) ReadError)) → AllZip (λ (t : Bor (List ℕ)) a. MayTell first t.now a) texts answers
+    → AllZip (MayTell first) (map (λ (t : Bor (List ℕ)). t.now) texts) answers
+answers_of first [] [] all = tt
+answers_of first [] (a ∷ as') all = absurd all
+answers_of first (t ∷ ts) [] all = absurd all
+answers_of first (t ∷ ts) (a ∷ as') all = (all.0, answers_of first ts as' all.1)
+
 -- ---- going through answers
 
-module _ (before texts : List (List ℕ)) (left : List (Result (List Item) ReadError)) (heard : List Item) (refusals : List Refusal) (count next : ℕ) where
-  item_at : (items : List Item) (done rest : List (List ℕ)) → texts ≡ done ++ rest → AllZip MayAnswer rest (Ok items ∷ left) → Hears (before ++ done) heard refusals → count ≡ length (before ++ done)
-      → next ≡ count + 1 → SortsSoFar before texts left (heard ++ items) refusals next
-  item_at items done [] whole answered hears counted is = absurd answered
-  item_at items done (text ∷ rest) whole answered hears counted is =
+module _ (before texts : List (List ℕ)) (first : List Item) (left : List (Result (List Item) ReadError)) (kept : List Item) (refusals : List Refusal) (count next : ℕ) where
+  items_at : (now news heard : List Item) (done rest : List (List ℕ)) → texts ≡ done ++ rest → AllZip (MayTell first) rest (Ok news ∷ left) → Hears (before ++ done) heard refusals → AreAmong first heard → AreKept kept heard
+      → count ≡ length (before ++ done) → next ≡ count + 1 → ((heard : List Item) → AreKept kept heard → AreKept now (heard ++ news)) → TakesSoFar before texts first left now refusals next
+  items_at now news heard done [] whole answered hears among keeps counted is more = absurd answered
+  items_at now news heard done (text ∷ rest) whole answered hears among keeps counted is more =
+      let told = answered.0.0 in
+      let items : List Item = told.0 in
       let to : (before ++ done) ++ text ∷ [] ≡ before ++ (done ++ text ∷ []) = append_assoc before done (text ∷ []) in
-      let more : length ((before ++ done) ++ text ∷ []) ≡ length (before ++ done) + 1 = length-append (before ++ done) (text ∷ []) in
+      let longer : length ((before ++ done) ++ text ∷ []) ≡ length (before ++ done) + 1 = length-append (before ++ done) (text ∷ []) in
       record {
         done = done ++ text ∷ [];
         rest = rest;
+        heard = heard ++ items;
         whole = whole ∙ sym (append_assoc done (text ∷ []) rest);
         answered = answered.1;
-        hears = subst (λ (ms : List (List ℕ)). Hears ms (heard ++ items) refusals) to (hears_items (before ++ done) heard refusals hears text items answered.0.0);
-        count_is = is ∙ ap (λ (k : ℕ). k + 1) counted ∙ sym more ∙ ap length to;
+        hears = subst (λ (ms : List (List ℕ)). Hears ms (heard ++ items) refusals) to (hears_items (before ++ done) heard refusals hears text items told.1);
+        among = among_more first heard items among;
+        keeps = keeps_news first now heard items news among told.2 (more heard keeps);
+        count_is = is ∙ ap (λ (k : ℕ). k + 1) counted ∙ sym longer ∙ ap length to;
       }
 
-  refusal_at : (cause : Fault) (done rest : List (List ℕ)) → texts ≡ done ++ rest → AllZip MayAnswer rest (Err (error.Fault cause) ∷ left) → Hears (before ++ done) heard refusals → count ≡ length (before ++ done)
-      → next ≡ count + 1 → SortsSoFar before texts left heard (refusals ++ (record { message = next; cause = cause }) ∷ []) next
-  refusal_at cause done [] whole answered hears counted is = absurd answered
-  refusal_at cause done (text ∷ rest) whole answered hears counted is =
+  refusal_at : (cause : Fault) (heard : List Item) (done rest : List (List ℕ)) → texts ≡ done ++ rest → AllZip (MayTell first) rest (Err (error.Fault cause) ∷ left) → Hears (before ++ done) heard refusals → AreAmong first heard → AreKept kept heard
+      → count ≡ length (before ++ done) → next ≡ count + 1 → TakesSoFar before texts first left kept (refusals ++ (record { message = next; cause = cause }) ∷ []) next
+  refusal_at cause heard done [] whole answered hears among keeps counted is = absurd answered
+  refusal_at cause heard done (text ∷ rest) whole answered hears among keeps counted is =
       let to : (before ++ done) ++ text ∷ [] ≡ before ++ (done ++ text ∷ []) = append_assoc before done (text ∷ []) in
-      let more : length ((before ++ done) ++ text ∷ []) ≡ length (before ++ done) + 1 = length-append (before ++ done) (text ∷ []) in
+      let longer : length ((before ++ done) ++ text ∷ []) ≡ length (before ++ done) + 1 = length-append (before ++ done) (text ∷ []) in
       let number : next ≡ length (before ++ done) + 1 = is ∙ ap (λ (k : ℕ). k + 1) counted in
       record {
         done = done ++ text ∷ [];
         rest = rest;
+        heard = heard;
         whole = whole ∙ sym (append_assoc done (text ∷ []) rest);
         answered = answered.1;
         hears = subst (λ (ms : List (List ℕ)). Hears ms heard (refusals ++ (record { message = next; cause = cause }) ∷ [])) to (hears_refusal (before ++ done) heard refusals hears text cause next number answered.0.1);
-        count_is = number ∙ sym more ∙ ap length to;
+        among = among;
+        keeps = keeps;
+        count_is = number ∙ sym longer ∙ ap length to;
       }
 
-  pub sort_items : (items : List Item) → SortsSoFar before texts (Ok items ∷ left) heard refusals count → next ≡ count + 1 → SortsSoFar before texts left (heard ++ items) refusals next
-  sort_items items so_far = item_at items so_far.done so_far.rest so_far.whole so_far.answered so_far.hears so_far.count_is
-
-  pub sort_refusal : (cause : Fault) → SortsSoFar before texts (Err (error.Fault cause) ∷ left) heard refusals count → next ≡ count + 1 → SortsSoFar before texts left heard (refusals ++ (record { message = next; cause = cause }) ∷ []) next
-  sort_refusal cause so_far = refusal_at cause so_far.done so_far.rest so_far.whole so_far.answered so_far.hears so_far.count_is
-
-pub sort_begins : (messages texts : List (List ℕ)) (answers : List (Result (List Item) ReadError)) (kept : List Item) (refusals : List Refusal) (count : ℕ) → AllZip MayAnswer texts answers
-    → (keeps : KeepsMessages messages kept refusals count) → SortsSoFar messages texts answers keeps.heard refusals count
-sort_begins messages texts answers kept refusals count answered keeps = record {
+pub take_begins : (messages texts : List (List ℕ)) (answers : List (Result (List Item) ReadError)) (kept : List Item) (refusals : List Refusal) (count : ℕ) → AllZip (MayTell kept) texts answers
+    → KeepsMessages messages kept refusals count → TakesSoFar messages texts kept answers kept refusals count
+take_begins messages texts answers kept refusals count answered keeps = record {
   done = [];
   rest = texts;
+  heard = keeps.heard;
   whole = refl;
   answered = answered;
   hears = subst (λ (ms : List (List ℕ)). Hears ms keeps.heard refusals) (sym (append-nil messages)) keeps.hears;
+  among = kept_among kept keeps.heard keeps.keeps;
+  keeps = keeps.keeps;
   count_is = keeps.count_is ∙ ap length (sym (append-nil messages));
 }
 
-none_left : (rest : List (List ℕ)) → AllZip MayAnswer rest [] → rest ≡ []
-none_left [] answered = refl
-none_left (t ∷ rest) answered = absurd answered
+none_left : (first : List Item) (rest : List (List ℕ)) → AllZip (MayTell first) rest [] → rest ≡ []
+none_left first [] answered = refl
+none_left first (t ∷ rest) answered = absurd answered
 
-pub sort_ends : (messages texts : List (List ℕ)) (heard kept : List Item) (refusals : List Refusal) (count : ℕ) → SortsSoFar messages texts [] heard refusals count → AreKept kept heard
-    → KeepsMessages (messages ++ texts) kept refusals count
-sort_ends messages texts heard kept refusals count so_far keeps =
-    let all : so_far.done ≡ texts = sym (append-nil so_far.done) ∙ ap (λ (t : List (List ℕ)). so_far.done ++ t) (sym (none_left so_far.rest so_far.answered)) ∙ sym so_far.whole in
+pub take_ends : (messages texts : List (List ℕ)) (first kept : List Item) (refusals : List Refusal) (count : ℕ) → TakesSoFar messages texts first [] kept refusals count → KeepsMessages (messages ++ texts) kept refusals count
+take_ends messages texts first kept refusals count so_far =
+    let all : so_far.done ≡ texts = sym (append-nil so_far.done) ∙ ap (λ (t : List (List ℕ)). so_far.done ++ t) (sym (none_left first so_far.rest so_far.answered)) ∙ sym so_far.whole in
     record {
-      heard = heard;
-      hears = subst (λ (ts : List (List ℕ)). Hears (messages ++ ts) heard refusals) all so_far.hears;
-      keeps = keeps;
+      heard = so_far.heard;
+      hears = subst (λ (ts : List (List ℕ)). Hears (messages ++ ts) so_far.heard refusals) all so_far.hears;
+      keeps = so_far.keeps;
       count_is = so_far.count_is ∙ ap (λ (ts : List (List ℕ)). length (messages ++ ts)) all;
     }
 
-pub taken_items : (before texts : List (List ℕ)) (all left : List (Result (List Item) ReadError)) (heard now : List Item) (refusals : List Refusal) (count next : ℕ) (answer : Result (List Item) ReadError) (items : List Item)
-    → SortsSoFar before texts all heard refusals count → all ≡ answer ∷ left → answer ≡ Ok items → next ≡ count + 1 → now ≡ heard ++ items → SortsSoFar before texts left now refusals next
-taken_items before texts all left heard now refusals count next answer items so_far step is more grown =
-    subst (λ (t : List Item). SortsSoFar before texts left t refusals next) (sym grown)
-    (sort_items before texts left heard refusals count next items (subst (λ (t : List (Result (List Item) ReadError)). SortsSoFar before texts t heard refusals count) (step ∙ ap (λ (a : Result (List Item) ReadError). a ∷ left) is) so_far) more)
+pub take_items : (before texts : List (List ℕ)) (first : List Item) (all left : List (Result (List Item) ReadError)) (kept now : List Item) (refusals : List Refusal) (count next : ℕ) (answer : Result (List Item) ReadError) (news : List Item)
+    → TakesSoFar before texts first all kept refusals count → all ≡ answer ∷ left → answer ≡ Ok news → next ≡ count + 1 → ((heard : List Item) → AreKept kept heard → AreKept now (heard ++ news))
+    → TakesSoFar before texts first left now refusals next
+take_items before texts first all left kept now refusals count next answer news so_far step is more keeps =
+    items_at before texts first left kept refusals count next now news so_far.heard so_far.done so_far.rest so_far.whole
+    (subst (λ (t : List (Result (List Item) ReadError)). AllZip (MayTell first) so_far.rest t) (step ∙ ap (λ (a : Result (List Item) ReadError). a ∷ left) is) so_far.answered)
+    so_far.hears so_far.among so_far.keeps so_far.count_is more keeps
 
-pub taken_refusal : (before texts : List (List ℕ)) (all left : List (Result (List Item) ReadError)) (heard : List Item) (refusals now : List Refusal) (count next : ℕ) (answer : Result (List Item) ReadError) (cause : Fault)
-    → SortsSoFar before texts all heard refusals count → all ≡ answer ∷ left → answer ≡ Err (error.Fault cause) → next ≡ count + 1 → now ≡ refusals ++ (record { message = next; cause = cause }) ∷ [] → SortsSoFar before texts left heard now next
-taken_refusal before texts all left heard refusals now count next answer cause so_far step is more grown =
-    subst (λ (t : List Refusal). SortsSoFar before texts left heard t next) (sym grown)
-    (sort_refusal before texts left heard refusals count next cause (subst (λ (t : List (Result (List Item) ReadError)). SortsSoFar before texts t heard refusals count) (step ∙ ap (λ (a : Result (List Item) ReadError). a ∷ left) is) so_far) more)
+pub take_refusal : (before texts : List (List ℕ)) (first : List Item) (all left : List (Result (List Item) ReadError)) (kept : List Item) (refusals now : List Refusal) (count next : ℕ) (answer : Result (List Item) ReadError) (cause : Fault)
+    → TakesSoFar before texts first all kept refusals count → all ≡ answer ∷ left → answer ≡ Err (error.Fault cause) → next ≡ count + 1 → now ≡ refusals ++ (record { message = next; cause = cause }) ∷ []
+    → TakesSoFar before texts first left kept now next
+take_refusal before texts first all left kept refusals now count next answer cause so_far step is more grown =
+    subst (λ (t : List Refusal). TakesSoFar before texts first left kept t next) (sym grown)
+    (refusal_at before texts first left kept refusals count next cause so_far.heard so_far.done so_far.rest so_far.whole
+    (subst (λ (t : List (Result (List Item) ReadError)). AllZip (MayTell first) so_far.rest t) (step ∙ ap (λ (a : Result (List Item) ReadError). a ∷ left) is) so_far.answered)
+    so_far.hears so_far.among so_far.keeps so_far.count_is more)

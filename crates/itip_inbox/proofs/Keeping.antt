@@ -1,17 +1,53 @@
 -- What is kept where more is heard.
-use Rattle.std.proofs.Common.{List, ◌++◌, inl, inr}
-use Rattle.std.specs.List.{Contains}
+use Rattle.std.proofs.Common.{subst, List, [], ◌∷◌, ◌++◌, append_assoc, inl, inr}
 use Rattle.std.proofs.lemmas.List.Elements.{Contains-append_cases, Contains-append_left, Contains-append_right}
 use Rattle.itip_message.specs.declared.item.Item.{Item}
-use Rattle.itip_state.specs.Kept.{AreKept, SameItems, IsItemsOf}
-use Rattle.itip_state.proofs.Keeping.{kept_beside, are_kept_by, are_kept_same}
+use Rattle.itip_state.specs.Kept.{AreKept, SameItems}
+use Rattle.itip_state.specs.Told.{AreNews}
+use Rattle.itip_state.proofs.Keeping.{Covers, AreAmong, covers_itself, kept_of_parts, kept_beside, are_kept_by, are_kept_same}
+use Rattle.itip_state.proofs.News.{news_kept}
 
-beside : (x y z : List Item) → SameItems y z → SameItems (x ++ y) (x ++ z)
-beside x y z same i = (
-  λ h. elim (Contains-append_cases x y i h) [ inl left ↦ Contains-append_left x z i left | inr right ↦ Contains-append_right x z i ((same i).0 right) ],
-  λ h. elim (Contains-append_cases x z i h) [ inl left ↦ Contains-append_left x y i left | inr right ↦ Contains-append_right x y i ((same i).1 right) ],
+-- one item more is heard
+pub keeps_one : (old new heard done : List Item) (item : Item) → AreKept old (heard ++ done) → AreKept new (old ++ item ∷ []) → AreKept new (heard ++ (done ++ item ∷ []))
+keeps_one old new heard done item keeps kept =
+    subst (λ (all : List Item). AreKept new all) (append_assoc heard done (item ∷ []))
+    (are_kept_by new (old ++ item ∷ []) ((heard ++ done) ++ item ∷ []) (kept_beside (heard ++ done) (item ∷ []) old keeps) kept)
+
+-- a set with some items, beside what was heard, of which the set is a part
+beside : (first heard items : List Item) → AreAmong first heard → SameItems (heard ++ items) ((first ++ items) ++ heard)
+beside first heard items among i = (
+  λ h. elim (Contains-append_cases heard items i h) [
+    | inl left ↦ Contains-append_right (first ++ items) heard i left
+    | inr right ↦ Contains-append_left (first ++ items) heard i (Contains-append_right first items i right)
+  ],
+  λ h. elim (Contains-append_cases (first ++ items) heard i h) [
+    | inl left ↦ elim (Contains-append_cases first items i left) [
+      | inl one ↦ Contains-append_left heard items i (among i one)
+      | inr more ↦ Contains-append_right heard items i more
+    ]
+    | inr right ↦ Contains-append_left heard items i right
+  ],
 )
 
-pub keeps_more : (old new heard batch items : List Item) → AreKept old heard → IsItemsOf batch items → AreKept new (old ++ batch) → AreKept new (heard ++ items)
-keeps_more old new heard batch items keeps is kept =
-    are_kept_same new (heard ++ batch) (heard ++ items) (beside heard batch items is.same) (are_kept_by new (old ++ batch) (heard ++ batch) (kept_beside heard batch old keeps) kept)
+news_cover : (first items news : List Item) → AreNews first items news → Covers (first ++ news) (first ++ items)
+news_cover first items news are i = (
+  λ h. elim (Contains-append_cases first news i h) [
+    | inl old ↦ Contains-append_left first items i old
+    | inr new ↦ Contains-append_right first items i (are.among i new)
+  ],
+  λ kept. ((news_kept first items news are i).1 kept).best.is_heard,
+)
+
+-- What is news beside a set counts as much as all items, also where more was heard since.
+pub keeps_news : (first new heard items news : List Item) → AreAmong first heard → AreNews first items news → AreKept new (heard ++ news) → AreKept new (heard ++ items)
+keeps_news first new heard items news among are kept =
+    are_kept_same new ((first ++ items) ++ heard) (heard ++ items) (λ i. let two = beside first heard items among i in (two.1, two.0))
+    (are_kept_by new ((first ++ news) ++ heard) ((first ++ items) ++ heard)
+    (kept_of_parts (first ++ items) heard (first ++ news) heard (news_cover first items news are) (covers_itself heard))
+    (are_kept_same new (heard ++ news) ((first ++ news) ++ heard) (beside first heard news among) kept))
+
+pub among_more : (first heard more : List Item) → AreAmong first heard → AreAmong first (heard ++ more)
+among_more first heard more among i h = Contains-append_left heard more i (among i h)
+
+pub kept_among : (kept heard : List Item) → AreKept kept heard → AreAmong kept heard
+kept_among kept heard are i h = ((are i).0 h).best.is_heard

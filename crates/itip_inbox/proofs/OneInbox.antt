@@ -1,18 +1,15 @@
 -- An input is one inbox, and has one compaction.
-use Rattle.std.proofs.Common.{◌≡◌, ◌∙◌, sym, ap, refl, subst, ℕ, ◌<◌, ◌⊎◌, Bool, List, [], ◌∷◌, ◌++◌, length, inl, inr, arith, Result, Ok, Err}
-use Rattle.std.specs.List.{Contains}
-use Rattle.std.proofs.lemmas.List.Elements.{Contains-append_cases, Contains-append_left, Contains-append_right, Contains-push, Contains-push_cases}
-use Rattle.itip_message.specs.Message.{ReadsMessage, RefusesMessage}
+use Rattle.std.proofs.Common.{◌≡◌, ◌∙◌, sym, ap, refl, subst, ℕ, Bool, List, [], ◌∷◌, Result, Ok, Err}
 use Rattle.itip_message.specs.declared.error.Fault.{Fault}
 use Rattle.itip_message.specs.declared.item.Item.{Item}
 use Rattle.itip_message.proofs.OneMessage.{one_message, one_cause, message_apart}
-use Rattle.itip_state.specs.Kept.{AreKept, SameItems}
+use Rattle.itip_state.specs.Kept.{SameItems}
 use Rattle.itip_delta.specs.Delta.{delta_octets}
 use Rattle.itip_delta.proofs.Deltas.{one_order}
 use Rattle.itip_delta.proofs.OneCut.{one_cut}
 use Rattle.itip_inbox.specs.declared.refusal.Refusal.{Refusal}
 use Rattle.itip_inbox.specs.Inbox.{IsAnswer, AreAnswers, heard_of, refusals_from, IsInbox}
-use Rattle.itip_inbox.specs.Compaction.{AreKeptOctets, IsCompaction, HasMessage}
+use Rattle.itip_inbox.specs.Compaction.{AreKeptOctets, IsCompaction}
 
 -- a text is one thing
 one_answer : (text : List ℕ) (a b : Result (List Item) Fault) → IsAnswer text a → IsAnswer text b → a ≡ b

@@ -1,21 +1,25 @@
 -- What is written of an input.
-use Rattle.std.proofs.Common.{◌≡◌, ◌∙◌, sym, ap, refl, subst, ℕ, ◌+◌, ◌<◌, ◌≤◌, ◌⊎◌, ◌||◌, Bool, true, false, List, [], ◌∷◌, ◌++◌, length, take, drop, get_or, inl, inr, append_assoc, append-nil, take-append-drop, Option, Some, None, Result, Ok, Err, codes}
+use Rattle.std.proofs.Common.{◌≡◌, ◌∙◌, sym, ap, refl, subst, ℕ, ◌+◌, ◌<◌, ◌≤◌, ◌||◌, Bool, List, [], ◌∷◌, ◌++◌, length, take, drop, get_or, inl, inr, append_assoc, take-append-drop, Option, Some, None, Result, Ok, Err}
 use Rattle.std.specs.Prelude.{IfSome, OnErr}
 use Rattle.std.specs.Io.KnownBytes.{Appends}
 use Rattle.std.proofs.KnownBytes.{Appends-nil, Appends-trans}
 use Rattle.std.proofs.lemmas.List.{take_more, take_all}
 use Rattle.itip_message.specs.declared.item.Item.{Item}
-use Rattle.itip_state.specs.Kept.{AreKept, SameItems, IsItemsOf}
+use Rattle.itip_state.specs.Kept.{AreKept, IsItemsOf}
+use Rattle.itip_view.specs.ListText.{list_text}
+use Rattle.itip_view.specs.Rows.{row_limit}
 use Rattle.itip_view.specs.Showing.{Shows}
+use Rattle.itip_view.specs.declared.row.Row.{Row}
 use Rattle.itip_view.specs.declared.window.Window.{Window}
 use Rattle.itip_view.proofs.OneList.{one_list_text, text_or_too_many, one_text_for, text_for_or_too_many}
+use Rattle.itip_view.proofs.OfKept.{text_of_kept, text_for_of_kept, too_many_of_kept, many_where_of_kept}
 use Rattle.itip_delta.specs.Delta.{delta_octets}
 use Rattle.itip_delta.proofs.Deltas.{one_order}
 use Rattle.itip_streams.specs.Written.{AppendsFront, MovesOut}
 use Rattle.itip_inbox.specs.declared.refusal.Refusal.{Refusal}
 use Rattle.itip_inbox.specs.Inbox.{Holds, is_some_refused}
-use Rattle.itip_inbox.specs.Compaction.{AreKeptOctets, IsCompaction, WritesCompaction, WritesItems, WritesSoFar}
-use Rattle.itip_inbox.specs.TaskList.{IsTextFor, AreTooManyFor, IsListed, IsTaskList, WritesTaskList}
+use Rattle.itip_inbox.specs.Compaction.{IsCompaction, WritesCompaction, WritesSoFar}
+use Rattle.itip_inbox.specs.TaskList.{IsTextFor, AreRowsFor, AreTooManyFor, IsListed, IsTaskList, WritesTaskList}
 use Rattle.itip_inbox.proofs.Octets.{octets_none, octets_both, octets_push}
 use Rattle.itip_inbox.proofs.OneInbox.{one_inbox}
 
@@ -57,20 +61,10 @@ items_moved old mid new done kept rest so_far moved = record {
   appended = Appends-trans old mid new so_far.written moved.front so_far.appended moved.appended;
 }
 
--- the items of a set, as they are gone through
-pub gone_through : (items all kept set : List Item) → all ≡ items → IsItemsOf items kept → kept ≡ set → IsItemsOf all set
-gone_through items all kept set same is to = subst (λ (xs : List Item). IsItemsOf xs set) (sym same) (subst (λ (ys : List Item). IsItemsOf items ys) to is)
-
--- items of a set are the same list
-same_items : (items batch set : List Item) → IsItemsOf items set → IsItemsOf batch set → items ≡ batch
-same_items items batch set a b = one_order items batch a.ascend b.ascend (λ i. (λ h. (b.same i).1 ((a.same i).0 h), λ h. (a.same i).1 ((b.same i).0 h)))
-
 -- where what is kept is written in part, a front of all is
-pub items_front : (old mid new : Option (List ℕ)) (items batch set : List Item) (i : ℕ) (kept : List ℕ) → WritesSoFar old mid (take i items) kept → AppendsFront mid new kept → IsItemsOf items set → IsItemsOf batch set
-    → AppendsFront old new (delta_octets batch)
-items_front old mid new items batch set i kept so_far front is other =
-    let all : delta_octets batch ≡ delta_octets (take i items) ++ delta_octets (drop i items) =
-    ap delta_octets (sym (same_items items batch set is other)) ∙ ap delta_octets (sym (take-append-drop i items)) ∙ octets_both (take i items) (drop i items) in
+pub items_front : (old mid new : Option (List ℕ)) (items : List Item) (i : ℕ) (kept : List ℕ) → WritesSoFar old mid (take i items) kept → AppendsFront mid new kept → AppendsFront old new (delta_octets items)
+items_front old mid new items i kept so_far front =
+    let all : delta_octets items ≡ delta_octets (take i items) ++ delta_octets (drop i items) = ap delta_octets (sym (take-append-drop i items)) ∙ octets_both (take i items) (drop i items) in
     record {
       front = so_far.written ++ front.front;
       rest = front.rest ++ delta_octets (drop i items);
@@ -80,12 +74,9 @@ items_front old mid new items batch set i kept so_far front is other =
     }
 
 -- all is written
-pub items_end : (old mid new : Option (List ℕ)) (items set : List Item) (i : ℕ) (kept : List ℕ) → WritesSoFar old mid (take i items) kept → length items ≤ i → Appends mid new kept → IsItemsOf items set → WritesItems old new set
-items_end old mid new items set i kept so_far past appended is = record {
-  batch = items;
-  items = is;
-  appended = subst (λ (t : List ℕ). Appends old new t) (sym so_far.octets_are ∙ ap delta_octets (take_all i items past)) (Appends-trans old mid new so_far.written kept so_far.appended appended);
-}
+pub items_end : (old mid new : Option (List ℕ)) (items : List Item) (i : ℕ) (kept : List ℕ) → WritesSoFar old mid (take i items) kept → length items ≤ i → Appends mid new kept → Appends old new (delta_octets items)
+items_end old mid new items i kept so_far past appended =
+    subst (λ (t : List ℕ). Appends old new t) (sym so_far.octets_are ∙ ap delta_octets (take_all i items past)) (Appends-trans old mid new so_far.written kept so_far.appended appended)
 
 -- ---- compaction
 
@@ -93,20 +84,24 @@ items_end old mid new items set i kept so_far past appended is = record {
 kept_items : (batch kept heard : List Item) → IsItemsOf batch kept → AreKept kept heard → AreKept batch heard
 kept_items batch kept heard is keeps i = (λ h. (keeps i).0 ((is.same i).0 h), λ k. (is.same i).1 ((keeps i).1 k))
 
-pub compaction_written : (old new read : Option (List ℕ)) (kept : List Item) (refusals : List Refusal) (refused : Bool) → IfSome read (λ input. Holds input kept refusals) → WritesItems old new kept
-    → refused ≡ is_some_refused refusals → IfSome read (λ input. WritesCompaction old new input refused)
-compaction_written old new None kept refusals refused holds written is = tt
-compaction_written old new (Some input) kept refusals refused holds written is = record {
-  octets = delta_octets written.batch;
+pub compaction_written : (old new read : Option (List ℕ)) (kept batch : List Item) (refusals : List Refusal) (refused : Bool) → IfSome read (λ input. Holds input kept refusals) → IsItemsOf batch kept
+    → Appends old new (delta_octets batch) → refused ≡ is_some_refused refusals → IfSome read (λ input. WritesCompaction old new input refused)
+compaction_written old new None kept batch refusals refused holds items appended is = tt
+compaction_written old new (Some input) kept batch refusals refused holds items appended is = record {
+  octets = delta_octets batch;
   compaction = record {
     heard = holds.heard;
     refusals = refusals;
     inbox = holds.inbox;
-    kept = record { batch = written.batch; ascend = written.items.ascend; kept = kept_items written.batch kept holds.heard written.items holds.keeps; octets_are = refl };
+    kept = record { batch = batch; ascend = items.ascend; kept = kept_items batch kept holds.heard items holds.keeps; octets_are = refl };
     refused_is = is;
   };
-  appended = written.appended;
+  appended = appended;
 }
+
+-- items of a set are the same list
+same_items : (items batch set : List Item) → IsItemsOf items set → IsItemsOf batch set → items ≡ batch
+same_items items batch set a b = one_order items batch a.ascend b.ascend (λ i. (λ h. (b.same i).1 ((a.same i).0 h), λ h. (a.same i).1 ((b.same i).0 h)))
 
 -- the batch of a compaction is that of what is kept
 its_batch : (input octets : List ℕ) (kept : List Item) (refusals : List Refusal) (refused : Bool) → Holds input kept refusals → (is : IsCompaction input octets refused) → IsItemsOf is.kept.batch kept
@@ -115,18 +110,28 @@ its_batch input octets kept refusals refused holds is =
     let are : AreKept is.kept.batch holds.heard = subst (λ (heard : List Item). AreKept is.kept.batch heard) one is.kept.kept in
     record { ascend = is.kept.ascend; same = λ i. (λ h. (holds.keeps i).1 ((are i).0 h), λ h. (are i).1 ((holds.keeps i).0 h)) }
 
-pub compaction_front : (old new read : Option (List ℕ)) (kept : List Item) (refusals : List Refusal) → IfSome read (λ input. Holds input kept refusals)
-    → ((batch : List Item) → IsItemsOf batch kept → AppendsFront old new (delta_octets batch))
+pub compaction_front : (old new read : Option (List ℕ)) (kept batch : List Item) (refusals : List Refusal) → IfSome read (λ input. Holds input kept refusals) → IsItemsOf batch kept → AppendsFront old new (delta_octets batch)
     → IfSome read (λ input. (octets : List ℕ) (refused : Bool) → IsCompaction input octets refused → AppendsFront old new octets)
-compaction_front old new None kept refusals holds fronts = tt
-compaction_front old new (Some input) kept refusals holds fronts = λ octets refused is.
-    subst (λ (t : List ℕ). AppendsFront old new t) (sym is.kept.octets_are) (fronts is.kept.batch (its_batch input octets kept refusals refused holds is))
+compaction_front old new None kept batch refusals holds items front = tt
+compaction_front old new (Some input) kept batch refusals holds items front = λ octets refused is.
+    let same : batch ≡ is.kept.batch = same_items batch is.kept.batch kept items (its_batch input octets kept refusals refused holds is) in
+    subst (λ (t : List ℕ). AppendsFront old new t) (ap delta_octets same ∙ sym is.kept.octets_are) front
 
 pub compaction_unread : (o read : Option (List ℕ)) → IfSome read (λ input. (octets : List ℕ) (refused : Bool) → IsCompaction input octets refused → AppendsFront o o octets)
 compaction_unread o None = tt
 compaction_unread o (Some input) = λ octets refused is. front_none o octets
 
 -- ---- the task list
+
+-- the text of the rows of what is kept is that of what was heard
+pub text_of_rows : (attendee : Option (List ℕ)) (kept heard : List Item) (window : Window) (rows : List Row) (text : List ℕ) → AreKept kept heard → AreRowsFor attendee kept window rows → length rows ≤ row_limit
+    → text ≡ list_text rows → IsTextFor attendee heard window text
+text_of_rows None kept heard window rows text are rows_are few is = text_of_kept kept heard are window text (record { rows = rows; are_rows = rows_are; few = few; text_is = is })
+text_of_rows (Some address) kept heard window rows text are rows_are few is = text_for_of_kept address kept heard are window text (record { rows = rows; are_rows = rows_are; few = few; text_is = is })
+
+pub many_of_rows : (attendee : Option (List ℕ)) (kept heard : List Item) (window : Window) → AreKept kept heard → AreTooManyFor attendee kept window → AreTooManyFor attendee heard window
+many_of_rows None kept heard window are many = too_many_of_kept kept heard are window many
+many_of_rows (Some address) kept heard window are many = many_where_of_kept (Shows address) kept heard are window many
 
 text_once : (attendee : Option (List ℕ)) (heard : List Item) (window : Window) (text other : List ℕ) → IsTextFor attendee heard window text → IsTextFor attendee heard window other → text ≡ other
 text_once None heard window text other a b = one_list_text heard window text other a b

@@ -1,22 +1,21 @@
 -- Parts of an input that were compacted apart.
-use Rattle.std.proofs.Common.{◌≡◌, ◌∙◌, sym, ap, refl, subst, ℕ, ◌+◌, ◌<◌, ◌⊎◌, ◌↔◌, Bool, List, [], ◌∷◌, ◌++◌, length, map, inl, inr, arith, append_assoc, append-nil, Result, Ok, Err}
+use Rattle.std.proofs.Common.{◌≡◌, ◌∙◌, sym, ap, refl, subst, ℕ, ◌+◌, ◌<◌, ◌⊎◌, ◌↔◌, Bool, List, [], ◌∷◌, ◌++◌, map, inl, inr, arith, append-nil, Result, Ok, Err}
 use Rattle.std.specs.List.{Contains, concat}
 use Rattle.std.proofs.lemmas.List.Elements.{Contains-append_cases, Contains-append_left, Contains-append_right, Contains-push, Contains-push_cases}
-use Rattle.itip_message.specs.Message.{ReadsMessage, RefusesMessage}
+use Rattle.itip_message.specs.Message.{ReadsMessage}
 use Rattle.itip_message.specs.declared.error.Fault.{Fault}
 use Rattle.itip_message.specs.declared.item.Item.{Item}
 use Rattle.itip_message.proofs.OneMessage.{one_message, message_apart}
 use Rattle.itip_message.proofs.ReadAgain.{reads_again}
-use Rattle.itip_state.specs.Kept.{IsKept, AreKept, SameItems}
-use Rattle.itip_state.proofs.Keeping.{Covers, covers_kept, covers_itself, in_whole, kept_of_parts, kept_iff, kept_part}
-use Rattle.itip_delta.specs.Cutting.{IsCutInto}
+use Rattle.itip_state.specs.Kept.{IsKept, SameItems}
+use Rattle.itip_state.proofs.Keeping.{Covers, covers_kept, covers_itself, kept_of_parts, kept_iff, kept_part}
 use Rattle.itip_delta.specs.Scanned.{messages_of}
 use Rattle.itip_delta.specs.Delta.{delta_octets}
 use Rattle.itip_delta.proofs.Cuts.{cut_by_scan}
 use Rattle.itip_delta.proofs.Deltas.{messages_written, one_order}
 use Rattle.itip_delta.proofs.OneCut.{one_cut}
 use Rattle.itip_inbox.specs.declared.refusal.Refusal.{Refusal}
-use Rattle.itip_inbox.specs.Inbox.{IsAnswer, AreAnswers, heard_of, refusals_from, Hears, IsInbox}
+use Rattle.itip_inbox.specs.Inbox.{AreAnswers, heard_of, refusals_from, IsInbox}
 use Rattle.itip_inbox.specs.Compaction.{AreKeptOctets, IsCompaction, AreCompactions, HasMessage, SomeHasMessage, HasSameMessages}
 use Rattle.itip_inbox.proofs.Octets.{octets_none, octets_both}
 use Rattle.itip_inbox.proofs.OneInbox.{one_inbox}

@@ -1,9 +1,8 @@
 -- An input that is read by and by.
-use Rattle.std.proofs.Common.{◌≡◌, ◌∙◌, sym, ap, refl, ℕ, ◌+◌, ◌<◌, List, [], ◌∷◌, ◌++◌, length, subst, arith, append_assoc, append-nil, Option, Some, None}
+use Rattle.std.proofs.Common.{◌≡◌, ◌∙◌, sym, ap, refl, ℕ, ◌<◌, List, [], ◌∷◌, ◌++◌, length, subst, append_assoc, append-nil, Option, Some, None}
 use Rattle.std.specs.Prelude.{IfSome}
 use Rattle.std.specs.Io.KnownBytes.{Consumes, IsAtEnd}
 use Rattle.itip_message.specs.declared.item.Item.{Item}
-use Rattle.itip_state.specs.Kept.{AreKept}
 use Rattle.itip_delta.specs.Scanned.{messages_of, CutsMessage, StaysCut}
 use Rattle.itip_delta.proofs.Cuts.{cut_by_scan}
 use Rattle.itip_inbox.specs.declared.refusal.Refusal.{Refusal}

@@ -1,9 +1,9 @@
 -- The compaction of an input: the octets of what is kept of all its messages (our own format).
 use Rattle.std.specs.Prelude.{◌≡◌, ◌↔◌, ◌⊎◌, ℕ, Bool, List, [], ◌∷◌, ◌++◌, Option}
-use Rattle.std.specs.List.{Contains, concat}
+use Rattle.std.specs.List.{Contains}
 use Rattle.std.specs.Io.KnownBytes.{Appends}
 use Rattle.itip_message.specs.declared.item.Item.{Item}
-use Rattle.itip_state.specs.Kept.{AreKept, IsItemsOf}
+use Rattle.itip_state.specs.Kept.{AreKept}
 use Rattle.itip_desk.specs.Octets.{AscendOctets}
 use Rattle.itip_delta.specs.Cutting.{IsCutInto}
 use Rattle.itip_delta.specs.Delta.{delta_octets}
@@ -30,12 +30,6 @@ pub record WritesCompaction (old new : Option (List ℕ)) (input : List ℕ) (re
   pub octets : List ℕ
   pub compaction : IsCompaction input octets refused
   pub appended : Appends old new octets
-
--- The octets of items of a state were written.
-pub record WritesItems (old new : Option (List ℕ)) (kept : List Item) : Type 0 where
-  pub batch : List Item
-  pub items : IsItemsOf batch kept
-  pub appended : Appends old new (delta_octets batch)
 
 -- What was written, and what is kept to be written, are the octets of these items.
 pub record WritesSoFar (old new : Option (List ℕ)) (done : List Item) (kept : List ℕ) : Type 0 where

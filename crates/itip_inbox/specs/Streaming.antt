@@ -1,19 +1,20 @@
 -- What is known while an input is read by and by (our own form).
-use Rattle.std.specs.Prelude.{◌≡◌, ◌≤◌, ℕ, List, [], ◌∷◌, ◌++◌, length, Option, Some, None, ⊤, Result, IfOk, IfErr, Bool, IsTrue}
+use Rattle.std.specs.Prelude.{◌≡◌, ℕ, List, ◌++◌, length, Option, Some, None, ⊤, Result, IfOk, IfErr, Bool, IsTrue}
 use Rattle.std.specs.Io.KnownBytes.{IsAtEnd}
-use Rattle.std.specs.List.{AllZip}
+use Rattle.std.specs.List.{AllZip, Contains}
 use Rattle.itip_message.specs.Faults.{IfFault}
 use Rattle.itip_message.specs.Message.{ReadsMessage, RefusesMessage}
 use Rattle.itip_message.specs.declared.error.ReadError.{ReadError}
 use Rattle.itip_message.specs.declared.item.Item.{Item}
 use Rattle.itip_state.specs.Kept.{AreKept}
+use Rattle.itip_state.specs.Told.{AreNews}
 use Rattle.itip_delta.specs.Scanned.{messages_of}
 use Rattle.itip_inbox.specs.Inbox.{Hears}
 use Rattle.itip_inbox.specs.declared.refusal.Refusal.{Refusal}
 
--- what reading a text may give, memory aside
-abbrev pub MayAnswer : List ℕ → Result (List Item) ReadError → Type 0
-MayAnswer text answer = IfOk answer (ReadsMessage text) × IfErr answer (λ e. IfFault e (RefusesMessage text))
+-- what reading a text beside a set of kept items may give, memory aside: those of its items that are news beside the set
+abbrev pub MayTell : List Item → List ℕ → Result (List Item) ReadError → Type 0
+MayTell kept text answer = IfOk answer (λ news. (items : List Item) × ReadsMessage text items × AreNews kept items news) × IfErr answer (λ e. IfFault e (RefusesMessage text))
 
 -- The octets that are held, and those that are not read, are together the same as before.
 abbrev pub MovesIn : Option (List ℕ) → Option (List ℕ) → List ℕ → List ℕ → Type 0
@@ -44,14 +45,23 @@ pub record ReadsSoFar (old new : Option (List ℕ)) (held : List ℕ) (kept : Li
   pub keeps : KeepsMessages messages kept refusals count
   pub leaves : LeavesMessages old new messages held
 
--- Some of these answers were gone through, of texts that stand behind messages that came before.
-pub record SortsSoFar (before texts : List (List ℕ)) (left : List (Result (List Item) ReadError)) (heard : List Item) (refusals : List Refusal) (count : ℕ) : Type 0 where
+-- Some of these answers were gone through, of texts that stand behind messages that came before; they were read beside the items that were kept at first.
+pub record TakesSoFar (before texts : List (List ℕ)) (first : List Item) (left : List (Result (List Item) ReadError)) (kept : List Item) (refusals : List Refusal) (count : ℕ) : Type 0 where
   pub done : List (List ℕ)
   pub rest : List (List ℕ)
+  pub heard : List Item
   pub whole : texts ≡ done ++ rest
-  pub answered : AllZip MayAnswer rest left
+  pub answered : AllZip (MayTell first) rest left
   pub hears : Hears (before ++ done) heard refusals
+  pub among : (item : Item) → Contains first item → Contains heard item
+  pub keeps : AreKept kept heard
   pub count_is : count ≡ length (before ++ done)
+
+-- The first messages of some octets were heard, and these octets are left.
+pub record HearsFirst (octets left : List ℕ) (kept now : List Item) (refusals more : List Refusal) (count number : ℕ) : Type 0 where
+  pub texts : List (List ℕ)
+  pub cut : StaysCutInto octets texts left
+  pub hears : (messages : List (List ℕ)) → KeepsMessages messages kept refusals count → KeepsMessages (messages ++ texts) now more number
 
 -- Octets were read behind those that were held, up to the end where that is said.
 abbrev pub Fills : Option (List ℕ) → Option (List ℕ) → List ℕ → List ℕ → Bool → Type 0

@@ -3,8 +3,9 @@ use Rattle.std.specs.Prelude.{◌≡◌, ◌⊎◌, ℕ, Bool, true, false, ◌|
 use Rattle.std.specs.Io.KnownBytes.{Appends}
 use Rattle.itip_message.specs.declared.item.Item.{Item}
 use Rattle.itip_view.specs.ListText.{IsListText}
-use Rattle.itip_view.specs.Rows.{AreTooMany}
-use Rattle.itip_view.specs.Showing.{IsListTextFor, AreTooManyWhere, Shows}
+use Rattle.itip_view.specs.Rows.{AreRows, AreTooMany}
+use Rattle.itip_view.specs.Showing.{IsListTextFor, AreRowsWhere, AreTooManyWhere, Shows}
+use Rattle.itip_view.specs.declared.row.Row.{Row}
 use Rattle.itip_view.specs.declared.window.Window.{Window}
 use Rattle.itip_inbox.specs.Inbox.{IsInbox, is_some_refused}
 use Rattle.itip_inbox.specs.declared.refusal.Refusal.{Refusal}
@@ -13,6 +14,11 @@ use Rattle.itip_inbox.specs.declared.refusal.Refusal.{Refusal}
 abbrev pub IsTextFor : Option (List ℕ) → List Item → Window → List ℕ → Type 0
 IsTextFor None heard window text = IsListText heard window text
 IsTextFor (Some address) heard window text = IsListTextFor address heard window text
+
+-- the rows of the list; where an attendee is named, those that show the attendee
+abbrev pub AreRowsFor : Option (List ℕ) → List Item → Window → List Row → Type 0
+AreRowsFor None heard window rows = AreRows heard window rows
+AreRowsFor (Some address) heard window rows = AreRowsWhere (Shows address) heard window rows
 
 -- there are too many rows; where an attendee is named, too many that show the attendee
 abbrev pub AreTooManyFor : Option (List ℕ) → List Item → Window → Type 0

@@ -1,24 +1,24 @@
-//! The desk that hears an input.
-ghost use Rattle.std.specs.Prelude.{◌≡◌, ◌≢◌, ◌++◌, ◌+◌, ℕ, List, [], IfOk, IfErr, OnOk};
+//! What hears an input.
+ghost use Rattle.std.specs.Prelude.{◌≡◌, ◌≢◌, ◌++◌, ◌+◌, ℕ, List, [], map, IfOk, IfErr, OnOk, OnErr};
 ghost use Rattle.std.specs.List.{AllZip};
 ghost use Rattle.itip_message.specs.declared.item.Item.{Item};
 ghost use Rattle.itip_state.specs.Kept.{AreKept};
-ghost use Rattle.itip_inbox.specs.Streaming.{KeepsMessages, SortsSoFar};
+ghost use Rattle.itip_inbox.specs.Streaming.{KeepsMessages, TakesSoFar};
 
 use crate::refusal::Refusal;
 use crate::texts::read_texts;
-use itip_desk::{Batch, Desk, DeskError};
-use itip_lines::{Bytes, ListOf};
-use itip_message::{Item, ReadError};
+use itip_lines::ListOf;
+use itip_message::ReadError;
+use itip_state::{SharedItem, State};
 use itip_streams::StreamFault;
-use std::alloc::Global;
+use std::alloc::{AllocError, Global};
 use std::thread::Threads;
 
 /// What is kept of the messages of an input, and which were refused.
 #[derive(Drop)]
 pub struct Inbox {
-    /// The desk that has heard the messages.
-    pub desk: Desk,
+    /// What is kept of the messages.
+    pub state: State,
     /// The refused messages, in their order.
     pub refusals: Vec<Refusal>,
     /// How many messages there were, refused ones too.
@@ -28,10 +28,10 @@ pub struct Inbox {
 impl Inbox {
     /// An inbox of no message.
     pub(crate) fn empty(alloc: Global) -> Inbox
-        ensures { KeepsMessages [] result.desk.kept result.refusals.items result.messages }
+        ensures { KeepsMessages [] result.state result.refusals.items result.messages }
     {
         Inbox {
-            desk: Desk::empty_at(alloc, 0),
+            state: State::empty(alloc),
             refusals: Vec::new(alloc),
             messages: 0,
         }
@@ -42,34 +42,30 @@ impl Inbox {
         &mut self,
         rt: &(impl Threads + Sync),
         alloc: Global,
-        texts: &[Bytes],
+        texts: &[&[u8]],
         threads: usize,
     ) -> Result<(), StreamFault>
-        ensures keeps { OnOk result ((messages : List (List ℕ)) → KeepsMessages messages self.old.desk.kept self.old.refusals.items self.old.messages →
-            KeepsMessages (messages ++ texts.now) self.new.desk.kept self.new.refusals.items self.new.messages) }
+        ensures keeps { OnOk result ((messages : List (List ℕ)) → KeepsMessages messages self.old.state self.old.refusals.items self.old.messages →
+            KeepsMessages (messages ++ map (λ text. text.now) texts.now) self.new.state self.new.refusals.items self.new.messages) }
         ensures fault { IfErr result (λ fault. fault ≢ StreamFault.Write) }
     {
-        let answers = read_texts(rt, alloc, texts, threads)?;
-        let heard = self.sort(alloc, answers)?;
-        take(&mut self.desk, heard)
+        let answers = read_texts(rt, alloc, &self.state, texts, threads)?;
+        self.take(answers)
     }
 
-    /// The items of messages; the refused ones are noted. After a fault a part of them is.
-    fn sort(
+    /// Hears the news of messages, and notes the refused ones. After a fault a part of them is heard or noted.
+    fn take(
         &mut self,
-        alloc: Global,
-        answers: Vec<Result<ListOf<Item>, ReadError>>,
-    ) -> Result<Vec<Item>, StreamFault>
-        ensures sorts { IfOk result (λ items. (before texts : List (List ℕ)) (heard : List Item) → SortsSoFar before texts answers.items heard self.old.refusals.items self.old.messages →
-            SortsSoFar before texts [] (heard ++ items.items) self.new.refusals.items self.new.messages) }
-        ensures desk { self.new.desk ≡ self.old.desk }
+        answers: Vec<Result<ListOf<SharedItem>, ReadError>>,
+    ) -> Result<(), StreamFault>
+        ensures takes { OnOk result ((before texts : List (List ℕ)) (first : List Item) → TakesSoFar before texts first answers.items self.old.state self.old.refusals.items self.old.messages →
+            TakesSoFar before texts first [] self.new.state self.new.refusals.items self.new.messages) }
         ensures fault { IfErr result (λ fault. fault ≢ StreamFault.Write) }
     {
-        let mut heard = Vec::new(alloc);
         for answer in answers {
             self.messages = one_more(self.messages)?;
             match answer {
-                Ok(items) => heard.append(&mut items.into_vec())?,
+                Ok(news) => hear_news(&mut self.state, news.as_slice())?,
                 Err(ReadError::Fault(cause)) => self.refusals.push(Refusal {
                     message: self.messages,
                     cause,
@@ -77,7 +73,7 @@ impl Inbox {
                 Err(ReadError::NoMemory) => return Err(StreamFault::Memory),
             }
         }
-        Ok(heard)
+        Ok(())
     }
 }
 
@@ -92,14 +88,12 @@ fn one_more(count: u64) -> Result<u64, StreamFault>
     }
 }
 
-fn take(desk: &mut Desk, items: Vec<Item>) -> Result<(), StreamFault>
-    ensures kept { OnOk result ((heard : List Item) → AreKept desk.old.kept heard → AreKept desk.new.kept (heard ++ items.items)) }
-    ensures fault { IfErr result (λ fault. fault ≢ StreamFault.Write) }
+/// Hears items one after another. After a refusal (out of memory) a part of them is heard.
+fn hear_news(state: &mut State, news: &[SharedItem]) -> Result<(), AllocError>
+    ensures { OnOk result ((heard : List Item) → AreKept state.old heard → AreKept state.new (heard ++ news.now)) }
 {
-    let batch = Batch::of_items(items)?;
-    match desk.take(&batch) {
-        Ok(_) => Ok(()),
-        Err(DeskError::NoMemory) => Err(StreamFault::Memory),
-        Err(DeskError::TicksSpent) => Err(StreamFault::Read),
+    for item in news {
+        state.hear(&[item])?;
     }
+    Ok(())
 }

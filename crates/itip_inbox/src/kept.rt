@@ -1,17 +1,15 @@
 //! The octets of what is kept of an input.
 ghost use Rattle.std.specs.Prelude.{◌≡◌, ◌≢◌, ◌++◌, ℕ, Bool, List, IfOk, IfErr, OnOk, OnErr, IsErrOf, IfSome};
-ghost use Rattle.std.specs.Io.KnownBytes.{Keeps};
-ghost use Rattle.itip_message.specs.declared.item.Item.{Item};
-ghost use Rattle.itip_state.specs.Kept.{IsItemsOf};
+ghost use Rattle.std.specs.Io.KnownBytes.{Appends, Keeps};
 ghost use Rattle.itip_delta.specs.Delta.{delta_octets};
 ghost use Rattle.itip_streams.specs.Written.{AppendsFront, MovesOut};
-ghost use Rattle.itip_inbox.specs.Compaction.{IsCompaction, WritesCompaction, WritesItems};
+ghost use Rattle.itip_inbox.specs.Compaction.{IsCompaction, WritesCompaction};
 ghost use Rattle.itip_inbox.specs.Inbox.{is_some_refused};
 
 use crate::read::read_inbox;
 use crate::refusal::Refusal;
 use crate::watch::Watch;
-use itip_desk::Desk;
+use itip_state::SharedItem;
 use itip_streams::{StreamFault, write_output};
 use std::alloc::Global;
 use std::io::{Read, Write};
@@ -40,7 +38,8 @@ pub fn compact<R: Read, W: Write, S: Watch>(
 {
     let inbox = read_inbox(rt, alloc, reader, threads, watch)?;
     let is_refused = tell(inbox.refusals.as_slice(), watch);
-    write_kept(alloc, &inbox.desk, writer)?;
+    let items = inbox.state.shared_items()?;
+    write_items(alloc, items.as_slice(), writer)?;
     Ok(is_refused)
 }
 
@@ -54,15 +53,18 @@ pub fn tell<S: Watch>(refusals: &[Refusal], watch: &mut S) -> bool
     !refusals.is_empty()
 }
 
-/// Writes the octets of what a desk keeps, by canonical octets, each item once. After a fault a front of them was written.
-pub fn write_kept<W: Write>(alloc: Global, desk: &Desk, writer: &mut W) -> Result<(), StreamFault>
-    ensures all { OnOk result (WritesItems (W.contents writer.old) (W.contents writer.new) desk.now.kept) }
-    ensures front { OnErr result ((batch : List Item) → IsItemsOf batch desk.now.kept → AppendsFront (W.contents writer.old) (W.contents writer.new) (delta_octets batch)) }
+/// Writes the canonical octets of items, in their order. After a fault a front of them was written.
+pub fn write_items<W: Write>(
+    alloc: Global,
+    items: &[SharedItem],
+    writer: &mut W,
+) -> Result<(), StreamFault>
+    ensures all { OnOk result (Appends (W.contents writer.old) (W.contents writer.new) (delta_octets items.now)) }
+    ensures front { OnErr result (AppendsFront (W.contents writer.old) (W.contents writer.new) (delta_octets items.now)) }
     ensures fault { IfErr result (λ fault. fault ≢ StreamFault.Read) }
 {
-    let items = desk.state().shared_items()?;
     let mut kept = Vec::new(alloc);
-    for item in &items {
+    for item in items {
         kept.extend_from_slice(item.bytes.as_slice())?;
         write_if_many(writer, &mut kept)?;
     }

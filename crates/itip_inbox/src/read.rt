@@ -1,7 +1,8 @@
 //! Reading an input to its end, and no more of it at a time than a share.
-ghost use Rattle.std.specs.Prelude.{◌≢◌, IfOk, IfErr, IfSome};
+ghost use Rattle.std.specs.Prelude.{◌≢◌, ◌++◌, ℕ, List, IfOk, IfErr, OnOk, IfSome};
+ghost use Rattle.itip_delta.specs.Scanned.{messages_of};
 ghost use Rattle.itip_inbox.specs.Inbox.{Holds};
-ghost use Rattle.itip_inbox.specs.Streaming.{Fills};
+ghost use Rattle.itip_inbox.specs.Streaming.{Fills, HearsFirst, KeepsMessages};
 
 use crate::cut::{all_messages, first_messages};
 use crate::inbox::Inbox;
@@ -29,7 +30,7 @@ pub fn read_inbox<R: Read, W: Watch>(
     threads: usize,
     watch: &mut W,
 ) -> Result<Inbox, StreamFault>
-    ensures holds { IfOk result (λ inbox. IfSome (R.remaining reader.old) (λ input. Holds input inbox.desk.kept inbox.refusals.items)) }
+    ensures holds { IfOk result (λ inbox. IfSome (R.remaining reader.old) (λ input. Holds input inbox.state inbox.refusals.items)) }
     ensures fault { IfErr result (λ fault. fault ≢ StreamFault.Write) }
 {
     let mut inbox = Inbox::empty(alloc);
@@ -40,17 +41,46 @@ pub fn read_inbox<R: Read, W: Watch>(
         let is_end = fill(reader, &mut held)?;
         octets = octets.saturating_add(held.len().saturating_sub(before) as u64);
         if is_end {
-            let texts = all_messages(alloc, held.as_slice())?;
-            inbox.hear(rt, alloc, texts.as_slice(), threads)?;
+            hear_all(&mut inbox, rt, alloc, held.as_slice(), threads)?;
             watch.read(inbox.messages, octets);
             return Ok(inbox);
         }
-        let share = first_messages(alloc, held.as_slice())?;
-        inbox.hear(rt, alloc, share.texts.as_slice(), threads)?;
+        held = hear_first(&mut inbox, rt, alloc, held.as_slice(), threads)?;
         watch.read(inbox.messages, octets);
-        held = share.left;
     }
     Err(StreamFault::Read)
+}
+
+/// Hears all messages of octets that none follow.
+fn hear_all(
+    inbox: &mut Inbox,
+    rt: &(impl Threads + Sync),
+    alloc: Global,
+    octets: &[u8],
+    threads: usize,
+) -> Result<(), StreamFault>
+    ensures hears { OnOk result ((messages : List (List ℕ)) → KeepsMessages messages inbox.old.state inbox.old.refusals.items inbox.old.messages →
+        KeepsMessages (messages ++ messages_of octets.now) inbox.new.state inbox.new.refusals.items inbox.new.messages) }
+    ensures fault { IfErr result (λ fault. fault ≢ StreamFault.Write) }
+{
+    let texts = all_messages(alloc, octets)?;
+    inbox.hear(rt, alloc, texts.as_slice(), threads)
+}
+
+/// Hears the first messages of octets that others may follow, and gives a copy of what is left.
+fn hear_first(
+    inbox: &mut Inbox,
+    rt: &(impl Threads + Sync),
+    alloc: Global,
+    octets: &[u8],
+    threads: usize,
+) -> Result<Vec<u8>, StreamFault>
+    ensures hears { IfOk result (λ left. HearsFirst octets.now left.items inbox.old.state inbox.new.state inbox.old.refusals.items inbox.new.refusals.items inbox.old.messages inbox.new.messages) }
+    ensures fault { IfErr result (λ fault. fault ≢ StreamFault.Write) }
+{
+    let share = first_messages(alloc, octets)?;
+    inbox.hear(rt, alloc, share.texts.as_slice(), threads)?;
+    Ok(Vec::from_slice(alloc, share.left)?)
 }
 
 /// Reads until a share is held, or twice what was: so a long message is gone through few times. Says whether the input

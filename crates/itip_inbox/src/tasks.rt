@@ -1,18 +1,20 @@
 //! The task list of an input.
-ghost use Rattle.std.specs.Prelude.{◌≡◌, ◌≢◌, ℕ, Bool, List, IfOk, IfErr, OnErr, IsErrOf, IfSome};
+ghost use Rattle.std.specs.Prelude.{◌≡◌, ◌≢◌, ◌≤◌, ℕ, Bool, List, length, IfOk, IfErr, OnErr, IsErrOf, IfSome};
 ghost use Rattle.std.specs.Io.KnownBytes.{Keeps};
 ghost use Rattle.std.specs.Option.{option_map};
 ghost use Rattle.itip_message.specs.declared.item.Item.{Item};
 ghost use Rattle.itip_state.specs.Kept.{AreKept};
 ghost use Rattle.itip_streams.specs.Written.{AppendsFront};
-ghost use Rattle.itip_inbox.specs.TaskList.{IsTaskList, WritesTaskList, IsListed, IsTextFor, AreTooManyFor};
+ghost use Rattle.itip_inbox.specs.TaskList.{IsTaskList, WritesTaskList, IsListed, IsTextFor, AreRowsFor, AreTooManyFor};
+ghost use Rattle.itip_view.specs.Rows.{row_limit};
+ghost use Rattle.itip_view.specs.Showing.{AreRowsWhere, AreTooManyWhere, Shows};
 
 use crate::kept::tell;
 use crate::read::read_inbox;
 use crate::watch::Watch;
-use itip_desk::Desk;
+use itip_state::State;
 use itip_streams::{StreamFault, write_output};
-use itip_view::{ViewError, Window};
+use itip_view::{Row, ViewError, Window, list_text, rows, rows_among};
 use std::alloc::Global;
 use std::io::{Read, Write};
 use std::thread::Threads;
@@ -42,7 +44,7 @@ pub fn list<R: Read, W: Write, S: Watch>(
 {
     let inbox = read_inbox(rt, alloc, reader, threads, watch)?;
     let is_refused = tell(inbox.refusals.as_slice(), watch);
-    let listed = list_of(alloc, &inbox.desk, window, attendee)?;
+    let listed = list_of(alloc, &inbox.state, window, attendee)?;
     write_output(writer, listed.text.as_slice())?;
     Ok(is_refused || listed.is_refusal)
 }
@@ -55,14 +57,14 @@ struct Listed {
 
 fn list_of(
     alloc: Global,
-    desk: &Desk,
+    state: &State,
     window: Window,
     attendee: Option<&str>,
 ) -> Result<Listed, StreamFault>
-    ensures text { IfOk result (λ listed. (heard : List Item) → AreKept desk.now.kept heard → IsListed heard window (option_map (λ a. a.now) attendee.entry) listed.text.items listed.is_refusal) }
+    ensures text { IfOk result (λ listed. (heard : List Item) → AreKept state.now heard → IsListed heard window (option_map (λ a. a.now) attendee.entry) listed.text.items listed.is_refusal) }
     ensures fault { IfErr result (λ fault. fault ≡ StreamFault.Memory) }
 {
-    match text_for(desk, window, attendee) {
+    match text_for(alloc, state, window, attendee) {
         Ok(text) => Ok(Listed {
             text,
             is_refusal: false,
@@ -75,12 +77,48 @@ fn list_of(
     }
 }
 
-fn text_for(desk: &Desk, window: Window, attendee: Option<&str>) -> Result<Vec<u8>, ViewError>
-    ensures text { IfOk result (λ text. (heard : List Item) → AreKept desk.now.kept heard → IsTextFor (option_map (λ a. a.now) attendee.entry) heard window text.items) }
-    ensures many { IsErrOf result ViewError.TooManyRows → (heard : List Item) → AreKept desk.now.kept heard → AreTooManyFor (option_map (λ a. a.now) attendee.entry) heard window }
+fn text_for(
+    alloc: Global,
+    state: &State,
+    window: Window,
+    attendee: Option<&str>,
+) -> Result<Vec<u8>, ViewError>
+    ensures text { IfOk result (λ text. (heard : List Item) → AreKept state.now heard → IsTextFor (option_map (λ a. a.now) attendee.entry) heard window text.items) }
+    ensures many { IsErrOf result ViewError.TooManyRows → (heard : List Item) → AreKept state.now heard → AreTooManyFor (option_map (λ a. a.now) attendee.entry) heard window }
+{
+    let shown = rows_for(alloc, state, window, attendee)?;
+    Ok(list_text(alloc, shown.as_slice())?)
+}
+
+/// The rows of a state in a window, in their order, at most 100,000; where an attendee is named, those that show this address.
+///
+/// Refused where there are more of these (31), or when out of memory (32).
+pub fn rows_for(
+    alloc: Global,
+    state: &State,
+    window: Window,
+    attendee: Option<&str>,
+) -> Result<Vec<Row>, ViewError>
+    ensures rows { IfOk result (λ rows. AreRowsFor (option_map (λ a. a.now) attendee.entry) state.now window rows.items) }
+    ensures few { IfOk result (λ rows. length rows.items ≤ row_limit) }
+    ensures many { IsErrOf result ViewError.TooManyRows → AreTooManyFor (option_map (λ a. a.now) attendee.entry) state.now window }
 {
     match attendee {
-        Some(address) => desk.list_for(window, address),
-        None => desk.list(window),
+        Some(address) => rows_showing(alloc, state, window, address),
+        None => rows(alloc, state, window),
     }
+}
+
+fn rows_showing(
+    alloc: Global,
+    state: &State,
+    window: Window,
+    address: &str,
+) -> Result<Vec<Row>, ViewError>
+    ensures rows { IfOk result (λ rows. AreRowsWhere (Shows address.now) state.now window rows.items) }
+    ensures few { IfOk result (λ rows. length rows.items ≤ row_limit) }
+    ensures many { IsErrOf result ViewError.TooManyRows → AreTooManyWhere (Shows address.now) state.now window }
+{
+    let uids = state.uids()?;
+    rows_among(alloc, state, uids, window, Some(address))
 }

@@ -1,10 +1,11 @@
 //! Reading many messages at once.
-ghost use Rattle.std.specs.Prelude.{IfOk, IfErr};
+ghost use Rattle.std.specs.Prelude.{◌≡◌, map, IfOk, IfErr};
 ghost use Rattle.std.specs.List.{AllZip};
-ghost use Rattle.itip_inbox.specs.Streaming.{MayAnswer};
+ghost use Rattle.itip_inbox.specs.Streaming.{MayTell};
 
-use itip_lines::{Bytes, ListOf};
+use itip_lines::ListOf;
 use itip_message::{Item, ReadError, read_message};
+use itip_state::{SharedItem, State};
 use rayon::prelude::*;
 use std::alloc::{AllocError, Global};
 use std::thread::Threads;
@@ -12,30 +13,55 @@ use std::thread::Threads;
 // How few messages are worth a thread.
 const LEAST: usize = 16;
 
-/// What each text is, in their order, from at most so many threads.
+/// The news of each text beside a state, or why it is refused, in their order, from at most so many threads.
 pub(crate) fn read_texts(
     rt: &(impl Threads + Sync),
     alloc: Global,
-    texts: &[Bytes],
+    state: &State,
+    texts: &[&[u8]],
     threads: usize,
-) -> Result<Vec<Result<ListOf<Item>, ReadError>>, AllocError>
-    ensures { IfOk result (λ answers. AllZip MayAnswer texts.now answers.items) }
+) -> Result<Vec<Result<ListOf<SharedItem>, ReadError>>, AllocError>
+    ensures { IfOk result (λ answers. AllZip (MayTell state.now) (map (λ text. text.now) texts.now) answers.items) }
 {
     texts
         .par_iter()
         .with_min_len(piece(texts.len(), threads))
         .map(
-            |text: &Bytes| -> Result<ListOf<Item>, ReadError>
-                ensures { MayAnswer text.now result }
-            { read_text(alloc, text) },
+            |text: &&[u8]| -> Result<ListOf<SharedItem>, ReadError>
+                ensures { MayTell state.entry.now text.now.now result }
+            { read_text(alloc, state, text) },
         )
         .collect(rt, alloc)
 }
 
-fn read_text(alloc: Global, text: &Bytes) -> Result<ListOf<Item>, ReadError>
-    ensures { MayAnswer text.now result }
+fn read_text(alloc: Global, state: &State, text: &[u8]) -> Result<ListOf<SharedItem>, ReadError>
+    ensures { MayTell state.now text.now result }
 {
-    Ok(ListOf::from_vec(read_message(alloc, text.as_slice())?))
+    let items = shared(alloc, read_message(alloc, text)?)?;
+    let news = state.news(items.as_slice())?;
+    Ok(ListOf::from_vec(copies(alloc, news.as_slice())?))
+}
+
+/// The items, each to be shared.
+fn shared(alloc: Global, items: Vec<Item>) -> Result<Vec<SharedItem>, AllocError>
+    ensures { IfOk result (λ shared. shared.items ≡ items.items) }
+{
+    let mut shared = Vec::with_capacity(alloc, items.len())?;
+    for item in items {
+        shared.push(SharedItem::new(alloc, item)?)?;
+    }
+    Ok(shared)
+}
+
+// A state keeps copies, which have no spare room. What is made while a text is read has, and lies among what is let go.
+fn copies(alloc: Global, items: &[&SharedItem]) -> Result<Vec<SharedItem>, AllocError>
+    ensures { IfOk result (λ copies. copies.items ≡ map (λ item. item.now) items.now) }
+{
+    let mut copies = Vec::new(alloc);
+    for item in items {
+        copies.push(SharedItem::new(alloc, item.item().clone()?)?)?;
+    }
+    Ok(copies)
 }
 
 /// How many of so many texts a thread reads, where there are so many threads.
