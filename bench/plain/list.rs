@@ -83,7 +83,7 @@ fn row(items: &Items, todo: &Todo, id: &Id, occurrence: Option<&Moment>, out: &m
 }
 
 fn attendees(items: &Items, todo: &Todo, id: &Id, out: &mut String) {
-    let (mut told, mut percents) = (false, 0u32);
+    let (mut told, mut percents) = (0u32, 0u32);
     for line in &todo.attendees {
         let address = line.value.to_ascii_lowercase();
         let counts = |it: &&Rc<Item>| it.todo.sequence >= todo.sequence;
@@ -98,12 +98,12 @@ fn attendees(items: &Items, todo: &Todo, id: &Id, out: &mut String) {
         let _ = write!(out, "  ATTENDEE {} {partstat} ", line.value);
         number(percent, out);
         out.push('\n');
-        told |= percent.is_some();
+        told += u32::from(percent.is_some());
         percents += u32::from(percent.unwrap_or(0));
     }
-    if told {
-        let _ = writeln!(out, "  PROGRESS {}", percents / todo.attendees.len() as u32);
-    }
+    out.push_str("  PROGRESS ");
+    number(percents.checked_div(told).map(|mean| mean as u8), out);
+    out.push('\n');
 }
 
 /// The text of the list, and how many rows it has.

@@ -1,8 +1,7 @@
 //! The words `compact` and `list`: messages in, what counts out.
 use crate::words::{days, window_of};
 use clap::{Arg, ArgAction, ArgMatches, Command};
-use itip_desk::Desk;
-use itip_inbox::{Watch, compact, list, read_inbox, tell};
+use itip_inbox::{Watch, compact, list, read_inbox, rows_for, tell};
 use itip_office::read_number;
 use itip_records::{csv_text, json_text};
 use itip_streams::{StreamFault, write_output};
@@ -233,7 +232,7 @@ fn answer<R: AllocGlobal + Threads + Sync, I: Read, W: Write, S: Watch>(
     };
     let inbox = read_inbox(rt, alloc, reader, threads, watch)?;
     let is_refused = tell(inbox.refusals.as_slice(), watch);
-    match rows_for(&inbox.desk, window, attendee) {
+    match rows_for(alloc, &inbox.state, window, attendee) {
         Ok(rows) => {
             let text = records_text(alloc, notation, rows.as_slice())?;
             write_output(writer, text.as_slice())?;
@@ -251,13 +250,6 @@ fn records_text(alloc: Global, notation: Notation, rows: &[Row]) -> Result<Vec<u
     match notation {
         Notation::Csv => csv_text(alloc, rows),
         Notation::Json => json_text(alloc, rows),
-    }
-}
-
-fn rows_for(desk: &Desk, window: Window, attendee: Option<&str>) -> Result<Vec<Row>, ViewError> {
-    match attendee {
-        Some(address) => desk.rows_for(window, address),
-        None => desk.rows(window),
     }
 }
 

@@ -65,10 +65,23 @@ pub(crate) fn office<
     if let Some(script) = kept {
         tell_jobs(rt, script.as_slice(), desks as u64, &refused);
     }
-    let mut output = Vec::new(alloc);
-    append_refusals(&mut output, &refused)?;
+    let is_refused = write_desks(rt, writer, &refused, &ended.desks, window, why)?;
+    Ok(is_refused)
+}
+
+/// Writes the refused jobs, and the list of each desk. Says whether something written was a refusal.
+fn write_desks<R: AllocGlobal + Eprint, W: Write>(
+    rt: &R,
+    writer: &mut W,
+    refused: &[(u64, u32)],
+    desks: &[Desk],
+    window: Window,
+    why: bool,
+) -> Result<bool, StreamFault> {
+    let mut output = Vec::new(rt.alloc());
+    append_refusals(&mut output, refused)?;
     let mut is_refused = !refused.is_empty();
-    for (number, desk) in ended.desks.iter().enumerate() {
+    for (number, desk) in desks.iter().enumerate() {
         if append_desk(&mut output, number, desk, window)? {
             is_refused = true;
             if why {
