@@ -30,7 +30,7 @@ pub(crate) fn find_in<'a>(
     let to = bound(alloc, Mark::Day(window.to));
     find_between(index, from, to, &mut uids)?;
     let from = bound(alloc, Mark::Always);
-    let to = bound(alloc, Mark::Attendee(Text::new(String::new(alloc))));
+    let to = bound(alloc, Mark::Attendee(Text::new(alloc)));
     find_between(index, from, to, &mut uids)?;
     Ok(uids)
 }
@@ -56,7 +56,7 @@ fn next_key(alloc: Global, key: &Text) -> Result<Text, AllocError>
 {
     let mut next = String::from_str(alloc, key.as_str())?;
     next.push_str("\0")?;
-    Ok(Text::new(next))
+    Text::copy(alloc, next.as_str())
 }
 
 /// The entry that no other stands before of those of a mark.
@@ -65,7 +65,7 @@ fn bound(alloc: Global, mark: Mark) -> Entry
 {
     Entry {
         mark,
-        uid: Uid::new(Text::new(String::new(alloc))),
+        uid: Uid::new(Text::new(alloc)),
     }
 }
 

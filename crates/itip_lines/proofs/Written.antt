@@ -1,5 +1,5 @@
 -- Writing piece by piece is folding all at once.
-use Rattle.std.proofs.Common.{◌≡◌, ◌∙◌, sym, ap, refl, ℕ, ◌+◌, ◌≤◌, ◌<◌, true, false, cond, List, [], ◌∷◌, ◌++◌, length, take, get_or, arith, subst, append_assoc, Ok, Err}
+use Rattle.std.proofs.Common.{◌≡◌, ◌∙◌, sym, ap, refl, ℕ, ◌+◌, ◌≤◌, ◌<◌, Bool, true, false, cond, nat_lt, List, [], ◌∷◌, ◌++◌, length, take, get_or, arith, subst, append_assoc, Ok, Err}
 use Rattle.std.specs.Prelude.{Result, IfOk, OnOk, is_ok}
 use Rattle.std.proofs.lemmas.Bool.Decides.{nat_tests}
 use Rattle.std.specs.List.{list_any}
@@ -47,6 +47,26 @@ writes_fold old used b h = record {
 
     stands : (more : List ℕ) → 13 ∷ (10 ∷ (32 ∷ (b ∷ folded 2 more))) ≡ folded used (b ∷ more)
     stands more = rw does_not refl
+
+at_most_three : (b : ℕ) → following b ≤ 3
+at_most_three b = by (nat_lt b 192) (nat_lt b 224) (nat_lt b 240)
+  where
+    by : (x y z : Bool) → cond x 0 (cond y 1 (cond z 2 3)) ≤ 3
+    by true y z = omega arith
+    by false true z = omega arith
+    by false false true = omega arith
+    by false false false = omega arith
+
+-- what surely ends on the piece is written as it stands
+pub writes_whole : (old : List ℕ) (used : ℕ) (bs : List ℕ) (now : ℕ) → now ≡ used + length bs → now + 3 ≤ 75 → Writes old used bs (old ++ bs) now
+writes_whole old used [] now e h =
+    subst (λ (n : ℕ). Writes old used [] (old ++ []) n) (let same : used ≡ now = omega (arith, e) in same)
+    (subst (λ (new : List ℕ). Writes old used [] new used) (sym (append-nil old)) (writes_none old used (omega (arith, e))))
+writes_whole old used (b ∷ bs) now e h =
+    let first = writes_fit old used b (omega (arith, e, at_most_three b)) in
+    let others = writes_whole (old ++ b ∷ []) (used + 1) bs now (omega (arith, e)) h in
+    let all = writes_then old used (b ∷ []) (old ++ b ∷ []) (used + 1) bs ((old ++ b ∷ []) ++ bs) now first others in
+    subst (λ (new : List ℕ). Writes old used (b ∷ bs) new now) (append_assoc old (b ∷ []) bs) all
 
 pub extends_then : (a b c : List ℕ) → Extends a b → Extends b c → Extends a c
 extends_then a b c (t, e) (u, f) = (t ++ u, f ∙ ap (λ x. x ++ u) e ∙ append_assoc a t u)

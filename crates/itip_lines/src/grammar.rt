@@ -107,10 +107,8 @@ fn copy(alloc: Global, octets: &[u8]) -> Result<Text, AllocError>
     requires { IsUtf8 octets.now }
     ensures { IfOk result (λ text. text ≡ octets.now) }
 {
-    match str::from_utf8(octets) {
-        Ok(text) => Text::copy(alloc, text),
-        Err(_) => unreachable!(),
-    }
+    // A part of a line, cut at ASCII octets: UTF-8 as the line is.
+    Text::copy(alloc, unsafe { str::from_utf8_unchecked(octets) })
 }
 
 /// A name in upper case.
@@ -118,9 +116,7 @@ fn upper_name(alloc: Global, octets: &[u8]) -> Result<Text, AllocError>
     requires { IsUtf8 octets.now }
     ensures { IfOk result (λ name. name ≡ str_to_ascii_uppercase octets.now) }
 {
-    let mut name = copy(alloc, octets)?.into_string();
-    name.make_ascii_uppercase();
-    Ok(Text::new(name))
+    Text::upper(alloc, unsafe { str::from_utf8_unchecked(octets) })
 }
 
 /// Whether the text begins with `;` or `:`.

@@ -16,6 +16,9 @@ const COUNT_LIMIT: usize = 20_000;
 /// The most octets of an unfolded line, without its break (our own limit).
 const LINE_LIMIT: usize = 65_536;
 
+/// As many lines as most messages have.
+const USUAL: usize = 16;
+
 /// The content lines of a text (RFC 5545 3.1), unfolded, in order, the empty ones left out.
 ///
 /// A line break is LF or CRLF, and one before SPACE or HTAB is a fold. Faults have the first faulty line's
@@ -28,7 +31,7 @@ pub fn read_lines(alloc: Global, text: &[u8]) -> Result<Vec<Line>, LineError>
     if text.len() > TEXT_LIMIT {
         return Err(LineError::Fault(Fault::TooLong));
     }
-    let mut lines = Vec::new(alloc);
+    let mut lines = Vec::with_capacity(alloc, USUAL)?;
     let mut rest = Some(text);
     while let Some(left) = rest {
         rest = read_next(alloc, left, &mut lines)?;

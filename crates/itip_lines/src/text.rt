@@ -1,14 +1,14 @@
 //! Text as a clause sees it: its octets.
-ghost use Rattle.std.specs.Prelude.{◌≡◌, IfOk, nat_eq, refl, Some};
+ghost use Rattle.std.specs.Prelude.{◌≡◌, [], IfOk, nat_eq, refl, Some};
 ghost use Rattle.std.specs.Ordering.{nat_cmp};
-ghost use Rattle.std.specs.String.{string_bytes};
-ghost use Rattle.std.specs.Str.{IsUtf8};
+ghost use Rattle.std.specs.Str.{IsUtf8, str_to_ascii_uppercase, str_to_ascii_lowercase};
 ghost use Rattle.std.specs.Cmp.Lexicographic.{pointwise, slice_cmp, nat_list_eq_equiv, nat_list_cmp_total, texts_ties, texts_po};
 ghost use Rattle.std.specs.Cmp.{partial_equiv_from_equiv};
 ghost use Rattle.std.specs.Cmp.Rules.{hashing};
 ghost use Rattle.std.specs.Hash as fed;
 ghost use Rattle.std.proofs.Common.{rules};
 
+use smallvec::SmallVec;
 use std::alloc::{AllocError, Global};
 use std::cmp::Ordering;
 use std::fmt;
@@ -16,47 +16,78 @@ use std::hash::{Hash, Hasher};
 use std::marker::Model;
 
 /// A text in UTF-8, compared by its octets.
-#[derive(Debug, Drop)]
+///
+/// One of at most 32 octets stands in the value itself and takes no memory of its own: most names, times and addresses.
+#[derive(Drop)]
 pub struct Text {
-    text: String,
+    octets: SmallVec<u8, 32>,
 }
 
 impl Model for Text {
     ghost use Rattle.std.specs.Prelude.{List, ℕ};
-    ghost use Rattle.std.specs.String.{string_bytes};
+    ghost use Rattle.std.specs.Str.{IsUtf8};
 
     ghost Value = { List ℕ };
 
-    ghost view = { λ t. string_bytes t.text };
+    ghost view = { λ t. t.octets.items };
+
+    ghost invariant = { λ t. IsUtf8 t.octets.items };
 }
 
 impl Text {
-    /// The text of a string, whose memory it keeps.
-    pub fn new(text: String) -> Text
-        ensures { result ≡ string_bytes text }
+    /// The empty text.
+    pub fn new(alloc: Global) -> Text
+        ensures { result ≡ [] }
     {
-        Text { text }
+        Text {
+            octets: SmallVec::new(alloc),
+        }
     }
 
     /// A copy of a text.
     pub fn copy(alloc: Global, text: &str) -> Result<Text, AllocError>
         ensures { IfOk result (λ copy. copy ≡ text.now) }
     {
-        Ok(Text::new(String::from_str(alloc, text)?))
+        let octets = SmallVec::from_slice(alloc, text.as_bytes())?;
+        Ok(Text { octets })
     }
 
-    /// The string, with the memory that the text had.
-    pub fn into_string(self) -> String
-        ensures { string_bytes result ≡ self }
+    /// A copy of a text, its ASCII letters in upper case.
+    pub fn upper(alloc: Global, text: &str) -> Result<Text, AllocError>
+        ensures { IfOk result (λ upper. upper ≡ str_to_ascii_uppercase text.now) }
     {
-        self.text
+        // Most are in upper case already.
+        if text
+            .as_bytes()
+            .iter()
+            .all(|octet| !octet.is_ascii_lowercase())
+        {
+            return Text::copy(alloc, text);
+        }
+        Text::copy(alloc, text.to_ascii_uppercase(alloc)?.as_str())
+    }
+
+    /// A copy of a text, its ASCII letters in lower case.
+    pub fn lower(alloc: Global, text: &str) -> Result<Text, AllocError>
+        ensures { IfOk result (λ lower. lower ≡ str_to_ascii_lowercase text.now) }
+    {
+        // Most are in lower case already.
+        if text
+            .as_bytes()
+            .iter()
+            .all(|octet| !octet.is_ascii_uppercase())
+        {
+            return Text::copy(alloc, text);
+        }
+        Text::copy(alloc, text.to_ascii_lowercase(alloc)?.as_str())
     }
 
     /// The text.
     pub fn as_str(&self) -> &str
         ensures { result.now ≡ self.now }
     {
-        self.text.as_str()
+        // The invariant: the octets are UTF-8.
+        unsafe { str::from_utf8_unchecked(self.octets.as_slice()) }
     }
 }
 
@@ -64,7 +95,13 @@ impl Clone for Text {
     ghost is_clone = { λ text copy. copy ≡ text };
 
     fn clone(&self) -> Result<Text, AllocError> {
-        Ok(Text::new(self.text.clone()?))
+        Text::copy(*self.octets.allocator(), self.as_str())
+    }
+}
+
+impl fmt::Debug for Text {
+    fn fmt<W: fmt::Write>(&self, f: &mut fmt::Formatter<W>) -> fmt::Result {
+        fmt::Debug::fmt(self.as_str(), f)
     }
 }
 

@@ -140,7 +140,21 @@ fn has_separator(octets: &[u8]) -> bool
 }
 
 /// Appends octets, with a fold before each sequence that would end behind a piece's 75 octets.
-fn write_octets(octets: &[u8], mut used: usize, out: &mut Vec<u8>) -> Result<usize, AllocError>
+fn write_octets(octets: &[u8], used: usize, out: &mut Vec<u8>) -> Result<usize, AllocError>
+    requires { used ≤ 75 }
+    ensures wrote { IfOk result (Writes out.old.items used octets.now out.new.items) }
+    ensures extends { Extends out.old.items out.new.items }
+{
+    // Whatever their sequences are, so few octets end on the piece.
+    if octets.len() >= (PIECE - 2).saturating_sub(used) {
+        return write_each(octets, used, out);
+    }
+    out.extend_from_slice(octets)?;
+    Ok(used + octets.len())
+}
+
+/// Appends octets one by one, each behind a fold where it needs one.
+fn write_each(octets: &[u8], mut used: usize, out: &mut Vec<u8>) -> Result<usize, AllocError>
     requires { used ≤ 75 }
     ensures wrote { IfOk result (Writes out.old.items used octets.now out.new.items) }
     ensures extends { Extends out.old.items out.new.items }

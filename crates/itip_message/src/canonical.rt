@@ -22,6 +22,9 @@ const OCTETS_LIMIT: usize = 262_144;
 /// The most lines of an item's canonical form (our own limit).
 const LINES_LIMIT: usize = 20_000;
 
+/// More octets than most items have.
+const USUAL: usize = 512;
+
 /// The lines around a to-do in canonical form.
 const FRAME_LINES: usize = 7;
 
@@ -99,13 +102,12 @@ pub fn write_item(alloc: Global, item: &Item) -> Result<Vec<u8>, NoMemory>
 fn write_canonical(alloc: Global, kind: Kind, todo: &Todo) -> Result<Vec<u8>, NoMemory>
     ensures { IfOk result (λ octets. octets.items ≡ canonical_octets kind (parts_of todo.now)) }
 {
-    let mut octets = Vec::from_slice(
-        alloc,
-        b"BEGIN:VCALENDAR\r\nPRODID:-//itipdesk//1//EN\r\nVERSION:2.0\r\n",
-    )?;
+    let mut octets = Vec::with_capacity(alloc, USUAL)?;
+    octets.extend_from_slice(b"BEGIN:VCALENDAR\r\nPRODID:-//itipdesk//1//EN\r\nVERSION:2.0\r\n")?;
     octets.extend_from_slice(method_line(kind))?;
     write_todo(todo, &mut octets)?;
     octets.extend_from_slice(b"END:VCALENDAR\r\n")?;
+    octets.shrink_to_fit();
     Ok(octets)
 }
 

@@ -49,7 +49,7 @@ fn place_lines(alloc: Global, name: Text, lines: IntoIter<Line>) -> Result<Vec<P
 {
     let mut inside = Vec::new(alloc);
     inside.push(name)?;
-    let mut placed = Vec::new(alloc);
+    let mut placed = Vec::with_capacity(alloc, lines.len())?;
     for line in lines {
         if let Some(place) = place_line(alloc, &mut inside, line)? {
             placed.push(place)?;
@@ -116,9 +116,7 @@ fn component_name(alloc: Global, line: &Line) -> Result<Text, NoMemory>
 pub(crate) fn upper_case(alloc: Global, text: &Text) -> Result<Text, NoMemory>
     ensures { IfOk result (λ upper. upper ≡ str_to_ascii_uppercase text.now) }
 {
-    let mut upper = Text::copy(alloc, text.as_str())?.into_string();
-    upper.make_ascii_uppercase();
-    Ok(Text::new(upper))
+    Text::upper(alloc, text.as_str())
 }
 
 /// What a component of this name that begins inside these adds.

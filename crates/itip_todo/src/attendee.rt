@@ -69,7 +69,7 @@ pub fn participation(params: &[Param]) -> PartStat
 pub fn attendee_key(alloc: Global, address: &str) -> Result<Text, NoMemory>
     ensures { IfOk result (λ key. key ≡ attendee_key address.now) }
 {
-    Ok(Text::new(address.to_ascii_lowercase(alloc)?))
+    Text::lower(alloc, address)
 }
 
 /// The first value of the first parameter of this name, empty where there is none.

@@ -16,6 +16,9 @@ use itip_lines::{Line, Text, write_line, write_property};
 use itip_moment::write_stamp;
 use std::alloc::AllocError;
 
+/// More octets than most to-dos have.
+const USUAL: usize = 512;
+
 /// Appends the canonical lines of a to-do, from BEGIN:VTODO to END:VTODO, which are read as this to-do.
 ///
 /// On an error, when memory was refused, the vector is as before.
@@ -25,7 +28,7 @@ pub fn write_todo(todo: &Todo, out: &mut Vec<u8>) -> Result<(), AllocError>
         → out.new.items ≡ out.old.items ++ octets → AreReadAs octets todo.now) }
     ensures err { OnErr result (out.new.items ≡ out.old.items) }
 {
-    let mut text = Vec::new(*out.allocator());
+    let mut text = Vec::with_capacity(*out.allocator(), USUAL)?;
     write_lines(todo, &mut text)?;
     out.extend_from_slice(text.as_slice())
 }

@@ -4,7 +4,7 @@ use Rattle.itip_lines.proofs.read.read_lines.Goals as goal
 
 pub returns-in_err-rest-clause-fault : goal.returns-in_err-rest-clause-fault
 returns-in_err-rest-clause-fault c =
-    let p = err_from_is_err_and c.from_residual.result c.from_residual.ensures.1 in
+    let p = err_from_is_err_and c.from_residual-in_err-rest.result c.from_residual-in_err-rest.ensures.1 in
     rw (p.1, p.2) (refused_line _ _ c.in-Some.left _ c.if-text-gt-TEXT_LIMIT.false (rw c.in-Some.is at c.loop-rest.invariant) c.in_err-rest.ensures.fault)
 
 pub loop-rest-preserved : goal.loop-rest-preserved

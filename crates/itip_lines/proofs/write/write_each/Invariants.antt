@@ -1,6 +1,6 @@
 use Rattle.std.proofs.Common.{take}
 use Rattle.itip_lines.specs.Writing.{Writes, Extends}
-use Rattle.itip_lines.proofs.write.write_octets.Given as goal
+use Rattle.itip_lines.proofs.write.write_each.Given as goal
 
 abbrev pub invariant-loop-octet : goal.invariant-loop-octet
 invariant-loop-octet l = record {
