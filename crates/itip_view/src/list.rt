@@ -11,6 +11,7 @@ use crate::row::{Row, RowId, ShownAttendee};
 use itip_lines::Text;
 use itip_moment::{Moment, write_moment};
 use itip_todo::Status;
+use itoa::Buffer;
 use std::alloc::{AllocError, Global};
 
 /// The text of rows, in the order given.
@@ -186,8 +187,8 @@ fn put_shown_number(out: &mut Vec<u8>, number: Option<u8>) -> Result<(), AllocEr
 fn put_number(out: &mut Vec<u8>, number: u32) -> Result<(), AllocError>
     ensures { OnOk result (out.new.items ≡ out.old.items ++ decimal number) }
 {
-    let digits = number.to_string(*out.allocator())?;
-    put(out, digits.as_str())
+    let mut digits = Buffer::new();
+    put(out, digits.format(number))
 }
 
 fn put(out: &mut Vec<u8>, text: &str) -> Result<(), AllocError>

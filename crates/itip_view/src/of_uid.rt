@@ -69,7 +69,7 @@ impl<'v, 'a> UidView<'v, 'a> {
         ensures { IfOk result (λ rows. HasRows self.now rows.items) }
     {
         let places = self.places()?;
-        let mut rows = Vec::new(self.alloc);
+        let mut rows = Vec::with_capacity(self.alloc, places.len().saturating_add(1))?;
         let row = self.whole_row()?;
         push_some(&mut rows, row)?;
         for at in &places {
