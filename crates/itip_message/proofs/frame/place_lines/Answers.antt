@@ -14,8 +14,8 @@ returns-in_err-place-clause-fault c =
     let same : into_iter_items c.into_iter-line-iterator.result ≡ into_iter_items c.args.lines = ap into_iter_items c.into_iter-line-iterator.ensures.into_iter_gives in
     rw (p.1, p.2) (fails_so c.in_err-place.field-0.0 c.loop-line.placed.items (innermost_first c.loop-line.inside.items) c.in-Some.line (into_iter_items c.loop-line.line-iterator) (into_iter_items c.next.new.self) (place (c.args.name ∷ []) (into_iter_items c.args.lines)) (c.loop-line.invariant.completes ∙ ap (place (c.args.name ∷ [])) same) c.in-Some.ensures.steps.0 c.in_err-place.ensures.fault)
 
-pub loop-line-preserved-in-Continue-branch-4 : goal.loop-line-preserved-in-Continue-branch-4
-loop-line-preserved-in-Continue-branch-4 c =
+pub loop-line-preserved-in-Continue-branch-5 : goal.loop-line-preserved-in-Continue-branch-5
+loop-line-preserved-in-Continue-branch-5 c =
     let was = c.loop-line.invariant.length_is in
     let gone = c.in-Some.ensures.steps.1 in
     let short = ap length c.in-Some.ensures.steps.0 in

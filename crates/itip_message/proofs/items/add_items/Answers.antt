@@ -1,9 +1,11 @@
-use Rattle.std.proofs.Common.{◌≡◌, ◌∙◌, sym, ap, List, [], ◌∷◌, subst, Option, Some, None, inl, inr, true, refl}
+use Rattle.std.proofs.Common.{◌≡◌, ◌∙◌, sym, ap, List, [], ◌∷◌, subst, Option, Some, None, inl, inr, true, refl, map, ◌⊎◌}
+use Rattle.std.proofs.lemmas.Result.{err_from_is_err_and}
 use Rattle.itip_moment.specs.declared.moment.Moment.{Moment}
 use Rattle.itip_todo.specs.Parts.{Parts}
 use Rattle.itip_todo.specs.PartsOf.{parts_of}
-use Rattle.itip_message.specs.Items.{Draft, drafts_of, add_drafts, kind_of, raised, is_task, instance_draft, method_of, IsCanonical}
-use Rattle.itip_message.specs.Message.{Adds}
+use Rattle.itip_message.specs.Items.{Draft, attendee_draft, drafts_of, add_drafts, kind_of, raised, is_task, instance_draft, method_of, IsCanonical}
+use Rattle.itip_message.specs.Faults.{IfFault}
+use Rattle.itip_message.specs.Message.{Adds, IsOver}
 use Rattle.itip_message.specs.Needs.{Suits}
 use Rattle.itip_message.specs.declared.key.Key.{Key}
 use Rattle.itip_message.specs.declared.kind.Kind.{Kind}
@@ -43,3 +45,16 @@ returns-in_default-clause-found c =
     let is_add : kind_of c.args.method parts ≡ kind.Add = sym c.kind_of-kind.ensures ∙ c.in-Add.is in
     let none : drafts_of (kind_of c.args.method parts) eff parts ≡ [] = ap (λ (l : Kind). drafts_of l eff parts) is_add ∙ none_added eff c.args.todo.start parts c.in_default.not-Some in
     subst (λ (ds : List Draft). Adds ds c.args.items.now.items c.args.items.now.items) (sym none) (adds_none c.args.items.now.items)
+
+attended : (k : Kind) (eff : _) (parts : Parts) → (k ≡ kind.Remove) ⊎ ((k ≡ kind.Reply) ⊎ (k ≡ kind.Refresh)) → map (attendee_draft k parts) parts.attendees ≡ drafts_of k eff parts
+attended k eff parts (inl e) = subst (λ (l : Kind). map (attendee_draft l parts) parts.attendees ≡ drafts_of l eff parts) (sym e) refl
+attended k eff parts (inr (inl e)) = subst (λ (l : Kind). map (attendee_draft l parts) parts.attendees ≡ drafts_of l eff parts) (sym e) refl
+attended k eff parts (inr (inr e)) = subst (λ (l : Kind). map (attendee_draft l parts) parts.attendees ≡ drafts_of l eff parts) (sym e) refl
+
+pub returns-in_err-add_attendees-in-Remove-clause-fault : goal.returns-in_err-add_attendees-in-Remove-clause-fault
+returns-in_err-add_attendees-in-Remove-clause-fault c =
+    let p = err_from_is_err_and c.from_residual-in_err-add_attendees-in-Remove.result c.from_residual-in_err-add_attendees-in-Remove.ensures.1 in
+    let parts : Parts = parts_of c.args.todo in
+    let eff = raised parts c.args.above in
+    let same = attended c.kind_of-kind.result eff parts c.in-Remove.is ∙ ap (λ (l : Kind). drafts_of l eff parts) c.kind_of-kind.ensures in
+    rw (p.1, p.2) (subst (λ (ds : List Draft). IfFault c.in_err-add_attendees-in-Remove.field-0.0 (IsOver ds)) same c.in_err-add_attendees-in-Remove.ensures.fault)

@@ -14,7 +14,7 @@ appended (Err x) old new text goal e same = tt
 pub returns-clause-ok : goal.returns-clause-ok
 returns-clause-ok c =
     appended c.extend_from_slice.result c.args.out.now.items c.extend_from_slice.new.self.items c.as_slice.result.now (contents_octets (todo_contents (parts_of c.args.todo.now))) c.extend_from_slice.ensures.items
-    (c.as_slice.ensures.value ∙ c.in_ok-write_lines.ensures ∙ ap (λ (front : List ℕ). front ++ contents_octets (todo_contents (parts_of c.args.todo.now))) c.new-text.ensures.items)
+    (c.as_slice.ensures.value ∙ c.in_ok-write_lines.ensures ∙ ap (λ (front : List ℕ). front ++ contents_octets (todo_contents (parts_of c.args.todo.now))) c.in_ok-text.ensures.items)
 
 pub returns-clause-read_again : goal.returns-clause-read_again
 returns-clause-read_again c =

@@ -15,7 +15,7 @@ use Rattle.itip_view.proofs.of_uid.UidView.rows.Goals as goal
 pub loop-at-init : goal.loop-at-init
 loop-at-init c =
     let items : List Item = c.args.self.now.items.now.items in
-    let so : c.push_some.new.rows.items ≡ option_to_list c.in_ok-row.row = c.in_ok-push_some.ensures ∙ ap (λ (xs : List Row). xs ++ option_to_list c.in_ok-row.row) c.new-rows.ensures.items in
+    let so : c.push_some.new.rows.items ≡ option_to_list c.in_ok-row.row = c.in_ok-push_some.ensures ∙ ap (λ (xs : List Row). xs ++ option_to_list c.in_ok-row.row) c.in_ok-rows.ensures.items in
     subst (λ (rows : List Row). RowsUpTo items c.args.self.now.window c.args.self.now.items.now.uid [] rows) (sym so) (rows_begin items c.args.self.now.window c.args.self.now.items.now.uid c.in_ok-row.row c.in_ok-row.ensures)
 
 pub row_at-requires-clause-occurs : goal.row_at-requires-clause-occurs
