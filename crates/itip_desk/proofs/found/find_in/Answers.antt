@@ -45,7 +45,7 @@ returns-clause-days c = λ uid day low high there.
 
 pub returns-clause-always : goal.returns-clause-always
 returns-clause-always c = λ uid there.
-    let high : c.bound-to-2.result ≡ entry_at [] (Attendee []) = c.bound-to-2.ensures ∙ ap (λ (k : List ℕ). entry_at [] (Attendee k)) (c.new-2.ensures ∙ c.new.ensures.bytes) in
+    let high : c.bound-to-2.result ≡ entry_at [] (Attendee []) = c.bound-to-2.ensures ∙ ap (λ (k : List ℕ). entry_at [] (Attendee k)) c.new.ensures in
     let inside : range_contains entry_cmp (Included c.bound-from-2.result) (Excluded c.bound-to-2.result) (entry_at uid Always) ≡ true =
     subst (λ (l : Entry). range_contains entry_cmp (Included l) (Excluded c.bound-to-2.result) (entry_at uid Always) ≡ true) (sym c.bound-from-2.ensures)
     (subst (λ (h : Entry). range_contains entry_cmp (Included (entry_at [] Always)) (Excluded h) (entry_at uid Always) ≡ true) (sym high) (always_inside uid)) in
