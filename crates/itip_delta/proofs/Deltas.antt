@@ -29,7 +29,7 @@ use Rattle.itip_state.specs.Kept.{SameItems, IsItemsOf}
 use Rattle.itip_state.proofs.OneOrder.{less_one_way, same_ascending}
 use Rattle.itip_desk.specs.Octets.{AscendOctets}
 use Rattle.itip_delta.specs.Scanned.{begins_blank, lines_of, ends_calendar, groups_of, texts_of, messages_of, CutsMessage}
-use Rattle.itip_delta.specs.Delta.{delta_octets, AreMessages, FirstRefused, all_of, ReadsDelta, RefusesDelta, IsDelta}
+use Rattle.itip_delta.specs.Delta.{delta_octets, AreMessages, FirstRefused, all_of, ReadsDelta, RefusesDelta}
 use Rattle.itip_delta.specs.Passing.{Continues}
 use Rattle.itip_delta.proofs.Cuts.{cut_by_scan}
 use Rattle.itip_delta.proofs.Folded.{contents_lines, contents_end_none}
@@ -236,13 +236,3 @@ write_more items i item old new bytes within is same grown so_far =
 pub write_done : (items : List Item) (i : ℕ) (old : List ℕ) → length items ≤ i → old ++ delta_octets (drop i items) ≡ delta_octets items → old ≡ delta_octets items
 unfolding delta_octets
 write_done items i old past so_far = sym (append-nil old) ∙ ap (λ (t : List ℕ). old ++ t) (sym (at_drop_all delta_octets items i past)) ∙ so_far
-
--- ---- the octets of a batch
-
-pub never_refused : (bytes read : List ℕ) (fault : Fault) → read ≡ bytes → IsDelta bytes → RefusesDelta read fault → ⊥
-never_refused bytes read fault same is refuses =
-    delta_apart read is.batch fault (subst (λ (t : List ℕ). ReadsDelta t is.batch) (sym (same ∙ is.octets)) (written_read is.batch is.ascend)) refuses
-
-pub read_back : (bytes read : List ℕ) (batch : List Item) → read ≡ bytes → IsDelta bytes → ReadsDelta read batch → bytes ≡ delta_octets batch
-read_back bytes read batch same is reads =
-    is.octets ∙ ap delta_octets (one_batch read is.batch batch (subst (λ (t : List ℕ). ReadsDelta t is.batch) (sym (same ∙ is.octets)) (written_read is.batch is.ascend)) reads)

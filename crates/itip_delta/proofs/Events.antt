@@ -1,12 +1,12 @@
 -- One event over a world, whatever happened before it.
-use Rattle.std.proofs.Common.{◌≡◌, ℕ, ◌<◌, List, [], ◌∷◌, ◌++◌, length, get_or, refl, sym, ap, subst, ◌∙◌, Some, Ok, Err}
-use Rattle.std.specs.Prelude.{slice_get, slice_set, Result, IsErrAnd, IsErrOf}
+use Rattle.std.proofs.Common.{◌≡◌, ℕ, ◌<◌, List, [], ◌∷◌, ◌++◌, length, refl, sym, ap, subst, ◌∙◌, Some, Ok, Err}
+use Rattle.std.specs.Prelude.{slice_get, slice_set, Result, OnOk, OnErr, IsErrAnd, IsErrOf}
 use Rattle.itip_desk.specs.declared.error.DeskError.{DeskError}
 use Rattle.itip_message.specs.Message.{ReadsMessage, RefusesMessage}
 use Rattle.itip_message.specs.Numbers.{number_of}
 use Rattle.itip_message.specs.declared.error.Fault.{Fault}
 use Rattle.itip_message.specs.declared.item.Item.{Item}
-use Rattle.itip_state.specs.Kept.{AreKept, AreMoved, SameItems, HasEachOnce}
+use Rattle.itip_state.specs.Kept.{AreKept, SameItems}
 use Rattle.itip_desk.specs.Desk.{Shown, IsDeskOf, IsDeltaOf}
 use Rattle.itip_desk.specs.Heard.{heard, Ticks}
 use Rattle.itip_desk.specs.Octets.{AscendOctets}
@@ -20,7 +20,7 @@ use Rattle.itip_delta.specs.declared.event.Event.{Event}
 use Rattle.itip_delta.specs.declared.event.Event.TheVariants.{Deliver, Post, Arrive}
 use Rattle.itip_delta.specs.declared.event.Reply.TheVariants.{Taken, Posted, Refused}
 use Rattle.itip_delta.proofs.Deltas.{known_by_octets}
-use Rattle.itip_delta.proofs.Desks.{counted, after_nothing, heard_more, HeardMore, desk_there, set_itself, get_set_other, history_at, slice_get-get_or}
+use Rattle.itip_delta.proofs.Desks.{counted, after_nothing, heard_more, HeardMore, desk_there, set_itself, get_set_other, history_at}
 use Rattle.itip_delta.proofs.Packets.{posted, texts_more, texts_length, packet_at, PacketAt}
 use Rattle.itip_delta.proofs.Swaps.{AreAlike, kept_alike_whole, alike_back, keep_same_swap, desk_swap}
 
@@ -34,53 +34,67 @@ same_packets past old new same is = subst (λ (ps : List (List ℕ)). ArePacketT
 
 -- ---- a desk hears a batch
 
-pub hears_batch : (old new : ShownWorld) (desk : ℕ) (batch : List Item) (was is : Shown) (uids : List (List ℕ)) (tick count : ℕ) → desk < length old.desks → was ≡ get_or old.desks desk was → AreMoved uids was.kept batch → HasEachOnce is.kept
-    → ((steps : List (List Item)) (start : ℕ) → IsDeskOf steps start was → IsDeskOf (steps ++ batch ∷ []) start is) → tick ≡ is.tick → count ≡ length uids
-    → new.desks ≡ slice_set old.desks desk is → new.packets ≡ old.packets → new.replies ≡ old.replies ++ Taken tick count ∷ [] → HearsBatch old desk batch new
-hears_batch old new desk batch was is uids tick count within stands moved once step last counted heard unposted replied = record {
-  was = was;
-  is = is;
-  uids = uids;
-  there = slice_get-get_or old.desks desk was within ∙ ap (λ (s : Shown). Some s) (sym stands);
-  moved = moved;
-  once = once;
-  step = step;
-  desks_are = heard;
-  packets_are = unposted;
-  replies_are = replied ∙ ap (λ (n : ℕ). old.replies ++ Taken n count ∷ []) last ∙ ap (λ (n : ℕ). old.replies ++ Taken is.tick n ∷ []) counted;
-}
+-- a desk of a world hears a batch, and replies
+pub record HearsAt (old : ShownWorld) (desk : ℕ) (batch : List Item) (new : ShownWorld) : Type 0 where
+  pub was : Shown
+  pub is : Shown
+  pub there : slice_get old.desks desk ≡ Some was
+  pub hearing : HearsBatch was old.replies batch is new.replies
+  pub desks_are : new.desks ≡ slice_set old.desks desk is
+  pub packets_are : new.packets ≡ old.packets
 
-module _ (old new : ShownWorld) (desk : ℕ) (batch : List Item) (hears : HearsBatch old desk batch new) where
+module _ (old new : ShownWorld) (desk : ℕ) (batch : List Item) (hears : HearsAt old desk batch new) where
   -- the desk with one step more, which is the batch or as good as it
   heard_as : (past : Past) → IsWorldOf past old → (step : List Item) → ((steps : List (List Item)) (start : ℕ) → IsDeskOf steps start hears.was → IsDeskOf (steps ++ step ∷ []) start hears.is)
       → HeardMore past.histories old.desks desk step hears.was new.desks
   heard_as past is step steps = subst (λ (ds : List Shown). HeardMore past.histories old.desks desk step hears.was ds) (sym hears.desks_are)
       (heard_more past.histories old.desks desk step hears.was hears.is is.desks_are hears.there
-      (λ history was. counted (with_one_more history step) hears.is (steps history.steps history.start was.is) hears.once))
+      (λ history was. counted (with_one_more history step) hears.is (steps history.steps history.start was.is) hears.hearing.once))
 
-  pub past_heard : HasPast old → HasPast new
+  past_heard : HasPast old → HasPast new
   past_heard (past, is) = (
     past_with_step past desk batch,
-    record { desks_are = (heard_as past is batch hears.step).are; packets_are = same_packets past old new hears.packets_are is },
+    record { desks_are = (heard_as past is batch hears.hearing.step).are; packets_are = same_packets past old new hears.packets_are is },
   )
 
   pub others_heard : (number : ℕ) → (number ≡ desk → ⊥) → slice_get new.desks number ≡ slice_get old.desks number
   others_heard number not = ap (λ (ds : List Shown). slice_get ds number) hears.desks_are ∙ get_set_other old.desks desk number hears.is not
 
+module _ (old new : ShownWorld) (desk : ℕ) (batch : List Item) (was is : Shown) (there : slice_get old.desks desk ≡ Some was)
+    (desks_are : new.desks ≡ slice_set old.desks desk is) (packets_are : new.packets ≡ old.packets) where
+  pub hears_at : HearsBatch was old.replies batch is new.replies → HearsAt old desk batch new
+  hears_at hears = record { was = was; is = is; there = there; hearing = hears; desks_are = desks_are; packets_are = packets_are }
+
+  -- a desk that heard nothing leaves a world that has a past
+  past_still : is ≡ was → HasPast old → HasPast new
+  past_still still (past, world_is) = (
+    past,
+    record {
+      desks_are = subst (λ (ds : List Shown). AreDesksOf past.histories ds)
+          (sym (desks_are ∙ ap (λ (d : Shown). slice_set old.desks desk d) still ∙ set_itself old.desks desk was there)) world_is.desks_are;
+      packets_are = same_packets past old new packets_are world_is;
+    },
+  )
+
+  -- whether the desk heard the batch or was refused it, the world has a past
+  pub past_hearing : {E : Type 0} (r : Result (Unit {0}) E) → OnOk r (HearsBatch was old.replies batch is new.replies) → OnErr r (is ≡ was) → HasPast old → HasPast new
+  past_hearing (Ok x) hears still before = past_heard old new desk batch (hears_at hears) before
+  past_hearing (Err e) hears still before = past_still still before
+
 -- ---- a delivery
 
-pub steps_deliver : (old new : ShownWorld) (desk : ℕ) (bytes : List ℕ) (items batch : List Item) → ReadsMessage bytes items → SameItems batch items → HearsBatch old desk batch new → Steps old (Deliver desk bytes) new
+pub steps_deliver : (old new : ShownWorld) (desk : ℕ) (bytes : List ℕ) (items batch : List Item) → ReadsMessage bytes items → SameItems batch items → HearsAt old desk batch new → Steps old (Deliver desk bytes) new
 steps_deliver old new desk bytes items batch read same hears past is =
-    let more = heard_as old new desk batch hears past is batch hears.step in
+    let more = heard_as old new desk batch hears past is batch hears.hearing.step in
     record {
-      reply = Taken hears.is.tick (length hears.uids);
+      reply = Taken hears.is.tick (length hears.hearing.uids);
       more = past_with_step past desk batch;
-      step = delivers desk bytes more.history batch (Taken hears.is.tick (length hears.uids)) more.there
-          (reads items hears.uids hears.is.tick read same (record {
-            moved = moved_of_all hears.uids hears.was.kept (heard more.history.steps) batch more.was.kept hears.moved;
-            ticks = (hears.step more.history.steps more.history.start more.was).tick;
+      step = delivers desk bytes more.history batch (Taken hears.is.tick (length hears.hearing.uids)) more.there
+          (reads items hears.hearing.uids hears.is.tick read same (record {
+            moved = moved_of_all hears.hearing.uids hears.was.kept (heard more.history.steps) batch more.was.kept hears.hearing.moved;
+            ticks = (hears.hearing.step more.history.steps more.history.start more.was).tick;
           }));
-      replies_are = hears.replies_are;
+      replies_are = hears.hearing.replies_are;
       world_is = record { desks_are = more.are; packets_are = same_packets past old new hears.packets_are is };
     }
 
@@ -101,11 +115,12 @@ steps_refused old new desk bytes fault within refused still unposted replied pas
       };
     }
 
-pub spends_deliver : (world : ShownWorld) (desk : ℕ) (bytes : List ℕ) (items batch : List Item) → ReadsMessage bytes items → SameItems batch items → IsAtLastTick world desk batch → Spends world (Deliver desk bytes)
-spends_deliver world desk bytes items batch read same end past is =
-    let at = history_at past.histories world.desks desk end.shown is.desks_are end.there in
+pub spends_deliver : (world : ShownWorld) (desk : ℕ) (bytes : List ℕ) (items batch : List Item) (shown : Shown) → slice_get world.desks desk ≡ Some shown → ReadsMessage bytes items → SameItems batch items
+    → IsAtLastTick shown batch → Spends world (Deliver desk bytes)
+spends_deliver world desk bytes items batch shown there read same end past is =
+    let at = history_at past.histories world.desks desk shown is.desks_are there in
     spends desk bytes at.history items batch end.uid at.there read same (subst (λ (t : ℕ). Ticks [] at.history.start at.history.steps t) end.last at.is.tick)
-    (λ alike. end.moves (keep_same_down end.uid end.shown.kept (heard at.history.steps) batch at.is.kept alike))
+    (λ alike. end.moves (keep_same_down end.uid shown.kept (heard at.history.steps) batch at.is.kept alike))
 
 -- ---- a post
 
@@ -142,31 +157,31 @@ module _ (old : ShownWorld) (packet desk : ℕ) (octets : List ℕ) (batch : Lis
       let same : at.text.batch ≡ batch = known_by_octets at.text.batch batch at.text.batch_is.ascend ascend (sym at.text.octets_are ∙ written) in
       record { at = at; kept = subst (λ (b : List Item). AreKept b at.told) same at.text.batch_is.kept }
 
-  pub steps_arrive : (new : ShownWorld) → HearsBatch old desk batch new → Steps old (Arrive packet desk) new
+  pub steps_arrive : (new : ShownWorld) → HearsAt old desk batch new → Steps old (Arrive packet desk) new
   steps_arrive new hears past is =
       let told = told_by past is in
       let alike : AreAlike batch told.at.told = kept_alike_whole batch told.at.told told.kept in
-      let steps : (steps : List (List Item)) (start : ℕ) → IsDeskOf steps start hears.was → IsDeskOf (steps ++ told.at.told ∷ []) start hears.is = λ steps start d. desk_swap steps start hears.is batch told.at.told alike (hears.step steps start d) in
+      let steps : (steps : List (List Item)) (start : ℕ) → IsDeskOf steps start hears.was → IsDeskOf (steps ++ told.at.told ∷ []) start hears.is = λ steps start d. desk_swap steps start hears.is batch told.at.told alike (hears.hearing.step steps start d) in
       let more = heard_as old new desk batch hears past is told.at.told steps in
       record {
-        reply = Taken hears.is.tick (length hears.uids);
+        reply = Taken hears.is.tick (length hears.hearing.uids);
         more = past_with_step past desk told.at.told;
-        step = arrives packet desk told.at.told more.history hears.uids hears.is.tick told.at.there more.there (record {
-          moved = moved_whole hears.uids (heard more.history.steps) batch told.at.told told.kept (moved_of_all hears.uids hears.was.kept (heard more.history.steps) batch more.was.kept hears.moved);
+        step = arrives packet desk told.at.told more.history hears.hearing.uids hears.is.tick told.at.there more.there (record {
+          moved = moved_whole hears.hearing.uids (heard more.history.steps) batch told.at.told told.kept (moved_of_all hears.hearing.uids hears.was.kept (heard more.history.steps) batch more.was.kept hears.hearing.moved);
           ticks = (steps more.history.steps more.history.start more.was).tick;
         });
-        replies_are = hears.replies_are;
+        replies_are = hears.hearing.replies_are;
         world_is = record { desks_are = more.are; packets_are = same_packets past old new hears.packets_are is };
       }
 
-  pub spends_arrive : IsAtLastTick old desk batch → Spends old (Arrive packet desk)
-  spends_arrive end past is =
+  pub spends_arrive : (shown : Shown) → slice_get old.desks desk ≡ Some shown → IsAtLastTick shown batch → Spends old (Arrive packet desk)
+  spends_arrive shown there end past is =
       let told = told_by past is in
       let alike : AreAlike batch told.at.told = kept_alike_whole batch told.at.told told.kept in
-      let at = history_at past.histories old.desks desk end.shown is.desks_are end.there in
+      let at = history_at past.histories old.desks desk shown is.desks_are there in
       spends_arriving packet desk told.at.told at.history end.uid told.at.there at.there
       (subst (λ (t : ℕ). Ticks [] at.history.start at.history.steps t) end.last at.is.tick)
-      (λ same. end.moves (keep_same_down end.uid end.shown.kept (heard at.history.steps) batch at.is.kept (keep_same_swap end.uid (heard at.history.steps) told.at.told batch (alike_back batch told.at.told alike) same)))
+      (λ same. end.moves (keep_same_down end.uid shown.kept (heard at.history.steps) batch at.is.kept (keep_same_swap end.uid (heard at.history.steps) told.at.told batch (alike_back batch told.at.told alike) same)))
 
 -- ---- the number of what a desk keeps
 

@@ -1,8 +1,8 @@
 -- Lines that are passed whatever octets come behind them.
-use Rattle.std.proofs.Common.{◌≡◌, ◌∙◌, sym, ap, refl, ℕ, zero, suc, ◌<◌, ◌≤◌, ◌-◌, ◌+◌, Bool, true, false, cond, ◌&&◌, List, [], ◌∷◌, ◌++◌, length, take, drop, arith, subst, append_assoc}
+use Rattle.std.proofs.Common.{◌≡◌, ◌∙◌, sym, ap, refl, ℕ, zero, suc, ◌<◌, ◌≤◌, ◌-◌, ◌+◌, Bool, true, false, cond, ◌&&◌, List, [], ◌∷◌, ◌++◌, length, take, drop, arith, subst}
 use Rattle.std.proofs.lemmas.List.{length-append}
 use Rattle.itip_delta.specs.Scanned.{line_length, ends_line, ends_calendar, is_empty, CutsMessage, StaysCut}
-use Rattle.itip_delta.specs.Passing.{IsFirstLine, StaysFirstLine, Passes, StaysPassing}
+use Rattle.itip_delta.specs.Passing.{IsFirstLine, StaysFirstLine, StaysPassing}
 use Rattle.itip_delta.proofs.FirstLines.{is_first_line}
 use Rattle.itip_delta.proofs.Messages.{start_passing, pass_line, message_ends}
 

@@ -1,5 +1,5 @@
 -- What desks have heard and posted after a list of events, and the replies to these (our own rule).
-use Rattle.std.specs.Prelude.{◌≡◌, ℕ, zero, suc, ◌^◌, ◌-◌, ◌<◌, List, [], ◌∷◌, ◌++◌, ◌≤◌, ◌↔◌, length, take, min, replicate, Some, slice_get, slice_set}
+use Rattle.std.specs.Prelude.{◌≡◌, ℕ, zero, suc, ◌^◌, ◌-◌, ◌<◌, List, [], ◌∷◌, ◌++◌, ◌≤◌, ◌↔◌, length, take, min, replicate, Some, slice_get}
 use Rattle.itip_message.specs.Message.{ReadsMessage, RefusesMessage}
 use Rattle.itip_message.specs.Numbers.{number_of}
 use Rattle.itip_message.specs.declared.error.Fault.{Fault}
@@ -232,26 +232,19 @@ Steps old event new = (past : Past) → IsWorldOf past old → StepsWorld past e
 abbrev pub Spends : ShownWorld → Event → Type 0
 Spends world event = (past : Past) → IsWorldOf past world → IsSpent past event
 
--- a desk hears a batch and replies
-pub record HearsBatch (old : ShownWorld) (desk : ℕ) (batch : List Item) (new : ShownWorld) : Type 0 where
-  pub was : Shown
-  pub is : Shown
+-- a desk hears a batch, and replies
+pub record HearsBatch (was : Shown) (before : List Reply) (batch : List Item) (is : Shown) (after : List Reply) : Type 0 where
   pub uids : List (List ℕ)
-  pub there : slice_get old.desks desk ≡ Some was
   pub moved : AreMoved uids was.kept batch
   pub once : HasEachOnce is.kept
   pub step : (steps : List (List Item)) (start : ℕ) → IsDeskOf steps start was → IsDeskOf (steps ++ batch ∷ []) start is
-  pub desks_are : new.desks ≡ slice_set old.desks desk is
-  pub packets_are : new.packets ≡ old.packets
-  pub replies_are : new.replies ≡ old.replies ++ Taken is.tick (length uids) ∷ []
+  pub replies_are : after ≡ before ++ Taken is.tick (length uids) ∷ []
 
 -- a desk is at the last tick, and a batch would move a UID there
-pub record IsAtLastTick (world : ShownWorld) (desk : ℕ) (batch : List Item) : Type 0 where
-  pub shown : Shown
-  pub there : slice_get world.desks desk ≡ Some shown
-  pub last : shown.tick ≡ 2 ^ 64 - 1
+pub record IsAtLastTick (desk : Shown) (batch : List Item) : Type 0 where
+  pub last : desk.tick ≡ 2 ^ 64 - 1
   pub uid : List ℕ
-  pub moves : Moves shown.kept batch uid
+  pub moves : Moves desk.kept batch uid
 
 -- a run stopped: out of memory at its start, with no desk, or at an event that was not done
 pub data StopsAfter (old : Past) (events : List Event) (done : ℕ) (world : ShownWorld) (why : Cause) : Type 0 where

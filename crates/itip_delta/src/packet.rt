@@ -2,16 +2,15 @@
 ghost use Rattle.std.specs.Prelude.{◌≡◌, IfOk};
 
 use crate::NoMemory;
-use crate::delta::{read_delta, write_delta};
+use crate::delta::write_delta;
 use itip_desk::Batch;
-use itip_message::ReadError;
 use std::alloc::Global;
 use std::marker::Model;
 
-/// The octets of a batch: whoever reads them gets this batch and no refusal.
+/// The octets of a batch: whoever reads them gets this batch and no refusal. It holds the batch, and its octets are written where they are asked for.
 #[derive(Debug, Drop)]
 pub struct Packet {
-    octets: Vec<u8>,
+    batch: Batch,
 }
 
 impl Model for Packet {
@@ -19,43 +18,41 @@ impl Model for Packet {
 
     ghost Value = { List ℕ };
 
-    ghost view = { λ p. p.octets.items };
+    ghost use Rattle.itip_delta.specs.Delta.{delta_octets};
 
-    ghost use Rattle.itip_delta.specs.Delta.{IsDelta};
+    ghost view = { λ p. delta_octets p.batch };
 
-    ghost invariant = { λ p. IsDelta p.octets.items };
+    ghost use Rattle.itip_desk.specs.Octets.{AscendOctets};
+
+    ghost invariant = { λ p. AscendOctets p.batch };
 }
 
 impl Packet {
     ghost use Rattle.itip_desk.specs.Octets.{AscendOctets};
     ghost use Rattle.itip_delta.specs.Delta.{delta_octets, IsDelta};
 
-    /// The octets of a batch, written by [`write_delta`](crate::write_delta).
-    pub(crate) fn of_batch(alloc: Global, batch: &Batch) -> Result<Packet, NoMemory>
-        ensures { IfOk result (λ packet. packet ≡ delta_octets batch.now) }
+    /// The octets of a batch. It takes no memory.
+    pub(crate) fn of_batch(batch: Batch) -> Packet
+        ensures { result ≡ delta_octets batch }
     {
-        let octets = write_delta(alloc, batch)?;
-        let _items = batch.as_slice();
-        Ok(Packet { octets })
+        // No code: it tells the proof that the items ascend.
+        batch.lawful();
+        Packet { batch }
     }
 
-    /// The octets.
-    pub fn as_slice(&self) -> &[u8]
-        ensures octets { result.now ≡ self.now }
+    /// The octets, written by [`write_delta`](crate::write_delta).
+    pub fn octets(&self, alloc: Global) -> Result<Vec<u8>, NoMemory>
+        ensures octets { IfOk result (λ octets. octets.items ≡ self.now) }
         ensures delta { IsDelta self.now }
     {
-        self.octets.as_slice()
+        write_delta(alloc, &self.batch)
     }
 
-    /// The batch, read anew from the octets by [`read_delta`](crate::read_delta).
-    pub fn batch(&self, alloc: Global) -> Result<Batch, NoMemory>
-        ensures octets { IfOk result (λ batch. self.now ≡ delta_octets batch) }
-        ensures ascend { IfOk result AscendOctets }
+    /// The batch, which is what [`read_delta`](crate::read_delta) gives of the octets.
+    pub fn batch(&self) -> &Batch
+        ensures octets { self.now ≡ delta_octets result.now }
+        ensures ascend { AscendOctets result.now }
     {
-        match read_delta(alloc, self.as_slice()) {
-            Ok(batch) => Ok(batch),
-            Err(ReadError::NoMemory) => Err(NoMemory),
-            Err(ReadError::Fault(_)) => unreachable!(),
-        }
+        &self.batch
     }
 }

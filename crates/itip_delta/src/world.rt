@@ -149,7 +149,7 @@ impl World {
             }
         };
         let batch = Batch::of_items(items)?;
-        self.hear(desk, &batch)
+        hear(&mut self.desks[desk], &mut self.replies, &batch)
     }
 
     /// A desk that is there posts what changed there after a tick.
@@ -161,7 +161,7 @@ impl World {
     {
         let batch = self.desks[desk].delta_since(since)?;
         let items = batch.as_slice().len();
-        let packet = Packet::of_batch(self.alloc, &batch)?;
+        let packet = Packet::of_batch(batch);
         let number = self.packets.len();
         self.replies.reserve(1)?;
         self.packets.push(packet)?;
@@ -181,26 +181,25 @@ impl World {
         ensures spent { IsErrOf result DeskError.TicksSpent → Spends self.old (Event.Arrive packet desk) }
         ensures err { OnErr result (self.new ≡ self.old) }
     {
-        let batch = self.packets[packet].batch(self.alloc)?;
-        self.hear(desk, &batch)
+        let batch = self.packets[packet].batch();
+        hear(&mut self.desks[desk], &mut self.replies, batch)
     }
+}
 
-    /// A desk that is there hears a batch, and replies.
-    fn hear(&mut self, desk: usize, batch: &Batch) -> Result<(), DeskError>
-        requires { desk < length self.old.desks }
-        ensures hears { OnOk result (HearsBatch self.old desk batch.now self.new) }
-        ensures spent { IsErrOf result DeskError.TicksSpent → IsAtLastTick self.old desk batch.now }
-        ensures err { OnErr result (self.new ≡ self.old) }
-    {
-        self.replies.reserve(1)?;
-        let heard = &mut self.desks[desk];
-        let changed = heard.take(batch)?;
-        // No code: it tells the proof that the desk has each kept item once.
-        heard.state().lawful();
-        self.replies.push(Reply::Taken {
-            tick: changed.tick,
-            changed: changed.uids.len(),
-        })?;
-        Ok(())
-    }
+/// A desk hears a batch, and replies.
+fn hear(desk: &mut Desk, replies: &mut Vec<Reply>, batch: &Batch) -> Result<(), DeskError>
+    ensures hears { OnOk result (HearsBatch desk.old replies.old.items batch.now desk.new replies.new.items) }
+    ensures spent { IsErrOf result DeskError.TicksSpent → IsAtLastTick desk.old batch.now }
+    ensures desk_err { OnErr result (desk.new ≡ desk.old) }
+    ensures replies_err { OnErr result (replies.new.items ≡ replies.old.items) }
+{
+    replies.reserve(1)?;
+    let changed = desk.take(batch)?;
+    // No code: it tells the proof that the desk has each kept item once.
+    desk.state().lawful();
+    replies.push(Reply::Taken {
+        tick: changed.tick,
+        changed: changed.uids.len(),
+    })?;
+    Ok(())
 }

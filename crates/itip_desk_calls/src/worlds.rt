@@ -101,7 +101,7 @@ fn shown_desks(alloc: Global, world: &World) -> Result<Vec<u8>, CallError> {
 fn shown_packets(alloc: Global, packets: &[Packet]) -> Result<Vec<u8>, CallError> {
     let mut told = String::new(alloc);
     for packet in packets {
-        let length = packet.as_slice().len();
+        let length = packet.octets(alloc)?.len();
         let items = lengths(alloc, packet)?;
         told.push_str(format!(in alloc; "{length}:{items}\n")?.as_str())?;
     }
@@ -110,8 +110,7 @@ fn shown_packets(alloc: Global, packets: &[Packet]) -> Result<Vec<u8>, CallError
 
 fn lengths(alloc: Global, packet: &Packet) -> Result<String, CallError> {
     let mut told = String::new(alloc);
-    let batch = packet.batch(alloc)?;
-    for item in batch.as_slice() {
+    for item in packet.batch().as_slice() {
         let length = item.bytes.as_slice().len();
         told.push_str(format!(in alloc; " {length}")?.as_str())?;
     }
@@ -121,7 +120,7 @@ fn lengths(alloc: Global, packet: &Packet) -> Result<String, CallError> {
 /// The octets of a packet.
 fn packet(alloc: Global, packets: &[Packet], place: usize) -> Result<Vec<u8>, CallError> {
     let packet = packets.get(place).ok_or(CallError::NoSuchCall)?;
-    Ok(Vec::from_slice(alloc, packet.as_slice())?)
+    Ok(packet.octets(alloc)?)
 }
 
 /// What comes of each event at one desk that has heard nothing, at this tick; the replies, and the desk.

@@ -37,7 +37,7 @@ pub(crate) fn world_picture(alloc: Global, world: &World) -> Result<Vec<u8>, Cal
         shown.extend_from_slice(&picture(alloc, desk)?)?;
     }
     for packet in world.packets() {
-        shown.extend_from_slice(packet.as_slice())?;
+        shown.extend_from_slice(&packet.octets(alloc)?)?;
     }
     Ok(shown)
 }

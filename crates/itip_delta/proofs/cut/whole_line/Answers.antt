@@ -1,6 +1,5 @@
-use Rattle.std.proofs.Common.{◌≡◌, ◌<◌, length, rules, ℕ, List, ◌++◌, take, drop, subst, sym}
+use Rattle.std.proofs.Common.{◌<◌, length, rules}
 use Rattle.std.proofs.lemmas.List.{take_rest}
-use Rattle.itip_delta.specs.Passing.{IsFirstLine}
 use Rattle.itip_delta.proofs.StaysPassing.{line_stays}
 use Rattle.itip_delta.proofs.cut.whole_line.Goals as goal
 

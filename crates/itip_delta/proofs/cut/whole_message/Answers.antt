@@ -1,4 +1,4 @@
-use Rattle.std.proofs.Common.{◌≡◌, ◌<◌, ◌≤◌, length, sym, ◌∙◌, refl, arith}
+use Rattle.std.proofs.Common.{sym, ◌∙◌, refl, arith}
 use Rattle.itip_delta.proofs.StaysPassing.{stays_more, stays_end}
 use Rattle.itip_delta.proofs.cut.whole_message.Goals as goal
 

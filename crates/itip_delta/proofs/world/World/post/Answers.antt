@@ -19,8 +19,8 @@ steps c =
     let shown = c.index.result.now in
     let number : c.len-number.result ≡ length (old c).packets = grind arith in
     let count : length c.as_slice-items.result.now ≡ length c.in_ok-batch.batch = ap length c.as_slice-items.ensures.items in
-    steps_post (old c) (new c) c.args.desk c.args.since shown c.in_ok-batch.batch c.in_ok-packet.packet (slice_get-get_or (old c).desks c.args.desk shown within ∙ ap Some (sym c.index.ensures))
-    c.in_ok-batch.ensures c.in_ok-packet.ensures refl c.in_ok-push.ensures.items
+    steps_post (old c) (new c) c.args.desk c.args.since shown c.in_ok-batch.batch c.of_batch-packet.result (slice_get-get_or (old c).desks c.args.desk shown within ∙ ap Some (sym c.index.ensures))
+    c.in_ok-batch.ensures c.of_batch-packet.ensures refl c.in_ok-push.ensures.items
     (c.in_ok-push-2.ensures.items ∙ ap (λ front. front ++ Posted c.len-number.result (length c.as_slice-items.result.now) ∷ []) c.in_ok-reserve.ensures.items
     ∙ ap (λ n. (old c).replies ++ Posted n (length c.as_slice-items.result.now) ∷ []) number ∙ ap (λ n. (old c).replies ++ Posted (length (old c).packets) n ∷ []) count)
 
