@@ -2,6 +2,10 @@ mod Hearing
 mod Keeping
 mod Streams
 mod OneInbox
+mod ByOctets
+mod SomeInbox
 mod Octets
+mod Telling
+mod Between
 mod Parts
 mod Outputs

@@ -8,7 +8,7 @@ use Rattle.itip_delta.specs.Delta.{delta_octets}
 use Rattle.itip_delta.proofs.Deltas.{one_order}
 use Rattle.itip_delta.proofs.OneCut.{one_cut}
 use Rattle.itip_inbox.specs.declared.refusal.Refusal.{Refusal}
-use Rattle.itip_inbox.specs.Inbox.{IsAnswer, AreAnswers, heard_of, refusals_from, IsInbox}
+use Rattle.itip_inbox.specs.Inbox.{IsAnswer, AreAnswers, heard_of, refusals_from, IsInbox, is_some_refused}
 use Rattle.itip_inbox.specs.Compaction.{AreKeptOctets, IsCompaction}
 
 -- a text is one thing
@@ -42,3 +42,6 @@ pub compaction_once : (input octets others : List ℕ) (refused other : Bool) �
 compaction_once input octets others refused other a b =
     let one = one_inbox input a.heard b.heard a.refusals b.refusals a.inbox b.inbox in
     one_octets b.heard octets others (subst (λ (h : List Item). AreKeptOctets h octets) one.0 a.kept) b.kept
+
+pub refused_once : (input octets others : List ℕ) (refused other : Bool) → IsCompaction input octets refused → IsCompaction input others other → refused ≡ other
+refused_once input octets others refused other a b = a.refused_is ∙ ap is_some_refused (one_inbox input a.heard b.heard a.refusals b.refusals a.inbox b.inbox).1 ∙ sym b.refused_is

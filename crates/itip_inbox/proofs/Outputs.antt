@@ -84,10 +84,10 @@ items_end old mid new items i kept so_far past appended =
 kept_items : (batch kept heard : List Item) → IsItemsOf batch kept → AreKept kept heard → AreKept batch heard
 kept_items batch kept heard is keeps i = (λ h. (keeps i).0 ((is.same i).0 h), λ k. (is.same i).1 ((keeps i).1 k))
 
-pub compaction_written : (old new read : Option (List ℕ)) (kept batch : List Item) (refusals : List Refusal) (refused : Bool) → IfSome read (λ input. Holds input kept refusals) → IsItemsOf batch kept
+pub compaction_written : (old new read : Option (List ℕ)) (kept batch : List Item) (refusals : List Refusal) (count : ℕ) (refused : Bool) → IfSome read (λ input. Holds input kept refusals count) → IsItemsOf batch kept
     → Appends old new (delta_octets batch) → refused ≡ is_some_refused refusals → IfSome read (λ input. WritesCompaction old new input refused)
-compaction_written old new None kept batch refusals refused holds items appended is = tt
-compaction_written old new (Some input) kept batch refusals refused holds items appended is = record {
+compaction_written old new None kept batch refusals count refused holds items appended is = tt
+compaction_written old new (Some input) kept batch refusals count refused holds items appended is = record {
   octets = delta_octets batch;
   compaction = record {
     heard = holds.heard;
@@ -104,17 +104,17 @@ same_items : (items batch set : List Item) → IsItemsOf items set → IsItemsOf
 same_items items batch set a b = one_order items batch a.ascend b.ascend (λ i. (λ h. (b.same i).1 ((a.same i).0 h), λ h. (a.same i).1 ((b.same i).0 h)))
 
 -- the batch of a compaction is that of what is kept
-its_batch : (input octets : List ℕ) (kept : List Item) (refusals : List Refusal) (refused : Bool) → Holds input kept refusals → (is : IsCompaction input octets refused) → IsItemsOf is.kept.batch kept
-its_batch input octets kept refusals refused holds is =
+its_batch : (input octets : List ℕ) (kept : List Item) (refusals : List Refusal) (count : ℕ) (refused : Bool) → Holds input kept refusals count → (is : IsCompaction input octets refused) → IsItemsOf is.kept.batch kept
+its_batch input octets kept refusals count refused holds is =
     let one : is.heard ≡ holds.heard = (one_inbox input is.heard holds.heard is.refusals refusals is.inbox holds.inbox).0 in
     let are : AreKept is.kept.batch holds.heard = subst (λ (heard : List Item). AreKept is.kept.batch heard) one is.kept.kept in
     record { ascend = is.kept.ascend; same = λ i. (λ h. (holds.keeps i).1 ((are i).0 h), λ h. (are i).1 ((holds.keeps i).0 h)) }
 
-pub compaction_front : (old new read : Option (List ℕ)) (kept batch : List Item) (refusals : List Refusal) → IfSome read (λ input. Holds input kept refusals) → IsItemsOf batch kept → AppendsFront old new (delta_octets batch)
+pub compaction_front : (old new read : Option (List ℕ)) (kept batch : List Item) (refusals : List Refusal) (count : ℕ) → IfSome read (λ input. Holds input kept refusals count) → IsItemsOf batch kept → AppendsFront old new (delta_octets batch)
     → IfSome read (λ input. (octets : List ℕ) (refused : Bool) → IsCompaction input octets refused → AppendsFront old new octets)
-compaction_front old new None kept batch refusals holds items front = tt
-compaction_front old new (Some input) kept batch refusals holds items front = λ octets refused is.
-    let same : batch ≡ is.kept.batch = same_items batch is.kept.batch kept items (its_batch input octets kept refusals refused holds is) in
+compaction_front old new None kept batch refusals count holds items front = tt
+compaction_front old new (Some input) kept batch refusals count holds items front = λ octets refused is.
+    let same : batch ≡ is.kept.batch = same_items batch is.kept.batch kept items (its_batch input octets kept refusals count refused holds is) in
     subst (λ (t : List ℕ). AppendsFront old new t) (ap delta_octets same ∙ sym is.kept.octets_are) front
 
 pub compaction_unread : (o read : Option (List ℕ)) → IfSome read (λ input. (octets : List ℕ) (refused : Bool) → IsCompaction input octets refused → AppendsFront o o octets)
@@ -147,21 +147,21 @@ listed_once heard window attendee text other refusal more (inl a) (inr b) = absu
 listed_once heard window attendee text other refusal more (inr a) (inl b) = absurd (text_apart attendee heard window other b.0 a.0)
 listed_once heard window attendee text other refusal more (inr a) (inr b) = a.1 ∙ sym b.1
 
-pub list_written : (old new read : Option (List ℕ)) (kept : List Item) (refusals : List Refusal) (window : Window) (attendee : Option (List ℕ)) (text : List ℕ) (refusal refused : Bool)
-    → IfSome read (λ input. Holds input kept refusals) → ((heard : List Item) → AreKept kept heard → IsListed heard window attendee text refusal) → Appends old new text
+pub list_written : (old new read : Option (List ℕ)) (kept : List Item) (refusals : List Refusal) (count : ℕ) (window : Window) (attendee : Option (List ℕ)) (text : List ℕ) (refusal refused : Bool)
+    → IfSome read (λ input. Holds input kept refusals count) → ((heard : List Item) → AreKept kept heard → IsListed heard window attendee text refusal) → Appends old new text
     → refused ≡ (is_some_refused refusals || refusal) → IfSome read (λ input. WritesTaskList old new input window attendee refused)
-list_written old new None kept refusals window attendee text refusal refused holds listed appended is = tt
-list_written old new (Some input) kept refusals window attendee text refusal refused holds listed appended is = record {
+list_written old new None kept refusals count window attendee text refusal refused holds listed appended is = tt
+list_written old new (Some input) kept refusals count window attendee text refusal refused holds listed appended is = record {
   text = text;
   list = record { heard = holds.heard; refusals = refusals; inbox = holds.inbox; refusal = refusal; listed = listed holds.heard holds.keeps; refused_is = is };
   appended = appended;
 }
 
-pub list_front : (old new read : Option (List ℕ)) (kept : List Item) (refusals : List Refusal) (window : Window) (attendee : Option (List ℕ)) (text : List ℕ) (refusal : Bool)
-    → IfSome read (λ input. Holds input kept refusals) → ((heard : List Item) → AreKept kept heard → IsListed heard window attendee text refusal) → AppendsFront old new text
+pub list_front : (old new read : Option (List ℕ)) (kept : List Item) (refusals : List Refusal) (count : ℕ) (window : Window) (attendee : Option (List ℕ)) (text : List ℕ) (refusal : Bool)
+    → IfSome read (λ input. Holds input kept refusals count) → ((heard : List Item) → AreKept kept heard → IsListed heard window attendee text refusal) → AppendsFront old new text
     → IfSome read (λ input. (other : List ℕ) (refused : Bool) → IsTaskList input window attendee other refused → AppendsFront old new other)
-list_front old new None kept refusals window attendee text refusal holds listed front = tt
-list_front old new (Some input) kept refusals window attendee text refusal holds listed front = λ other refused is.
+list_front old new None kept refusals count window attendee text refusal holds listed front = tt
+list_front old new (Some input) kept refusals count window attendee text refusal holds listed front = λ other refused is.
     let one : is.heard ≡ holds.heard = (one_inbox input is.heard holds.heard is.refusals refusals is.inbox holds.inbox).0 in
     let same : text ≡ other =
     listed_once holds.heard window attendee text other refusal is.refusal (listed holds.heard holds.keeps) (subst (λ (heard : List Item). IsListed heard window attendee other is.refusal) one is.listed) in

@@ -54,7 +54,7 @@ module _ (old new : Option (List ℕ)) (held : List ℕ) (kept : List Item) (ref
   }
 
 holds : (old new : Option (List ℕ)) (messages texts : List (List ℕ)) (filled : List ℕ) (now : List Item) (more : List Refusal) (number : ℕ) → LeavesMessages old new messages filled → IsAtEnd new → texts ≡ messages_of filled
-    → KeepsMessages (messages ++ texts) now more number → IfSome old (λ input. Holds input now more)
+    → KeepsMessages (messages ++ texts) now more number → IfSome old (λ input. Holds input now more number)
 holds None new messages texts filled now more number l end is keeps = tt
 holds (Some input) None messages texts filled now more number l end is keeps = absurd l
 holds (Some input) (Some rest) messages texts filled now more number l end is keeps =
@@ -64,13 +64,14 @@ holds (Some input) (Some rest) messages texts filled now more number l end is ke
       heard = keeps.heard;
       inbox = record { messages = messages_of input; cut = cut_by_scan input; hears = subst (λ (ms : List (List ℕ)). Hears ms keeps.heard more) (sym all) keeps.hears };
       keeps = keeps.keeps;
+      count_is = keeps.count_is ∙ ap length (sym all);
     }
 
 -- the last share is read and heard
 pub reads_last : (old new newer : Option (List ℕ)) (held filled : List ℕ) (kept now : List Item) (refusals more : List Refusal) (count number : ℕ) (texts : List (List ℕ)) → ReadsSoFar old new held kept refusals count
     → MovesIn new newer held filled → IsAtEnd newer → texts ≡ messages_of filled
     → ((messages : List (List ℕ)) → KeepsMessages messages kept refusals count → KeepsMessages (messages ++ texts) now more number)
-    → IfSome old (λ input. Holds input now more)
+    → IfSome old (λ input. Holds input now more number)
 reads_last old new newer held filled kept now refusals more count number texts so_far moved end is hears =
     holds old newer so_far.messages texts filled now more number (leaves_moved old new newer so_far.messages held filled so_far.leaves moved) end is (hears so_far.messages so_far.keeps)
 

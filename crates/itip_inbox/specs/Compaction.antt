@@ -1,11 +1,11 @@
 -- The compaction of an input: the octets of what is kept of all its messages (our own format).
 use Rattle.std.specs.Prelude.{◌≡◌, ◌↔◌, ◌⊎◌, ℕ, Bool, List, [], ◌∷◌, ◌++◌, Option}
-use Rattle.std.specs.List.{Contains}
+use Rattle.std.specs.List.{Contains, AllByRecursion, concat}
 use Rattle.std.specs.Io.KnownBytes.{Appends}
 use Rattle.itip_message.specs.declared.item.Item.{Item}
 use Rattle.itip_state.specs.Kept.{AreKept}
 use Rattle.itip_desk.specs.Octets.{AscendOctets}
-use Rattle.itip_delta.specs.Cutting.{IsCutInto}
+use Rattle.itip_delta.specs.Cutting.{IsCalendar, AreApart, IsCutInto}
 use Rattle.itip_delta.specs.Delta.{delta_octets}
 use Rattle.itip_inbox.specs.Inbox.{IsInbox, is_some_refused}
 use Rattle.itip_inbox.specs.declared.refusal.Refusal.{Refusal}
@@ -58,3 +58,37 @@ SomeHasMessage (text ∷ texts) message = HasMessage text message ⊎ SomeHasMes
 -- The whole has the messages of the parts, in some order, each once or more often.
 abbrev pub HasSameMessages : List ℕ → List (List ℕ) → Type 0
 HasSameMessages whole parts = (message : List ℕ) → HasMessage whole message ↔ SomeHasMessage parts message
+
+-- an item that a text tells: a message of the text gives it
+pub record TellsItem (text : List ℕ) (item : Item) : Type 0 where
+  pub heard : List Item
+  pub refusals : List Refusal
+  pub inbox : IsInbox text heard refusals
+  pub among : Contains heard item
+
+-- an item that one of these texts tells
+abbrev pub SomeTellsItem : List (List ℕ) → Item → Type 0
+SomeTellsItem [] item = ⊥
+SomeTellsItem (text ∷ texts) item = TellsItem text item ⊎ SomeTellsItem texts item
+
+-- The whole tells the items that the parts tell, in whatever messages and order, each once or more often.
+abbrev pub HasSameItems : List ℕ → List (List ℕ) → Type 0
+HasSameItems whole parts = (item : Item) → TellsItem whole item ↔ SomeTellsItem parts item
+
+-- A part ends between two messages, where the rest follows: it has nothing but whole calendars, and behind none of these stands a blank, which would make its last break a fold.
+pub record EndsBetween (part rest : List ℕ) : Type 0 where
+  pub calendars : List (List ℕ)
+  pub whole : part ≡ concat calendars
+  pub each : AllByRecursion IsCalendar calendars
+  pub apart : AreApart calendars rest
+
+-- each of these parts but the last ends between two messages
+abbrev pub EachEndsBetween : List (List ℕ) → Type 0
+EachEndsBetween [] = Unit {0}
+EachEndsBetween (part ∷ []) = Unit {0}
+EachEndsBetween (part ∷ (next ∷ parts)) = EndsBetween part (concat (next ∷ parts)) × EachEndsBetween (next ∷ parts)
+
+-- an input that was cut between messages into these parts
+pub record IsPartedInto (whole : List ℕ) (parts : List (List ℕ)) : Type 0 where
+  pub joined : whole ≡ concat parts
+  pub between : EachEndsBetween parts

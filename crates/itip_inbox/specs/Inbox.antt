@@ -1,5 +1,5 @@
 -- The messages of an input, each heard or refused (our own rule).
-use Rattle.std.specs.Prelude.{◌≡◌, ℕ, ◌+◌, Bool, true, false, List, [], ◌∷◌, ◌++◌, Result, Ok, Err}
+use Rattle.std.specs.Prelude.{◌≡◌, ℕ, ◌+◌, Bool, true, false, List, [], ◌∷◌, ◌++◌, length, Result, Ok, Err}
 use Rattle.itip_message.specs.Message.{ReadsMessage, RefusesMessage}
 use Rattle.itip_message.specs.declared.error.Fault.{Fault}
 use Rattle.itip_message.specs.declared.item.Item.{Item}
@@ -48,8 +48,9 @@ abbrev pub is_some_refused : List Refusal → Bool
 is_some_refused [] = false
 is_some_refused (refusal ∷ refusals) = true
 
--- What is kept of all messages of an input that are not refused, and the refused ones.
-pub record Holds (input : List ℕ) (kept : List Item) (refusals : List Refusal) : Type 0 where
+-- What is kept of all messages of an input that are not refused, the refused ones, and the number of all messages.
+pub record Holds (input : List ℕ) (kept : List Item) (refusals : List Refusal) (count : ℕ) : Type 0 where
   pub heard : List Item
   pub inbox : IsInbox input heard refusals
   pub keeps : AreKept kept heard
+  pub count_is : count ≡ length inbox.messages

@@ -16,7 +16,7 @@ mod watch;
 
 pub use inbox::Inbox;
 pub use kept::{compact, tell, write_items};
-pub use laws::{compaction_of_compactions, one_compaction};
+pub use laws::{compaction_of_compactions, items_of_parts, one_compaction};
 pub use read::read_inbox;
 pub use refusal::Refusal;
 pub use tasks::{list, rows_for};

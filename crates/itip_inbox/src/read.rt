@@ -30,7 +30,7 @@ pub fn read_inbox<R: Read, W: Watch>(
     threads: usize,
     watch: &mut W,
 ) -> Result<Inbox, StreamFault>
-    ensures holds { IfOk result (λ inbox. IfSome (R.remaining reader.old) (λ input. Holds input inbox.state inbox.refusals.items)) }
+    ensures holds { IfOk result (λ inbox. IfSome (R.remaining reader.old) (λ input. Holds input inbox.state inbox.refusals.items inbox.messages)) }
     ensures fault { IfErr result (λ fault. fault ≢ StreamFault.Write) }
 {
     let mut inbox = Inbox::empty(alloc);

@@ -1,5 +1,8 @@
-use Rattle.itip_inbox.proofs.Parts.{parts_compacted}
+use Rattle.itip_inbox.proofs.Parts.{parts_compacted, parts_refuse_none}
 use Rattle.itip_inbox.proofs.laws.compaction_of_compactions.Goals as goal
 
-pub returns : goal.returns
-returns c = parts_compacted
+pub returns-clause-octets : goal.returns-clause-octets
+returns-clause-octets c = parts_compacted
+
+pub returns-clause-refused : goal.returns-clause-refused
+returns-clause-refused c = parts_refuse_none
