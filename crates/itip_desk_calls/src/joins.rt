@@ -17,6 +17,7 @@ pub(crate) fn answer(
         return Err(CallError::NoSuchCall);
     };
     match text(name)? {
+        "unit" => answer_of::<()>(alloc, word, values),
         "number" => answer_of::<Number>(alloc, word, values),
         "lift" => answer_of::<Lift<Number>>(alloc, word, values),
         "both" => answer_of::<Both<Number, Number>>(alloc, word, values),

@@ -13,6 +13,20 @@ pub(crate) trait Notation: Join {
     fn write(&self, alloc: Global) -> Result<String, CallError>;
 }
 
+/// The only value, as `.`.
+impl Notation for () {
+    fn read(_alloc: Global, text: &str) -> Result<(), CallError> {
+        if text != "." {
+            return Err(CallError::NoSuchCall);
+        }
+        Ok(())
+    }
+
+    fn write(&self, alloc: Global) -> Result<String, CallError> {
+        Ok(String::from_str(alloc, ".")?)
+    }
+}
+
 /// A number, as `4`.
 impl Notation for Number {
     fn read(_alloc: Global, text: &str) -> Result<Number, CallError> {

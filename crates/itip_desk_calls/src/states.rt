@@ -18,6 +18,7 @@ pub(crate) fn answer(
         }
         ("merge", [mine, theirs]) => both_ways(alloc, mine, theirs),
         ("part", [names, wanted, texts @ ..]) => part(alloc, text(names)?, wanted, texts),
+        ("copies", texts) => copies(alloc, &merged(alloc, texts)?),
         ("state", [uid, texts @ ..]) => told(alloc, text(uid)?, &merged(alloc, texts)?),
         _ => Err(CallError::NoSuchCall),
     }
@@ -83,6 +84,16 @@ fn uids(alloc: Global, names: &str) -> Result<Vec<Uid>, CallError> {
         }
     }
     Ok(uids)
+}
+
+/// The canonical octets of a second one of each kept item.
+fn copies(alloc: Global, state: &State) -> Result<Vec<u8>, CallError> {
+    let mut told = Vec::new(alloc);
+    for item in &state.shared_items()? {
+        let copy = item.clone()?;
+        told.extend_from_slice(copy.item().bytes.as_slice())?;
+    }
+    Ok(told)
 }
 
 /// How many series and UIDs a state has, and what it has of one UID.

@@ -20,7 +20,7 @@ fn made(alloc: Global, word: &str, arguments: &[Vec<u8>]) -> Result<Vec<u8>, Cal
             joins::answer(alloc, word, arguments)
         }
         "changes" => maps::answer(alloc, arguments),
-        "window" | "items" | "rows" | "list" => views::answer(alloc, word, arguments),
+        "window" | "items" | "rows" | "rows_of" | "list" => views::answer(alloc, word, arguments),
         "report" => reports::answer(alloc, arguments),
         "takes"
         | "take_again"
@@ -30,7 +30,7 @@ fn made(alloc: Global, word: &str, arguments: &[Vec<u8>]) -> Result<Vec<u8>, Cal
         | "found_in"
         | "found_for"
         | "since" => { desks::answer(alloc, word, arguments) }
-        "keeps" | "merge" | "part" | "state" => states::answer(alloc, word, arguments),
+        "keeps" | "merge" | "part" | "state" | "copies" => states::answer(alloc, word, arguments),
         "agree" => agree::answer(alloc, arguments),
         "replies" | "desks" | "packets" | "packet" | "steps" => {
             worlds::answer(alloc, word, arguments)

@@ -2,7 +2,8 @@
 
 use crate::error::CallError;
 use crate::texts::{day, items, state, text};
-use itip_view::{Row, Window, rows, write_list};
+use itip_todo::Uid;
+use itip_view::{Row, Window, list_text, rows, write_list};
 use std::alloc::Global;
 
 pub(crate) fn answer(
@@ -15,6 +16,9 @@ pub(crate) fn answer(
         ("window", [from, to, days @ ..]) => has(alloc, window(from, to)?, days),
         ("rows", [from, to, texts @ ..]) => {
             count(alloc, rows_of(alloc, window(from, to)?, texts)?.len())
+        }
+        ("rows_of", [uid, address, from, to, texts @ ..]) => {
+            list_of(alloc, text(uid)?, address, window(from, to)?, texts)
         }
         ("list", [front, from, to, texts @ ..]) => list(alloc, front, window(from, to)?, texts),
         _ => Err(CallError::NoSuchCall),
@@ -54,6 +58,23 @@ fn maybe_day(argument: &[u8]) -> Result<Option<i32>, CallError> {
         return Ok(None);
     }
     Ok(Some(day(argument)?))
+}
+
+/// The list of one UID, all of it or the rows that show an attendee; an empty address is none.
+fn list_of(
+    alloc: Global,
+    uid: &str,
+    address: &[u8],
+    window: Window,
+    texts: &[Vec<u8>],
+) -> Result<Vec<u8>, CallError> {
+    let uid = Uid::copy(alloc, uid)?;
+    let shown = match text(address)? {
+        "" => None,
+        address => Some(address),
+    };
+    let rows = itip_view::rows_of(alloc, &state(alloc, texts)?, &uid, window, shown)?;
+    Ok(list_text(alloc, &rows)?)
 }
 
 /// A list behind what was there before.
