@@ -12,7 +12,7 @@ use Rattle.itip_workers.specs.declared.job.Task.{Task}
 use Rattle.itip_workers.specs.declared.job.Task.TheVariants.{Text, Carry, Look}
 use Rattle.itip_workers.specs.declared.outcome.Outcome.{Outcome}
 use Rattle.itip_workers.specs.declared.outcome.Outcome.TheVariants.{Took, Carried, Looked, Refused}
-use Rattle.itip_workers.specs.Texts.{IsBatchOf, desk_of, IsCarry}
+use Rattle.itip_workers.specs.Texts.{IsBatchOf, desk_of, AreThere, IsCarry}
 use Rattle.itip_workers.specs.Answers.{Answer, AnswersAlone, AnswersMerged, IsOutcome, IsTook}
 use Rattle.itip_workers.specs.Merged.{AreMerged}
 use Rattle.itip_workers.specs.Team.{Report, AreNumbered, AreOfDesks}
@@ -55,20 +55,24 @@ tells_none desks alone all = record {
   exact = λ none item h. absurd (none_in item h);
 }
 
-merged_each : (desks desk : ℕ) → desk < desks → (answers : List Answer) (batches : List (List Item)) → All (λ (a : Answer). desk_of a.0.task ≡ desk) answers → AreMerged desk answers batches
+-- that a job is for a desk, of so many
+abbrev pub IsFor : ℕ → ℕ → Answer → Type 0
+IsFor desks desk a = (desk_of a.0.task ≡ desk) × AreThere desks a.0.task
+
+merged_each : (desks desk : ℕ) (answers : List Answer) (batches : List (List Item)) → All (IsFor desks desk) answers → AreMerged desk answers batches
     → All (λ (a : Answer). IsOutcome desks a.0.task a.1) answers
-merged_each desks desk below [] batches are merged = All-nil (λ (a : Answer). IsOutcome desks a.0.task a.1)
-merged_each desks desk below (a ∷ answers) [] are merged = absurd merged
-merged_each desks desk below (a ∷ answers) (b ∷ batches) are merged =
+merged_each desks desk [] batches are merged = All-nil (λ (a : Answer). IsOutcome desks a.0.task a.1)
+merged_each desks desk (a ∷ answers) [] are merged = absurd merged
+merged_each desks desk (a ∷ answers) (b ∷ batches) are merged =
     All-cons (λ (x : Answer). IsOutcome desks x.0.task x.1) a answers
     (inr (
-      (subst (λ (n : ℕ). n < desks) (sym here) below),
-      (b, subst (λ (n : ℕ). AnswersMerged n b a.0.task a.1) (sym here) merged.0),
+      here.1,
+      (b, subst (λ (n : ℕ). AnswersMerged n b a.0.task a.1) (sym here.0) merged.0),
     ))
-    (merged_each desks desk below answers batches (All-tail (λ (x : Answer). desk_of x.0.task ≡ desk) a answers are) merged.1)
+    (merged_each desks desk answers batches (All-tail (IsFor desks desk) a answers are) merged.1)
   where
-    here : desk_of a.0.task ≡ desk
-    here = All-head (λ (x : Answer). desk_of x.0.task ≡ desk) a answers are
+    here : IsFor desks desk a
+    here = All-head (IsFor desks desk) a answers are
 
 -- the batch of a text has what the text reads as
 batch_has : (desk : ℕ) (batch : List Item) (task : Task) (outcome : Outcome) → AnswersMerged desk batch task outcome → (items : List Item) → ReadsTask task items → (item : Item) → Contains items item → Contains batch item
@@ -128,10 +132,10 @@ merged_exact desk (a ∷ answers) (b ∷ batches) merged none item there = elim 
     }
 
 -- what one more keeper answered and published is told too
-pub tells_more : (desks desk : ℕ) (answers merged : List Answer) (set : List Item) (batches : List (List Item)) → desk < desks → Tells desks answers set
-    → All (λ (a : Answer). desk_of a.0.task ≡ desk) merged → AreMerged desk merged batches → Tells desks (answers ++ merged) (set ++ heard batches)
-tells_more desks desk answers merged set batches below tells are by = record {
-  each = All-append (λ (a : Answer). IsOutcome desks a.0.task a.1) answers merged tells.each (merged_each desks desk below merged batches are by);
+pub tells_more : (desks desk : ℕ) (answers merged : List Answer) (set : List Item) (batches : List (List Item)) → Tells desks answers set
+    → All (IsFor desks desk) merged → AreMerged desk merged batches → Tells desks (answers ++ merged) (set ++ heard batches)
+tells_more desks desk answers merged set batches tells are by = record {
+  each = All-append (λ (a : Answer). IsOutcome desks a.0.task a.1) answers merged tells.each (merged_each desks desk merged batches are by);
   told = λ item taken. elim (Contains-append_cases answers merged taken.answer taken.among) [
     | inl left ↦ Contains-append_left set (heard batches) item
         (tells.told item (record { answer = taken.answer; among = left; took = taken.took; items = taken.items; reads = taken.reads; there = taken.there }))

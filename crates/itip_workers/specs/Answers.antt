@@ -9,7 +9,7 @@ use Rattle.itip_workers.specs.declared.job.Task.{Task}
 use Rattle.itip_workers.specs.declared.job.Task.TheVariants.{Text, Carry, Look}
 use Rattle.itip_workers.specs.declared.outcome.Outcome.{Outcome}
 use Rattle.itip_workers.specs.declared.outcome.Outcome.TheVariants.{Took, Carried, Looked, Refused}
-use Rattle.itip_workers.specs.Texts.{IsBatchOf, desk_of}
+use Rattle.itip_workers.specs.Texts.{IsBatchOf, desk_of, AreThere}
 
 -- a job with its outcome
 abbrev pub Answer : Type 0
@@ -43,7 +43,7 @@ AnswersMerged desk batch (Text at bytes) outcome = IsBatchOf bytes batch × (out
 AnswersMerged desk batch (Carry from to) outcome = outcome ≡ Carried from desk (length batch)
 AnswersMerged desk batch (Look at window) outcome = ⊥
 
--- The outcome of a job in an office: it was answered alone, or merged by its own desk.
+-- The outcome of a job in an office: it was answered alone, or merged by its own desk, and then the desks that it names are there.
 abbrev pub IsOutcome : ℕ → Task → Outcome → Type 0
 IsOutcome desks task outcome =
-    AnswersAlone desks task outcome ⊎ ((desk_of task < desks) × ((batch : List Item) × AnswersMerged (desk_of task) batch task outcome))
+    AnswersAlone desks task outcome ⊎ (AreThere desks task × ((batch : List Item) × AnswersMerged (desk_of task) batch task outcome))

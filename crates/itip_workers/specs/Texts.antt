@@ -1,5 +1,5 @@
 -- The batch of a job: that of a text has what its octets read as, by canonical octets and each once (our own rule).
-use Rattle.std.specs.Prelude.{ℕ, List}
+use Rattle.std.specs.Prelude.{◌<◌, ℕ, List}
 use Rattle.itip_message.specs.Message.{ReadsMessage}
 use Rattle.itip_message.specs.declared.item.Item.{Item}
 use Rattle.itip_state.specs.Kept.{IsItemsOf}
@@ -23,6 +23,12 @@ abbrev pub desk_of : Task → ℕ
 desk_of (Text desk bytes) = desk
 desk_of (Carry from to) = to
 desk_of (Look desk window) = desk
+
+-- The desks that a job names are there.
+abbrev pub AreThere : ℕ → Task → Type 0
+AreThere desks (Text desk bytes) = desk < desks
+AreThere desks (Carry from to) = (from < desks) × (to < desks)
+AreThere desks (Look desk window) = desk < desks
 
 abbrev pub IsCarry : Task → Type 0
 IsCarry (Text desk bytes) = ⊥

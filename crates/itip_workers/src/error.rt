@@ -20,7 +20,8 @@ pub enum OfficeError {
     /// A channel refused a send, a running desk its pass or its keeper, or a job has no outcome (43).
     #[error("a channel of an office was closed")]
     ChannelClosed,
-    /// A job number was there twice, or an outcome came of a job that was not handed in, or from another desk's keeper (44).
+    /// A job number was there twice, or an outcome came of a job that was not handed in, or from another desk's keeper, or a keeper merged a job that names a
+    /// desk that isn't there (44).
     #[error("an outcome belongs to no job")]
     StrangeDone,
 }

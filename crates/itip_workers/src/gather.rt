@@ -1,7 +1,7 @@
 //! Gathering what the threads answered.
 ghost use Rattle.std.specs.Prelude.{◌≡◌, ◌≤◌, length, map, All, IfOk, IsTrue};
 ghost use Rattle.itip_live.specs.Ends.{published};
-ghost use Rattle.itip_workers.specs.Texts.{desk_of};
+ghost use Rattle.itip_workers.specs.Texts.{desk_of, AreThere};
 ghost use Rattle.itip_workers.specs.Answers.{AnswersAlone};
 ghost use Rattle.itip_workers.specs.Team.{AreOfDesks};
 ghost use Rattle.itip_workers.specs.Ended.{Tells, all_heard};
@@ -13,7 +13,8 @@ use crate::outcome::Outcome;
 use crate::team::{Done, Kept};
 use std::sync::Wait;
 
-/// All answers in one list, and the keepers in the order of desks. 44 where a keeper answered a job that is for another desk.
+/// All answers in one list, and the keepers in the order of desks. 44 where a keeper answered a job that is for another desk, or that names
+/// a desk that isn't there.
 pub(crate) fn gather<R: AllocGlobal + Wait + Copy>(
     rt: &R,
     desks: usize,
@@ -34,7 +35,7 @@ pub(crate) fn gather<R: AllocGlobal + Wait + Copy>(
             held,
             answers: mut merged,
         } = one;
-        if !are_for(desk, &merged) {
+        if !are_for(desk, desks as u64, &merged) {
             return Err(OfficeError::StrangeDone);
         }
         answers.append(&mut merged)?;
@@ -44,8 +45,9 @@ pub(crate) fn gather<R: AllocGlobal + Wait + Copy>(
     Ok((answers, keepers))
 }
 
-fn are_for(desk: u64, answers: &[(Job, Outcome)]) -> bool
-    ensures { IsTrue result → All (λ a. desk_of a.0.task ≡ desk) answers.now }
+// Whether these are jobs for this desk, of so many desks.
+fn are_for(desk: u64, desks: u64, answers: &[(Job, Outcome)]) -> bool
+    ensures { IsTrue result → All (λ a. (desk_of a.0.task ≡ desk) × AreThere desks a.0.task) answers.now }
 {
-    answers.iter().all(|answer| answer.0.desk() == desk)
+    answers.iter().all(|answer| answer.0.desk() == desk && answer.0.is_within(desks))
 }

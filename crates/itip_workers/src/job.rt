@@ -1,5 +1,5 @@
 //! What an office is asked to do.
-ghost use Rattle.std.specs.Prelude.{◌≡◌, IsTrue};
+ghost use Rattle.std.specs.Prelude.{◌≡◌, ◌↔◌, IsTrue};
 
 use itip_lines::Bytes;
 use itip_view::Window;
@@ -41,7 +41,18 @@ impl Job {
         }
     }
 
-    ghost use Rattle.itip_workers.specs.Texts.{desk_of};
+    /// Whether the desks that it names are there, where there are so many.
+    pub(crate) fn is_within(&self, desks: u64) -> bool
+        ensures { IsTrue result ↔ AreThere desks self.now.task }
+    {
+        match self.task {
+            Task::Text { desk, .. } => desk < desks,
+            Task::Carry { from, to } => from < desks && to < desks,
+            Task::Look { desk, .. } => desk < desks,
+        }
+    }
+
+    ghost use Rattle.itip_workers.specs.Texts.{desk_of, AreThere};
 }
 
 impl Task {

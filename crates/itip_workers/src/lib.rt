@@ -1,7 +1,11 @@
 //! An office: jobs run on threads, over one running desk for each place.
 //!
 //! Workers take jobs from one channel: they read texts, carry deltas from desk to desk and look at lists. What is to be merged they send to the desk's keeper,
-//! which merges and publishes. Once all jobs are done the desks meet and exchange everything. Whatever the schedule, the desks end as those of one thread.
+//! which merges and publishes. Once all jobs are done the desks meet and exchange everything.
+//!
+//! Where an office answers, the same texts are taken whatever the schedule, and all desks end with what is kept of one set, which has each item of these texts.
+//! Where no job is a carry it has no other, so the desks end as those of one thread. What a carry brings depends on the schedule, and no clause says which items
+//! these may be.
 #![tactic(auto)]
 
 mod error;

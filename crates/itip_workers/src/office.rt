@@ -27,8 +27,8 @@ pub struct Office {
 /// each takes what the others keep.
 ///
 /// Refused where memory was refused (40), where a thread could not be made (41), where the gate is closed (42), where a channel refused a send or a job has no
-/// answer (43), and where two jobs have one number, or an answer is of no job or not of its own desk (44): by 41 before all, and else by the first of 40, 42 and
-/// 43 among what the threads answer, and after them by 44. All threads have returned by then.
+/// answer (43), and where two jobs have one number, or an answer is of no job or not of its own desk, or a job was merged that names a desk that isn't there (44):
+/// by 41 before all, and else by the first of 40, 42 and 43 among what the threads answer, and after them by 44. All threads have returned by then.
 pub fn run_office<
     R: AllocGlobal + Threads + Wait + Copy + Send + Sync + 'static,
     G: Gate + Send + Sync + Drop + 'static,

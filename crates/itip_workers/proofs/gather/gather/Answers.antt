@@ -6,11 +6,10 @@ use Rattle.itip_desk.specs.Heard.{heard}
 use Rattle.itip_live.specs.Ends.{published}
 use Rattle.itip_workers.specs.declared.held.Held.{Held}
 use Rattle.itip_workers.specs.declared.team.Kept.{Kept}
-use Rattle.itip_workers.specs.Texts.{desk_of}
 use Rattle.itip_workers.specs.Answers.{Answer}
 use Rattle.itip_workers.specs.Team.{AreOfDesks}
 use Rattle.itip_workers.specs.Ended.{Tells, all_heard}
-use Rattle.itip_workers.proofs.Reports.{tells_more, heard_more}
+use Rattle.itip_workers.proofs.Reports.{IsFor, tells_more, heard_more}
 use Rattle.itip_workers.proofs.gather.gather.Goals as goal
 
 pub loop-one-preserved : goal.loop-one-preserved
@@ -25,10 +24,9 @@ loop-one-preserved g c =
     let keepers : c.push.new.self.items ≡ c.loop-one.keepers.items ++ one.held ∷ [] = c.in_ok-push.ensures.items in
     let count : length c.push.new.self.items ≡ suc (length c.loop-one.keepers.items) = ap length keepers ∙ omega (arith, length_push c.loop-one.keepers.items one.held) in
     let answers : c.append.new.self.items ≡ c.loop-one.answers.items ++ one.answers.items = c.in_ok-append.ensures.items in
-    let are : All (λ (a : Answer). desk_of a.0.task ≡ desk) one.answers.items = subst (λ (l : List Answer). All (λ (a : Answer). desk_of a.0.task ≡ desk) l) c.deref.ensures.value (c.if-not-are_for.ensures refl) in
+    let are : All (IsFor c.args.desks desk) one.answers.items = subst (λ (l : List Answer). All (IsFor c.args.desks desk) l) c.deref.ensures.value (c.if-not-are_for.ensures refl) in
     let histories : List (List (List Item)) = map (λ h. published h.keeper) c.loop-one.keepers.items in
     let batches = published one.held.keeper in
-    let below : desk < c.args.desks = let at = was.at in let sum = was.count in omega (arith, at, sum, long) in
     let more : all_heard (map (λ h. published h.keeper) c.push.new.self.items) ≡ all_heard histories ++ heard batches = ap (λ (l : List (Held g.row.R.Denot)). all_heard (map (λ h. published h.keeper) l)) keepers
     ∙ ap all_heard (map-append (λ (h : Held g.row.R.Denot). published h.keeper) c.loop-one.keepers.items (one.held ∷ [])) ∙ heard_more histories batches in
     record {
@@ -36,5 +34,5 @@ loop-one-preserved g c =
       count = (let sum = was.count in omega (arith, sum, long, count));
       left = left.1;
       tells = subst (λ (l : List Answer). Tells c.args.desks l (all_heard (map (λ h. published h.keeper) c.push.new.self.items))) (sym answers)
-          (subst (Tells c.args.desks (c.loop-one.answers.items ++ one.answers.items)) (sym more) (tells_more c.args.desks desk c.loop-one.answers.items one.answers.items (all_heard histories) batches below was.tells are left.0));
+          (subst (Tells c.args.desks (c.loop-one.answers.items ++ one.answers.items)) (sym more) (tells_more c.args.desks desk c.loop-one.answers.items one.answers.items (all_heard histories) batches was.tells are left.0));
     }
