@@ -11,8 +11,8 @@ use itip_message::{ReadError, read_message};
 use std::alloc::Global;
 use std::marker::Model;
 
-/// Desks that exchange nothing but what events bring, what they posted, and the replies so far. Each world was brought
-/// about by events over desks that had heard nothing.
+/// Desks that exchange nothing but what events bring, what they posted, and the replies so far. Each world has a past:
+/// steps that its desks heard, beginning with desks that had heard nothing, and that brought them and the packets about.
 #[derive(Debug, Drop)]
 pub struct World {
     desks: Vec<Desk>,

@@ -366,13 +366,13 @@ pub nothing_carried : (desk : Shown) (step : List Item) → ((uid : List ℕ) �
 nothing_carried desk step same = record { moved = λ since uid moves. absurd (moves (same uid)); others = λ since uid _. (λ c. c, λ c. c) }
 
 -- ---- deltas
-pub delta_is : (desk : Shown) (since : ℕ) (state part items batch : List Item) (uids : List (List ℕ)) → state ≡ desk.kept → ((uid : List ℕ) → Contains uids uid ↔ CarriesAfter desk.changed since uid)
-    → ArePartOf part state uids → SameItems items part → IsItemsOf batch items → IsDeltaOf desk since batch
-delta_is desk since state part items batch uids kept carried part_is items_are is = record {
+pub delta_is : (desk : Shown) (since : ℕ) (state items batch : List Item) (uids : List (List ℕ)) → state ≡ desk.kept → ((uid : List ℕ) → Contains uids uid ↔ CarriesAfter desk.changed since uid)
+    → ArePartOf items state uids → IsItemsOf batch items → IsDeltaOf desk since batch
+delta_is desk since state items batch uids kept carried part_is is = record {
   ascend = is.ascend;
   same = λ i. (
-    λ h. let p = (part_is i).0 ((items_are i).0 ((is.same i).0 h)) in
+    λ h. let p = (part_is i).0 ((is.same i).0 h) in
         (subst (λ (xs : List Item). Contains xs i) kept p.0, (carried (uid_of i.key)).0 p.1),
-    λ h. (is.same i).1 ((items_are i).1 ((part_is i).1 (subst (λ (xs : List Item). Contains xs i) (sym kept) h.0, (carried (uid_of i.key)).1 h.1))),
+    λ h. (is.same i).1 ((part_is i).1 (subst (λ (xs : List Item). Contains xs i) (sym kept) h.0, (carried (uid_of i.key)).1 h.1)),
   );
 }

@@ -131,8 +131,7 @@ impl Desk {
         ensures { IfOk result (IsDeltaOf self.now tick) }
     {
         let uids = self.moves.after(tick)?;
-        let part = self.kept.state().part(&uids)?;
-        Batch::of_shared(part.shared_items()?)
+        Batch::of_shared(self.kept.state().shared_of(&uids)?)
     }
 
     /// The UIDs that are looked at for the list of a window, perhaps more than once. One that isn't among them has no row there.

@@ -1,5 +1,5 @@
 //! The UIDs that moved, the last moved first.
-ghost use Rattle.std.specs.Prelude.{◌≡◌, ◌↔◌, ℕ, List, [], ◌∷◌, ◌++◌, Some, None, cond, true, is_some, length, take, IfOk, OnOk, OnErr};
+ghost use Rattle.std.specs.Prelude.{◌≡◌, ◌↔◌, ℕ, List, [], ◌∷◌, ◌++◌, Some, None, cond, true, is_some, length, map, take, IfOk, OnOk, OnErr};
 ghost use Rattle.std.specs.List.{Contains};
 ghost use Rattle.std.specs.Ordering.{nat_cmp, is_eq};
 ghost use Rattle.std.specs.Cmp.Lexicographic.{slice_cmp};
@@ -81,8 +81,8 @@ impl MovedUids {
     }
 
     /// The UIDs that carry a tick above `since`, the last moved first. No other is looked at but the one behind them.
-    pub(crate) fn after(&self, since: u64) -> Result<Vec<Uid>, AllocError>
-        ensures { IfOk result (λ uids. (top : ℕ) → FallFrom top self.now → (uid : List ℕ) → Contains uids.items uid ↔ CarriesAfter self.now since uid) }
+    pub(crate) fn after(&self, since: u64) -> Result<Vec<&Uid>, AllocError>
+        ensures { IfOk result (λ uids. (top : ℕ) → FallFrom top self.now → (uid : List ℕ) → Contains (map (λ u. u.now) uids.items) uid ↔ CarriesAfter self.now since uid) }
     {
         let mut uids = Vec::new(self.alloc);
         let Some(cache) = &self.cache else {
@@ -92,7 +92,7 @@ impl MovedUids {
             if *tick <= since {
                 return Ok(uids);
             }
-            uids.push(uid.clone()?)?;
+            uids.push(uid)?;
         }
         Ok(uids)
     }

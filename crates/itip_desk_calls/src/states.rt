@@ -2,7 +2,6 @@
 
 use crate::error::CallError;
 use crate::texts::{number, shown, state, text, truth};
-use itip_message::Key;
 use itip_state::State;
 use itip_todo::Uid;
 use std::alloc::Global;
@@ -107,9 +106,10 @@ fn told(alloc: Global, name: &str, state: &State) -> Result<Vec<u8>, CallError> 
 
 /// How many items a UID has, its last sequence, and the effective sequence of its series item.
 fn told_of_uid(alloc: Global, uid: Uid, state: &State) -> Result<String, CallError> {
-    let items = state.of_uid(&uid)?.as_slice().len();
+    let of_uid = state.of_uid(&uid)?;
+    let items = of_uid.as_slice().len();
     let last = shown(alloc, state.last_used(&uid))?;
-    let series = state.best(&Key::Series(uid)).map(|item| item.eff);
+    let series = of_uid.series().map(|item| item.eff);
     let series = shown(alloc, series)?;
     Ok(format!(in alloc; "items {items} last {last} series {series}\n")?)
 }

@@ -2,18 +2,31 @@
 use Rattle.std.proofs.Common.{◌≡◌, ◌<◌, ◌≤◌, ℕ, List, [], ◌∷◌, map, length, get_or, refl, sym, ◌∙◌, ap, subst, inl, inr, arith}
 use Rattle.std.specs.List.{Contains}
 use Rattle.std.specs.List.Sorted.{IsNonDecreasingBy, IsPartitionPoint}
-use Rattle.std.specs.Ordering.{ordering_index}
+use Rattle.std.specs.Ordering.{nat_cmp, ordering_index, ordering_then}
+use Rattle.std.specs.Option.{option_cmp}
+use Rattle.std.specs.Cmp.Lexicographic.{slice_cmp}
 use Rattle.std.specs.Cmp.{tied_itself}
 use Rattle.std.specs.declared.cmp.Ordering.{Ordering}
 use Rattle.std.specs.declared.cmp.Ordering.TheVariants.{Less, Equal, Greater}
 use Rattle.std.proofs.lemmas.Bool.{cases_lt}
 use Rattle.std.proofs.lemmas.List.{length-map}
 use Rattle.std.proofs.Math.ListN.{get_or-map}
+use Rattle.itip_moment.specs.Order.{moment_cmp}
+use Rattle.itip_message.specs.KeyParts.{uid_of, rank_of, instance_of, attendee_of}
 use Rattle.itip_message.specs.declared.item.Item.{Item}
 use Rattle.itip_message.specs.declared.key.Key.{Key}
+use Rattle.itip_state.specs.declared.parts.KeyParts.{KeyParts}
 use Rattle.itip_state.specs.Kept.{AscendKeys}
+use Rattle.itip_state.specs.Parts.{HasParts, parts_cmp}
 use Rattle.itip_state.specs.Slots.{key_cmp, key_total, key_exact}
 use Rattle.itip_state.proofs.Members.{none_in, cons_cases, cons_first, cons_later}
+
+-- a key beside the parts of another is a key beside the other
+pub as_key : (a key : Key) (parts : KeyParts) → HasParts key parts → parts_cmp a parts ≡ key_cmp a key
+as_key a key parts has = λ i.
+    ordering_then (slice_cmp nat_cmp (uid_of a) (sym has.uid i))
+    (ordering_then (nat_cmp (rank_of a) (sym has.rank i))
+    (ordering_then (option_cmp moment_cmp (instance_of a) (sym has.instance i)) (slice_cmp nat_cmp (attendee_of a) (sym has.attendee i))))
 
 rises : (a b k : Key) → key_cmp a b ≡ Less → ordering_index (key_cmp a k) ≤ ordering_index (key_cmp b k)
 rises a b k below = elim (key_cmp b k) as (λ o. key_cmp b k ≡ o → ordering_index (key_cmp a k) ≤ ordering_index o) [
@@ -28,7 +41,7 @@ rises a b k below = elim (key_cmp b k) as (λ o. key_cmp b k ≡ o → ordering_
     top Greater = omega arith
 
 module _ {X : Type 0} (item : X → Item) where
-  pub keys_rise : (xs : List X) (k : Key) → AscendKeys (map item xs) → IsNonDecreasingBy (λ x. ordering_index (key_cmp (item x).key k)) xs
+  keys_rise : (xs : List X) (k : Key) → AscendKeys (map item xs) → IsNonDecreasingBy (λ x. ordering_index (key_cmp (item x).key k)) xs
   keys_rise xs k ascend i j d up inside = elim (cases_lt i j) [
     | inl lt ↦ rises (item (get_or xs i d)).key (item (get_or xs j d)).key k
         (subst (λ (a : Item). key_cmp a.key (item (get_or xs j d)).key ≡ Less) (get_or-map item xs i d)
@@ -46,7 +59,7 @@ module _ {X : Type 0} (item : X → Item) where
     | inr rest ↦ let r = from_mapped xs i rest in (r.0, cons_later x xs r.0 r.1, r.2)
   ]
 
-  pub not_there : (xs : List X) (k : Key) (place : ℕ) → IsPartitionPoint (λ x. key_cmp (item x).key k ≡ Less) (λ x. key_cmp (item x).key k ≡ Greater) xs place → (i : Item) → Contains (map item xs) i → i.key ≡ k → ⊥
+  not_there : (xs : List X) (k : Key) (place : ℕ) → IsPartitionPoint (λ x. key_cmp (item x).key k ≡ Less) (λ x. key_cmp (item x).key k ≡ Greater) xs place → (i : Item) → Contains (map item xs) i → i.key ≡ k → ⊥
   not_there xs k place parts i h about =
       let found = from_mapped xs i h in
       let at : ℕ = found.1.0 in
@@ -56,3 +69,15 @@ module _ {X : Type 0} (item : X → Item) where
         | inl lt ↦ let x : Less ≡ Equal = sym (parts.0 at found.0 (omega arith) lt) ∙ equal in cc
         | inr ge ↦ let x : Greater ≡ Equal = sym (parts.1 at found.0 ge found.1.1) ∙ equal in cc
       ]
+
+module _ {X : Type 0} (item : X → Item) (key : Key) (parts : KeyParts) (has : HasParts key parts) where
+  -- the order beside the parts is the order beside the key
+  same_order : ◌≡◌ {A = X → Ordering} (λ x. key_cmp (item x).key key) (λ x. parts_cmp (item x).key parts)
+  same_order = λ i x. sym (as_key (item x).key key parts has) i
+
+  pub parts_rise : (xs : List X) → AscendKeys (map item xs) → IsNonDecreasingBy (λ x. ordering_index (parts_cmp (item x).key parts)) xs
+  parts_rise xs ascend = subst (λ (f : X → Ordering). IsNonDecreasingBy (λ x. ordering_index (f x)) xs) same_order (keys_rise item xs key ascend)
+
+  pub none_with_parts : (xs : List X) (place : ℕ) → IsPartitionPoint (λ x. parts_cmp (item x).key parts ≡ Less) (λ x. parts_cmp (item x).key parts ≡ Greater) xs place
+      → (i : Item) → Contains (map item xs) i → i.key ≡ key → ⊥
+  none_with_parts xs place point = not_there item xs key place (subst (λ (f : X → Ordering). IsPartitionPoint (λ x. f x ≡ Less) (λ x. f x ≡ Greater) xs place) (sym same_order) point)

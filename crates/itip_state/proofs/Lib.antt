@@ -20,6 +20,7 @@ pub mod News
 pub mod Ordered
 pub mod Reading
 pub mod Parting
+pub mod Sharing
 pub mod Finding
 pub mod OfKey
 pub mod UidParts

@@ -122,14 +122,14 @@ joined_some (Some a) b n (joined, e, j) = ap is_some e
 pub noted_leads : (before : Before) (item : Item) (old now : Option Shape) → IsNoted before item old → IsJoinedAt old (Some (alone item)) now → LeadsBack before item now old
 noted_leads Absent item old now is joined = is
 noted_leads (Whole was) item old now is joined = (joined_some old (alone item) now joined, is.0)
-noted_leads (Entry held) item old now (w, e, back, other) joined =
+noted_leads (Entry place held) item old now (w, e, back, other, here) joined =
     let all : IsJoinedAt (Some w) (Some (alone item)) now = subst (λ (o : Option Shape). IsJoinedAt o (Some (alone item)) now) e joined in
-    (all.0, w, all.1, e, subst (λ (h : Option Best). IsBackAt item.key h all.0 w) (held_is item.key held w back) (back_at item w all.0 (all.2).of_two back.whole (all.2).above_first other))
+    (all.0, w, all.1, e, subst (λ (h : Option Best). IsBackAt item.key h all.0 w) (held_is item.key held w back) (back_at item w all.0 (all.2).of_two back.whole (all.2).above_first other), here)
 
 pub noted_stays : (before : Before) (item : Item) (old : Option Shape) → IsNoted before item old → LeadsBack before item old old
 noted_stays Absent item old is = is
 noted_stays (Whole was) item old is = (ap is_some is.0, is.0)
-noted_stays (Entry held) item old (w, e, back, other) = (w, w, e, e, back)
+noted_stays (Entry place held) item old (w, e, back, other, here) = (w, w, e, e, back, here)
 
 -- ---- a list of them
 pub undone_push : (cs : List Change) (c : Change) (now mid start : List (List ℕ × Shape)) → AreUndone cs mid start → IsUndone c now mid → AreUndone (cs ++ c ∷ []) now start
@@ -140,10 +140,10 @@ pub undone_pop : (cs : List Change) (c : Change) (now start : List (List ℕ × 
 undone_pop [] c now start (m, same, one) = (start, subst (λ (n : List (List ℕ × Shape)). IsUndone c n start) (sym same) one, refl)
 undone_pop (d ∷ cs) c now start (m, rest, first) = let r = undone_pop cs c now m rest in (r.0, r.1, (m, r.2, first))
 
-pub of_all : (b : Before) → ((held : Option Best) → b ≡ Entry held → ⊥) → IsOfAll b
+pub of_all : (b : Before) → ((place : _) (held : Option Best) → b ≡ Entry place held → ⊥) → IsOfAll b
 of_all Absent not = tt
 of_all (Whole was) not = tt
-of_all (Entry held) not = not held refl
+of_all (Entry place held) not = not place held refl
 
 first_same : {X : Type 0} (x y : X) (xs ys : List X) → x ∷ xs ≡ y ∷ ys → x ≡ y
 first_same x y xs ys e = cc
@@ -177,7 +177,7 @@ notes_same cs ds u v e f notes = subst (λ (xs : List Change). NotesAll xs v) e 
 leads_still : (b : Before) (item : Item) (now next old : Option Shape) → IsOfAll b → (is_some now ≡ true → is_some next ≡ true) → LeadsBack b item now old → LeadsBack b item next old
 leads_still Absent item now next old all some leads = leads
 leads_still (Whole was) item now next old all some leads = (some leads.0, leads.1)
-leads_still (Entry held) item now next old all some leads = absurd all
+leads_still (Entry place held) item now next old all some leads = absurd all
 
 -- what is noted of a UID as a whole takes back what happens to it later, too
 pub undone_still : (cs : List Change) (u : List ℕ) (now next start : List (List ℕ × Shape)) → NotesAll cs u → (is_some (at now u) ≡ true → is_some (at next u) ≡ true)
@@ -214,8 +214,8 @@ pub put_apart : (now next : List (List ℕ × Shape)) (k u : List ℕ) (o : Opti
     → (q : List ℕ) → is_eq (uid_cmp u q) ≡ false → at next q ≡ at now q
 put_apart now next k u o about put q n = put q ∙ ap (λ b. cond b o (at now q)) (ap (λ r. is_eq (uid_cmp r q)) about ∙ n)
 
-pub entry_leads : (item : Item) (held : Option Best) (now old : Option Shape) (v : Shape) → now ≡ Some v → LeadsBack (Entry held) item now old → (w : Shape) × (old ≡ Some w) × IsBackAt item.key held v w
-entry_leads item held now old v e (x, w, f, g, back) = (w, g, subst (λ (sh : Shape). IsBackAt item.key held sh w) (some_one x v (sym f ∙ e)) back)
+pub entry_leads : (place : _) (item : Item) (held : Option Best) (now old : Option Shape) (v : Shape) → now ≡ Some v → LeadsBack (Entry place held) item now old → (w : Shape) × (old ≡ Some w) × IsBackAt place.now held v w
+entry_leads place item held now old v e (x, w, f, g, back, here) = (w, g, subst (λ (k : Key). IsBackAt k held v w) (sym here) (subst (λ (sh : Shape). IsBackAt item.key held sh w) (some_one x v (sym f ∙ e)) back))
 
-pub not_absent : (item : Item) (held : Option Best) (now old : Option Shape) → now ≡ None → LeadsBack (Entry held) item now old → ⊥
-not_absent item held now old e (x, w, f, g, back) = none_some x (sym e ∙ f)
+pub not_absent : (place : _) (item : Item) (held : Option Best) (now old : Option Shape) → now ≡ None → LeadsBack (Entry place held) item now old → ⊥
+not_absent place item held now old e (x, w, f, g, back, here) = none_some x (sym e ∙ f)

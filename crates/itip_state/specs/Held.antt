@@ -86,6 +86,11 @@ abbrev pub series_list : List (List ℕ × Shape) → List Item
 series_list [] = []
 series_list (e ∷ es) = series_items e.1.series ++ series_list es
 
+-- where items of a key are held among those of its UID: at the key; series items have no such place
+abbrev pub IsPlaceOf : Option Key → Key → Type 0
+IsPlaceOf None key = is_series key ≡ true
+IsPlaceOf (Some place) key = (place ≡ key) × (is_series key ≡ false)
+
 -- the item is a series item of the UID
 abbrev pub IsSeriesAt : List ℕ → Lift Best → Type 0
 IsSeriesAt uid Nothing = Unit {0}

@@ -2,6 +2,7 @@ pub mod Kept
 pub mod Order
 pub mod Slots
 pub mod OfUid
+pub mod Parts
 pub mod Held
 pub mod Seen
 pub mod Dying

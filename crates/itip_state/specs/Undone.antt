@@ -15,13 +15,13 @@ use Rattle.itip_state.specs.declared.hear.Change.{Change}
 abbrev pub IsNoted : Before → Item → Option Shape → Type 0
 IsNoted Absent item old = old ≡ None
 IsNoted (Whole was) item old = (old ≡ Some (shape was)) × (is_series item.key ≡ true)
-IsNoted (Entry held) item old = (w : Shape) × (old ≡ Some w) × IsBackAt item.key held w w × (is_series item.key ≡ false)
+IsNoted (Entry place held) item old = (w : Shape) × (old ≡ Some w) × IsBackAt item.key held w w × (is_series item.key ≡ false) × (place.now ≡ item.key)
 
 -- what was noted leads from what is held of a UID now back to what was held; where something was held, something is held now, too
 abbrev pub LeadsBack : Before → Item → Option Shape → Option Shape → Type 0
 LeadsBack Absent item now old = old ≡ None
 LeadsBack (Whole was) item now old = (is_some now ≡ true) × (old ≡ Some (shape was))
-LeadsBack (Entry held) item now old = (v : Shape) × (w : Shape) × (now ≡ Some v) × (old ≡ Some w) × IsBackAt item.key held v w
+LeadsBack (Entry place held) item now old = (v : Shape) × (w : Shape) × (now ≡ Some v) × (old ≡ Some w) × IsBackAt item.key held v w × (place.now ≡ item.key)
 
 -- taking a change back leads from `now` to `before`, at the UID of its item; all other UIDs have the same in both
 pub record IsUndone (change : Change) (now before : List (List ℕ × Shape)) : Type 0 where
@@ -38,7 +38,7 @@ AreUndone (c ∷ cs) now start = (mid : List (List ℕ × Shape)) × AreUndone c
 abbrev pub IsOfAll : Before → Type 0
 IsOfAll Absent = Unit {0}
 IsOfAll (Whole was) = Unit {0}
-IsOfAll (Entry held) = ⊥
+IsOfAll (Entry place held) = ⊥
 
 -- the last change is about the UID, and notes all that was held of it
 pub record NotesAll (changes : List Change) (uid : List ℕ) : Type 0 where

@@ -13,27 +13,27 @@ use crate::held::Held;
 use crate::revision::Best;
 use crate::series::{SeriesState, of_item, of_nothing, put_back};
 use crate::shared::SharedItem;
+use crate::slot::Slot;
 use itip_join::Join;
-use itip_message::Key;
 use itip_todo::Uid;
 use std::alloc::Global;
 
 /// What was held of a UID before an item was heard, as far as hearing it can change that.
 #[derive(Drop)]
-enum Before {
+enum Before<'a> {
     /// Nothing was held of the UID.
     Absent,
     /// All this. The item is a series item, which may make others dead.
     Whole(SeriesState),
-    /// At the key of the item this, or nothing, and at least one item of the UID. The item is no series item, so that all else stays.
-    Entry(Option<Best>),
+    /// At the place of the item this, or nothing, and at least one item of the UID. The item is no series item, so that all else stays.
+    Entry(&'a Slot, Option<Best>),
 }
 
 /// An item that was heard, or whose hearing was refused, and what was held before.
 #[derive(Drop)]
 struct Change<'a> {
     item: &'a SharedItem,
-    before: Before,
+    before: Before<'a>,
 }
 
 /// Joins in what is kept of one item, in place. A refusal (out of memory) changes nothing.
@@ -96,25 +96,25 @@ fn notes_all(changes: &[Change<'_>], about: &Uid) -> bool
         return false;
     };
     match &last.before {
-        Before::Entry(_) => false,
+        Before::Entry(_, _) => false,
         _ => last.item.uid().cmp(about).is_eq(),
     }
 }
 
 /// What takes back the hearing of an item.
-fn note(held: &Held, item: &SharedItem) -> Result<Before, NoMemory>
+fn note<'a>(held: &Held, item: &'a SharedItem) -> Result<Before<'a>, NoMemory>
     ensures noted { IfOk result (λ before. IsNoted before item.now (at held.now (uid_of item.now.key))) }
     ensures ordered { AreOrdered held.now }
 {
     let Some(series) = held.get(item.uid()) else {
         return Ok(Before::Absent);
     };
-    if let Key::Series(_) = item.key() {
-        return Ok(Before::Whole(series.copy()?));
-    }
-    match series.entries.get(item.slot()) {
-        None => Ok(Before::Entry(None)),
-        Some(best) => Ok(Before::Entry(Some(best.copy()?))),
+    match item.slot() {
+        None => Ok(Before::Whole(series.copy()?)),
+        Some(slot) => match series.entries.get(slot) {
+            None => Ok(Before::Entry(slot, None)),
+            Some(best) => Ok(Before::Entry(slot, Some(best.copy()?))),
+        },
     }
 }
 
@@ -141,10 +141,10 @@ fn undo(held: &mut Held, alloc: Global, change: Change<'_>)
         Before::Whole(series) => {
             held.replace(uid, series);
         }
-        Before::Entry(best) => {
+        Before::Entry(slot, best) => {
             // It is taken out for this, so that it is not copied; an empty one keeps its place.
             if let Some(series) = held.replace(uid, of_nothing(alloc)) {
-                held.replace(uid, put_back(series, item.slot(), best));
+                held.replace(uid, put_back(series, slot, best));
             }
         }
     }

@@ -5,7 +5,7 @@ ghost use Rattle.std.specs.Option.{option_copied};
 ghost use Rattle.std.specs.Ordering.{nat_cmp, is_eq};
 ghost use Rattle.std.specs.Cmp.Lexicographic.{slice_cmp};
 ghost use Rattle.itip_join.specs.Changes.{replaced};
-ghost use Rattle.itip_state.specs.Held.{at, AreOrdered, items_of, series_list};
+ghost use Rattle.itip_state.specs.Held.{at, AreOrdered, AreSound, items_of, series_list};
 ghost use Rattle.itip_state.specs.Seen.{shape};
 ghost use Rattle.itip_state.specs.Joined.{IsJoinedAt, AreBelow};
 
@@ -140,11 +140,12 @@ impl Held {
 
     /// All items, shared with this map.
     pub(crate) fn shared_items(&self, alloc: Global) -> Result<Vec<SharedItem>, NoMemory>
+        requires { AreSound self.now }
         ensures { IfOk result (λ items. items.items ≡ items_of self.now) }
     {
         let mut items = Vec::new(alloc);
         for (_, series) in self.map.map.iter() {
-            share(alloc, series, &mut items)?;
+            share(series, &mut items)?;
         }
         Ok(items)
     }

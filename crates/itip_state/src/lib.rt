@@ -9,6 +9,7 @@ mod held;
 mod laws;
 mod of_uid;
 mod organizers;
+mod parts;
 mod plain;
 mod revision;
 mod series;

@@ -1,12 +1,13 @@
 //! What a state keeps of one UID.
-ghost use Rattle.std.specs.Prelude.{◌≡◌, IfOk, map};
+ghost use Rattle.std.specs.Prelude.{◌≡◌, map};
 ghost use Rattle.std.specs.Option.{option_copied};
 ghost use Rattle.itip_message.specs.declared.key.Key.TheVariants as key;
+ghost use Rattle.itip_message.specs.declared.key.Key.{Key};
 ghost use Rattle.itip_state.specs.Kept.{IsBestOf};
 ghost use Rattle.itip_state.specs.OfUid.{UidPart, IsUidPart};
+ghost use Rattle.itip_state.specs.Parts.{HasParts};
 
-use crate::NoMemory;
-use crate::slot::compare;
+use crate::parts::{KeyParts, compare};
 use itip_message::{Item, Key};
 use itip_moment::Moment;
 use itip_todo::Uid;
@@ -61,8 +62,15 @@ impl<'a> ItemsOfUid<'a> {
     pub fn best(&self, key: &Key) -> Option<&'a Item>
         ensures { IsBestOf self.now.items key.now (option_copied result) }
     {
+        self.found(&KeyParts::of(key))
+    }
+
+    /// The item whose key has these parts.
+    fn found(&self, parts: &KeyParts<'_>) -> Option<&'a Item>
+        ensures { (key : Key) → HasParts key parts.now → IsBestOf self.now.items key (option_copied result) }
+    {
         let items = self.items.as_slice();
-        match items.binary_search_by(|item| compare(&item.key, key)) {
+        match items.binary_search_by(|item| compare(&item.key, parts)) {
             Ok(place) => Some(items[place]),
             Err(_) => None,
         }
@@ -82,11 +90,18 @@ impl<'a> ItemsOfUid<'a> {
         }
     }
 
-    /// The instance item of a moment, or `None` where none is kept.
-    pub fn instance(&self, at: &Moment) -> Result<Option<&'a Item>, NoMemory>
-        ensures { IfOk result (λ found. IsBestOf self.now.items (key.Instance self.now.uid at.now) (option_copied found)) }
+    /// The instance item of a moment, or `None` where none is kept. It takes no memory.
+    pub fn instance(&self, at: &Moment) -> Option<&'a Item>
+        ensures { IsBestOf self.now.items (key.Instance self.now.uid at.now) (option_copied result) }
     {
-        let key = Key::Instance(self.uid.clone()?, at.clone()?);
-        Ok(self.best(&key))
+        self.found(&KeyParts::of_instance(self.uid, at))
+    }
+
+    /// The answer of an attendee, by its key (`itip_todo::attendee_key`), to the instance of a moment, or to the to-do as a whole; `None` where none is kept. It
+    /// takes no memory.
+    pub fn answer(&self, at: Option<&Moment>, attendee: &str) -> Option<&'a Item>
+        ensures { IsBestOf self.now.items (key.Answer self.now.uid (option_copied at.entry) attendee.now) (option_copied result) }
+    {
+        self.found(&KeyParts::of_answer(self.uid, at, attendee))
     }
 }

@@ -1,7 +1,7 @@
 //! What a state holds of one UID.
-ghost use Rattle.std.specs.Prelude.{◌≡◌, ◌++◌, [], cond, IfOk, OnOk};
+ghost use Rattle.std.specs.Prelude.{◌≡◌, ◌++◌, [], ℕ, List, cond, IfOk, OnOk};
 ghost use Rattle.itip_join.specs.declared.lift.Lift.TheVariants.{Nothing};
-ghost use Rattle.itip_state.specs.Held.{can_die as key_can_die, is_below as item_is_below, kills as series_kills, alone, Shape, shape_items};
+ghost use Rattle.itip_state.specs.Held.{can_die as key_can_die, is_below as item_is_below, kills as series_kills, alone, Shape, shape_items, IsPlaced};
 ghost use Rattle.itip_state.specs.Seen.{shape};
 ghost use Rattle.std.specs.Ordering.{is_eq};
 ghost use Rattle.itip_join.specs.KeyByKey.{value_at};
@@ -79,31 +79,28 @@ pub(crate) fn of_item(alloc: Global, item: &SharedItem) -> Result<SeriesState, N
     let best = Greatest {
         value: item.revision().copy()?,
     };
-    if let Key::Series(_) = item.key() {
-        return Ok(Guarded {
+    match item.slot() {
+        None => Ok(Guarded {
             guard: Lift::Known(best),
             entries: Keyed::empty(alloc),
-        });
+        }),
+        Some(slot) => Ok(Guarded {
+            guard: Lift::Nothing,
+            entries: Keyed::of_one(alloc, slot.copy()?, best)?,
+        }),
     }
-    Ok(Guarded {
-        guard: Lift::Nothing,
-        entries: Keyed::of_one(alloc, item.slot().copy()?, best)?,
-    })
 }
 
 /// Adds the items of one UID, the series item first.
-pub(crate) fn share(
-    alloc: Global,
-    series: &SeriesState,
-    items: &mut Vec<SharedItem>,
-) -> Result<(), NoMemory>
+pub(crate) fn share(series: &SeriesState, items: &mut Vec<SharedItem>) -> Result<(), NoMemory>
+    requires { (uid : List ℕ) × IsPlaced uid (shape series.now) }
     ensures { OnOk result (items.new.items ≡ items.old.items ++ shape_items (shape series.now)) }
 {
     if let Lift::Known(best) = &series.guard {
-        items.push(SharedItem::of(alloc, &best.value)?)?;
+        items.push(SharedItem::held_at(None, &best.value)?)?;
     }
-    for (_, best) in series.entries.map.iter() {
-        items.push(SharedItem::of(alloc, &best.value)?)?;
+    for (slot, best) in series.entries.map.iter() {
+        items.push(SharedItem::held_at(Some(slot), &best.value)?)?;
     }
     Ok(())
 }

@@ -1,9 +1,11 @@
 //! Items that many can hold.
 ghost use Rattle.std.specs.Prelude.{◌≡◌, IfOk, map, refl};
+ghost use Rattle.std.specs.Option.{option_copied};
 ghost use Rattle.std.specs.Cmp.{partial_order_from_total, partial_equiv_from_equiv, eq_by_cmp_equiv};
 ghost use Rattle.std.specs.Ordering.{as_partial_cmp, eq_by_cmp};
 ghost use Rattle.itip_message.specs.KeyParts.{uid_of};
 ghost use Rattle.itip_message.specs.OctetOrder.{octets_cmp, octets_total};
+ghost use Rattle.itip_state.specs.Held.{IsPlaceOf};
 ghost use Rattle.itip_state.specs.Kept.{IsItemsOf, AreUidsOf};
 
 use crate::NoMemory;
@@ -21,13 +23,13 @@ use std::ops::Deref;
 #[derive(Debug, Drop)]
 pub struct SharedItem {
     revision: Revision,
-    /// Where a state holds it.
-    slot: Slot,
+    /// Where a state holds it among the items of its UID. An item of the to-do as a whole needs no such place.
+    slot: Option<Slot>,
 }
 
 impl Model for SharedItem {
-    ghost use Rattle.std.specs.Prelude.{◌≡◌};
     ghost use Rattle.itip_message.specs.declared.item.Item.{Item};
+    ghost use Rattle.itip_state.specs.Held.{IsPlaceOf};
 
     ghost Value = { Item };
 
@@ -37,7 +39,7 @@ impl Model for SharedItem {
 
     ghost view = { λ s. s.revision };
 
-    ghost invariant = { λ s. s.slot ≡ s.revision.key };
+    ghost invariant = { λ s. IsPlaceOf s.slot s.revision.key };
 }
 
 impl SharedItem {
@@ -45,18 +47,26 @@ impl SharedItem {
     pub fn new(alloc: Global, item: Item) -> Result<SharedItem, NoMemory>
         ensures { IfOk result (λ shared. shared ≡ item) }
     {
+        let slot = match &item.key {
+            Key::Series(_) => None,
+            key => Some(Slot::new(alloc, key.clone()?)?),
+        };
         let revision = Revision::new(alloc, item)?;
-        let slot = Slot::new(alloc, revision.item().key.clone()?)?;
         Ok(SharedItem { revision, slot })
     }
 
-    /// The item of a revision.
-    pub(crate) fn of(alloc: Global, revision: &Revision) -> Result<SharedItem, NoMemory>
+    /// The item of a revision that a state holds here.
+    pub(crate) fn held_at(slot: Option<&Slot>, revision: &Revision) -> Result<SharedItem, NoMemory>
+        requires { IsPlaceOf (option_copied slot) revision.now.key }
         ensures { IfOk result (λ shared. shared ≡ revision.now) }
     {
+        let slot = match slot {
+            None => None,
+            Some(slot) => Some(slot.copy()?),
+        };
         Ok(SharedItem {
             revision: revision.copy()?,
-            slot: Slot::new(alloc, revision.item().key.clone()?)?,
+            slot,
         })
     }
 
@@ -67,11 +77,11 @@ impl SharedItem {
         self.revision.item()
     }
 
-    /// Its key, which lies where its place in a state does.
+    /// Its key.
     pub(crate) fn key(&self) -> &Key
         ensures { result.now ≡ self.now.key }
     {
-        self.slot.key()
+        &self.item().key
     }
 
     /// The UID that it is about.
@@ -88,11 +98,11 @@ impl SharedItem {
         &self.revision
     }
 
-    /// Where a state holds it.
-    pub(crate) fn slot(&self) -> &Slot
-        ensures { result.now ≡ self.now.key }
+    /// Where a state holds it among the items of its UID, or `None` where it is an item of the to-do as a whole.
+    pub(crate) fn slot(&self) -> Option<&Slot>
+        ensures { IsPlaceOf (option_copied result) self.now.key }
     {
-        &self.slot
+        self.slot.as_ref()
     }
 }
 
@@ -110,10 +120,7 @@ impl Clone for SharedItem {
     ghost is_clone = { λ item copy. copy ≡ item };
 
     fn clone(&self) -> Result<SharedItem, NoMemory> {
-        Ok(SharedItem {
-            revision: self.revision.copy()?,
-            slot: self.slot.copy()?,
-        })
+        SharedItem::held_at(self.slot(), &self.revision)
     }
 }
 

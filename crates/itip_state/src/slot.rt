@@ -1,16 +1,11 @@
 //! Where a state holds an item.
-ghost use Rattle.std.specs.Prelude.{◌≡◌, IfOk, MatchOption, refl};
-ghost use Rattle.std.specs.List.{Contains};
+ghost use Rattle.std.specs.Prelude.{◌≡◌, IfOk, refl};
 ghost use Rattle.std.specs.Cmp.{partial_order_from_total, partial_equiv_from_equiv, eq_by_cmp_equiv};
 ghost use Rattle.std.specs.Ordering.{as_partial_cmp, eq_by_cmp};
-ghost use Rattle.std.specs.Option.{option_copied};
-ghost use Rattle.itip_message.specs.declared.item.Item.{Item};
-ghost use Rattle.itip_state.specs.Held.{entry_items};
 ghost use Rattle.itip_state.specs.Slots.{rest_cmp, key_cmp, slot_cmp, slot_total};
 
-use crate::revision::Best;
-use itip_join::{Exact, Keyed, NoMemory};
-use itip_message::{Item, Key};
+use itip_join::{Exact, NoMemory};
+use itip_message::Key;
 use std::alloc::Global;
 use std::cmp::Ordering;
 use std::marker::Model;
@@ -71,20 +66,6 @@ fn compare_rest(key: &Key, other: &Key) -> Ordering
         .cmp(&other.rank())
         .then_with(|| key.cmp_instances(other))
         .then_with(|| key.attendee().cmp(other.attendee()))
-}
-
-/// The item at a key of one UID that is not its series key.
-pub(crate) fn entry_of<'a>(entries: &'a Keyed<Slot, Best>, key: &Key) -> Option<&'a Item>
-    ensures found { MatchOption (option_copied result) ((item : Item) → Contains (entry_items entries.now.map) item → item.key ≡ key.now → ⊥)
-        (λ item. Contains (entry_items entries.now.map) item × (item.key ≡ key.now)) }
-{
-    for (_, best) in entries.map.iter() {
-        let item = best.value.item();
-        if compare(&item.key, key).is_eq() {
-            return Some(item);
-        }
-    }
-    None
 }
 
 impl PartialEq for Slot {

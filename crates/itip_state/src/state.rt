@@ -14,11 +14,10 @@ use crate::held::Held;
 use crate::of_uid::ItemsOfUid;
 use crate::organizers::greatest;
 use crate::revision::Best;
-use crate::series::{SeriesState, is_dead_below};
+use crate::series::{SeriesState, is_dead_below, share};
 use crate::shared::{SharedItem, by_octets};
-use crate::slot::entry_of;
 use itip_join::Lift;
-use itip_message::{Item, Key};
+use itip_message::Item;
 use itip_todo::Uid;
 use std::alloc::Global;
 use std::marker::Model;
@@ -34,17 +33,15 @@ fn is_no_later(item: &Item, best: &Best) -> bool
 fn holds_no_earlier(series: &SeriesState, item: &SharedItem) -> bool
     ensures { IsTrue result ↔ HoldsNoEarlier (shape series.now) item.now }
 {
-    match item.key() {
-        Key::Series(_) => match &series.guard {
+    match item.slot() {
+        None => match &series.guard {
             Lift::Nothing => false,
             Lift::Known(best) => is_no_later(item.item(), best),
         },
-        _ => {
-            let Some(best) = series.entries.get(item.slot()) else {
-                return false;
-            };
-            is_no_later(item.item(), best)
-        }
+        Some(slot) => match series.entries.get(slot) {
+            None => false,
+            Some(best) => is_no_later(item.item(), best),
+        },
     }
 }
 
@@ -177,6 +174,19 @@ impl State {
         })
     }
 
+    /// The kept items of these UIDs, shared with this state, in no order, and perhaps more than once. Each UID is looked up; no other is looked at.
+    pub fn shared_of(&self, uids: &[&Uid]) -> Result<Vec<SharedItem>, NoMemory>
+        ensures { IfOk result (λ items. ArePartOf items.items self.now (map (λ uid. uid.now) uids.now)) }
+    {
+        let mut items = Vec::new(self.alloc);
+        for uid in uids {
+            if let Some(series) = self.held.get(uid) {
+                share(series, &mut items)?;
+            }
+        }
+        Ok(items)
+    }
+
     /// Copies of the kept items, by canonical octets, each once.
     pub fn items(&self) -> Result<Vec<Item>, NoMemory>
         ensures { IfOk result (λ items. IsItemsOf items.items self.now) }
@@ -209,23 +219,6 @@ impl State {
         ensures state { OnOk result (IsState self.now) }
     {
         self.held.uids(self.alloc)
-    }
-
-    /// The kept item of a key, or `None` where none is kept. It takes no memory.
-    pub fn best(&self, key: &Key) -> Option<&Item>
-        ensures { MatchOption (option_copied result) ((item : Item) → Contains self.now item → item.key ≡ key.now → ⊥)
-            (λ item. Contains self.now item × (item.key ≡ key.now)) }
-    {
-        let Some(series) = self.held.get(key.uid()) else {
-            return None;
-        };
-        match key {
-            Key::Series(_) => match &series.guard {
-                Lift::Nothing => None,
-                Lift::Known(best) => Some(best.value.item()),
-            },
-            _ => entry_of(&series.entries, key),
-        }
     }
 
     /// The kept items of a UID. No other UID is looked at.

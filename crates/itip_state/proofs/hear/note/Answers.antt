@@ -1,29 +1,20 @@
 use Rattle.std.proofs.Common.{◌∙◌, ap, sym, Some, None}
-use Rattle.itip_state.specs.Held.{Shape, at, is_series}
+use Rattle.itip_state.specs.Held.{Shape, at}
 use Rattle.itip_state.specs.Seen.{shape}
 use Rattle.itip_join.specs.KeyByKey.{value_at}
 use Rattle.itip_state.specs.Slots.{slot_cmp}
-use Rattle.itip_state.proofs.News.{not_series}
 use Rattle.itip_state.proofs.Undoing.{noted_at}
 use Rattle.itip_state.proofs.hear.note.Goals as goal
 
-pub returns-in_default-clause-noted : goal.returns-in_default-clause-noted
-returns-in_default-clause-noted c = sym (ap (at c.args.held.now) c.uid.ensures) ∙ sym c.in_default.ensures.found
-
-pub returns-in-Series-clause-noted : goal.returns-in-Series-clause-noted
-returns-in-Series-clause-noted c = (
-  sym (ap (at c.args.held.now) c.uid.ensures) ∙ sym c.in-Some.ensures.found ∙ ap (λ v. Some (shape v)) (sym c.in_ok-copy.ensures),
-  ap is_series (sym c.key.ensures ∙ c.in-Series.is),
-)
-
-pub returns-in-None-clause-noted : goal.returns-in-None-clause-noted
-returns-in-None-clause-noted c =
+pub returns-in-None-get-clause-noted : goal.returns-in-None-get-clause-noted
+returns-in-None-get-clause-noted c =
     let w : Shape = shape c.in-Some.series.now in (
       w,
       sym (ap (at c.args.held.now) c.uid.ensures) ∙ sym c.in-Some.ensures.found,
       noted_at c.args.item.now.key None w (record { sorted = c.in-Some.series.now.entries.ordered; alive = c.in-Some.series.now.no_dead_entry })
-          (c.in-None.ensures ∙ ap (value_at slot_cmp w.entries) c.slot.ensures),
-      not_series c.args.item.now.key (λ uid e. c.in_default-key.not-Series uid (c.key.ensures ∙ e)),
+          (c.in-None-get.ensures ∙ ap (value_at slot_cmp w.entries) c.in-Some-slot.ensures.0),
+      c.in-Some-slot.ensures.1,
+      c.in-Some-slot.ensures.0,
     )
 
 pub returns-in_ok-copy-in-Some-get-clause-noted : goal.returns-in_ok-copy-in-Some-get-clause-noted
@@ -32,6 +23,7 @@ returns-in_ok-copy-in-Some-get-clause-noted c =
       w,
       sym (ap (at c.args.held.now) c.uid.ensures) ∙ sym c.in-Some.ensures.found,
       noted_at c.args.item.now.key (Some c.in_ok-copy-in-Some-get.field-0) w (record { sorted = c.in-Some.series.now.entries.ordered; alive = c.in-Some.series.now.no_dead_entry })
-          (ap Some c.in_ok-copy-in-Some-get.ensures ∙ c.in-Some-get.ensures ∙ ap (value_at slot_cmp w.entries) c.slot.ensures),
-      not_series c.args.item.now.key (λ uid e. c.in_default-key.not-Series uid (c.key.ensures ∙ e)),
+          (ap Some c.in_ok-copy-in-Some-get.ensures ∙ c.in-Some-get.ensures ∙ ap (value_at slot_cmp w.entries) c.in-Some-slot.ensures.0),
+      c.in-Some-slot.ensures.1,
+      c.in-Some-slot.ensures.0,
     )

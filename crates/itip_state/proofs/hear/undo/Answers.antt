@@ -29,8 +29,8 @@ pub put_back-requires : goal.put_back-requires
 put_back-requires c =
     let u : List ℕ = uid_of c.args.change.item.now.key in
     let was = subst (λ (b : Before). LeadsBack b c.args.change.item.now (at c.args.held.now u) (at c.requires.0 u)) c.in-Entry.is (c.requires.1).there in
-    let back = entry_leads c.args.change.item.now c.in-Entry.best (at c.args.held.now u) (at c.requires.0 u) (shape c.in-Some.series) (sym (ap (at c.args.held.now) c.uid-uid.ensures) ∙ sym c.in-Some.ensures.before) was in
-    (back.0, subst (λ (k : Key). IsBackAt k c.in-Entry.best (shape c.in-Some.series) back.0) (sym c.slot.ensures) back.2)
+    let back = entry_leads c.in-Entry.slot c.args.change.item.now c.in-Entry.best (at c.args.held.now u) (at c.requires.0 u) (shape c.in-Some.series) (sym (ap (at c.args.held.now) c.uid-uid.ensures) ∙ sym c.in-Some.ensures.before) was in
+    (back.0, back.2)
 
 pub returns-in-Some : goal.returns-in-Some
 returns-in-Some c = λ old is.
@@ -39,17 +39,17 @@ returns-in-Some c = λ old is.
     let now : List (List ℕ × Shape) = c.args.held.now in
     let mid : List (List ℕ × Shape) = c.replace-in-Entry.new.self in
     let was = subst (λ (b : Before). LeadsBack b c.args.change.item.now (at now u) (at old u)) c.in-Entry.is is.there in
-    let back = entry_leads c.args.change.item.now c.in-Entry.best (at now u) (at old u) (shape c.in-Some.series) (sym (ap (at now) c.uid-uid.ensures) ∙ sym c.in-Some.ensures.before) was in
+    let back = entry_leads c.in-Entry.slot c.args.change.item.now c.in-Entry.best (at now u) (at old u) (shape c.in-Some.series) (sym (ap (at now) c.uid-uid.ensures) ∙ sym c.in-Some.ensures.before) was in
     let nothing : Shape = shape c.of_nothing.result in
     let there : at mid k ≡ Some nothing = put_at now mid k u (replaced (at now k) nothing) c.uid-uid.ensures c.in-Some.ensures.with ∙ replaced_some (at now k) nothing (sym (ap is_some c.in-Some.ensures.before)) in
     let again : Shape = shape c.put_back.result in
     undone_put mid c.replace-in-Some.new.self old k u (replaced (at mid k) again) c.uid-uid.ensures c.replace-in-Some.ensures.ordered is.ordered c.replace-in-Some.ensures.with
     (replaced_some (at mid k) again (ap is_some there)
-    ∙ ap Some (c.put_back.ensures back.0 (subst (λ (q : Key). IsBackAt q c.in-Entry.best (shape c.in-Some.series) back.0) (sym c.slot.ensures) back.2)) ∙ sym back.1)
+    ∙ ap Some (c.put_back.ensures back.0 back.2) ∙ sym back.1)
     (λ q n. put_apart now mid k u (replaced (at now k) nothing) c.uid-uid.ensures c.in-Some.ensures.with q n ∙ is.others q n)
 
 pub returns-in_default : goal.returns-in_default
 returns-in_default c = λ old is.
     let u : List ℕ = uid_of c.args.change.item.now.key in
     let was = subst (λ (b : Before). LeadsBack b c.args.change.item.now (at c.args.held.now u) (at old u)) c.in-Entry.is is.there in
-    absurd (not_absent c.args.change.item.now c.in-Entry.best (at c.args.held.now u) (at old u) (sym (ap (at c.args.held.now) c.uid-uid.ensures) ∙ sym c.in_default.ensures.before) was)
+    absurd (not_absent c.in-Entry.slot c.args.change.item.now c.in-Entry.best (at c.args.held.now u) (at old u) (sym (ap (at c.args.held.now) c.uid-uid.ensures) ∙ sym c.in_default.ensures.before) was)

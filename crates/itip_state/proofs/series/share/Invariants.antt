@@ -1,7 +1,11 @@
-use Rattle.std.proofs.Common.{◌≡◌, ◌++◌}
-use Rattle.itip_state.specs.Held.{entry_items, shape_items}
+use Rattle.std.proofs.Common.{◌≡◌, ◌++◌, List, ℕ}
+use Rattle.std.specs.List.{AllByRecursion}
+use Rattle.itip_state.specs.Held.{entry_items, shape_items, IsEntryAt}
 use Rattle.itip_state.specs.Seen.{shape}
 use Rattle.itip_state.proofs.series.share.Given as goal
 
-abbrev pub invariant-loop-best : goal.invariant-loop-best
-invariant-loop-best l = l.items.items ++ entry_items l.best-iterator ≡ l.fn.items.items ++ shape_items (shape l.series)
+abbrev pub invariant-loop-slot : goal.invariant-loop-slot
+invariant-loop-slot l = record {
+  shared : l.items.items ++ entry_items l.slot-iterator ≡ l.fn.items.items ++ shape_items (shape l.series);
+  placed : (uid : List ℕ) × AllByRecursion (λ e. IsEntryAt uid e.0 e.1) l.slot-iterator;
+}

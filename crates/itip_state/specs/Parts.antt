@@ -1,0 +1,29 @@
+-- The parts of a key, as a look-up compares them (our own form).
+use Rattle.std.specs.Prelude.{◌≡◌}
+use Rattle.std.specs.Option.{option_copied, option_cmp}
+use Rattle.std.specs.Ordering.{nat_cmp, ordering_then}
+use Rattle.std.specs.Cmp.Lexicographic.{slice_cmp}
+use Rattle.std.specs.declared.cmp.Ordering.{Ordering}
+use Rattle.itip_moment.specs.Order.{moment_cmp}
+use Rattle.itip_message.specs.KeyParts.{uid_of, rank_of, instance_of, attendee_of}
+use Rattle.itip_message.specs.declared.key.Key.{Key}
+use Rattle.itip_state.specs.declared.parts.KeyParts.{KeyParts}
+
+-- the key has these parts
+pub record HasParts (key : Key) (parts : KeyParts) : Type 0 where
+  pub uid : uid_of key ≡ parts.uid.now
+  pub rank : rank_of key ≡ parts.rank
+  pub instance : instance_of key ≡ option_copied parts.instance
+  pub attendee : attendee_of key ≡ parts.attendee.now
+
+-- a key beside the parts of another, by instance and attendee
+abbrev pub within_beside : Key → KeyParts → Ordering
+within_beside key parts = ordering_then (option_cmp moment_cmp (instance_of key) (option_copied parts.instance)) (slice_cmp nat_cmp (attendee_of key) parts.attendee.now)
+
+-- the same by kind of key, and then by these
+abbrev pub rest_beside : Key → KeyParts → Ordering
+rest_beside key parts = ordering_then (nat_cmp (rank_of key) parts.rank) (within_beside key parts)
+
+-- the same by UID, and then by the rest
+abbrev pub parts_cmp : Key → KeyParts → Ordering
+parts_cmp key parts = ordering_then (slice_cmp nat_cmp (uid_of key) parts.uid.now) (rest_beside key parts)

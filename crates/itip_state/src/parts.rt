@@ -1,0 +1,88 @@
+//! The parts of a key, by which an item is looked up with no key made for it.
+ghost use Rattle.std.specs.Prelude.{◌≡◌};
+ghost use Rattle.std.specs.Option.{option_copied};
+ghost use Rattle.itip_message.specs.declared.key.Key.TheVariants as key;
+ghost use Rattle.itip_state.specs.Parts.{HasParts, within_beside, rest_beside, parts_cmp};
+
+use itip_message::Key;
+use itip_moment::Moment;
+use itip_todo::Uid;
+use std::cmp::Ordering;
+
+/// The parts of a key. A key is made where an item is heard, and a look-up needs none.
+#[derive(Clone, Copy, Debug, Drop)]
+pub(crate) struct KeyParts<'k> {
+    uid: &'k Uid,
+    /// The place of the kind of the key (`Key::rank`).
+    rank: u8,
+    instance: Option<&'k Moment>,
+    attendee: &'k str,
+}
+
+impl<'k> KeyParts<'k> {
+    /// Those of this key.
+    pub(crate) fn of(key: &'k Key) -> KeyParts<'k>
+        ensures { HasParts key.now result }
+    {
+        KeyParts {
+            uid: key.uid(),
+            rank: key.rank(),
+            instance: key.instance(),
+            attendee: key.attendee(),
+        }
+    }
+
+    /// Those of the key of an instance.
+    pub(crate) fn of_instance(uid: &'k Uid, at: &'k Moment) -> KeyParts<'k>
+        ensures { HasParts (key.Instance uid.now at.now) result }
+    {
+        KeyParts {
+            uid,
+            rank: 1,
+            instance: Some(at),
+            attendee: "",
+        }
+    }
+
+    /// Those of the key of what an attendee answers to an instance, or to the to-do as a whole.
+    pub(crate) fn of_answer(uid: &'k Uid, at: Option<&'k Moment>, attendee: &'k str) -> KeyParts<'k>
+        ensures { HasParts (key.Answer uid.now (option_copied at.entry) attendee.now) result }
+    {
+        KeyParts {
+            uid,
+            rank: 3,
+            instance: at,
+            attendee,
+        }
+    }
+}
+
+/// A key beside the parts of another: by UID, then by the rest.
+pub(crate) fn compare(key: &Key, parts: &KeyParts<'_>) -> Ordering
+    ensures { result ≡ parts_cmp key.now parts.now }
+{
+    match key.uid().cmp(parts.uid) {
+        Ordering::Equal => compare_rest(key, parts),
+        unequal => unequal,
+    }
+}
+
+/// By kind of key, then by instance and attendee.
+fn compare_rest(key: &Key, parts: &KeyParts<'_>) -> Ordering
+    ensures { result ≡ rest_beside key.now parts.now }
+{
+    match key.rank().cmp(&parts.rank) {
+        Ordering::Equal => compare_within(key, parts),
+        unequal => unequal,
+    }
+}
+
+/// By instance and attendee.
+fn compare_within(key: &Key, parts: &KeyParts<'_>) -> Ordering
+    ensures { result ≡ within_beside key.now parts.now }
+{
+    match key.instance().cmp(&parts.instance) {
+        Ordering::Equal => key.attendee().cmp(parts.attendee),
+        unequal => unequal,
+    }
+}
