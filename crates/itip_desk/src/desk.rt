@@ -1,6 +1,7 @@
 //! A desk.
-ghost use Rattle.std.specs.Prelude.{◌≡◌, [], ◌++◌, ◌∷◌, IfOk, OnOk, OnErr, length, min, List, ℕ, IsErrOf};
+ghost use Rattle.std.specs.Prelude.{◌≡◌, [], ◌++◌, ◌∷◌, IfOk, OnOk, OnErr, length, map, min, List, ℕ, IsErrOf};
 ghost use Rattle.itip_message.specs.declared.item.Item.{Item};
+ghost use Rattle.itip_state.specs.Kept.{AreUidsOf};
 ghost use Rattle.itip_view.specs.declared.row.Row.{Row};
 ghost use Rattle.itip_view.specs.declared.window.Window.{Window};
 
@@ -8,7 +9,7 @@ use crate::batch::Batch;
 use crate::error::DeskError;
 use crate::indexed::IndexedState;
 use crate::moves::MovedUids;
-use itip_state::{State, uids};
+use itip_state::{SharedItem, State, uids};
 use itip_todo::Uid;
 use itip_view::{Row, ViewError, Window, list_text, rows_among};
 use std::alloc::{AllocError, Global};
@@ -19,6 +20,18 @@ use std::marker::Model;
 pub struct Changed {
     pub tick: u64,
     pub uids: Vec<Uid>,
+}
+
+/// Copies of the UIDs that items are about, by octets, each once.
+fn copies_of_uids(alloc: Global, items: &[&SharedItem]) -> Result<Vec<Uid>, AllocError>
+    ensures { IfOk result (λ copies. AreUidsOf copies.items (map (λ item. item.now) items.now)) }
+{
+    let uids = uids(alloc, items)?;
+    let mut copies = Vec::with_capacity(alloc, uids.len())?;
+    for uid in &uids {
+        copies.push(uid.clone()?)?;
+    }
+    Ok(copies)
 }
 
 /// A replica: what it keeps of all that it has heard, its tick, and the UIDs that moved, each with the tick of its last move.
@@ -48,7 +61,6 @@ impl Desk {
     ghost use Rattle.itip_desk.specs.Desk.{IsDeskOf, IsDeltaOf, IsCarriedOn};
     ghost use Rattle.itip_desk.specs.Heard.{TickStep};
     ghost use Rattle.std.specs.Prelude.{◌≤◌};
-    ghost use Rattle.std.specs.Prelude.{map};
     ghost use Rattle.std.specs.List.{Contains};
     ghost use Rattle.itip_view.specs.Rows.{IsRow, AreRows, AreTooMany, row_limit};
     ghost use Rattle.itip_view.specs.Showing.{Shows, AreRowsWhere, AreTooManyWhere, IsListTextFor};
@@ -102,7 +114,7 @@ impl Desk {
         ensures err { OnErr result (self.new ≡ self.old) }
     {
         let news = self.kept.state().news(batch.as_slice())?;
-        let uids = uids(self.alloc, &news)?;
+        let uids = copies_of_uids(self.alloc, &news)?;
         if uids.is_empty() {
             return Ok(Changed {
                 tick: self.tick,

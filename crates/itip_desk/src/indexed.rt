@@ -169,8 +169,8 @@ fn changes_of(alloc: Global, state: &State, found: &[&SharedItem]) -> Result<Cha
 }
 
 /// The entries of the items of these UIDs.
-fn entries_of(alloc: Global, part: &State, uids: &[Uid]) -> Result<BTreeSet<Entry>, AllocError>
-    ensures { IfOk result (λ entries. HaveEntries part.now uids.now entries) }
+fn entries_of(alloc: Global, part: &State, uids: &[&Uid]) -> Result<BTreeSet<Entry>, AllocError>
+    ensures { IfOk result (λ entries. HaveEntries part.now (map (λ uid. uid.now) uids.now) entries) }
 {
     let mut entries = BTreeSet::new(alloc);
     for uid in uids {

@@ -71,7 +71,12 @@ fn part(
 ) -> Result<Vec<u8>, CallError> {
     let mut told = State::empty(alloc);
     merge_in(alloc, &mut told, wanted)?;
-    let part = merged(alloc, texts)?.part(&uids(alloc, names)?)?;
+    let uids = uids(alloc, names)?;
+    let mut named = Vec::new(alloc);
+    for uid in &uids {
+        named.push(uid)?;
+    }
+    let part = merged(alloc, texts)?.part(&named)?;
     truth(alloc, part.equal(&told))
 }
 

@@ -5,6 +5,7 @@ pub mod Later
 pub mod Keeping
 pub mod Ascending
 pub mod UidSets
+pub mod Once
 pub mod Lookups
 pub mod Tests
 pub mod KeptOnes

@@ -174,12 +174,12 @@ pub fn by_octets(items: Vec<SharedItem>) -> Result<Vec<SharedItem>, NoMemory>
 }
 
 /// The UIDs that items are about, by octets, each once.
-pub fn uids(alloc: Global, items: &[&SharedItem]) -> Result<Vec<Uid>, NoMemory>
-    ensures { IfOk result (λ uids. AreUidsOf uids.items (map (λ item. item.now) items.now)) }
+pub fn uids<'a>(alloc: Global, items: &[&'a SharedItem]) -> Result<Vec<&'a Uid>, NoMemory>
+    ensures { IfOk result (λ uids. AreUidsOf (map (λ uid. uid.now) uids.items) (map (λ item. item.now) items.now)) }
 {
-    let mut uids = Vec::new(alloc);
+    let mut uids = Vec::with_capacity(alloc, items.len())?;
     for item in items {
-        uids.push(item.uid().clone()?)?;
+        uids.push(item.uid())?;
     }
     uids.sort()?;
     uids.dedup();

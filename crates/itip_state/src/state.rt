@@ -157,9 +157,9 @@ impl State {
         self.held.join(&other.held)
     }
 
-    /// The kept items of these UIDs. Each UID is looked up; no other is looked at.
-    pub fn part(&self, uids: &[Uid]) -> Result<State, NoMemory>
-        ensures { IfOk result (λ part. ArePartOf part self.now uids.now) }
+    /// The kept items of these UIDs, each shared with this state. Each UID is looked up; no other is looked at.
+    pub fn part(&self, uids: &[&Uid]) -> Result<State, NoMemory>
+        ensures { IfOk result (λ part. ArePartOf part self.now (map (λ uid. uid.now) uids.now)) }
     {
         let mut held = Held::empty(self.alloc);
         for uid in uids {
@@ -265,22 +265,5 @@ impl State {
         ensures once { HasEachOnce self.now }
     {
         let _ = &self.held;
-    }
-
-    /// The kept items of the UIDs that are named, each shared with this state. Each UID is looked up; no other is looked at.
-    pub fn part_of(&self, uids: &[&Uid]) -> Result<State, NoMemory>
-        ensures { IfOk result (λ part. ArePartOf part self.now (map (λ uid. uid.now) uids.now)) }
-    {
-        let mut held = Held::empty(self.alloc);
-        for named in uids {
-            let Some(series) = self.held.get(named) else {
-                continue;
-            };
-            held.put(named, series)?;
-        }
-        Ok(State {
-            alloc: self.alloc,
-            held,
-        })
     }
 }

@@ -12,7 +12,6 @@ pub mod Placing
 pub mod Collecting
 pub mod OfPart
 pub mod Showing
-pub mod Once
 pub mod Needing
 pub mod Gathering
 pub mod Occurring

@@ -3,4 +3,4 @@ use Rattle.itip_message.specs.KeyParts.{uid_of}
 use Rattle.itip_state.proofs.shared.uids.Given as goal
 
 abbrev pub invariant-loop-item : goal.invariant-loop-item
-invariant-loop-item l = l.uids.items ≡ map (λ item. uid_of item.now.key) (take l.item-index l.items)
+invariant-loop-item l = map (λ uid. uid.now) l.uids.items ≡ map (λ item. uid_of item.now.key) (take l.item-index l.items)

@@ -10,7 +10,7 @@ use Rattle.std.proofs.lemmas.List.Sorted.{Contains-permutation, IsPermutation-sy
 use Rattle.std.proofs.lemmas.Map.Lookups.{exact_bytes}
 use Rattle.std.proofs.lemmas.Map.Views.{tells_apart}
 use Rattle.itip_state.proofs.Ascending.{pairs_ascend}
-use Rattle.itip_view.proofs.Once.{dedup_map, sorted_map}
+use Rattle.itip_state.proofs.Once.{dedup_map, sorted_map}
 use Rattle.itip_view.proofs.turn.in_order.Goals as goal
 
 pub returns-clause-ascend : goal.returns-clause-ascend
