@@ -11,11 +11,13 @@ use Rattle.itip_state.specs.Kept.{ArePart}
 use Rattle.itip_todo.specs.Table.{attendee_key}
 use Rattle.itip_todo.specs.declared.property.Property.{Property}
 use Rattle.itip_message.specs.KeyParts.{uid_of}
+use Rattle.itip_message.specs.Later.{IsLater}
 use Rattle.itip_message.specs.declared.item.Item.{Item}
 use Rattle.itip_message.specs.declared.key.Key.{Key}
 use Rattle.itip_message.specs.declared.key.Key.TheVariants.{Series}
 use Rattle.itip_state.specs.Kept.{IsBest, IsDead, IsKept, AreKept, ArePartOf, AreUidsOf}
 use Rattle.itip_state.specs.Order.{IsState}
+use Rattle.itip_state.proofs.Best.{not_later_itself}
 use Rattle.itip_state.proofs.Members.{by_bool, none_in, cons_cases, cons_first, cons_later}
 use Rattle.itip_view.specs.RowDays.{is_of_rows, has_rows, row_days}
 use Rattle.itip_view.specs.Standing.{is_live}
@@ -300,3 +302,62 @@ module _ (state found part : List Item) (uids : List (List ℕ)) (of : AreUidsOf
       λ h. let is = (have e).0 h in let t = in_touched e is.about in (noted_alike then after e (alike e t) is.noted, t),
       λ (noted, t). (have e).1 (record { noted = noted_alike after then e (swapped e.uid then after (alike e t)) noted; about = touched_in e t }),
     )
+
+-- ---- the first item of a UID
+-- an item alone is kept
+one_kept : (item : Item) → AreKept (item ∷ []) (item ∷ [])
+one_kept item other = (
+  λ h. elim (cons_cases item [] other h) [ inl same ↦ subst (IsKept (item ∷ [])) same kept | inr no ↦ absurd (none_in other no) ],
+  λ is. is.best.is_heard,
+)
+  where
+    kept : IsKept (item ∷ []) item
+    kept = record {
+      best = record {
+        is_heard = cons_first item [];
+        about = refl;
+        none_later = λ i h same. elim (cons_cases item [] i h) [ inl it ↦ subst (λ (j : Item). ¬ IsLater j item) it (not_later_itself item) | inr no ↦ absurd (none_in i no) ];
+      };
+      alive = λ dead. elim (cons_cases item [] dead.series dead.best.is_heard) [
+        | inl it ↦ let same : item.eff ≡ (dead.series).eff = ap (λ (i : Item). i.eff) it in let below = dead.below in absurd (omega arith)
+        | inr no ↦ absurd (none_in dead.series no)
+      ];
+    }
+
+module _ (state : List Item) (item : Item) (none : ArePart (uid_of item.key) [] state) where
+  uids : List (List ℕ)
+  uids = uid_of item.key ∷ []
+
+  about_it : AreUidsOf uids (item ∷ [])
+  about_it = record {
+    ascend = λ i j d below inside. absurd (omega (arith, below, inside));
+    each = λ uid h. elim (cons_cases (uid_of item.key) [] uid h) [ inl same ↦ (item, cons_first item [], same) | inr no ↦ absurd (none_in uid no) ];
+    all = λ other h. elim (cons_cases item [] other h) [ inl same ↦ subst (Contains uids) (ap (λ (i : Item). uid_of i.key) same) (cons_first (uid_of item.key) []) | inr no ↦ absurd (none_in other no) ];
+  }
+
+  no_part : ArePartOf [] state uids
+  no_part other = (
+    λ h. absurd (none_in other h),
+    λ h. elim (cons_cases (uid_of item.key) [] (uid_of other.key) h.1) [ inl same ↦ (none other).1 (h.0, sym same) | inr no ↦ absurd (none_in (uid_of other.key) no) ],
+  )
+
+  pub first_old : (old : BTreeSet Entry) → ((e : Entry) → has old e ≡ false) → AreEntriesOf state (item ∷ []) old
+  first_old old empty = old_entries state (item ∷ []) [] uids about_it no_part old
+      (λ e. (λ h. let no : true ≡ false = sym h ∙ empty e in absurd (cc), λ h. absurd (none_in h.noted.item h.noted.there)))
+
+  have_its : (new : BTreeSet Entry) → ((e : Entry) → has new e ≡ is_in (entries_of item) e) → HaveEntries (item ∷ []) uids new
+  have_its new is e = (
+    λ h. let gives : Contains (entries_of item) e = in_list (entries_of item) e (sym (is e) ∙ h) in
+        record { noted = record { item = item; there = cons_first item []; gives = gives }; about = subst (Contains uids) (sym (entry_uid item e gives)) (cons_first (uid_of item.key) []) },
+    λ h. elim (cons_cases item [] h.noted.item h.noted.there) [
+      | inl same ↦ is e ∙ finds_in (entries_of item) e (subst (λ (i : Item). Contains (entries_of i) e) (sym same) h.noted.gives)
+      | inr no ↦ absurd (none_in h.noted.item no)
+    ],
+  )
+
+  pub first_new : (news after : List Item) → AreOfRows (item ∷ []) news → AreKept after (state ++ news) → (new : BTreeSet Entry) → ((e : Entry) → has new e ≡ is_in (entries_of item) e)
+      → AreEntriesOf after (item ∷ []) new
+  first_new news after rows kept new is = new_entries state (item ∷ []) [] uids about_it no_part (item ∷ []) (one_kept item) news after rows kept new (have_its new is)
+
+  pub first_touched : (new : BTreeSet Entry) → ((e : Entry) → has new e ≡ is_in (entries_of item) e) → (e : Entry) → IsTrue (has new e) → IsTouched (item ∷ []) e.uid
+  first_touched new is e h = record { item = item; there = cons_first item []; about = sym (entry_uid item e (in_list (entries_of item) e (sym (is e) ∙ h))) }

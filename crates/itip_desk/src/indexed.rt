@@ -1,5 +1,5 @@
 //! A state with an index of its kept items.
-ghost use Rattle.std.specs.Prelude.{◌≡◌, ◌++◌, ◌↔◌, ◌⊎◌, [], ℕ, List, map, IsTrue, IfOk, OnOk, OnErr};
+ghost use Rattle.std.specs.Prelude.{◌≡◌, ◌++◌, ◌↔◌, ◌⊎◌, [], false, ℕ, List, map, IsTrue, IfOk, OnOk, OnErr};
 ghost use Rattle.itip_message.specs.declared.item.Item.{Item};
 ghost use Rattle.itip_state.specs.Kept.{AreKept};
 ghost use Rattle.itip_state.specs.Order.{IsState};
@@ -7,8 +7,8 @@ ghost use Rattle.std.specs.List.{Contains};
 ghost use Rattle.itip_todo.specs.Table.{attendee_key};
 ghost use Rattle.itip_view.specs.RowDays.{is_of_rows, HasRowsIn, NamesIn};
 ghost use Rattle.itip_desk.specs.declared.entry.Entry.{Entry};
-ghost use Rattle.itip_desk.specs.Entries.{IsNoted};
-ghost use Rattle.itip_desk.specs.Index.{has, IsTouched, AreOfRows, AreEntriesOf, HaveEntries};
+ghost use Rattle.itip_desk.specs.Entries.{entries_of, IsNoted};
+ghost use Rattle.itip_desk.specs.Index.{has, is_in, IsTouched, AreOfRows, AreEntriesOf, HaveEntries};
 
 use crate::entry::Entry;
 use crate::found::{find_in, find_named};
@@ -154,6 +154,33 @@ fn is_of_rows(key: &Key) -> bool
 
 /// What hearing these items changes in the entries of the UIDs that they are about.
 fn changes_of(alloc: Global, state: &State, found: &[&SharedItem]) -> Result<Change, AllocError>
+    ensures old { IfOk result (λ change. AreEntriesOf state.now (map (λ item. item.now) found.now) change.old) }
+    ensures new { IfOk result (λ change. (news after : List Item) → AreOfRows (map (λ item. item.now) found.now) news → AreKept after (state.now ++ news) → AreEntriesOf after (map (λ item. item.now) found.now) change.new) }
+    ensures about { IfOk result (λ change. (e : Entry) → IsTrue (has change.new e) → IsTouched (map (λ item. item.now) found.now) e.uid) }
+    ensures state { OnOk result (IsState state.now) }
+{
+    match found {
+        [item] if !state.keeps(item.item().key.uid()) => {
+            state.lawful();
+            first_of_uid(alloc, item.item())
+        }
+        _ => changes_in_part(alloc, state, found),
+    }
+}
+
+/// What hearing the first item of its UID changes: its entries come.
+fn first_of_uid(alloc: Global, item: &Item) -> Result<Change, AllocError>
+    ensures old { IfOk result (λ change. (e : Entry) → has change.old e ≡ false) }
+    ensures new { IfOk result (λ change. (e : Entry) → has change.new e ≡ is_in (entries_of item.now) e) }
+{
+    let old = BTreeSet::new(alloc);
+    let mut new = BTreeSet::new(alloc);
+    note(&mut new, alloc, item)?;
+    Ok(Change { old, new })
+}
+
+/// The same, worked out from all that is kept of these UIDs before and after.
+fn changes_in_part(alloc: Global, state: &State, found: &[&SharedItem]) -> Result<Change, AllocError>
     ensures old { IfOk result (λ change. AreEntriesOf state.now (map (λ item. item.now) found.now) change.old) }
     ensures new { IfOk result (λ change. (news after : List Item) → AreOfRows (map (λ item. item.now) found.now) news → AreKept after (state.now ++ news) → AreEntriesOf after (map (λ item. item.now) found.now) change.new) }
     ensures about { IfOk result (λ change. (e : Entry) → IsTrue (has change.new e) → IsTouched (map (λ item. item.now) found.now) e.uid) }

@@ -1,25 +1,25 @@
 -- What is read of a map by UID.
-use Rattle.std.proofs.Common.{◌≡◌, ℕ, List, [], ◌∷◌, ◌+◌, ◌++◌, refl, sym, ◌∙◌, ap, subst, length, arith, suc, Option, Some, None, inl, inr}
-use Rattle.std.specs.Prelude.{MatchOption}
+use Rattle.std.proofs.Common.{◌≡◌, ◌<◌, ℕ, List, [], ◌∷◌, ◌+◌, ◌++◌, refl, ap, subst, length, arith, suc, Option, Some, None}
 use Rattle.std.proofs.Math.ListN.{length-append}
 use Rattle.std.specs.List.{Contains}
 use Rattle.itip_join.specs.declared.lift.Lift.{Lift}
 use Rattle.itip_join.specs.declared.lift.Lift.TheVariants.{Nothing, Known}
 use Rattle.itip_message.specs.declared.item.Item.{Item}
 use Rattle.itip_state.specs.Kept.{ArePart, AscendKeys}
-use Rattle.itip_state.specs.Held.{Best, Shape, best, is_series, series_items, entry_items, shape_items, items_of, at, IsSound, AreHeld}
-use Rattle.std.proofs.lemmas.List.Elements.{Contains-append_cases, Contains-append_right}
+use Rattle.itip_state.specs.Held.{Best, Shape, series_items, entry_items, shape_items, items_of, at, IsSound, AreHeld}
 use Rattle.itip_message.specs.KeyParts.{uid_of}
 use Rattle.itip_message.specs.declared.key.Key.{Key}
-use Rattle.itip_message.specs.declared.key.Key.TheVariants.{Series}
-use Rattle.itip_state.proofs.Members.{none_in}
-use Rattle.itip_state.proofs.Shapes.{series_is, series_held, known_key, known_items}
+use Rattle.itip_state.proofs.Members.{cons_first}
 use Rattle.itip_state.proofs.Ordered.{shape_ascends}
 use Rattle.itip_state.proofs.Maps.{items_at, IsSoundAt, sound_at, part_at}
 
 pub entries_long : (es : List (Key × Best)) → length (entry_items es) ≡ length es
 entries_long [] = refl
 entries_long (e ∷ es) = ap suc (entries_long es)
+
+some_item : (xs : List Item) → 0 < length xs → (x : Item) × Contains xs x
+some_item [] some = absurd (omega (arith, some))
+some_item (x ∷ xs) some = (x, cons_first x xs)
 
 -- ---- one UID
 module _ (es : List (List ℕ × Shape)) (p : AreHeld es) (uid : List ℕ) where
@@ -35,6 +35,13 @@ module _ (es : List (List ℕ × Shape)) (p : AreHeld es) (uid : List ℕ) where
 
     pub held_ascends : AscendKeys (shape_items sh)
     held_ascends = shape_ascends uid sh held_sound
+
+    -- something is kept of a UID that is held
+    pub held_some : (x : Item) × Contains (items_of es) x × (uid_of x.key ≡ uid)
+    held_some =
+        let one = some_item (shape_items sh) (subst (IsSoundAt uid) e (sound_at es p.sound uid)).1 in
+        let there = (held_part one.0).0 one.1 in
+        (one.0, there.0, there.1)
 
 -- ---- how many
 known_long : (s : Lift Best) (b : Best) → s ≡ Known b → length (series_items s) ≡ 1

@@ -1,7 +1,8 @@
 //! The state of a desk.
-ghost use Rattle.std.specs.Prelude.{◌≡◌, ◌↔◌, [], ◌++◌, IsTrue, IfOk, OnOk, OnErr, IsOk, MatchOption, length, min, map};
+ghost use Rattle.std.specs.Prelude.{◌≡◌, ◌↔◌, [], ◌++◌, IsTrue, IfOk, OnOk, OnErr, IsOk, MatchBool, length, min, map};
 ghost use Rattle.std.specs.List.{Contains};
 ghost use Rattle.std.specs.Option.{option_copied};
+ghost use Rattle.itip_message.specs.KeyParts.{uid_of};
 ghost use Rattle.itip_message.specs.Later.{IsLater};
 ghost use Rattle.itip_message.specs.declared.item.Item.{Item};
 ghost use Rattle.itip_state.specs.Held.{items_of, shape_items, AreHeld};
@@ -219,6 +220,16 @@ impl State {
         ensures state { OnOk result (IsState self.now) }
     {
         self.held.uids(self.alloc)
+    }
+
+    /// Whether an item of a UID is kept. It takes no memory.
+    pub fn keeps(&self, uid: &Uid) -> bool
+        ensures { MatchBool result ((item : Item) × Contains self.now item × (uid_of item.key ≡ uid.now)) (ArePart uid.now [] self.now) }
+    {
+        match self.held.get(uid) {
+            Some(_) => true,
+            None => false,
+        }
     }
 
     /// The kept items of a UID. No other UID is looked at.

@@ -3,7 +3,7 @@ use Rattle.itip_message.specs.declared.item.Item.{Item}
 use Rattle.itip_state.specs.Kept.{AreKept, AreUidsOf, ArePartOf}
 use Rattle.itip_desk.specs.Index.{HaveEntries}
 use Rattle.itip_desk.proofs.Touching.{old_entries, new_entries, in_touched}
-use Rattle.itip_desk.proofs.indexed.changes_of.Goals as goal
+use Rattle.itip_desk.proofs.indexed.changes_in_part.Goals as goal
 
 pub returns-clause-old : goal.returns-clause-old
 returns-clause-old c =
