@@ -273,4 +273,21 @@ impl State {
     {
         let _ = &self.held;
     }
+
+    /// The kept items of the UIDs that are named, each shared with this state. Each UID is looked up; no other is looked at.
+    pub fn part_of(&self, uids: &[&Uid]) -> Result<State, NoMemory>
+        ensures { IfOk result (λ part. ArePartOf part self.now (map (λ uid. uid.now) uids.now)) }
+    {
+        let mut held = Held::empty(self.alloc);
+        for named in uids {
+            let Some(series) = self.held.get(named) else {
+                continue;
+            };
+            held.put(named, series)?;
+        }
+        Ok(State {
+            alloc: self.alloc,
+            held,
+        })
+    }
 }
