@@ -1,5 +1,5 @@
 //! A desk.
-ghost use Rattle.std.specs.Prelude.{◌≡◌, [], ◌++◌, ◌∷◌, IfOk, OnOk, OnErr, length, map, min, List, ℕ, IsErrOf};
+ghost use Rattle.std.specs.Prelude.{◌≡◌, ◌↔◌, [], ◌++◌, ◌∷◌, IfOk, OnOk, OnErr, length, map, min, List, ℕ, IsErrOf};
 ghost use Rattle.itip_message.specs.declared.item.Item.{Item};
 ghost use Rattle.itip_state.specs.Kept.{AreUidsOf};
 ghost use Rattle.itip_view.specs.declared.row.Row.{Row};
@@ -161,6 +161,27 @@ impl Desk {
     {
         let found = self.kept.uids_naming(address)?;
         Ok(found)
+    }
+
+    /// What the rows of a window are made of, shared with this desk: the kept items of the UIDs that are looked at for them. It has the same rows there.
+    ///
+    /// Refused when out of memory.
+    pub fn part_in(&self, window: Window) -> Result<State, AllocError>
+        ensures { IfOk result (λ part. (row : Row) → IsRow part window row ↔ IsRow self.now.kept window row) }
+    {
+        let there = self.kept.uids_in(window)?;
+        self.kept.state().part(&there)
+    }
+
+    /// What the rows of the attendee of an address are made of, shared with this desk: the kept items of the UIDs that are looked at for them. In each window the
+    /// same of its rows show the attendee.
+    ///
+    /// Refused when out of memory.
+    pub fn part_naming(&self, address: &str) -> Result<State, AllocError>
+        ensures { IfOk result (λ part. (window : Window) (row : Row) → Shows address.now row → IsRow part window row ↔ IsRow self.now.kept window row) }
+    {
+        let naming = self.kept.uids_naming(address)?;
+        self.kept.state().part(&naming)
     }
 
     /// The rows of the task list in a window, in their order, at most 100,000. No UID is looked at whose rows can't stand in it.

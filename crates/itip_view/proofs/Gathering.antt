@@ -1,5 +1,5 @@
 -- The rows of several UIDs, one UID after the other.
-use Rattle.std.proofs.Common.{◌≡◌, ◌+◌, ◌<◌, ℕ, List, [], ◌∷◌, ◌++◌, sym, ◌∙◌, ap, subst, ◌⊎◌, inl, inr, length, length-append, Option, None, ◌↔◌}
+use Rattle.std.proofs.Common.{◌≡◌, ◌+◌, ◌<◌, ℕ, List, [], ◌∷◌, ◌++◌, sym, ◌∙◌, ap, subst, inl, inr, length, length-append, Option, Some, None, ◌↔◌}
 use Rattle.std.specs.List.{Contains}
 use Rattle.std.specs.Option.{option_cmp}
 use Rattle.std.specs.Ordering.{nat_cmp, ordering_then}
@@ -11,8 +11,8 @@ use Rattle.itip_message.specs.KeyParts.{uid_of}
 use Rattle.itip_message.specs.declared.item.Item.{Item}
 use Rattle.itip_state.specs.Kept.{AreUidsOf}
 use Rattle.itip_state.proofs.Members.{none_in, no_pairs, pairs_append}
-use Rattle.itip_view.specs.Rows.{IsRow, IsInstanceRow, IsOccurrenceRow, IsRangeRow, IsSingleRow, IsOpaqueRow, AreRows, AreTooMany, row_limit, moment_of, row_cmp}
-use Rattle.itip_view.specs.Showing.{AreRowsWhere, AreTooManyWhere, IsOf, IsAmong}
+use Rattle.itip_view.specs.Rows.{IsRow, AreRows, AreTooMany, row_limit, moment_of, row_cmp}
+use Rattle.itip_view.specs.Showing.{Shows, AreRowsWhere, AreTooManyWhere, IsOf, IsAmong}
 use Rattle.itip_view.specs.declared.row.Row.{Row}
 use Rattle.itip_view.specs.declared.window.Window.{Window}
 
@@ -61,23 +61,36 @@ module _ (heard : List Item) (window : Window) (shown : Option (List ℕ)) where
 
 module _ (heard : List Item) (window : Window) where
   -- each row is of a UID of which something was heard
-  uid_of_row : (uids : List (List ℕ)) → AreUidsOf uids heard → (row : Row) → IsInstanceRow heard window row ⊎ (IsOccurrenceRow heard window row ⊎ (IsRangeRow heard window row ⊎ (IsSingleRow heard window row ⊎ IsOpaqueRow heard window row))) →
-      Contains uids row.uid
-  uid_of_row uids of row (inl p) = subst (Contains uids) (ap uid_of p.live.stands.best.about) (of.all p.item p.live.stands.best.is_heard)
-  uid_of_row uids of row (inr (inl p)) = subst (Contains uids) (ap uid_of p.live.best.about) (of.all p.item p.live.best.is_heard)
-  uid_of_row uids of row (inr (inr (inl p))) = subst (Contains uids) (ap uid_of p.live_series.best.about) (of.all p.whole p.live_series.best.is_heard)
-  uid_of_row uids of row (inr (inr (inr (inl p)))) = subst (Contains uids) (ap uid_of p.live.best.about) (of.all p.item p.live.best.is_heard)
-  uid_of_row uids of row (inr (inr (inr (inr p)))) = subst (Contains uids) (ap uid_of p.live.best.about) (of.all p.item p.live.best.is_heard)
+  pub uid_of_row : (uids : List (List ℕ)) → ((item : Item) → Contains heard item → Contains uids (uid_of item.key)) → (row : Row) → IsRow heard window row → Contains uids row.uid
+  uid_of_row uids of row (inl p) = subst (Contains uids) (ap uid_of p.live.stands.best.about) (of p.item p.live.stands.best.is_heard)
+  uid_of_row uids of row (inr (inl p)) = subst (Contains uids) (ap uid_of p.live.best.about) (of p.item p.live.best.is_heard)
+  uid_of_row uids of row (inr (inr (inl p))) = subst (Contains uids) (ap uid_of p.live_series.best.about) (of p.whole p.live_series.best.is_heard)
+  uid_of_row uids of row (inr (inr (inr (inl p)))) = subst (Contains uids) (ap uid_of p.live.best.about) (of p.item p.live.best.is_heard)
+  uid_of_row uids of row (inr (inr (inr (inr p)))) = subst (Contains uids) (ap uid_of p.live.best.about) (of p.item p.live.best.is_heard)
 
   pub all_gathered : (uids : List (List ℕ)) (rows : List Row) → AreUidsOf uids heard → AreRowsWhere (IsAmong uids None) heard window rows → AreRows heard window rows
   all_gathered uids rows of so = record {
     ascend = so.ascend;
     each = so.each;
-    all = λ row is. so.all row is (record { uid_is = uid_of_row uids of row is; shows = tt });
+    all = λ row is. so.all row is (record { uid_is = uid_of_row uids of.all row is; shows = tt });
   }
 
   pub all_too_many : (uids : List (List ℕ)) → AreTooManyWhere (IsAmong uids None) heard window → AreTooMany heard window
   all_too_many uids many = record { some = many.some; ascend = many.ascend; each = many.each; many = many.many }
+
+  -- the same of the rows that show an attendee
+  module _ (address : List ℕ) where
+    pub all_showing : (uids : List (List ℕ)) (rows : List Row) → AreUidsOf uids heard → AreRowsWhere (IsAmong uids (Some address)) heard window rows →
+        AreRowsWhere (Shows address) heard window rows
+    all_showing uids rows of so = record {
+      ascend = so.ascend;
+      each = so.each;
+      holds = λ row h. (so.holds row h).shows;
+      all = λ row is shows. so.all row is (record { uid_is = uid_of_row uids of.all row is; shows = shows });
+    }
+
+    pub many_showing : (uids : List (List ℕ)) → AreTooManyWhere (IsAmong uids (Some address)) heard window → AreTooManyWhere (Shows address) heard window
+    many_showing uids over = record { some = over.some; ascend = over.ascend; each = over.each; holds = λ row h. (over.holds row h).shows; many = over.many }
 
 -- UIDs in another order, or named more than once, have the same rows
 module _ (heard : List Item) (window : Window) (shown : Option (List ℕ)) (uids others : List (List ℕ)) (same : (uid : List ℕ) → Contains uids uid ↔ Contains others uid) where

@@ -10,10 +10,11 @@ pub mod InDays
 pub mod PlaceRows
 pub mod Placing
 pub mod Collecting
-pub mod OfPart
 pub mod Showing
 pub mod Needing
 pub mod Gathering
+pub mod OfPart
+pub mod SameRows
 pub mod Occurring
 pub mod RangeOrder
 pub mod Ranging

@@ -1,19 +1,20 @@
--- The rows of one UID need only its part of a set.
+-- The rows of some UIDs need only their part of a set.
 use Rattle.std.proofs.Common.{◌≡◌, ◌↔◌, ℕ, List, [], ◌∷◌, refl, sym, ◌∙◌, ap, subst, inl, inr, Option, Some, None}
-use Rattle.std.specs.List.{AllByRecursion}
+use Rattle.std.specs.List.{AllByRecursion, Contains}
 use Rattle.itip_moment.specs.declared.moment.Moment.{Moment}
 use Rattle.itip_todo.specs.declared.property.Property.{Property}
 use Rattle.itip_message.specs.KeyParts.{uid_of}
 use Rattle.itip_message.specs.declared.item.Item.{Item}
 use Rattle.itip_message.specs.declared.key.Key.{Key}
 use Rattle.itip_message.specs.declared.key.Key.TheVariants as key
-use Rattle.itip_state.specs.Kept.{IsBest, ArePart}
+use Rattle.itip_state.specs.Kept.{IsBest, ArePart, ArePartOf}
 use Rattle.itip_view.specs.Answers.{Asked, Counts, NoneCounts, Decides, AreShown}
 use Rattle.itip_view.specs.Rows.{IsRow, instance_answers, occurrence_answers, range_answers, series_answers, NoneStandsAtStart}
 use Rattle.itip_view.specs.Standing.{StandsUnder, NoneStands, Rules, NoneRules, IsLiveSeries}
 use Rattle.itip_view.specs.declared.row.Row.{Row}
 use Rattle.itip_view.specs.declared.row.ShownAttendee.{ShownAttendee}
 use Rattle.itip_view.specs.declared.window.Window.{Window}
+use Rattle.itip_view.proofs.Gathering.{uid_of_row}
 
 -- both have the same best items of a UID
 abbrev pub HaveSameBest : List ℕ → List Item → List Item → Type 0
@@ -22,15 +23,17 @@ HaveSameBest uid x y = (k : Key) → uid_of k ≡ uid → (i : Item) → IsBest 
 swapped : (uid : List ℕ) (x y : List Item) → HaveSameBest uid x y → HaveSameBest uid y x
 swapped uid x y same = λ k about i. ((same k about i).1, (same k about i).0)
 
-part_same : (uid : List ℕ) (part whole : List Item) → ArePart uid part whole → HaveSameBest uid part whole
-part_same uid part whole are = λ k about i. (
+-- the part of a set by its UIDs has the best items of each of them
+part_same : (P : List ℕ → Type 0) (part whole : List Item) → ((item : Item) → Contains part item ↔ (Contains whole item × P (uid_of item.key))) → (uid : List ℕ) → P uid →
+    HaveSameBest uid part whole
+part_same P part whole are uid holds = λ k about i. (
   λ best. record {
     is_heard = ((are i).0 best.is_heard).0;
     about = best.about;
-    none_later = λ other h same. best.none_later other ((are other).1 (h, ap uid_of same ∙ about)) same;
+    none_later = λ other h same. best.none_later other ((are other).1 (h, subst P (sym (ap uid_of same ∙ about)) holds)) same;
   },
   λ best. record {
-    is_heard = (are i).1 (best.is_heard, ap uid_of best.about ∙ about);
+    is_heard = (are i).1 (best.is_heard, subst P (sym (ap uid_of best.about ∙ about)) holds);
     about = best.about;
     none_later = λ other h same. best.none_later other ((are other).0 h).0 same;
   },
@@ -156,8 +159,21 @@ row_there x y window row same (inr (inr (inr (inr p)))) = inr (inr (inr (inr (re
 }))))
 
 module _ (uid : List ℕ) (part whole : List Item) (are : ArePart uid part whole) (window : Window) (row : Row) (here : row.uid ≡ uid) where
+  same_best : HaveSameBest row.uid part whole
+  same_best = part_same (λ (u : List ℕ). u ≡ uid) part whole are row.uid here
+
   pub row_of_part : IsRow part window row → IsRow whole window row
-  row_of_part = row_there part whole window row (subst (λ (u : List ℕ). HaveSameBest u part whole) (sym here) (part_same uid part whole are))
+  row_of_part = row_there part whole window row same_best
 
   pub row_in_part : IsRow whole window row → IsRow part window row
-  row_in_part = row_there whole part window row (subst (λ (u : List ℕ). HaveSameBest u whole part) (sym here) (swapped uid part whole (part_same uid part whole are)))
+  row_in_part = row_there whole part window row (swapped row.uid part whole same_best)
+
+-- the same of a part by several UIDs
+module _ (part whole : List Item) (uids : List (List ℕ)) (are : ArePartOf part whole uids) (window : Window) (row : Row) where
+  pub row_of_parts : Contains uids row.uid → IsRow part window row ↔ IsRow whole window row
+  row_of_parts named =
+      let same : HaveSameBest row.uid part whole = part_same (Contains uids) part whole are row.uid named in
+      (row_there part whole window row same, row_there whole part window row (swapped row.uid part whole same))
+
+  pub uid_of_parts : IsRow part window row → Contains uids row.uid
+  uid_of_parts = uid_of_row part window uids (λ item h. ((are item).0 h).1) row

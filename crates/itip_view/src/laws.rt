@@ -1,7 +1,8 @@
 //! The laws of views, of every finite set of items. They hold with no code: each function is empty.
 ghost use Rattle.std.specs.Prelude.{List, ℕ, Option, Some, None, ◌↔◌, ◌≡◌, ◌≤◌};
+ghost use Rattle.std.specs.List.{Contains};
 ghost use Rattle.itip_message.specs.declared.item.Item.{Item};
-ghost use Rattle.itip_state.specs.Kept.{AreKept};
+ghost use Rattle.itip_state.specs.Kept.{AreKept, ArePartOf};
 ghost use Rattle.std.specs.declared.cmp.Ordering.TheVariants.{Equal};
 ghost use Rattle.itip_moment.specs.declared.moment.Moment.{Moment};
 ghost use Rattle.itip_message.specs.declared.key.Key.TheVariants.{Answer};
@@ -68,4 +69,12 @@ pub fn rows_need_items()
     ensures days { (heard : List Item) (window : Window) (row : Row) → IsRow heard window row → HasRowsIn heard window row.uid }
     ensures names { (heard : List Item) (window : Window) (address : List ℕ) (row : Row) → IsRow heard window row → Shows address row →
         NamesIn heard (attendee_key address) row.uid }
+{}
+
+/// The rows of some UIDs need only the items of these UIDs, and of other UIDs these give no row (our own rule).
+pub fn rows_of_part()
+    ensures row { (part whole : List Item) (uids : List (List ℕ)) → ArePartOf part whole uids → (window : Window) (row : Row) → Contains uids row.uid →
+        IsRow part window row ↔ IsRow whole window row }
+    ensures uids { (part whole : List Item) (uids : List (List ℕ)) → ArePartOf part whole uids → (window : Window) (row : Row) → IsRow part window row →
+        Contains uids row.uid }
 {}

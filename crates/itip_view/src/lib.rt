@@ -21,11 +21,13 @@ mod window;
 
 pub use days::{RowDays, has_rows, row_days};
 pub use error::{BadWindow, ViewError};
-pub use laws::{answers_of_kept, one_list, rows_need_items, standing_of_kept, view_of_kept};
+pub use laws::{
+    answers_of_kept, one_list, rows_need_items, rows_of_part, standing_of_kept, view_of_kept,
+};
 pub use list::{list_text, write_list};
 pub use ranges::Ranges;
 pub use row::{Row, RowId, ShownAttendee};
 pub use standing::{is_live, standing_item, stands_beside};
 pub use std::alloc::AllocError as NoMemory;
-pub use view::{rows, rows_among, rows_of};
+pub use view::{rows, rows_among, rows_for, rows_of};
 pub use window::Window;

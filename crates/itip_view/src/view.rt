@@ -2,7 +2,7 @@
 ghost use Rattle.std.specs.Prelude.{◌≤◌, IfOk, IsErrOf, length, map};
 ghost use Rattle.std.specs.Option.{option_map};
 ghost use Rattle.itip_view.specs.Rows.{AreRows, AreTooMany, row_limit};
-ghost use Rattle.itip_view.specs.Showing.{AreRowsWhere, AreTooManyWhere, IsAmong, IsOf};
+ghost use Rattle.itip_view.specs.Showing.{Shows, AreRowsWhere, AreTooManyWhere, IsAmong, IsOf};
 
 use crate::error::ViewError;
 use crate::row::Row;
@@ -23,6 +23,23 @@ pub fn rows(alloc: Global, state: &State, window: Window) -> Result<Vec<Row>, Vi
 {
     let uids = state.uids()?;
     rows_in_turn(alloc, state, &uids, window, None)
+}
+
+/// The rows of a state in a window that show the attendee of an address, in their order, at most 100,000. Each UID is looked at.
+///
+/// Refused where more rows there show the attendee (31), or when out of memory (32).
+pub fn rows_for(
+    alloc: Global,
+    state: &State,
+    window: Window,
+    address: &str,
+) -> Result<Vec<Row>, ViewError>
+    ensures rows { IfOk result (λ rows. AreRowsWhere (Shows address.now) state.now window rows.items) }
+    ensures few { IfOk result (λ rows. length rows.items ≤ row_limit) }
+    ensures many { IsErrOf result ViewError.TooManyRows → AreTooManyWhere (Shows address.now) state.now window }
+{
+    let uids = state.uids()?;
+    rows_in_turn(alloc, state, &uids, window, Some(address))
 }
 
 /// The rows of one UID in a window, in their order, at most 100,000; where an address is given, those that show its attendee. No other UID is looked at.
