@@ -23,11 +23,11 @@ returns-in-Some-2 c =
     let items : List Item = c.args.items.now.items in
     let uid : List ℕ = c.args.items.now.uid in
     subst (λ (id : Option Moment). IsGoverning items uid id (option_copied c.if_live-in-Some-2.result)) (sym c.in-Some.is)
-    (subst (IsGoverning items uid (Some c.in-Some.at)) (sym c.if_live-in-Some-2.ensures) (governs_standing items uid c.in-Some.at c.in-Some-2.item.now (rw c.in-Some-2.is at c.in_ok-item.ensures)))
+    (subst (IsGoverning items uid (Some c.in-Some.at)) (sym c.if_live-in-Some-2.ensures) (governs_standing items uid c.in-Some.at c.in-Some-2.instance.now c.in-Some-2.ensures))
 
 pub returns-in-None : goal.returns-in-None
 returns-in-None c =
     let items : List Item = c.args.items.now.items in
     let uid : List ℕ = c.args.items.now.uid in
     subst (λ (id : Option Moment). IsGoverning items uid id (option_copied c.governing_between.result)) (sym c.in-Some.is)
-    (governs_between items uid c.in-Some.at (rw c.in-None.is at c.in_ok-item.ensures) (option_copied c.governing_between.result) c.governing_between.ensures)
+    (governs_between items uid c.in-Some.at c.in-None.ensures (option_copied c.governing_between.result) c.governing_between.ensures)
