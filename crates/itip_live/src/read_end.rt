@@ -18,11 +18,14 @@ use crate::front::Front;
 use crate::receipt::Receipt;
 use crate::rule::{PublishedReader, PublishedReading, Sees};
 use itip_desk::{Batch, Desk};
-use itip_view::{Row, Window, list_text};
+use itip_state::State;
+use itip_view::{Row, Window, list_text, rows, rows_for};
+use std::alloc::Global;
 
 /// A reader, and what it has seen.
 #[derive(Drop)]
 pub(crate) struct ReadEnd {
+    pub(crate) alloc: Global,
     pub(crate) reader: PublishedReader,
     pub(crate) front: Front,
     ghost tied: { view reader.place ≡ name_of front.seen.book },
@@ -30,6 +33,7 @@ pub(crate) struct ReadEnd {
 
 /// An open read of what is published. It is not `Drop`: end it by `close`.
 pub(crate) struct Look {
+    alloc: Global,
     reading: PublishedReading,
     front: Front,
     ghost tied: { view reading.place ≡ name_of front.seen.book },
@@ -42,24 +46,37 @@ impl ReadEnd {
         ensures seen { MatchResult result (λ look. IsPrefix self.front.seen.log look.front.seen.log) (λ end. end.front.seen ≡ self.front.seen) }
         ensures book { IfOk result (λ look. look.front.seen.book ≡ self.front.seen.book) }
     {
-        let ReadEnd { reader, front } = self;
+        let ReadEnd {
+            alloc,
+            reader,
+            front,
+        } = self;
         match reader.enter_as::<Sees>() {
             Ok(reading) => {
                 let shown = reading.get().front.again();
                 if !front.begins(&shown) {
                     let reader = reading.leave();
-                    return Err(ReadEnd { reader, front });
+                    return Err(ReadEnd {
+                        alloc,
+                        reader,
+                        front,
+                    });
                 }
                 Ok(Look {
+                    alloc,
                     reading,
                     front: shown,
                 })
             }
-            Err(reader) => Err(ReadEnd { reader, front }),
+            Err(reader) => Err(ReadEnd {
+                alloc,
+                reader,
+                front,
+            }),
         }
     }
 
-    /// The text of the task list in a window. It is made once the read is over, so that the keeper waits for the rows alone.
+    /// The text of the task list in a window. During the read only what it is made of is taken, each item shared, so that the keeper waits for no row.
     pub(crate) fn list(self, window: Window) -> (ReadEnd, Result<Vec<u8>, PassError>)
         ensures text { IfOk result.1 (λ text. IsListText (heard result.0.front.seen.log) window text.items) }
         ensures many { IsErrOf result.1 PassError.TooManyRows → AreTooMany (heard result.0.front.seen.log) window }
@@ -70,18 +87,21 @@ impl ReadEnd {
     {
         match self.look() {
             Ok(look) => {
-                let rows = look.desk().rows(window);
+                let part = look.desk().part_in(window);
                 let end = look.close();
-                match rows {
-                    Ok(rows) => (end, text_of(&rows)),
-                    Err(fault) => (end, Err(fault.into())),
+                match part {
+                    Ok(part) => {
+                        let text = text_in(end.alloc, &part, window);
+                        (end, text)
+                    }
+                    Err(_) => (end, Err(PassError::NoListMemory)),
                 }
             }
             Err(end) => (end, Err(PassError::NoEntry)),
         }
     }
 
-    /// The text of the rows in a window that show the attendee of an address. It is made once the read is over.
+    /// The text of the rows in a window that show the attendee of an address. It is made once the read is over, as that of the task list is.
     pub(crate) fn list_for(
         self,
         window: Window,
@@ -96,11 +116,14 @@ impl ReadEnd {
     {
         match self.look() {
             Ok(look) => {
-                let rows = look.desk().rows_for(window, address);
+                let part = look.desk().part_naming(address);
                 let end = look.close();
-                match rows {
-                    Ok(rows) => (end, text_of(&rows)),
-                    Err(fault) => (end, Err(fault.into())),
+                match part {
+                    Ok(part) => {
+                        let text = text_for(end.alloc, &part, window, address);
+                        (end, text)
+                    }
+                    Err(_) => (end, Err(PassError::NoListMemory)),
                 }
             }
             Err(end) => (end, Err(PassError::NoEntry)),
@@ -142,6 +165,35 @@ impl ReadEnd {
     }
 }
 
+/// The text of the rows of a state in a window.
+fn text_in(alloc: Global, state: &State, window: Window) -> Result<Vec<u8>, PassError>
+    ensures text { IfOk result (λ text. IsListText state.now window text.items) }
+    ensures many { IsErrOf result PassError.TooManyRows → AreTooMany state.now window }
+    ensures causes { IfErr result (λ e. (e ≡ PassError.TooManyRows) ⊎ (e ≡ PassError.NoListMemory)) }
+{
+    match rows(alloc, state, window) {
+        Ok(rows) => text_of(&rows),
+        Err(fault) => Err(fault.into()),
+    }
+}
+
+/// The text of the rows of a state in a window that show the attendee of an address.
+fn text_for(
+    alloc: Global,
+    state: &State,
+    window: Window,
+    address: &str,
+) -> Result<Vec<u8>, PassError>
+    ensures text { IfOk result (λ text. IsListTextFor address.now state.now window text.items) }
+    ensures many { IsErrOf result PassError.TooManyRows → AreTooManyWhere (Shows address.now) state.now window }
+    ensures causes { IfErr result (λ e. (e ≡ PassError.TooManyRows) ⊎ (e ≡ PassError.NoListMemory)) }
+{
+    match rows_for(alloc, state, window, address) {
+        Ok(rows) => text_of(&rows),
+        Err(fault) => Err(fault.into()),
+    }
+}
+
 /// The text of rows.
 fn text_of(rows: &Vec<Row>) -> Result<Vec<u8>, PassError>
     ensures text { IfOk result (λ text. text.items ≡ list_text rows.now.items) }
@@ -165,8 +217,16 @@ impl Look {
     fn close(self) -> ReadEnd
         ensures { result.front.seen ≡ self.front.seen }
     {
-        let Look { reading, front } = self;
+        let Look {
+            alloc,
+            reading,
+            front,
+        } = self;
         let reader = reading.leave();
-        ReadEnd { reader, front }
+        ReadEnd {
+            alloc,
+            reader,
+            front,
+        }
     }
 }

@@ -17,7 +17,7 @@ use std::alloc::Global;
 use std::sync::Wait;
 
 // One pass of the pair, which knows whose history it is.
-fn seat(writer: &mut PublishedWriter, last: &Front) -> Result<Pass, LiveError>
+fn seat(alloc: Global, writer: &mut PublishedWriter, last: &Front) -> Result<Pass, LiveError>
     requires known { view writer.old.desk.place ≡ name_of last.now.seen.book }
     ensures writer { (writer.new.desk.shown ≡ writer.old.desk.shown) × (writer.new.log ≡ writer.old.log) × (writer.new.behind ≡ writer.old.behind) }
     ensures known { view writer.new.desk.place ≡ view writer.old.desk.place }
@@ -30,6 +30,7 @@ fn seat(writer: &mut PublishedWriter, last: &Front) -> Result<Pass, LiveError>
     };
     reader.learn::<Tells>(writer.tell::<Tells>());
     let end = ReadEnd {
+        alloc,
         reader,
         front: last.again(),
     };
@@ -50,7 +51,7 @@ fn seats(
 {
     let mut all = Vec::new(alloc);
     for _ in 0..passes {
-        let pass = seat(writer, last)?;
+        let pass = seat(alloc, writer, last)?;
         if all.push(pass).is_err() {
             return Err(LiveError::NoMemory);
         }
