@@ -1,5 +1,6 @@
 -- The index after a hearing.
-use Rattle.std.proofs.Common.{◌≡◌, ◌∙◌, ◌↔◌, ◌⊎◌, inl, inr, ℕ, List, [], ◌∷◌, ◌++◌, map, refl, sym, ap, subst, Bool, true, false, ◌||◌, ◌&&◌, not, cond, IsTrue, Option, Some, None, Result, Ok, Err, OnOk, OnErr, option_map, option_to_list, ◌+◌, ◌<◌, ◌≤◌, length, take, take_all, get_or, arith}
+use Rattle.std.proofs.Common.{◌≡◌, ◌∙◌, ◌↔◌, ◌⊎◌, inl, inr, ℕ, List, [], ◌∷◌, ◌++◌, map, refl, sym, ap, subst, Bool, true, false, ◌||◌, ◌&&◌, not, cond, IsTrue, Option, Some, None, Result, Ok, Err, OnOk, OnErr, option_map, option_to_list, ◌+◌, ◌<◌, ◌≤◌, length, take, take_all, get_or, slice_index_or, arith}
+use Rattle.std.specs.Prelude.{MatchBool}
 use Rattle.std.specs.List.{Contains, list_any}
 use Rattle.std.specs.Ordering.{is_eq}
 use Rattle.std.specs.BTreeMap.{is_at}
@@ -304,10 +305,19 @@ module _ (state found part : List Item) (uids : List (List ℕ)) (of : AreUidsOf
     )
 
 -- ---- the first item of a UID
+pub only_one : {X : Type 0} (x : X) (xs : List X) → 1 ≤ length xs → length xs < 2 → x ≡ slice_index_or xs 0 x → xs ≡ x ∷ []
+only_one x [] low high e = absurd (omega (arith, low))
+only_one x (y ∷ []) low high e = ap (λ z. z ∷ []) (sym e)
+only_one x (y ∷ z ∷ zs) low high e = absurd (omega (arith, high))
+
+pub not_kept : (b : Bool) (P Q : Type 0) → MatchBool b P Q → b ≡ false → Q
+not_kept true P Q m e = cc
+not_kept false P Q m e = m
+
 -- an item alone is kept
 one_kept : (item : Item) → AreKept (item ∷ []) (item ∷ [])
 one_kept item other = (
-  λ h. elim (cons_cases item [] other h) [ inl same ↦ subst (IsKept (item ∷ [])) same kept | inr no ↦ absurd (none_in other no) ],
+  λ h. elim (cons_cases item [] other h) [ inl same ↦ subst (IsKept (item ∷ [])) same kept | inr rest ↦ absurd (none_in other rest) ],
   λ is. is.best.is_heard,
 )
   where
@@ -316,29 +326,30 @@ one_kept item other = (
       best = record {
         is_heard = cons_first item [];
         about = refl;
-        none_later = λ i h same. elim (cons_cases item [] i h) [ inl it ↦ subst (λ (j : Item). ¬ IsLater j item) it (not_later_itself item) | inr no ↦ absurd (none_in i no) ];
+        none_later = λ i h same. elim (cons_cases item [] i h) [ inl it ↦ subst (λ (j : Item). ¬ IsLater j item) it (not_later_itself item) | inr rest ↦ absurd (none_in i rest) ];
       };
       alive = λ dead. elim (cons_cases item [] dead.series dead.best.is_heard) [
         | inl it ↦ let same : item.eff ≡ (dead.series).eff = ap (λ (i : Item). i.eff) it in let below = dead.below in absurd (omega arith)
-        | inr no ↦ absurd (none_in dead.series no)
+        | inr rest ↦ absurd (none_in dead.series rest)
       ];
     }
 
 module _ (state : List Item) (item : Item) (none : ArePart (uid_of item.key) [] state) where
-  uids : List (List ℕ)
+  -- it is all of these that are touched
+  abbrev uids : List (List ℕ)
   uids = uid_of item.key ∷ []
 
   about_it : AreUidsOf uids (item ∷ [])
   about_it = record {
     ascend = λ i j d below inside. absurd (omega (arith, below, inside));
-    each = λ uid h. elim (cons_cases (uid_of item.key) [] uid h) [ inl same ↦ (item, cons_first item [], same) | inr no ↦ absurd (none_in uid no) ];
-    all = λ other h. elim (cons_cases item [] other h) [ inl same ↦ subst (Contains uids) (ap (λ (i : Item). uid_of i.key) same) (cons_first (uid_of item.key) []) | inr no ↦ absurd (none_in other no) ];
+    each = λ uid h. elim (cons_cases (uid_of item.key) [] uid h) [ inl same ↦ (item, cons_first item [], same) | inr rest ↦ absurd (none_in uid rest) ];
+    all = λ other h. elim (cons_cases item [] other h) [ inl same ↦ subst (Contains uids) (ap (λ (i : Item). uid_of i.key) same) (cons_first (uid_of item.key) []) | inr rest ↦ absurd (none_in other rest) ];
   }
 
   no_part : ArePartOf [] state uids
   no_part other = (
     λ h. absurd (none_in other h),
-    λ h. elim (cons_cases (uid_of item.key) [] (uid_of other.key) h.1) [ inl same ↦ (none other).1 (h.0, sym same) | inr no ↦ absurd (none_in (uid_of other.key) no) ],
+    λ h. elim (cons_cases (uid_of item.key) [] (uid_of other.key) h.1) [ inl same ↦ (none other).1 (h.0, sym same) | inr rest ↦ absurd (none_in (uid_of other.key) rest) ],
   )
 
   pub first_old : (old : BTreeSet Entry) → ((e : Entry) → has old e ≡ false) → AreEntriesOf state (item ∷ []) old
@@ -351,7 +362,7 @@ module _ (state : List Item) (item : Item) (none : ArePart (uid_of item.key) [] 
         record { noted = record { item = item; there = cons_first item []; gives = gives }; about = subst (Contains uids) (sym (entry_uid item e gives)) (cons_first (uid_of item.key) []) },
     λ h. elim (cons_cases item [] h.noted.item h.noted.there) [
       | inl same ↦ is e ∙ finds_in (entries_of item) e (subst (λ (i : Item). Contains (entries_of i) e) (sym same) h.noted.gives)
-      | inr no ↦ absurd (none_in h.noted.item no)
+      | inr rest ↦ absurd (none_in h.noted.item rest)
     ],
   )
 

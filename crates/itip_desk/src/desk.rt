@@ -27,9 +27,15 @@ fn copies_of_uids(alloc: Global, items: &[&SharedItem]) -> Result<Vec<Uid>, Allo
     ensures { IfOk result (λ copies. AreUidsOf copies.items (map (λ item. item.now) items.now)) }
 {
     let uids = uids(alloc, items)?;
+    copies(alloc, &uids)
+}
+
+fn copies(alloc: Global, uids: &[&Uid]) -> Result<Vec<Uid>, AllocError>
+    ensures { IfOk result (λ copies. copies.items ≡ map (λ uid. uid.now) uids.now) }
+{
     let mut copies = Vec::with_capacity(alloc, uids.len())?;
-    for uid in &uids {
-        copies.push(uid.clone()?)?;
+    for uid in uids {
+        copies.push((*uid).clone()?)?;
     }
     Ok(copies)
 }
