@@ -1,5 +1,5 @@
 -- What has a row at a place, and where nothing has.
-use Rattle.std.proofs.Common.{◌≡◌, ℕ, List, [], ◌∷◌, refl, sym, ◌∙◌, ap, subst, ◌⊎◌, inl, inr, max, Option, Some, None}
+use Rattle.std.proofs.Common.{◌≡◌, ℕ, List, [], ◌∷◌, refl, sym, ◌∙◌, ap, subst, ◌⊎◌, inl, inr, Option, Some, None, Bor}
 use Rattle.itip_moment.specs.declared.moment.Moment.{Moment}
 use Rattle.itip_recur.specs.ToDoShape.{Recurs, IsShape, IsSeriesOf}
 use Rattle.itip_recur.specs.declared.series.Series.{Series}
@@ -7,7 +7,7 @@ use Rattle.itip_recur.specs.declared.series.Shape.TheVariants as shape
 use Rattle.itip_message.specs.declared.item.Item.{Item}
 use Rattle.itip_message.specs.declared.key.Key.TheVariants as key
 use Rattle.itip_view.specs.Answers.{AreShown}
-use Rattle.itip_view.specs.OfUid.{asked_by, IsRowOf, IsRowAt, IsOccurrence}
+use Rattle.itip_view.specs.OfUid.{IsRowOf, IsRowAt, IsOccurrence}
 use Rattle.itip_view.specs.Rows.{
   IsInstanceRow,
   IsOccurrenceRow,
@@ -41,13 +41,13 @@ some_one m n e = cc
 not_none : (m : Moment) → Some m ≡ None → ⊥
 not_none m e = cc
 
--- the answers to an instance, or to the to-do as a whole, from a sequence on
-abbrev pub ask : Option Moment → ℕ → Question
-ask id since = record { id = id; since = since }
+-- the questions of the row of an occurrence: answers to it, then answers to the to-do as a whole
+abbrev pub in_turn : Bor Moment → ℕ → ℕ → List Question
+in_turn at own since = record { id = Some at; since = own } ∷ record { id = None; since = since } ∷ []
 
 module _ (items : List Item) (window : Window) (uid : List ℕ) where
   pub instance_is : (at : Moment) (item : Item) (row : Row) → Stands items uid at item → IsLive item → IsInWindow window.from window.to (instance_day at item.todo.start)
-      → IsRowOf items item uid (id.At at) item.todo.start item.todo.due (ask (Some at) item.own ∷ []) row → IsRowAt items window uid (Some at) row
+      → IsRowOf items item uid (id.At at) item.todo.start item.todo.due (instance_answers uid at item) row → IsRowAt items window uid (Some at) row
   instance_is at item row stands live within of = record {
     is_row = inl (record {
       item = item;
@@ -69,7 +69,7 @@ module _ (items : List Item) (window : Window) (uid : List ℕ) where
   series_of_whole item other u same live also = one_best items (key.Series uid) other item (subst (λ (v : List ℕ). IsLiveSeries items v other) same also).best live.best
 
   pub occurrence_is : (at : Moment) (item : Item) (series : Series) (due : Option Moment) (row : Row) → IsLiveSeries items uid item → IsSeriesOf item.todo series → IsOccurrence items window uid at → NoneStands items uid at
-      → NoneRules items uid at → IsDueOf item.todo.due series.start at due → IsRowOf items item uid (id.At at) (Some at) due (ask (Some at) item.own ∷ ask None item.own ∷ []) row → IsRowAt items window uid (Some at) row
+      → NoneRules items uid at → IsDueOf item.todo.due series.start at due → IsRowOf items item uid (id.At at) (Some at) due (occurrence_answers uid at item) row → IsRowAt items window uid (Some at) row
   occurrence_is at item series due row live repeats is none none_rules due_is of =
       let again : IsSeriesOf item.todo is.series = subst (λ (i : Item). IsSeriesOf i.todo is.series) (series_of_whole item is.item uid refl live is.live) is.repeats in
       let start : series.start ≡ is.series.start = some_one series.start is.series.start (sym repeats.start ∙ again.start) in
@@ -95,9 +95,9 @@ module _ (items : List Item) (window : Window) (uid : List ℕ) where
       }
 
   pub range_is : (at from : Moment) (item : Item) (start due : Option Moment) (row : Row) (is : IsOccurrence items window uid at) → NoneStands items uid at → Rules items uid at from item → IsLive item
-      → IsStartFrom item.todo.start from at start → IsDueFrom item.todo.due from at due → (questions : List Question)
-      → questions ≡ ask (Some at) item.own ∷ ask None (max item.own is.item.own) ∷ [] → IsRowOf items item uid (id.At at) start due questions row → IsRowAt items window uid (Some at) row
-  range_is at from item start due row is none rules live start_is due_is questions asked of = record {
+      → IsStartFrom item.todo.start from at start → IsDueFrom item.todo.due from at due
+      → IsRowOf items item uid (id.At at) start due (range_answers uid at item is.item) row → IsRowAt items window uid (Some at) row
+  range_is at from item start due row is none rules live start_is due_is of = record {
     is_row = inr (inr (inl (record {
       whole = is.item;
       item = item;
@@ -114,8 +114,7 @@ module _ (items : List Item) (window : Window) (uid : List ℕ) where
       fields = of.fields;
       start = subst (IsStartFrom item.todo.start from at) (sym of.start_is) start_is;
       due = subst (IsDueFrom item.todo.due from at) (sym of.due_is) due_is;
-      attendees = subst (λ (u : List ℕ). AreShown items (range_answers u at item is.item) item.todo.attendees row.attendees) (sym of.uid_is)
-          (subst (λ (qs : List Question). AreShown items (asked_by uid qs) item.todo.attendees row.attendees) asked of.attendees);
+      attendees = subst (λ (u : List ℕ). AreShown items (range_answers u at item is.item) item.todo.attendees row.attendees) (sym of.uid_is) of.attendees;
       progress = of.progress;
     })));
     uid_is = of.uid_is;
@@ -123,7 +122,7 @@ module _ (items : List Item) (window : Window) (uid : List ℕ) where
   }
 
   pub single_is : (item : Item) (row : Row) → IsLiveSeries items uid item → IsShape item.todo shape.Single → NoneStandsAtStart items uid item.todo.start
-      → IsInWindow window.from window.to (day_of item.todo.start item.todo.due) → IsRowOf items item uid id.Single item.todo.start item.todo.due (ask None item.own ∷ []) row → IsRowAt items window uid None row
+      → IsInWindow window.from window.to (day_of item.todo.start item.todo.due) → IsRowOf items item uid id.Single item.todo.start item.todo.due (series_answers uid item) row → IsRowAt items window uid None row
   single_is item row live single none within of = record {
     is_row = inr (inr (inr (inl (record {
       item = item;
@@ -141,7 +140,7 @@ module _ (items : List Item) (window : Window) (uid : List ℕ) where
     at_is = ap moment_of of.id_is;
   }
 
-  pub opaque_is : (item : Item) (row : Row) → IsLiveSeries items uid item → IsShape item.todo shape.Opaque → IsRowOf items item uid id.Opaque item.todo.start item.todo.due (ask None item.own ∷ []) row → IsRowAt items window uid None row
+  pub opaque_is : (item : Item) (row : Row) → IsLiveSeries items uid item → IsShape item.todo shape.Opaque → IsRowOf items item uid id.Opaque item.todo.start item.todo.due (series_answers uid item) row → IsRowAt items window uid None row
   opaque_is item row live opaque of = record {
     is_row = inr (inr (inr (inr (record {
       item = item;

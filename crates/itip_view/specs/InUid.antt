@@ -1,8 +1,8 @@
 -- The rows of one UID, by what is known of it (our own form).
-use Rattle.std.specs.Prelude.{◌≡◌, List, Option}
+use Rattle.std.specs.Prelude.{List, Option}
 use Rattle.itip_moment.specs.declared.moment.Moment.{Moment}
 use Rattle.itip_message.specs.declared.item.Item.{Item}
-use Rattle.itip_view.specs.OfUid.{IsWhole, IsAnswerAt, IsOccurrence, IsRowOf, ArePlaces, AreRowsOf}
+use Rattle.itip_view.specs.OfUid.{IsWhole, IsBetween, IsAnswerAt, IsOccurrence, AreOccurrencesOf, IsRowOf, ArePlaces, AreRowsOf, asked_by}
 use Rattle.itip_view.specs.Rows.{NoneStandsAtStart}
 use Rattle.itip_view.specs.Standing.{Stands, NoneStands, Rules, NoneRules, IsLiveSeries}
 use Rattle.itip_view.specs.declared.answers.Question.{Question}
@@ -15,12 +15,15 @@ module _ (view : UidView) where
   abbrev pub HasWhole : Type 0
   HasWhole = IsWhole view.items.now.items view.items.now.uid view.whole
 
-  -- its range items that stand are those of its kept items
-  abbrev pub HasRanges : Type 0
-  HasRanges = view.ranges ≡ view.items.now
+  -- what governs its occurrences in the window is that of its kept items
+  abbrev pub HasBetween : Type 0
+  HasBetween = IsBetween view.items.now view.window view.between
 
   abbrev pub HasRows : List Row → Type 0
   HasRows rows = AreRowsOf view.items.now.items view.window view.items.now.uid rows
+
+  abbrev pub HasOccurrences : List Moment → Type 0
+  HasOccurrences moments = AreOccurrencesOf view.items.now.items view.window view.items.now.uid moments
 
   abbrev pub HasPlaces : List Moment → Type 0
   HasPlaces moments = ArePlaces view.items.now.items view.window view.items.now.uid moments
@@ -54,4 +57,4 @@ module _ (view : UidView) where
 
   -- a row with this name and these dates, and what else it shows of the item that governs it
   abbrev pub IsRowWith : Item → RowId → Option Moment → Option Moment → List Question → Row → Type 0
-  IsRowWith item id start due questions row = IsRowOf view.items.now.items item view.items.now.uid id start due questions row
+  IsRowWith item id start due questions row = IsRowOf view.items.now.items item view.items.now.uid id start due (asked_by view.items.now.uid questions) row

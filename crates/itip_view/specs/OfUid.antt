@@ -1,9 +1,11 @@
 -- The rows of one UID (our own form): what is known of its series item, where its rows may stand, and what each place shows.
 use Rattle.std.specs.Prelude.{◌≡◌, ◌↔◌, ℕ, List, Option, Some, None, map}
 use Rattle.std.specs.List.{Contains}
+use Rattle.std.specs.Option.{option_copied}
 use Rattle.std.specs.List.Sorted.{IsStrictlySortedBy}
 use Rattle.itip_moment.specs.Order.{moment_cmp}
 use Rattle.itip_moment.specs.declared.moment.Moment.{Moment}
+use Rattle.itip_todo.specs.Table.{attendee_key}
 use Rattle.itip_todo.specs.declared.property.Property.{Property}
 use Rattle.itip_recur.specs.Occurrences.{OccursIn}
 use Rattle.itip_recur.specs.ToDoShape.{IsShape, IsSeriesOf}
@@ -11,10 +13,12 @@ use Rattle.itip_recur.specs.declared.series.Series.{Series}
 use Rattle.itip_message.specs.declared.item.Item.{Item}
 use Rattle.itip_message.specs.declared.key.Key.TheVariants as key
 use Rattle.itip_state.specs.Kept.{IsBestOf}
+use Rattle.itip_state.specs.OfUid.{UidPart}
 use Rattle.itip_view.specs.Answers.{Asked, AreShown}
-use Rattle.itip_view.specs.Rows.{HasFields, HasProgress, IsRow, AscendRows, moment_of, answers_since}
+use Rattle.itip_view.specs.Rows.{HasFields, HasProgress, IsRow, AscendRows, moment_of}
 use Rattle.itip_view.specs.Standing.{Stands, StandsBeside, NoneStands, IsLiveSeries}
 use Rattle.itip_view.specs.declared.answers.Question.{Question}
+use Rattle.itip_view.specs.declared.between.Between.{Between}
 use Rattle.itip_view.specs.declared.row.Row.{Row}
 use Rattle.itip_view.specs.declared.row.RowId.{RowId}
 use Rattle.itip_view.specs.declared.whole.Whole.{Whole}
@@ -29,18 +33,26 @@ abbrev pub StandsBesideOf : Option Item → Item → Type 0
 StandsBesideOf None item = Unit {0}
 StandsBesideOf (Some series) item = StandsBeside series item
 
--- where the answers of an attendee are looked for: those to each of these, an instance or the to-do as a whole, from a sequence on
+-- the answers of the attendee of a key to an instance, or to the to-do as a whole, from a sequence on
+abbrev pub to_question : List ℕ → List ℕ → Question → Asked
+to_question uid attendee question = record { key = key.Answer uid (option_copied question.id) attendee; since = question.since }
+
+-- where the answers of the attendee of a key are looked for: those to each of these
+abbrev pub asked_of : List ℕ → List Question → List ℕ → List Asked
+asked_of uid questions attendee = map (to_question uid attendee) questions
+
+-- where the answers of the attendee of a line are looked for
 abbrev pub asked_by : List ℕ → List Question → Property → List Asked
-asked_by uid questions line = map (λ (q : Question). answers_since q.since uid q.id line) questions
+asked_by uid questions line = asked_of uid questions (attendee_key line.value)
 
 -- a row with this name and these dates, and what else it shows of the item that governs it
-pub record IsRowOf (heard : List Item) (item : Item) (uid : List ℕ) (id : RowId) (start due : Option Moment) (questions : List Question) (row : Row) : Type 0 where
+pub record IsRowOf (heard : List Item) (item : Item) (uid : List ℕ) (id : RowId) (start due : Option Moment) (asked : Property → List Asked) (row : Row) : Type 0 where
   pub uid_is : row.uid ≡ uid
   pub id_is : row.id ≡ id
   pub fields : HasFields item row
   pub start_is : row.start ≡ start
   pub due_is : row.due ≡ due
-  pub attendees : AreShown heard (asked_by uid questions) item.todo.attendees row.attendees
+  pub attendees : AreShown heard asked item.todo.attendees row.attendees
   pub progress : HasProgress row
 
 -- a row of the UID at this moment, or without one
@@ -70,6 +82,11 @@ pub record IsOccurrence (heard : List Item) (window : Window) (uid : List ℕ) (
 -- the moments are the occurrences in the window
 abbrev pub AreOccurrencesOf : List Item → Window → List ℕ → List Moment → Type 0
 AreOccurrencesOf heard window uid moments = (at : Moment) → Contains moments at ↔ IsOccurrence heard window uid at
+
+-- what governs where no instance item stands: the live series item of the UID, or a range item; nothing is known of them where nothing occurs in the window
+abbrev pub IsBetween : UidPart → Window → Option Between → Type 0
+IsBetween part window None = (at : Moment) → ¬ IsOccurrence part.items window part.uid at
+IsBetween part window (Some between) = IsLiveSeries part.items part.uid between.series.item.now × (between.ranges ≡ part)
 
 -- the moments at which rows may stand: those at which instance items stand, and the occurrences
 pub record ArePlaces (heard : List Item) (window : Window) (uid : List ℕ) (moments : List Moment) : Type 0 where

@@ -9,7 +9,7 @@ use Rattle.itip_moment.specs.Order.{moment_cmp}
 use Rattle.itip_moment.specs.declared.moment.Moment.{Moment}
 use Rattle.itip_message.specs.declared.item.Item.{Item}
 use Rattle.itip_state.specs.OfUid.{UidPart}
-use Rattle.itip_view.specs.Standing.{StandsFrom}
+use Rattle.itip_view.specs.Standing.{StandsFrom, Rules}
 use Rattle.itip_view.specs.declared.ranges.RangeFrom.{RangeFrom}
 
 -- by form, then by zone
@@ -32,3 +32,10 @@ AscendRanges found = (i j : ℕ) (d : RangeFrom) → i ≤ j → j < length foun
 pub record AreRangesInOrder (part : UidPart) (found : List RangeFrom) : Type 0 where
   pub ascend : AscendRanges found
   pub are : AreRanges part found
+
+-- the range item at a place of those held rules the moment
+pub record RulesAt (part : UidPart) (found : List RangeFrom) (at : Moment) (place : ℕ) : Type 0 where
+  pub range : RangeFrom
+  pub inside : place < length found
+  pub is : slice_index_or found place range ≡ range
+  pub rules : Rules part.items part.uid at range.id.now range.item.now

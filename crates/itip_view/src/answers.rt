@@ -1,22 +1,23 @@
 //! Which answers count, and what a row shows of the attendees.
-ghost use Rattle.std.specs.Prelude.{◌≡◌, IfOk, MatchOption};
+ghost use Rattle.std.specs.Prelude.{◌≡◌, IfOk, MatchOption, map};
 ghost use Rattle.std.specs.Option.{option_copied};
-ghost use Rattle.itip_view.specs.Answers.{Counts, NoneCounts, Decides, AreShown, answer_key, partstat_in, shown_line};
-ghost use Rattle.itip_view.specs.OfUid.{asked_by};
+ghost use Rattle.itip_view.specs.Answers.{Counts, NoneCounts, Decides, AreShown, partstat_in, shown_line};
+ghost use Rattle.itip_view.specs.OfUid.{asked_by, asked_of, to_question};
 
 use crate::NoMemory;
+use crate::governing::AttendeeLine;
 use crate::row::ShownAttendee;
 use itip_lines::ListOf;
-use itip_message::{Item, Key, Kind};
+use itip_message::{Item, Kind};
 use itip_moment::Moment;
 use itip_state::ItemsOfUid;
-use itip_todo::{PartStat, Property, Uid, attendee_key, participation};
+use itip_todo::{PartStat, Property, participation};
 use std::alloc::Global;
 
 /// The answers to an instance, or to the to-do as a whole, from a sequence on.
 #[derive(Drop)]
-pub(crate) struct Question {
-    pub(crate) id: Option<Moment>,
+pub(crate) struct Question<'q> {
+    pub(crate) id: Option<&'q Moment>,
     pub(crate) since: u32,
 }
 
@@ -24,7 +25,7 @@ pub(crate) struct Question {
 #[derive(Drop)]
 pub(crate) struct Asked<'v, 'a> {
     pub(crate) items: &'v ItemsOfUid<'a>,
-    pub(crate) questions: &'v [Question],
+    pub(crate) questions: &'v [Question<'v>],
 }
 
 impl<'v, 'a> Asked<'v, 'a> {
@@ -32,56 +33,43 @@ impl<'v, 'a> Asked<'v, 'a> {
     pub(crate) fn shown_attendees(
         &self,
         alloc: Global,
-        lines: &[Property],
+        lines: &[AttendeeLine<'_>],
     ) -> Result<ListOf<ShownAttendee>, NoMemory>
-        ensures { IfOk result (AreShown self.now.items.now.items (asked_by self.now.items.now.uid self.now.questions.now) lines.now) }
+        ensures { IfOk result (AreShown self.now.items.now.items (asked_by self.now.items.now.uid self.now.questions.now) (map (λ line. line.line.now) lines.now)) }
     {
         let mut attendees = Vec::new(alloc);
         for line in lines {
-            let answer = self.deciding(alloc, line)?;
-            if let Some(attendee) = shown_line(line, answer)? {
+            let answer = self.deciding(line.key.as_str());
+            if let Some(attendee) = shown_line(line.line, answer)? {
                 attendees.push(attendee)?;
             }
         }
         Ok(ListOf::from_vec(attendees))
     }
 
-    /// The first answer of the attendee of a line that counts.
-    fn deciding(&self, alloc: Global, line: &Property) -> Result<Option<&'a Item>, NoMemory>
-        ensures { IfOk result (λ answer. Decides self.now.items.now.items (asked_by self.now.items.now.uid self.now.questions.now line.now) (option_copied answer)) }
+    /// The first answer of the attendee of a key that counts. It takes no memory.
+    fn deciding(&self, attendee: &str) -> Option<&'a Item>
+        ensures { Decides self.now.items.now.items (asked_of self.now.items.now.uid self.now.questions.now attendee.now) (option_copied result) }
     {
         for question in self.questions {
-            let key = answer_key(alloc, self.items.uid(), &question.id, line)?;
-            if let Some(answer) = self.counting(&key, question.since) {
-                return Ok(Some(answer));
+            if let Some(answer) = self.counting(question, attendee) {
+                return Some(answer);
             }
         }
-        Ok(None)
+        None
     }
 
-    /// The answer of a key, where it is no earlier than a sequence.
-    fn counting(&self, key: &Key, since: u32) -> Option<&'a Item>
+    /// The answer to a question of the attendee of a key, where it counts.
+    fn counting(&self, question: &Question<'_>, attendee: &str) -> Option<&'a Item>
         ensures { MatchOption (option_copied result)
-            (NoneCounts self.now.items.now.items (record { key = key.now; since = since }))
-            (Counts self.now.items.now.items (record { key = key.now; since = since })) }
+            (NoneCounts self.now.items.now.items (to_question self.now.items.now.uid attendee.now question.now))
+            (Counts self.now.items.now.items (to_question self.now.items.now.uid attendee.now question.now)) }
     {
-        match self.items.best(key) {
-            Some(answer) if since <= answer.own => Some(answer),
+        match self.items.answer(question.id, attendee) {
+            Some(answer) if question.since <= answer.own => Some(answer),
             _ => None,
         }
     }
-}
-
-fn answer_key(
-    alloc: Global,
-    uid: &Uid,
-    id: &Option<Moment>,
-    line: &Property,
-) -> Result<Key, NoMemory>
-    ensures { IfOk result (λ key. key ≡ answer_key uid.now id.now line.now) }
-{
-    let attendee = attendee_key(alloc, line.value.as_str())?;
-    Ok(Key::Answer(uid.clone()?, id.clone()?, attendee))
 }
 
 /// What a line shows where this answer decides.

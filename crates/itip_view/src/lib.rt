@@ -2,9 +2,11 @@
 #![tactic(auto)]
 
 mod answers;
+mod between;
 mod dates;
 mod days;
 mod error;
+mod governing;
 mod laws;
 mod list;
 mod of_uid;

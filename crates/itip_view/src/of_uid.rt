@@ -4,13 +4,14 @@ ghost use Rattle.std.specs.Option.{option_map};
 ghost use Rattle.itip_recur.specs.ToDoShape.{IsShape};
 ghost use Rattle.itip_todo.specs.declared.property.Property.{Property};
 ghost use Rattle.itip_view.specs.OfUid.{AreRowsOf};
-ghost use Rattle.itip_view.specs.InUid.{HasWhole, HasRanges, HasRows, HasPlaces, HasAnswerAt, HasOccurrence, HasStanding, HasNoStanding, HasRuling, HasNoRuling, HasNoneAtStart, HasLiveSeries, IsRowWith};
+ghost use Rattle.itip_view.specs.InUid.{HasWhole, HasBetween, HasRows, HasOccurrences, HasPlaces, HasAnswerAt, HasOccurrence, HasStanding, HasNoStanding, HasRuling, HasNoRuling, HasNoneAtStart, HasLiveSeries, IsRowWith};
 
 use crate::NoMemory;
 use crate::answers::{Asked, Question};
+use crate::between::Between;
 use crate::dates::{day_of, due_from, due_of, instance_day, start_from};
+use crate::governing::Governing;
 use crate::progress::progress_of;
-use crate::ranges::Ranges;
 use crate::row::{Row, RowId};
 use crate::standing::{is_live, standing_item, stands_beside};
 use crate::whole::{Whole, in_order, occurrences, whole_of};
@@ -31,13 +32,13 @@ struct Place {
     due: Option<Moment>,
 }
 
-/// The view of one UID: its kept items, the range items that stand among them, its to-do as a whole, and the window that is asked for.
+/// The view of one UID: its kept items, its to-do as a whole, what governs the occurrences in the window, and the window that is asked for.
 #[derive(Drop)]
 struct UidView<'v, 'a> {
     alloc: Global,
     items: &'v ItemsOfUid<'a>,
-    ranges: Ranges<'v, 'a>,
     whole: Option<Whole<'a>>,
+    between: Option<Between<'v, 'a>>,
     window: Window,
 }
 
@@ -50,25 +51,27 @@ pub(crate) fn rows_of_uid(
     ensures { IfOk result (λ rows. AreRowsOf items.now.items window items.now.uid rows.items) }
 {
     let whole = whole_of(alloc, items)?;
-    let ranges = Ranges::of(alloc, items)?;
+    let occurrences = occurrences(alloc, &whole, window)?;
+    let between = Between::of(alloc, items, &whole, occurrences.as_slice())?;
     let view = UidView {
         alloc,
         items,
-        ranges,
         whole,
+        between,
         window,
     };
-    view.rows()
+    view.rows(occurrences)
 }
 
 impl<'v, 'a> UidView<'v, 'a> {
-    /// The rows, in their order.
-    fn rows(&self) -> Result<Vec<Row>, NoMemory>
+    /// The rows, in their order, where these are the occurrences in the window.
+    fn rows(&self, occurrences: Vec<Moment>) -> Result<Vec<Row>, NoMemory>
         requires whole { HasWhole self.now }
-        requires ranges { HasRanges self.now }
+        requires between { HasBetween self.now }
+        requires occurrences { HasOccurrences self.now occurrences.items }
         ensures { IfOk result (λ rows. HasRows self.now rows.items) }
     {
-        let places = self.places()?;
+        let places = self.places(occurrences)?;
         let mut rows = Vec::with_capacity(self.alloc, places.len().saturating_add(1))?;
         let row = self.whole_row()?;
         push_some(&mut rows, row)?;
@@ -80,11 +83,11 @@ impl<'v, 'a> UidView<'v, 'a> {
     }
 
     /// The moments at which rows may stand, ascending: those at which instance items stand, and the occurrences in the window.
-    fn places(&self) -> Result<Vec<Moment>, NoMemory>
-        requires { HasWhole self.now }
+    fn places(&self, occurrences: Vec<Moment>) -> Result<Vec<Moment>, NoMemory>
+        requires { HasOccurrences self.now occurrences.items }
         ensures { IfOk result (λ places. HasPlaces self.now places.items) }
     {
-        let mut places = occurrences(self.alloc, &self.whole, self.window)?;
+        let mut places = occurrences;
         let series = self.items.series();
         for item in self.items.as_slice() {
             if let Key::Instance(_, at) = &item.key {
@@ -123,7 +126,7 @@ impl<'v, 'a> UidView<'v, 'a> {
         if !self.window.has(day_of(&series.todo)) {
             return Ok(None);
         }
-        if self.is_replaced(series)? {
+        if self.is_replaced(series) {
             return Ok(None);
         }
         let row = self.own_row(series, RowId::Single, None)?;
@@ -131,23 +134,23 @@ impl<'v, 'a> UidView<'v, 'a> {
     }
 
     /// Whether an instance item stands at DTSTART of the series item.
-    fn is_replaced(&self, series: &Item) -> Result<bool, NoMemory>
-        ensures { IfOk result (λ replaced. MatchBool replaced (HasNoneAtStart self.now series.now → ⊥) (HasNoneAtStart self.now series.now)) }
+    fn is_replaced(&self, series: &Item) -> bool
+        ensures { MatchBool result (HasNoneAtStart self.now series.now → ⊥) (HasNoneAtStart self.now series.now) }
     {
         match &series.todo.start {
-            Some(start) => Ok(standing_item(self.items, start)?.is_some()),
-            None => Ok(false),
+            Some(start) => standing_item(self.items, start).is_some(),
+            None => false,
         }
     }
 
     /// The row at a moment: that of the item that stands there, or of the occurrence.
     fn row_at(&self, at: &Moment) -> Result<Option<Row>, NoMemory>
         requires whole { HasWhole self.now }
-        requires ranges { HasRanges self.now }
+        requires between { HasBetween self.now }
         requires occurs { HasNoStanding self.now at.now → HasOccurrence self.now at.now }
         ensures { IfOk result (HasAnswerAt self.now (Some at.now)) }
     {
-        match standing_item(self.items, at)? {
+        match standing_item(self.items, at) {
             Some(item) => self.instance_row(item, at),
             None => self.row_between(at),
         }
@@ -165,13 +168,13 @@ impl<'v, 'a> UidView<'v, 'a> {
             return Ok(None);
         }
         let id = RowId::At(at.clone()?);
-        let row = self.own_row(item, id, Some(at.clone()?))?;
+        let row = self.own_row(item, id, Some(at))?;
         Ok(Some(row))
     }
 
-    /// A row with the dates of the item that governs it.
-    fn own_row(&self, item: &Item, id: RowId, asked: Option<Moment>) -> Result<Row, NoMemory>
-        ensures { IfOk result (IsRowWith self.now item.now id item.now.todo.start item.now.todo.due (record { id = asked; since = item.now.own } ∷ [])) }
+    /// A row with the dates of the item that governs it, the one row of that item.
+    fn own_row(&self, item: &Item, id: RowId, asked: Option<&Moment>) -> Result<Row, NoMemory>
+        ensures { IfOk result (IsRowWith self.now item.now id item.now.todo.start item.now.todo.due (record { id = asked.entry; since = item.now.own } ∷ [])) }
     {
         let place = Place {
             id,
@@ -182,55 +185,66 @@ impl<'v, 'a> UidView<'v, 'a> {
             id: asked,
             since: item.own,
         };
-        self.row_of(item, place, &[question])
+        let governing = Governing::of(self.alloc, item)?;
+        self.row_of(&governing, place, &[question])
     }
 
     /// The row of an occurrence at which no instance item stands.
     fn row_between(&self, at: &Moment) -> Result<Option<Row>, NoMemory>
         requires whole { HasWhole self.now }
-        requires ranges { HasRanges self.now }
+        requires between { HasBetween self.now }
         requires none { HasNoStanding self.now at.now }
         requires occurs { HasOccurrence self.now at.now }
         ensures { IfOk result (HasAnswerAt self.now (Some at.now)) }
     {
-        match self.ranges.ruling(at) {
-            Some(range) => self.range_row(range, at),
-            None => self.occurrence_row(at),
+        let Some(between) = &self.between else {
+            return Ok(None);
+        };
+        match between.ranges.ruling(at) {
+            Some(range) => self.range_row(between.series.item, range, at),
+            None => self.occurrence_row(&between.series, at),
         }
     }
 
     /// The row of an occurrence that a range item rules, where that is live.
-    fn range_row(&self, range: &Item, at: &Moment) -> Result<Option<Row>, NoMemory>
-        requires whole { HasWhole self.now }
+    fn range_row(
+        &self,
+        series: &Item,
+        range: &Governing<'_>,
+        at: &Moment,
+    ) -> Result<Option<Row>, NoMemory>
+        requires live { HasLiveSeries self.now series.now }
         requires none { HasNoStanding self.now at.now }
-        requires rules { HasRuling self.now at.now range.now }
+        requires rules { HasRuling self.now at.now range.now.item.now }
         requires occurs { HasOccurrence self.now at.now }
         ensures { IfOk result (HasAnswerAt self.now (Some at.now)) }
     {
-        let Some(whole) = &self.whole else {
+        let Key::Range(_, id) = &range.item.key else {
             return Ok(None);
         };
-        let Key::Range(_, id) = &range.key else {
-            return Ok(None);
-        };
-        if !is_live(range.kind) {
+        if !is_live(range.item.kind) {
             return Ok(None);
         }
         let place = Place {
             id: RowId::At(at.clone()?),
-            start: start_from(&range.todo.start, id, at)?,
-            due: due_from(&range.todo.due, id, at)?,
+            start: start_from(&range.item.todo.start, id, at)?,
+            due: due_from(&range.item.todo.due, id, at)?,
         };
         // An answer to the to-do as a whole is dead where it is earlier than the series, so it doesn't count here either (our own rule).
-        let since = range.own.max(whole.item.own);
-        let questions = in_turn(at, range.own, since)?;
+        let since = range.item.own.max(series.own);
+        let questions = in_turn(at, range.item.own, since);
         let row = self.row_of(range, place, &questions)?;
         Ok(Some(row))
     }
 
     /// The row of an occurrence that no range item rules.
-    fn occurrence_row(&self, at: &Moment) -> Result<Option<Row>, NoMemory>
+    fn occurrence_row(
+        &self,
+        governing: &Governing<'_>,
+        at: &Moment,
+    ) -> Result<Option<Row>, NoMemory>
         requires whole { HasWhole self.now }
+        requires live { HasLiveSeries self.now governing.now.item.now }
         requires none { HasNoStanding self.now at.now }
         requires none_rules { HasNoRuling self.now at.now }
         requires occurs { HasOccurrence self.now at.now }
@@ -239,31 +253,37 @@ impl<'v, 'a> UidView<'v, 'a> {
         let Some(whole) = &self.whole else {
             return Ok(None);
         };
-        let item = whole.item;
         let series = match &whole.shape {
             Shape::Repeats(series) => series,
             Shape::Single | Shape::Opaque => return Ok(None),
         };
+        let item = governing.item;
         let place = Place {
             id: RowId::At(at.clone()?),
             start: Some(at.clone()?),
             due: due_of(&item.todo.due, &series.start, at)?,
         };
-        let questions = in_turn(at, item.own, item.own)?;
-        let row = self.row_of(item, place, &questions)?;
+        let questions = in_turn(at, item.own, item.own);
+        let row = self.row_of(governing, place, &questions)?;
         Ok(Some(row))
     }
 
     /// The row at a place that an item governs; of each attendee these are asked, one after the other.
-    fn row_of(&self, item: &Item, place: Place, questions: &[Question]) -> Result<Row, NoMemory>
-        ensures { IfOk result (IsRowWith self.now item.now place.id place.start place.due questions.now) }
+    fn row_of(
+        &self,
+        governing: &Governing<'_>,
+        place: Place,
+        questions: &[Question<'_>],
+    ) -> Result<Row, NoMemory>
+        ensures { IfOk result (IsRowWith self.now governing.now.item.now place.id place.start place.due questions.now) }
     {
+        let item = governing.item;
         let todo = &item.todo;
         let asked = Asked {
             items: self.items,
             questions,
         };
-        let attendees = asked.shown_attendees(self.alloc, todo.attendees.as_slice())?;
+        let attendees = asked.shown_attendees(self.alloc, &governing.lines)?;
         let progress = progress_of(attendees.as_slice());
         let summary = summary(todo)?;
         Ok(Row {
@@ -283,16 +303,16 @@ impl<'v, 'a> UidView<'v, 'a> {
 }
 
 /// On the row of an occurrence: the answers to it from one sequence on, then those to the to-do as a whole from another.
-fn in_turn(at: &Moment, own: u32, since: u32) -> Result<[Question; 2], NoMemory>
-    ensures { IfOk result (λ questions. questions ≡ (record { id = Some at.now; since = own } ∷ record { id = None; since = since } ∷ [])) }
+fn in_turn(at: &Moment, own: u32, since: u32) -> [Question<'_>; 2]
+    ensures { result ≡ (record { id = Some at.entry; since = own } ∷ record { id = None; since = since } ∷ []) }
 {
-    Ok([
+    [
         Question {
-            id: Some(at.clone()?),
+            id: Some(at),
             since: own,
         },
         Question { id: None, since },
-    ])
+    ]
 }
 
 /// Adds a row where there is one.

@@ -1,14 +1,15 @@
 //! The range items of a UID that stand.
-ghost use Rattle.std.specs.Prelude.{◌≡◌, IfOk, MatchOption};
+ghost use Rattle.std.specs.Prelude.{◌≡◌, ◌<◌, IfOk, MatchOption, length, map};
 ghost use Rattle.std.specs.Option.{option_copied};
 ghost use Rattle.itip_moment.specs.declared.moment.Moment.{Moment};
 ghost use Rattle.itip_moment.specs.Moment.{moment_zone};
 ghost use Rattle.itip_state.specs.OfUid.{UidPart};
-ghost use Rattle.itip_view.specs.Ruling.{AreRanges, AreRangesInOrder, range_cmp};
+ghost use Rattle.itip_view.specs.Ruling.{AreRanges, AreRangesInOrder, RulesAt, range_cmp};
 ghost use Rattle.itip_view.specs.Standing.{Rules, NoneRules};
 
 use crate::NoMemory;
 use crate::dates::have_one_form;
+use crate::governing::Governing;
 use crate::standing::stands_beside;
 use itip_message::{Item, Key};
 use itip_moment::Moment;
@@ -63,16 +64,95 @@ impl<'v, 'a> Ranges<'v, 'a> {
             (λ item. (id : Moment) × Rules self.now.items self.now.uid at.now id item) }
     {
         let standing = self.standing.as_slice();
-        let reached = standing.partition_point(|range| !compare(range.id, at).is_gt());
-        if reached == 0 {
-            return None;
+        match ruling_place(standing, at) {
+            Some(place) => Some(standing[place].item),
+            None => None,
         }
-        let RangeFrom { id, item } = standing[reached - 1];
-        if have_one_form(id, at) {
-            Some(item)
-        } else {
-            None
+    }
+}
+
+/// The range items of a UID that stand, by their ids, each with the keys of its attendees.
+///
+/// They are the ones of its kept items, by the invariant of the type.
+#[derive(Debug, Drop)]
+pub(crate) struct GoverningRanges<'v, 'a> {
+    items: &'v ItemsOfUid<'a>,
+    standing: Vec<RangeFrom<'a>>,
+    governing: Vec<Governing<'a>>,
+}
+
+impl<'v, 'a> Model for GoverningRanges<'v, 'a> {
+    ghost use Rattle.std.specs.Prelude.{◌≡◌, map};
+    ghost use Rattle.itip_state.specs.OfUid.{UidPart, uid_part_code};
+    ghost use Rattle.itip_view.specs.Ruling.{AreRangesInOrder};
+
+    ghost Value = { UidPart };
+
+    ghost coded = { uid_part_code };
+
+    ghost view = { λ r. r.items.now };
+
+    ghost invariant = { λ r. AreRangesInOrder r.items.now r.standing.items × (map (λ range. range.item.now) r.standing.items ≡ map (λ range. range.item.now) r.governing.items) };
+}
+
+impl<'v, 'a> GoverningRanges<'v, 'a> {
+    /// The range items that stand among the kept items of a UID.
+    pub(crate) fn of(
+        alloc: Global,
+        items: &'v ItemsOfUid<'a>,
+    ) -> Result<GoverningRanges<'v, 'a>, NoMemory>
+        ensures { IfOk result (λ ranges. ranges ≡ items.now) }
+    {
+        let found = standing_ranges(alloc, items)?;
+        let standing = by_id(found)?;
+        let governing = governing_each(alloc, &standing)?;
+        Ok(GoverningRanges {
+            items,
+            standing,
+            governing,
+        })
+    }
+
+    /// The range item that rules a moment, or `None` where there is none. It takes no memory.
+    pub(crate) fn ruling(&self, at: &Moment) -> Option<&Governing<'a>>
+        ensures { MatchOption result (NoneRules self.now.items self.now.uid at.now)
+            (λ range. (id : Moment) × Rules self.now.items self.now.uid at.now id range.now.item.now) }
+    {
+        match ruling_place(self.standing.as_slice(), at) {
+            Some(place) => Some(&self.governing[place]),
+            None => None,
         }
+    }
+}
+
+/// Range items with the keys of their attendees, in their order.
+fn governing_each<'a>(
+    alloc: Global,
+    standing: &[RangeFrom<'a>],
+) -> Result<Vec<Governing<'a>>, NoMemory>
+    ensures { IfOk result (λ governing. map (λ range. range.item.now) standing.now ≡ map (λ range. range.item.now) governing.items) }
+{
+    let mut governing = Vec::with_capacity(alloc, standing.len())?;
+    for range in standing {
+        governing.push(Governing::of(alloc, range.item)?)?;
+    }
+    Ok(governing)
+}
+
+/// Where the one stands that rules a moment, among all range items that stand, by their ids.
+fn ruling_place(standing: &[RangeFrom<'_>], at: &Moment) -> Option<usize>
+    ensures inside { MatchOption result (Unit {0}) (λ place. place < length standing.now) }
+    ensures rules { (part : UidPart) → AreRangesInOrder part standing.now → MatchOption result (NoneRules part.items part.uid at.now) (RulesAt part standing.now at.now) }
+{
+    let reached = standing.partition_point(|range| !compare(range.id, at).is_gt());
+    if reached == 0 {
+        return None;
+    }
+    let id = standing[reached - 1].id;
+    if have_one_form(id, at) {
+        Some(reached - 1)
+    } else {
+        None
     }
 }
 

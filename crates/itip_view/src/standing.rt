@@ -1,10 +1,9 @@
 //! Which item stands at an instance.
-ghost use Rattle.std.specs.Prelude.{◌≡◌, ◌↔◌, IsTrue, IfOk, MatchOption};
+ghost use Rattle.std.specs.Prelude.{◌≡◌, ◌↔◌, IsTrue, MatchOption};
 ghost use Rattle.std.specs.Option.{option_copied};
 ghost use Rattle.itip_view.specs.OfUid.{StandsBesideOf};
 ghost use Rattle.itip_view.specs.Standing.{is_live, Stands, NoneStands};
 
-use crate::NoMemory;
 use itip_message::{Item, Kind};
 use itip_moment::Moment;
 use itip_state::ItemsOfUid;
@@ -32,18 +31,18 @@ pub fn stands_beside(series: Option<&Item>, item: &Item) -> bool
     }
 }
 
-/// The item that stands at an instance of a UID.
-pub fn standing_item<'a>(items: &ItemsOfUid<'a>, at: &Moment) -> Result<Option<&'a Item>, NoMemory>
-    ensures { IfOk result (λ standing. MatchOption (option_copied standing)
+/// The item that stands at an instance of a UID. It takes no memory.
+pub fn standing_item<'a>(items: &ItemsOfUid<'a>, at: &Moment) -> Option<&'a Item>
+    ensures { MatchOption (option_copied result)
         (NoneStands items.now.items items.now.uid at.now)
-        (Stands items.now.items items.now.uid at.now)) }
+        (Stands items.now.items items.now.uid at.now) }
 {
-    let Some(item) = items.instance(at)? else {
-        return Ok(None);
+    let Some(item) = items.instance(at) else {
+        return None;
     };
     if stands_beside(items.series(), item) {
-        Ok(Some(item))
+        Some(item)
     } else {
-        Ok(None)
+        None
     }
 }

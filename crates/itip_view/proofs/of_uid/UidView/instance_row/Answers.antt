@@ -1,20 +1,12 @@
-use Rattle.std.proofs.Common.{◌≡◌, ◌∙◌, sym, ap, subst, List, [], ◌∷◌, ℕ, Option, Some, true, false, rules}
+use Rattle.std.proofs.Common.{◌≡◌, ◌∙◌, sym, ap, subst, true, false, rules}
 use Rattle.itip_moment.specs.declared.moment.Moment.{Moment}
-use Rattle.itip_message.specs.declared.item.Item.{Item}
 use Rattle.itip_view.specs.InWindow.{is_in_window}
 use Rattle.itip_view.specs.OfUid.{IsRowOf}
-use Rattle.itip_view.specs.Rows.{instance_day}
-use Rattle.itip_view.specs.declared.row.Row.{Row}
+use Rattle.itip_view.specs.Rows.{instance_day, instance_answers}
 use Rattle.itip_view.specs.declared.row.RowId.TheVariants as id
 use Rattle.itip_view.proofs.InDays.{in_window_is, in_window_from}
-use Rattle.itip_view.proofs.PlaceRows.{ask, instance_is, no_instance}
+use Rattle.itip_view.proofs.PlaceRows.{instance_is, no_instance}
 use Rattle.itip_view.proofs.of_uid.UidView.instance_row.Goals as goal
-
-copied : (items : List Item) (item : Item) (uid : List ℕ) (at a b : Moment) (start due : Option Moment) (row : Row) → a ≡ at → b ≡ at
-    → IsRowOf items item uid (id.At a) start due (ask (Some b) item.own ∷ []) row → IsRowOf items item uid (id.At at) start due (ask (Some at) item.own ∷ []) row
-copied items item uid at a b start due row p q of =
-    subst (λ (m : Moment). IsRowOf items item uid (id.At m) start due (ask (Some at) item.own ∷ []) row) p
-    (subst (λ (m : Moment). IsRowOf items item uid (id.At a) start due (ask (Some m) item.own ∷ []) row) q of)
 
 pub returns-then-not-is_live : goal.returns-then-not-is_live
 returns-then-not-is_live c =
@@ -34,5 +26,5 @@ returns c =
     let there : c.has.result ≡ true = search rules in
     instance_is (c.args.self.now.items.now.items) c.args.self.now.window c.args.self.now.items.now.uid c.args.at.now c.args.item.now c.in_ok-row.row c.requires (sym c.is_live.ensures ∙ on)
     (in_window_is c.args.self.now.window (instance_day c.args.at.now c.args.item.now.todo.start) (sym (ap (is_in_window c.args.self.now.window) c.instance_day.ensures) ∙ sym c.has.ensures ∙ there))
-    (copied (c.args.self.now.items.now.items) c.args.item.now c.args.self.now.items.now.uid c.args.at.now c.in_ok-clone.field-0 c.in_ok-clone-2.field-0 c.args.item.now.todo.start c.args.item.now.todo.due c.in_ok-row.row
-    c.in_ok-clone.ensures.cases c.in_ok-clone-2.ensures.cases c.in_ok-row.ensures)
+    (subst (λ (m : Moment). IsRowOf c.args.self.now.items.now.items c.args.item.now c.args.self.now.items.now.uid (id.At m) c.args.item.now.todo.start c.args.item.now.todo.due
+    (instance_answers c.args.self.now.items.now.uid c.args.at.now c.args.item.now) c.in_ok-row.row) c.in_ok-clone.ensures.cases c.in_ok-row.ensures)

@@ -13,8 +13,9 @@ replaced : (items : List Item) (uid : List ℕ) (start : Moment) (o : Option (Bo
 replaced items uid start None r e h = subst (λ b. MatchBool b (NoneStands items uid start → ⊥) (NoneStands items uid start)) (sym e) h
 replaced items uid start (Some i) r e h = subst (λ b. MatchBool b (NoneStands items uid start → ⊥) (NoneStands items uid start)) (sym e) (λ none. none i.now h)
 
-pub returns-in_ok-standing_item-in-Some : goal.returns-in_ok-standing_item-in-Some
-returns-in_ok-standing_item-in-Some c =
+pub returns-in-Some : goal.returns-in-Some
+returns-in-Some c =
     let items : List Item = c.args.self.now.items.now.items in
-    subst (λ (s : Option Moment). MatchBool c.is_some.result (NoneStandsAtStart items c.args.self.now.items.now.uid s → ⊥) (NoneStandsAtStart items c.args.self.now.items.now.uid s)) (sym c.in-Some.is)
-    (replaced items c.args.self.now.items.now.uid c.in-Some.start c.in_ok-standing_item-in-Some.field-0 c.is_some.result c.is_some.ensures c.in_ok-standing_item-in-Some.ensures)
+    let uid : List ℕ = c.args.self.now.items.now.uid in
+    subst (λ (s : Option Moment). MatchBool c.is_some.result (NoneStandsAtStart items uid s → ⊥) (NoneStandsAtStart items uid s)) (sym c.in-Some.is)
+    (replaced items uid c.in-Some.start c.standing_item.result c.is_some.result c.is_some.ensures c.standing_item.ensures)

@@ -21,7 +21,7 @@ loop-item-preserved c =
     let below : i < length items = rw (length-map c.as_slice-item-items.result.now (λ item. item.now)) c.loop-item-test.true in
     let here : get_or items i item ≡ item = get_or-map (λ item. item.now) c.as_slice-item-items.result.now i c.item-item.result ∙ ap (λ item. item.now) (sym c.item-item.is) in
     let done : take (i + 1) items ≡ take i items ++ item ∷ [] = take_more items i item below ∙ ap (λ (x : Item). take i items ++ x ∷ []) here in
-    let before : List Moment = c.in_ok-places.places.items in
+    let before : List Moment = c.args.occurrences.items in
     let found : List Moment = c.loop-item.places.items in
     let series : Option Item = option_copied c.series-series.result in
     elim c.match-item.branch [
@@ -46,13 +46,13 @@ returns c =
     let uid : List ℕ = c.args.self.now.items.now.uid in
     let series : Option Item = option_copied c.series-series.result in
     let found : List Moment = c.loop-item.places.items in
-    let before : List Moment = c.in_ok-places.places.items in
+    let before : List Moment = c.args.occurrences.items in
     let all : take c.loop-item.item-index items ≡ kept =
     take_all c.loop-item.item-index items (rw (length-map c.as_slice-item-items.result.now (λ item. item.now)) c.loop-item-test.false) ∙ c.as_slice-item-items.ensures.items in
     on_ok_pair c.in_order.result (λ sorted. IsStrictlySortedBy moment_cmp sorted.items) (λ sorted. (at : Moment) → Contains sorted.items at ↔ Contains found at)
     (λ places. ArePlaces kept c.args.self.now.window uid places.items)
     (λ places ascend same. places_are kept c.args.self.now.window uid series before found places.items c.as_slice-item-items.ensures.part.ascend c.as_slice-item-items.ensures.part.about c.series-series.ensures
-    (c.in_ok-places.ensures kept uid c.requires) (subst (λ (xs : List Item). Places series before xs found) all c.loop-item.invariant) ascend same)
+    c.requires (subst (λ (xs : List Item). Places series before xs found) all c.loop-item.invariant) ascend same)
     c.in_order.ensures.ascend c.in_order.ensures.same
   where
     on_ok_pair : {A E : Type 0} (r : Result A E) (P Q R : A → Type 0) → ((a : A) → P a → Q a → R a) → IfOk r P → IfOk r Q → IfOk r R

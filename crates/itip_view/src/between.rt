@@ -1,0 +1,43 @@
+//! What governs the occurrences of a to-do at which no instance item stands.
+ghost use Rattle.std.specs.Prelude.{IfOk};
+ghost use Rattle.itip_view.specs.OfUid.{IsWhole, AreOccurrencesOf, IsBetween};
+ghost use Rattle.itip_view.specs.declared.window.Window.{Window};
+
+use crate::NoMemory;
+use crate::governing::Governing;
+use crate::ranges::GoverningRanges;
+use crate::whole::Whole;
+use itip_moment::Moment;
+use itip_state::ItemsOfUid;
+use std::alloc::Global;
+
+/// The live series item of a UID, and the range items that stand.
+#[derive(Drop)]
+pub(crate) struct Between<'v, 'a> {
+    pub(crate) series: Governing<'a>,
+    pub(crate) ranges: GoverningRanges<'v, 'a>,
+}
+
+impl<'v, 'a> Between<'v, 'a> {
+    /// What governs the occurrences of a UID in a window, where there are any.
+    pub(crate) fn of(
+        alloc: Global,
+        items: &'v ItemsOfUid<'a>,
+        whole: &Option<Whole<'a>>,
+        occurrences: &[Moment],
+    ) -> Result<Option<Between<'v, 'a>>, NoMemory>
+        requires { IsWhole items.now.items items.now.uid whole.now }
+        ensures { IfOk result (λ between. (window : Window) → AreOccurrencesOf items.now.items window items.now.uid occurrences.now → IsBetween items.now window between) }
+    {
+        let Some(whole) = whole else {
+            return Ok(None);
+        };
+        // Where nothing occurs no key is needed.
+        if occurrences.is_empty() {
+            return Ok(None);
+        }
+        let series = Governing::of(alloc, whole.item)?;
+        let ranges = GoverningRanges::of(alloc, items)?;
+        Ok(Some(Between { series, ranges }))
+    }
+}
