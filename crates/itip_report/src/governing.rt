@@ -1,12 +1,11 @@
 //! What is known of a UID by its kept items.
-ghost use Rattle.std.specs.Prelude.{◌≡◌, ◌↔◌, IfOk, IsTrue, MatchOption};
+ghost use Rattle.std.specs.Prelude.{◌≡◌, ◌↔◌, IsTrue, MatchOption};
 ghost use Rattle.std.specs.Option.{option_copied};
 ghost use Rattle.itip_message.specs.declared.item.Item.{Item};
 ghost use Rattle.itip_view.specs.Standing.{Governs, GovernsBetween};
 ghost use Rattle.itip_report.specs.Reports.{IsStanding, NoneAtInstance};
 ghost use Rattle.itip_report.specs.Live.{IsAmong, if_live};
 
-use crate::NoMemory;
 use itip_message::{Item, Key};
 use itip_moment::Moment;
 use itip_state::ItemsOfUid;
@@ -27,18 +26,18 @@ pub(crate) fn governing<'a>(
     items: &ItemsOfUid<'a>,
     ranges: &Ranges<'_, 'a>,
     id: &Option<Moment>,
-) -> Result<Option<&'a Item>, NoMemory>
+) -> Option<&'a Item>
     requires { ranges.now ≡ items.now }
-    ensures { IfOk result (λ governing. MatchOption (option_copied governing)
+    ensures { MatchOption (option_copied result)
         ((item : Item) → ¬ Governs items.now.items items.now.uid id.now item)
-        (Governs items.now.items items.now.uid id.now)) }
+        (Governs items.now.items items.now.uid id.now) }
 {
     let Some(at) = id else {
-        return Ok(if_live(items.series()));
+        return if_live(items.series());
     };
-    match standing_item(items, at)? {
-        Some(item) => Ok(if_live(Some(item))),
-        None => Ok(governing_between(items, ranges, at)),
+    match standing_item(items, at) {
+        Some(instance) => if_live(Some(instance)),
+        None => governing_between(items, ranges, at),
     }
 }
 
@@ -60,15 +59,12 @@ fn governing_between<'a>(
 }
 
 /// Whether no instance item is kept at the instance that is named, where one is named.
-pub(crate) fn none_at_instance(
-    items: &ItemsOfUid<'_>,
-    id: &Option<Moment>,
-) -> Result<bool, NoMemory>
-    ensures { IfOk result (λ none. IsTrue none ↔ NoneAtInstance items.now.items items.now.uid id.now) }
+pub(crate) fn none_at_instance(items: &ItemsOfUid<'_>, id: &Option<Moment>) -> bool
+    ensures { IsTrue result ↔ NoneAtInstance items.now.items items.now.uid id.now }
 {
     match id {
-        Some(at) => Ok(items.instance(at)?.is_none()),
-        None => Ok(true),
+        Some(at) => items.instance(at).is_none(),
+        None => true,
     }
 }
 

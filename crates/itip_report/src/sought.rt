@@ -61,7 +61,7 @@ pub(crate) fn sought_items<'a>(
 {
     let mut found = Vec::new(alloc);
     for item in items.as_slice() {
-        if is_sought(items, sought, item)? {
+        if is_sought(items, sought, item) {
             found.push(*item)?;
         }
     }
@@ -69,18 +69,14 @@ pub(crate) fn sought_items<'a>(
 }
 
 /// Whether one of the kept items of a UID is looked for.
-fn is_sought<'a>(
-    items: &ItemsOfUid<'a>,
-    sought: &Sought<'_, 'a>,
-    item: &Item,
-) -> Result<bool, NoMemory>
+fn is_sought<'a>(items: &ItemsOfUid<'a>, sought: &Sought<'_, 'a>, item: &Item) -> bool
     requires over { IsOver items.now sought.now }
     requires among { IsAmong items.now item.now }
-    ensures { IfOk result (λ is. IsTrue is ↔ IsSought sought.now items.now item.now) }
+    ensures { IsTrue result ↔ IsSought sought.now items.now item.now }
 {
     match sought {
-        Sought::Standing => Ok(is_standing(items, item)),
-        Sought::Cancelled => Ok(is_cancellation(items, item)),
+        Sought::Standing => is_standing(items, item),
+        Sought::Cancelled => is_cancellation(items, item),
         Sought::Orphans => is_orphan(items, item),
         Sought::Wanted(ranges) => is_wanted(items, ranges, item),
     }
@@ -101,35 +97,31 @@ fn is_cancellation(items: &ItemsOfUid<'_>, item: &Item) -> bool
 }
 
 /// Whether an item is of an attendee, and neither the to-do nor the instance that it names is known.
-fn is_orphan(items: &ItemsOfUid<'_>, item: &Item) -> Result<bool, NoMemory>
+fn is_orphan(items: &ItemsOfUid<'_>, item: &Item) -> bool
     requires { IsAmong items.now item.now }
-    ensures { IfOk result (λ is. IsTrue is ↔ IsOrphan items.now.items item.now) }
+    ensures { IsTrue result ↔ IsOrphan items.now.items item.now }
 {
     let Some(id) = sent_to(&item.key) else {
-        return Ok(false);
+        return false;
     };
     match items.series() {
-        Some(_) => Ok(false),
+        Some(_) => false,
         None => none_at_instance(items, id),
     }
 }
 
 /// Whether an item is a refresh request that is newer than the item that governs what it names.
-fn is_wanted<'a>(
-    items: &ItemsOfUid<'a>,
-    ranges: &Ranges<'_, 'a>,
-    item: &Item,
-) -> Result<bool, NoMemory>
+fn is_wanted<'a>(items: &ItemsOfUid<'a>, ranges: &Ranges<'_, 'a>, item: &Item) -> bool
     requires ranges { ranges.now ≡ items.now }
     requires among { IsAmong items.now item.now }
-    ensures { IfOk result (λ is. IsTrue is ↔ IsWanted items.now.items item.now) }
+    ensures { IsTrue result ↔ IsWanted items.now.items item.now }
 {
     let Some(id) = refreshed(&item.key) else {
-        return Ok(false);
+        return false;
     };
-    match governing(items, ranges, id)? {
-        Some(governing) => Ok(governing.stamp.cmp(&item.stamp).is_lt()),
-        None => Ok(false),
+    match governing(items, ranges, id) {
+        Some(governing) => governing.stamp.cmp(&item.stamp).is_lt(),
+        None => false,
     }
 }
 

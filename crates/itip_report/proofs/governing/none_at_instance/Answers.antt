@@ -15,7 +15,7 @@ none_there items key None false e h = absurd (cc)
 none_there items key (Some i) true e h = absurd (cc)
 none_there items key (Some i) false e h = (λ (t : false ≡ true). absurd (cc), λ none. absurd (none i.now h.is_heard h.about))
 
-pub returns-in_ok-instance-in-Some : goal.returns-in_ok-instance-in-Some
-returns-in_ok-instance-in-Some c =
+pub returns-in-Some : goal.returns-in-Some
+returns-in-Some c =
     subst (λ (id : Option Moment). IsTrue c.is_none.result ↔ NoneAtInstance c.args.items.now.items c.args.items.now.uid id) (sym c.in-Some.is)
-    (none_there c.args.items.now.items (Instance c.args.items.now.uid c.in-Some.at) c.in_ok-instance-in-Some.field-0 c.is_none.result c.is_none.ensures c.in_ok-instance-in-Some.ensures)
+    (none_there c.args.items.now.items (Instance c.args.items.now.uid c.in-Some.at) c.instance.result c.is_none.result c.is_none.ensures c.instance.ensures)

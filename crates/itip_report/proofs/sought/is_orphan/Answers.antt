@@ -1,8 +1,5 @@
-use Rattle.std.proofs.Common.{◌↔◌, List}
-use Rattle.std.specs.Prelude.{IsTrue}
+use Rattle.std.proofs.Common.{List}
 use Rattle.itip_message.specs.declared.item.Item.{Item}
-use Rattle.itip_state.proofs.Members.{if_ok_then}
-use Rattle.itip_report.specs.Reports.{NoneAtInstance, IsOrphan}
 use Rattle.itip_report.proofs.Telling.{not_orphan, orphan_where}
 use Rattle.itip_report.proofs.sought.is_orphan.Goals as goal
 
@@ -18,6 +15,5 @@ pub returns-in-None : goal.returns-in-None
 returns-in-None c =
     let items : List Item = c.args.items.now.items in
     let part = c.requires.part_is in
-    if_ok_then (λ none. IsTrue none ↔ NoneAtInstance items c.args.items.now.uid c.in-Some.id.now) (λ is. IsTrue is ↔ IsOrphan items c.args.item.now) c.none_at_instance.result
     (orphan_where items part.ascend part.state c.args.item.now c.requires.there c.args.items.now.uid (part.about c.args.item.now c.requires.there) c.in-Some.id.now c.in-Some.ensures.1 c.in-Some.ensures.0
-    (rw c.in-None.is at c.series.ensures)) c.none_at_instance.ensures
+    (rw c.in-None.is at c.series.ensures)) c.none_at_instance.result c.none_at_instance.ensures

@@ -10,7 +10,7 @@ use Rattle.itip_report.proofs.Choosing.{Chosen, looked_pass, looked_more, chosen
 use Rattle.itip_report.proofs.Mapped.{map_both, if_ok_both}
 use Rattle.itip_report.proofs.SameOf.{sought_heard}
 use Rattle.itip_report.proofs.sought.sought_items.Goals as goal
-use Rattle.itip_report.proofs.sought.sought_items.Goals.{then-branch+in_ok-push, else-branch}
+use Rattle.itip_report.proofs.sought.sought_items.Goals.{then-is_sought+in_ok-push, else-is_sought}
 
 pub is_sought-requires : goal.is_sought-requires
 is_sought-requires c = record {
@@ -28,16 +28,16 @@ loop-item-preserved c =
     let Is : Item → Type 0 = IsSought c.args.sought.now c.args.items.now in
     let ordered : AscendKeys (map (λ item. item.now) refs) = subst AscendKeys (sym c.as_slice-item-items.ensures.items) c.as_slice-item-items.ensures.part.ascend in
     let found : List Item = map (λ item. item.now) c.loop-item.found.items in
-    elim c.if-branch.branch [
-      | then-branch+in_ok-push w ↦
-          let pushed : map (λ item. item.now) c.if-branch.found.items ≡ found ++ c.item-item.result.now ∷ [] =
+    elim c.if-is_sought.branch [
+      | then-is_sought+in_ok-push w ↦
+          let pushed : map (λ item. item.now) c.if-is_sought.found.items ≡ found ++ c.item-item.result.now ∷ [] =
           ap (λ v. map (λ item. item.now) v.items) w.found-is ∙ ap (map (λ item. item.now)) w.in_ok-push.ensures.items ∙ map_both (λ item. item.now) c.loop-item.found.items (c.item-item.result ∷ []) in
           subst (Chosen Is (take (c.loop-item.item-index + 1) (map (λ item. item.now) refs))) (sym pushed)
-          (looked_more Is refs ordered c.loop-item.item-index c.item-item.result c.loop-item-test.true c.item-item.is found c.loop-item.invariant (c.in_ok-is_sought.ensures.0 w.if-branch.true))
-      | else-branch w ↦
+          (looked_more Is refs ordered c.loop-item.item-index c.item-item.result c.loop-item-test.true c.item-item.is found c.loop-item.invariant (c.is_sought.ensures.0 w.if-is_sought.true))
+      | else-is_sought w ↦
           subst (Chosen Is (take (c.loop-item.item-index + 1) (map (λ item. item.now) refs))) (sym (ap (λ v. map (λ item. item.now) v.items) w.found-is))
           (looked_pass Is refs ordered c.loop-item.item-index c.item-item.result c.loop-item-test.true c.item-item.is found c.loop-item.invariant
-          (λ is. let x : true ≡ false = sym (c.in_ok-is_sought.ensures.1 is) ∙ w.if-branch.false in cc))
+          (λ is. let x : true ≡ false = sym (c.is_sought.ensures.1 is) ∙ w.if-is_sought.false in cc))
     ]
 
 pub returns : goal.returns
