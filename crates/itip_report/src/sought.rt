@@ -69,11 +69,7 @@ pub(crate) fn sought_items<'a>(
 }
 
 /// Whether one of the kept items of a UID is looked for.
-fn is_sought<'a>(
-    items: &ItemsOfUid<'a>,
-    sought: &Sought<'_, 'a>,
-    item: &Item,
-) -> bool
+fn is_sought<'a>(items: &ItemsOfUid<'a>, sought: &Sought<'_, 'a>, item: &Item) -> bool
     requires over { IsOver items.now sought.now }
     requires among { IsAmong items.now item.now }
     ensures { IsTrue result ↔ IsSought sought.now items.now item.now }
@@ -115,11 +111,7 @@ fn is_orphan(items: &ItemsOfUid<'_>, item: &Item) -> bool
 }
 
 /// Whether an item is a refresh request that is newer than the item that governs what it names.
-fn is_wanted<'a>(
-    items: &ItemsOfUid<'a>,
-    ranges: &Ranges<'_, 'a>,
-    item: &Item,
-) -> bool
+fn is_wanted<'a>(items: &ItemsOfUid<'a>, ranges: &Ranges<'_, 'a>, item: &Item) -> bool
     requires ranges { ranges.now ≡ items.now }
     requires among { IsAmong items.now item.now }
     ensures { IsTrue result ↔ IsWanted items.now.items item.now }

@@ -18,12 +18,12 @@ returns-in_default c =
     subst (λ (id : Option Moment). IsGoverning items uid id (option_copied c.if_live.result)) (sym c.in_default.is)
     (subst (IsGoverning items uid None) (sym c.if_live.ensures) (live_series items uid (option_copied c.series.result) c.series.ensures))
 
-pub returns-in-Some-2 : goal.returns-in-Some-2
-returns-in-Some-2 c =
+pub returns-in-Some-standing_item : goal.returns-in-Some-standing_item
+returns-in-Some-standing_item c =
     let items : List Item = c.args.items.now.items in
     let uid : List ℕ = c.args.items.now.uid in
-    subst (λ (id : Option Moment). IsGoverning items uid id (option_copied c.if_live-in-Some-2.result)) (sym c.in-Some.is)
-    (subst (IsGoverning items uid (Some c.in-Some.at)) (sym c.if_live-in-Some-2.ensures) (governs_standing items uid c.in-Some.at c.in-Some-2.instance.now c.in-Some-2.ensures))
+    subst (λ (id : Option Moment). IsGoverning items uid id (option_copied c.if_live-in-Some-standing_item.result)) (sym c.in-Some.is)
+    (subst (IsGoverning items uid (Some c.in-Some.at)) (sym c.if_live-in-Some-standing_item.ensures) (governs_standing items uid c.in-Some.at c.in-Some-standing_item.instance.now c.in-Some-standing_item.ensures))
 
 pub returns-in-None : goal.returns-in-None
 returns-in-None c =
