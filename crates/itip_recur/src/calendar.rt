@@ -1,9 +1,9 @@
 //! The weekday, the week, the month and the year of a day by its number.
-ghost use Rattle.std.specs.Prelude.{◌≡◌, ◌<◌, ◌≤◌, ◌↔◌, ◌*◌, ◌+◌, ◌-◌, ◌/◌, ◌%◌, ◌^◌, ℤ, pos, ◌<ℤ◌, ◌≤ℤ◌, ◌+ℤ◌};
+ghost use Rattle.std.specs.Prelude.{◌≡◌, ◌<◌, ◌≤◌, ◌↔◌, ◌*◌, ◌+◌, ◌-◌, ◌/◌, ◌%◌, ◌^◌, ℤ, pos, ◌<ℤ◌, ◌≤ℤ◌, ◌+ℤ◌, MatchOption};
 ghost use Rattle.itip_moment.specs.Years.{IsDayNumber};
 ghost use Rattle.std.specs.Int.{IsInRange};
 ghost use Rattle.jiff.specs.Words.{monday_zero, days_in_month};
-ghost use Rattle.itip_recur.specs.Calendar.{days_from_zero, weekday_number, week_number, year_number, month_of_year, month_number, day_of_month, month_length, IsDayOrEnd};
+ghost use Rattle.itip_recur.specs.Calendar.{days_from_zero, weekday_number, week_number, year_number, month_of_year, month_number, day_of_month, month_length, IsDayOrEnd, IsNoDate, IsDayOfDate};
 
 use crate::Weekday;
 use itip_moment::Day;
@@ -90,6 +90,35 @@ fn days_in_month(year: u32, month: u8) -> u8
     ensures high { result ≤ 31 }
 {
     civil::days_in_month(year as i16, month)
+}
+
+/// The day with this date, where the month has so many days.
+pub(crate) fn day_of_date(year: u32, month: u8, day: u8) -> Option<i32>
+    requires year_in { year < 10_000 }
+    requires month_in { IsInRange 1 12 month }
+    requires day_in { 1 ≤ day }
+    ensures { MatchOption result (IsNoDate year month day) (IsDayOfDate year month day) }
+{
+    if day > days_in_month(year, month) {
+        return None;
+    }
+    let date = dated(year, month, day);
+    Some(date.to_unix_epoch_day())
+}
+
+fn dated(year: u32, month: u8, day: u8) -> Date
+    requires year_in { year < 10_000 }
+    requires month_in { IsInRange 1 12 month }
+    requires day_in { IsInRange 1 (days_in_month (pos year) month) day }
+    ensures year { result.year ≡ pos year }
+    ensures month { result.month ≡ month }
+    ensures day { result.day ≡ day }
+{
+    Date {
+        year: year as i16,
+        month,
+        day,
+    }
 }
 
 #[tactic(auto, unfolding(crate::specs::Calendar::days_from_zero))]
