@@ -1,12 +1,12 @@
 -- The calendar's dates of days, and the first days of months.
-use Rattle.std.proofs.Common.{◌≡◌, ℕ, ◌+◌, ◌-◌, ◌/◌, ◌%◌, ◌<◌, ◌≤◌, ◌↔◌, sym, subst, ◌∙◌, arith, ℤ, pos, ◌<ℤ◌}
+use Rattle.std.proofs.Common.{◌≡◌, ℕ, ◌+◌, ◌-◌, ◌/◌, ◌%◌, ◌<◌, ◌≤◌, ◌↔◌, refl, sym, subst, ap, ◌∙◌, arith, ℤ, pos, ◌<ℤ◌}
 use Rattle.jiff.specs.Types.{Date}
-use Rattle.jiff.specs.Words.{epoch_day}
+use Rattle.jiff.specs.Words.{epoch_day, days_in_month}
 use Rattle.jiff_core.proofs.SignedLemmas.{signed_arith}
 use Rattle.itip_moment.specs.Years.{IsDayNumber}
 use Rattle.itip_moment.proofs.Calendar as calendar
-use Rattle.itip_moment.proofs.Calendar.{same_date, epoch_day-in_years}
-use Rattle.itip_recur.specs.Calendar.{days_from_zero, year_number, month_number, month_of_year, day_of_month}
+use Rattle.itip_moment.proofs.Calendar.{same_date, calendar_date, epoch_day-in_years}
+use Rattle.itip_recur.specs.Calendar.{days_from_zero, year_number, month_number, month_of_year, day_of_month, IsNoDate, IsDayOfDate}
 use Rattle.itip_recur.proofs.Dates.{date_of-IsPlain, first_of_month}
 
 -- the calendar's date of the day
@@ -21,7 +21,7 @@ date_is date day in_years same =
     let is = same_date date day in_years same in
     record { year = is.year; month = is.month; day_of_month = is.day_of_month }
 
-year_high : (day : ℤ) → IsDayNumber day → year_number day ≤ 9999
+pub year_high : (day : ℤ) → IsDayNumber day → year_number day ≤ 9999
 unfolding days_from_zero
 year_high day in_years = calendar.year_high day in_years
 
@@ -51,3 +51,36 @@ IsFirst-before month date z h =
     let positive = h.positive in
     let number : month_number z ≡ month = omega arith in
     first_of_month z month z_in number (sym is.day_of_month ∙ h.day_is)
+
+a_date : (day : ℤ) → IsDayNumber day → (date : Date) × IsDateOf day date × (epoch_day date ≡ day)
+unfolding days_from_zero
+a_date day day_in =
+    let at = calendar_date day day_in in
+    (at.0, record { year = at.1.year; month = at.1.month; day_of_month = at.1.day_of_month }, at.1.number)
+
+-- no month has more days than its length
+pub no_date : (year month day : ℕ) → days_in_month (pos year) month < day → IsNoDate year month day
+no_date year month day long x x_in has =
+    let at = a_date x x_in in
+    let same_year : at.0.year ≡ pos year = at.1.year ∙ ap pos has.year_is in
+    let same_month : at.0.month ≡ month = at.1.month ∙ has.month_is in
+    let same_day : at.0.day ≡ day = at.1.day_of_month ∙ has.day_is in
+    let high : at.0.day ≤ days_in_month (pos year) month = rw (same_year, same_month) at at.0.day_in.1 in
+    omega (arith, high, same_day)
+
+-- the number of a date is the one day that has it
+pub is_day_of_date : (year month day : ℕ) (date : Date) (z : ℤ) → date.year ≡ pos year → date.month ≡ month → date.day ≡ day → z ≡ epoch_day date → IsDayOfDate year month day z
+is_day_of_date year month day date z year_is month_is day_is number =
+    let z_in = subst IsDayNumber (sym number) (epoch_day-in_years date year year_is) in
+    let is = date_is date z z_in (sym number) in
+    record {
+      in_years = z_in;
+      has_date = record { year_is = omega (arith, signed_arith, is.year, year_is); month_is = sym is.month ∙ month_is; day_is = sym is.day_of_month ∙ day_is };
+      one = λ x x_in has.
+          let at = a_date x x_in in
+          let same_year : at.0.year ≡ date.year = at.1.year ∙ (ap pos has.year_is ∙ sym year_is) in
+          let same_month : at.0.month ≡ date.month = at.1.month ∙ (has.month_is ∙ sym month_is) in
+          let same_day : at.0.day ≡ date.day = at.1.day_of_month ∙ (has.day_is ∙ sym day_is) in
+          let same : epoch_day at.0 ≡ epoch_day date = rw (same_year, same_month, same_day) refl in
+          sym at.2 ∙ (same ∙ sym number);
+    }

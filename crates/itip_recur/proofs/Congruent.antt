@@ -25,3 +25,11 @@ pub wraps : (from wanted d : ℕ) → wanted < d → (from + (d - from % d) + wa
 wraps from wanted d lt =
     let next : from + (d - from % d) + wanted ≡ (from / d + 1) * d + wanted = omega arith in
     rw next (mod-mul-add (from / d + 1) d wanted lt)
+
+-- between a number and the next with its residue there is none with it
+pub between : (n m d : ℕ) → 0 < d → n < m → m < n + d → m % d ≡ n % d → ⊥
+between n m d positive low high same =
+    elim (cases_lt (n / d) (m / d)) [
+      | inl above ↦ let product : d * (n / d + 1) ≤ d * (m / d) = mul-le-mul_left d (omega arith) in absurd (omega arith)
+      | inr below ↦ let product : d * (m / d) ≤ d * (n / d) = mul-le-mul_left d below in absurd (omega arith)
+    ]

@@ -26,7 +26,7 @@ next_date-IsPlain d h =
           ] refl
     ]
 
-nth_date-IsPlain : (n : ℕ) → IsPlain (nth_date n)
+pub nth_date-IsPlain : (n : ℕ) → IsPlain (nth_date n)
 unfolding nth_date
 nth_date-IsPlain zero = record { month_low = omega arith; month_high = omega arith; day_low = omega arith }
 nth_date-IsPlain (suc n) = next_date-IsPlain (nth_date n) (nth_date-IsPlain n)

@@ -20,5 +20,6 @@ pub mod OneSeries
 pub mod InMonth
 pub mod WaitDays
 pub mod UnitWalks
+pub mod Anniversaries
 pub mod Ascents
 pub mod PeriodWalks

@@ -1,5 +1,5 @@
 -- The numbers of units don't fall from day to day.
-use Rattle.std.proofs.Common.{◌≡◌, ◌+◌, ◌≤◌, inl, inr, ap, arith, ℤ, pos, ◌+ℤ◌, ◌≤ℤ◌}
+use Rattle.std.proofs.Common.{◌≡◌, ◌+◌, ◌^◌, ◌<◌, ◌≤◌, inl, inr, ap, arith, ℤ, pos, ◌+ℤ◌, ◌≤ℤ◌}
 use Rattle.std.proofs.lemmas.Int.{by_lt_z}
 use Rattle.jiff_core.specs.declared.civil.weekday.Weekday.{Weekday}
 use Rattle.jiff_core.proofs.SignedLemmas.{signed_arith}
@@ -9,6 +9,7 @@ use Rattle.itip_recur.specs.declared.rule.Frequency.TheVariants.{Daily, Weekly, 
 use Rattle.itip_recur.specs.Calendar.{days_from_zero, month_number}
 use Rattle.itip_recur.specs.Pattern.{unit_number}
 use Rattle.itip_recur.proofs.Dates.{date_of-IsPlain, pos-days_from_zero, later_date, month_near, year_near}
+use Rattle.itip_recur.proofs.CalendarDays.{year_high}
 
 month_number-rises : (a b : ℤ) → IsDayNumber a → IsDayNumber b → a ≤ℤ b → month_number a ≤ month_number b
 month_number-rises a b a_in b_in le =
@@ -36,3 +37,11 @@ unit_number-near (Weekly d) w x y x_in y_in next =
     omega arith
 unit_number-near (Monthly d) w x y x_in y_in next = month_near x y x_in y_in next
 unit_number-near (Yearly d) w x y x_in y_in next = year_near x y x_in y_in next
+
+pub unit_number-small : (f : Frequency) (w : Weekday) (x : ℤ) → IsDayNumber x → unit_number f w x < 2 ^ 22
+unit_number-small Daily w x x_in = omega (arith, signed_arith, pos-days_from_zero x x_in)
+unit_number-small (Weekly d) w x x_in =
+    let days : days_from_zero x < 3_652_425 = omega (arith, signed_arith, pos-days_from_zero x x_in) in
+    omega arith
+unit_number-small (Monthly d) w x x_in = omega (arith, year_high x x_in, (date_of-IsPlain x).month_high)
+unit_number-small (Yearly d) w x x_in = omega (arith, year_high x x_in)

@@ -1,9 +1,9 @@
 -- Days that can be passed over.
-use Rattle.std.proofs.Common.{◌≡◌, ℕ, ◌+◌, ◌-◌, ◌*◌, ◌/◌, ◌%◌, ◌<◌, ◌≤◌, subst, arith, ℤ, pos, ◌+ℤ◌, ◌<ℤ◌, ◌≤ℤ◌}
+use Rattle.std.proofs.Common.{◌≡◌, ℕ, ◌+◌, ◌-◌, ◌%◌, ◌<◌, ◌≤◌, subst, arith, ℤ, pos, ◌+ℤ◌, ◌≤ℤ◌}
 use Rattle.std.proofs.lemmas.Int.{by_lt_z}
 use Rattle.jiff_core.proofs.SignedLemmas.{signed_arith}
 use Rattle.itip_moment.specs.Years.{IsDayNumber}
-use Rattle.itip_recur.specs.Calendar.{days_from_zero, weekday_number, day_of_month, month_length}
+use Rattle.itip_recur.specs.Calendar.{weekday_number, day_of_month, month_length}
 use Rattle.itip_recur.proofs.Dates.{pos-days_from_zero}
 use Rattle.itip_recur.specs.Waits.{IsNone, IsWait}
 use Rattle.itip_recur.proofs.InMonth.{IsInMonth, in_month, pos-days_from_zero-low}

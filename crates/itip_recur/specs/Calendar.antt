@@ -1,7 +1,8 @@
 -- The weekday, the week, the month and the year of a day, which is given by its number from 1970-01-01 (Gregorian calendar, our own form).
-use Rattle.std.specs.Prelude.{ℕ, ◌+◌, ◌-◌, ◌*◌, ◌/◌, ◌%◌, ℤ, pos, neg_ℤ, ◌+ℤ◌, unsigned_abs}
+use Rattle.std.specs.Prelude.{◌≡◌, ℕ, ◌+◌, ◌-◌, ◌*◌, ◌/◌, ◌%◌, ℤ, pos, neg_ℤ, ◌+ℤ◌, unsigned_abs}
 use Rattle.jiff.specs.Words.{days_in_month, monday_zero, IsBetween}
 use Rattle.jiff_core.specs.declared.civil.weekday.Weekday.{Weekday}
+use Rattle.itip_moment.specs.Years.{IsDayNumber}
 use Rattle.itip_moment.specs.Written.{YearMonthDay, nth_date}
 
 -- days from 0000-01-01
@@ -41,3 +42,19 @@ month_length day = days_in_month (pos (year_number day)) (month_of_year day)
 -- a day of the calendar, or the end of it: the day after 9999-12-31
 abbrev pub IsDayOrEnd : ℤ → Type 0
 IsDayOrEnd day = IsBetween (neg_ℤ (pos 719_528)) (pos 2_932_897) day
+
+-- the day has this year, month and day of the month
+pub record HasDate (year month day_in_month : ℕ) (day : ℤ) : Type 0 where
+  pub year_is : year_number day ≡ year
+  pub month_is : month_of_year day ≡ month
+  pub day_is : day_of_month day ≡ day_in_month
+
+-- no day has this date
+abbrev pub IsNoDate : ℕ → ℕ → ℕ → Type 0
+IsNoDate year month day_in_month = (day : ℤ) → IsDayNumber day → HasDate year month day_in_month day → ⊥
+
+-- the one day with this date
+pub record IsDayOfDate (year month day_in_month : ℕ) (day : ℤ) : Type 0 where
+  pub in_years : IsDayNumber day
+  pub has_date : HasDate year month day_in_month day
+  pub one : (other : ℤ) → IsDayNumber other → HasDate year month day_in_month other → other ≡ day

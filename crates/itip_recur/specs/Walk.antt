@@ -1,5 +1,5 @@
 -- What the walk over the days of a rule finds (our own form).
-use Rattle.std.specs.Prelude.{◌≡◌, ◌≢◌, ℕ, ◌+◌, ◌%◌, ◌^◌, ◌<◌, ◌≤◌, List, length, ℤ, ◌≤ℤ◌, ◌<ℤ◌}
+use Rattle.std.specs.Prelude.{◌≡◌, ◌≢◌, ◌↔◌, ℕ, ◌+◌, ◌%◌, ◌^◌, ◌<◌, ◌≤◌, List, length, ℤ, ◌≤ℤ◌, ◌<ℤ◌}
 use Rattle.std.specs.List.{Contains}
 use Rattle.std.specs.declared.cmp.Ordering.TheVariants.{Greater}
 use Rattle.itip_moment.specs.declared.day.Day.{Day}
@@ -53,3 +53,11 @@ pub record IsUnitFrom (rule : Rule) (start day : ℤ) (unit : ℕ) (first : ℤ)
   pub high : IsDayNumber first → unit_number rule.frequency rule.week_start first ≤ unit
   pub small : unit < 2 ^ 22 + 2 ^ 16
   pub congruent : unit % rule.interval ≡ unit_number rule.frequency rule.week_start start % rule.interval
+
+-- the days before `first` are those of the units before this one
+abbrev pub IsFirstDay : Rule → ℕ → ℤ → Type 0
+IsFirstDay rule unit first = (day : ℤ) → IsDayNumber day → (day <ℤ first) ↔ (unit_number rule.frequency rule.week_start day < unit)
+
+-- the days from `from` on and before `stop` lie in the unit with this number
+abbrev pub IsInUnit : Rule → ℕ → ℤ → ℤ → Type 0
+IsInUnit rule unit from stop = (day : ℤ) → from ≤ℤ day → day <ℤ stop → unit_number rule.frequency rule.week_start day ≡ unit

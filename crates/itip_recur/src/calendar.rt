@@ -1,9 +1,9 @@
 //! The weekday, the week, the month and the year of a day by its number.
-ghost use Rattle.std.specs.Prelude.{◌≡◌, ◌<◌, ◌≤◌, ◌↔◌, ◌*◌, ◌+◌, ◌-◌, ◌/◌, ◌%◌, ◌^◌, ℤ, pos, ◌<ℤ◌, ◌≤ℤ◌, ◌+ℤ◌};
+ghost use Rattle.std.specs.Prelude.{◌≡◌, ◌<◌, ◌≤◌, ◌↔◌, ◌*◌, ◌+◌, ◌-◌, ◌/◌, ◌%◌, ◌^◌, ℤ, pos, ◌<ℤ◌, ◌≤ℤ◌, ◌+ℤ◌, MatchOption};
 ghost use Rattle.itip_moment.specs.Years.{IsDayNumber};
 ghost use Rattle.std.specs.Int.{IsInRange};
 ghost use Rattle.jiff.specs.Words.{monday_zero, days_in_month};
-ghost use Rattle.itip_recur.specs.Calendar.{days_from_zero, weekday_number, week_number, year_number, month_of_year, month_number, day_of_month, month_length, IsDayOrEnd};
+ghost use Rattle.itip_recur.specs.Calendar.{days_from_zero, weekday_number, week_number, year_number, month_of_year, month_number, day_of_month, month_length, IsDayOrEnd, IsNoDate, IsDayOfDate};
 
 use crate::Weekday;
 use itip_moment::Day;
@@ -48,15 +48,18 @@ impl CalendarDay {
         }
     }
 
-    /// The date so many days later. It is worked out anew only in another month.
+    /// The date so many days later. It is worked out anew only behind the first of the next month.
     pub(crate) fn later(&self, days: i32) -> CalendarDay
         requires positive { pos 0 <ℤ days }
         requires high { days ≤ℤ pos 31 }
         requires in_years { IsDayNumber (self.now.number +ℤ days) }
         ensures { result.number ≡ self.now.number +ℤ days }
     {
-        if days <= (self.days_in_month - self.day) as i32 {
+        let left = (self.days_in_month - self.day) as i32;
+        if days <= left {
             self.later_in_month(days as u8)
+        } else if days == left + 1 {
+            self.first_of_next_month()
         } else {
             CalendarDay::new(self.number + days)
         }
@@ -76,6 +79,21 @@ impl CalendarDay {
         }
     }
 
+    fn first_of_next_month(&self) -> CalendarDay
+        requires in_years { IsDayNumber (self.now.number +ℤ pos (self.now.days_in_month + 1 - self.now.day)) }
+        ensures { result.number ≡ self.now.number +ℤ pos (self.now.days_in_month + 1 - self.now.day) }
+    {
+        let days = self.days_in_month + 1 - self.day;
+        let (year, month) = month_behind(self.year, self.month);
+        CalendarDay {
+            number: self.number + days as i32,
+            year,
+            month,
+            day: 1,
+            days_in_month: days_in_month(year, month),
+        }
+    }
+
     pub(crate) fn month_number(&self) -> u32
         ensures { result ≡ month_number self.now.number }
     {
@@ -83,13 +101,57 @@ impl CalendarDay {
     }
 }
 
+// The next month, with its year.
+fn month_behind(year: u32, month: u8) -> (u32, u8)
+    requires year_in { year < 10_000 }
+    requires month_in { month ≤ 12 }
+    ensures number { 12 * result.0 + result.1 ≡ 12 * year + month + 1 }
+    ensures month { IsInRange 1 12 result.1 }
+{
+    if month < 12 {
+        (year, month + 1)
+    } else {
+        (year + 1, 1)
+    }
+}
+
 fn days_in_month(year: u32, month: u8) -> u8
     requires year_in { year < 10_000 }
     requires month_in { IsInRange 1 12 month }
     ensures value { result ≡ days_in_month (pos year) month }
+    ensures low { 28 ≤ result }
     ensures high { result ≤ 31 }
 {
     civil::days_in_month(year as i16, month)
+}
+
+/// The day with this date, where the month has so many days.
+pub(crate) fn day_of_date(year: u32, month: u8, day: u8) -> Option<i32>
+    requires year_in { year < 10_000 }
+    requires month_in { IsInRange 1 12 month }
+    requires day_in { 1 ≤ day }
+    ensures { MatchOption result (IsNoDate year month day) (IsDayOfDate year month day) }
+{
+    if day > days_in_month(year, month) {
+        return None;
+    }
+    let date = dated(year, month, day);
+    Some(date.to_unix_epoch_day())
+}
+
+fn dated(year: u32, month: u8, day: u8) -> Date
+    requires year_in { year < 10_000 }
+    requires month_in { IsInRange 1 12 month }
+    requires day_in { IsInRange 1 (days_in_month (pos year) month) day }
+    ensures year { result.year ≡ pos year }
+    ensures month { result.month ≡ month }
+    ensures day { result.day ≡ day }
+{
+    Date {
+        year: year as i16,
+        month,
+        day,
+    }
 }
 
 #[tactic(auto, unfolding(crate::specs::Calendar::days_from_zero))]

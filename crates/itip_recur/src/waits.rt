@@ -88,8 +88,6 @@ fn wait_in_year(days: &YearDays, start: &CalendarDay, day: &CalendarDay) -> i32
     ensures wait { IsWait (IsYearDay days.now start.now.number) day.now.number result }
 {
     match days {
-        YearDays::OfStart if day.month != start.month => rest_of_month(day),
-        YearDays::OfStart => wait_for_day(start.day, day),
         YearDays::Listed { months, .. } if !is_in_some_month(months.as_slice(), day) => {
             rest_of_month(day)
         }

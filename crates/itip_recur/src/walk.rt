@@ -1,14 +1,15 @@
 //! The walk over the days of a rule.
 ghost use Rattle.std.specs.Prelude.{◌≡◌, ◌≢◌, ◌↔◌, ◌+◌, ◌%◌, ◌<◌, ◌^◌, ℤ, pos, ◌≤ℤ◌, ◌<ℤ◌, ◌⊎◌, MatchOption};
 ghost use Rattle.itip_moment.specs.Years.{IsDayNumber};
-ghost use Rattle.itip_recur.specs.Calendar.{IsDayOrEnd};
-ghost use Rattle.itip_recur.specs.Pattern.{unit_number, InPattern, IsSelected, IsWeekDay};
-ghost use Rattle.itip_recur.specs.Walk.{IsNextDay, IsNoDay, IsUnitFrom};
+ghost use Rattle.itip_recur.specs.Calendar.{IsDayOrEnd, year_number};
+ghost use Rattle.itip_recur.specs.Pattern.{unit_number, InPattern, IsSelected, IsWeekDay, IsYearDay};
+ghost use Rattle.itip_recur.specs.Walk.{IsNextDay, IsNoDay, IsUnitFrom, IsFirstDay, IsInUnit};
 ghost use Rattle.itip_recur.specs.Waits.{IsNone, IsFirst};
+ghost use Rattle.itip_recur.specs.declared.rule.YearDays.TheVariants.{OfStart};
 
-use crate::calendar::CalendarDay;
+use crate::calendar::{CalendarDay, day_of_date};
 use crate::pattern::{first_day, is_week_day, next_congruent, unit_number};
-use crate::rule::{Frequency, Rule, WeekDays};
+use crate::rule::{Frequency, Rule, WeekDays, YearDays};
 use crate::waits::wait;
 
 /// A rule, the date of its start, and which units are its own.
@@ -49,17 +50,20 @@ impl<'a> Walk<'a> {
             (IsNoDay self.now.rule.now self.now.start.number from end)
             (IsNextDay self.now.rule.now self.now.start.number from end) }
     {
-        let mut day = from;
-        while day < end {
-            let unit = self.next_unit(day);
-            if unit.day >= end {
-                break;
-            }
-            let stop = earlier(first_day(self.rule, unit.number + 1), end);
-            if let Some(found) = first_selected(&self.rule.frequency, &self.start, unit.day, stop) {
+        if from >= end {
+            return None;
+        }
+        let mut unit = self.next_unit(from);
+        while unit.day < end {
+            let next = first_day(self.rule, unit.number + 1);
+            let stop = earlier(next, end);
+            if let Some(found) = first_selected(self.rule, &self.start, unit, stop) {
                 return Some(found);
             }
-            day = stop;
+            if next >= end {
+                break;
+            }
+            unit = self.unit_behind(unit, next);
         }
         None
     }
@@ -79,6 +83,27 @@ impl<'a> Walk<'a> {
         };
         UnitFrom { number, day }
     }
+
+    // The next unit of the rule's own, with its first day; `next` is the day behind this unit. Its number is known
+    // from this one's, so no date is worked out.
+    fn unit_behind(&self, unit: UnitFrom, next: i32) -> UnitFrom
+        requires day_in { IsDayNumber unit.day }
+        requires next_in { IsDayOrEnd next }
+        requires number { unit_number self.now.rule.now.frequency self.now.rule.now.week_start unit.day ≡ unit.number }
+        requires congruent { unit.number % self.now.rule.now.interval ≡ unit_number self.now.rule.now.frequency self.now.rule.now.week_start self.now.start.number % self.now.rule.now.interval }
+        requires small { unit.number < 2 ^ 22 }
+        requires first { IsFirstDay self.now.rule.now (unit.number + 1) next }
+        ensures { IsUnitFrom self.now.rule.now self.now.start.number next result.number result.day }
+    {
+        let interval = self.rule.interval as u32;
+        let number = unit.number + interval;
+        let day = if interval == 1 {
+            next
+        } else {
+            first_day(self.rule, number)
+        };
+        UnitFrom { number, day }
+    }
 }
 
 fn earlier(day: i32, other: i32) -> i32
@@ -89,19 +114,41 @@ fn earlier(day: i32, other: i32) -> i32
     if day < other { day } else { other }
 }
 
-// The first day from `from` on and before `stop` that the frequency selects in its unit.
-fn first_selected(frequency: &Frequency, start: &CalendarDay, from: i32, stop: i32) -> Option<i32>
+// The first day of a unit, from its day on and before `stop`, that the rule selects in it.
+fn first_selected(rule: &Rule, start: &CalendarDay, unit: UnitFrom, stop: i32) -> Option<i32>
+    requires from_in { IsDayNumber unit.day }
+    requires stop_in { IsDayOrEnd stop }
+    requires before { unit.day <ℤ stop }
+    requires in_unit { IsInUnit rule.now unit.number unit.day stop }
+    ensures { MatchOption result
+        (IsNone (IsSelected rule.now.frequency start.now.number) unit.day stop)
+        (IsFirst (IsSelected rule.now.frequency start.now.number) unit.day stop) }
+{
+    match &rule.frequency {
+        Frequency::Daily => Some(unit.day),
+        Frequency::Weekly(days) => first_week_day(days, start.number, unit.day, stop),
+        Frequency::Yearly(YearDays::OfStart) => {
+            first_anniversary(start, unit.number, unit.day, stop)
+        }
+        frequency => first_date(frequency, start, unit.day, stop),
+    }
+}
+
+// The day of this year with the start's month and day of the month, where it lies from `from` on and before `stop`.
+fn first_anniversary(start: &CalendarDay, year: u32, from: i32, stop: i32) -> Option<i32>
     requires from_in { IsDayNumber from }
     requires stop_in { IsDayOrEnd stop }
     requires before { from <ℤ stop }
+    requires in_year { (x : ℤ) → from ≤ℤ x → x <ℤ stop → year_number x ≡ year }
     ensures { MatchOption result
-        (IsNone (IsSelected frequency.now start.now.number) from stop)
-        (IsFirst (IsSelected frequency.now start.now.number) from stop) }
+        (IsNone (IsYearDay OfStart start.now.number) from stop)
+        (IsFirst (IsYearDay OfStart start.now.number) from stop) }
 {
-    match frequency {
-        Frequency::Daily => Some(from),
-        Frequency::Weekly(days) => first_week_day(days, start.number, from, stop),
-        frequency => first_date(frequency, start, from, stop),
+    let day = day_of_date(year, start.month, start.day)?;
+    if from <= day && day < stop {
+        Some(day)
+    } else {
+        None
     }
 }
 

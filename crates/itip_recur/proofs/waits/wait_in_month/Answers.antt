@@ -1,4 +1,4 @@
-use Rattle.std.proofs.Common.{◌≤ℤ◌, ◌+ℤ◌, ℤ, pos, arith, FitsSigned, w32, to_z-of_z}
+use Rattle.std.proofs.Common.{◌+ℤ◌, ℤ, pos, arith, FitsSigned, w32, to_z-of_z}
 use Rattle.jiff_core.proofs.SignedLemmas.{signed_arith}
 use Rattle.itip_recur.specs.Pattern.{IsMonthDay}
 use Rattle.itip_recur.specs.Waits.{IsNone}

@@ -1,83 +1,194 @@
-use Rattle.std.proofs.Common.{◌≡◌, ◌⊎◌, ◌≤ℤ◌, arith, FitsSigned, w32, to_z, to_z-of_z}
+use Rattle.std.proofs.Common.{◌≡◌, ◌⊎◌, ◌≤ℤ◌, ◌<ℤ◌, inl, inr, arith, FitsSigned, w32, to_z-of_z, subst, pos}
 use Rattle.jiff_core.proofs.SignedLemmas.{signed_arith}
 use Rattle.itip_recur.specs.Pattern.{IsSelected}
-use Rattle.itip_recur.specs.Calendar.{IsDayOrEnd}
-use Rattle.itip_recur.specs.Walk.{IsNoDay}
+use Rattle.itip_recur.specs.Walk.{IsNoDay, IsUnitFrom}
 use Rattle.itip_recur.specs.Waits.{IsNone, IsFirst}
-use Rattle.itip_recur.proofs.UnitWalks.{passes, finds, none_left, closer, starts_before}
+use Rattle.itip_recur.proofs.Units.{unit_number-small}
+use Rattle.itip_recur.proofs.Walks.{IsNoDay-up_to}
+use Rattle.itip_recur.proofs.UnitWalks.{passes, finds, in_unit, none_left, closer, starts_before, stop_in_years, goes_on, IsUnitFrom-day, IsUnitFrom-number}
 use Rattle.itip_recur.proofs.walk.Walk.next_day.Goals as goal
 
 pub first_selected-requires-clause-before : goal.first_selected-requires-clause-before
 first_selected-requires-clause-before c =
     let walk = c.args.self.now in
-    let unit = c.next_unit-unit.result in
-    let end : FitsSigned w32 c.args.end = c.ranges.end in
-    let day : FitsSigned w32 unit.day = omega (arith, signed_arith, c.next_unit-unit.ensures.bounds) in
-    let next : FitsSigned w32 c.first_day.result = omega (arith, signed_arith, c.first_day.ensures.bounds) in
-    let stop : FitsSigned w32 c.earlier-stop.result = omega (arith, signed_arith) in
-    let one : (c.earlier-stop.result ≡ c.first_day.result) ⊎ (c.earlier-stop.result ≡ c.args.end) = simp to_z-of_z at c.earlier-stop.ensures.one in
-    simp to_z-of_z (starts_before walk.rule.now walk.start.number (to_z w32 c.loop-day.day-bits) unit.number unit.day c.first_day.result c.args.end c.earlier-stop.result c.next_unit-unit.ensures c.first_day.ensures.before (omega (arith, signed_arith, c.if-unit-end.false)) c.requires.end_in one)
+    let rule = walk.rule.now in
+    let start = walk.start.number in
+    let unit = c.loop-unit.unit in
+    let from_fits : FitsSigned w32 c.args.from = c.ranges.from in
+    let end_fits : FitsSigned w32 c.args.end = c.ranges.end in
+    let here : IsUnitFrom rule start c.args.from unit.number unit.day = simp to_z-of_z at c.loop-unit.invariant.unit in
+    let before_end : unit.day <ℤ c.args.end = omega (arith, signed_arith, c.loop-unit-test.true) in
+    let next = c.first_day-next.result in
+    let begins = c.first_day-next.ensures in
+    let next_fits : FitsSigned w32 next = omega (arith, signed_arith, begins.bounds) in
+    let stop = c.earlier-stop.result in
+    let one : (stop ≡ next) ⊎ (stop ≡ c.args.end) = simp to_z-of_z at c.earlier-stop.ensures.one in
+    let bound : stop ≤ℤ next = simp to_z-of_z at c.earlier-stop.ensures.bound in
+    let stop_in = stop_in_years next c.args.end stop begins.bounds c.requires.end_in one in
+    let stop_fits : FitsSigned w32 stop = omega (arith, signed_arith, stop_in) in
+    rw to_z-of_z (starts_before rule start c.args.from unit.number unit.day next c.args.end stop here begins.before before_end c.requires.end_in one)
+
+pub first_selected-requires-clause-in_unit : goal.first_selected-requires-clause-in_unit
+first_selected-requires-clause-in_unit c =
+    let walk = c.args.self.now in
+    let rule = walk.rule.now in
+    let start = walk.start.number in
+    let unit = c.loop-unit.unit in
+    let from_fits : FitsSigned w32 c.args.from = c.ranges.from in
+    let end_fits : FitsSigned w32 c.args.end = c.ranges.end in
+    let here : IsUnitFrom rule start c.args.from unit.number unit.day = simp to_z-of_z at c.loop-unit.invariant.unit in
+    let before_end : unit.day <ℤ c.args.end = omega (arith, signed_arith, c.loop-unit-test.true) in
+    let next = c.first_day-next.result in
+    let begins = c.first_day-next.ensures in
+    let next_fits : FitsSigned w32 next = omega (arith, signed_arith, begins.bounds) in
+    let stop = c.earlier-stop.result in
+    let one : (stop ≡ next) ⊎ (stop ≡ c.args.end) = simp to_z-of_z at c.earlier-stop.ensures.one in
+    let bound : stop ≤ℤ next = simp to_z-of_z at c.earlier-stop.ensures.bound in
+    let stop_in = stop_in_years next c.args.end stop begins.bounds c.requires.end_in one in
+    let stop_fits : FitsSigned w32 stop = omega (arith, signed_arith, stop_in) in
+    rw to_z-of_z (in_unit rule start c.args.from unit.number unit.day next stop here begins.before bound stop_in)
 
 pub returns-in-Some : goal.returns-in-Some
 returns-in-Some c =
     let walk = c.args.self.now in
-    let unit = c.next_unit-unit.result in
-    let from : FitsSigned w32 c.args.from = c.ranges.from in
-    let end : FitsSigned w32 c.args.end = c.ranges.end in
-    let first_day : FitsSigned w32 unit.day = omega (arith, signed_arith, c.next_unit-unit.ensures.bounds) in
-    let next : FitsSigned w32 c.first_day.result = omega (arith, signed_arith, c.first_day.ensures.bounds) in
-    let stop : FitsSigned w32 c.earlier-stop.result = omega (arith, signed_arith) in
-    let bound : c.earlier-stop.result ≤ℤ c.first_day.result = simp to_z-of_z at c.earlier-stop.ensures.bound in
-    let other : c.earlier-stop.result ≤ℤ c.args.end = simp to_z-of_z at c.earlier-stop.ensures.other_bound in
-    let low : c.args.from ≤ℤ to_z w32 c.loop-day.day-bits = simp to_z-of_z at c.loop-day.invariant.not_before in
-    let none : IsNoDay walk.rule.now walk.start.number c.args.from (to_z w32 c.loop-day.day-bits) = simp to_z-of_z at c.loop-day.invariant.none in
-    let is : IsFirst (IsSelected walk.rule.now.frequency walk.start.number) unit.day c.earlier-stop.result c.in-Some.found = simp to_z-of_z at c.in-Some.ensures in
-    let stop_in : IsDayOrEnd c.earlier-stop.result = (omega (arith, signed_arith, is.not_before, is.before_stop, c.next_unit-unit.ensures.bounds.0), omega (arith, signed_arith, other, c.requires.end_in.1)) in
-    let found : FitsSigned w32 c.in-Some.found = omega (arith, signed_arith, is.not_before, is.before_stop, c.next_unit-unit.ensures.bounds.0, stop_in.1) in
-    rw to_z-of_z (finds walk.rule.now walk.start.number (to_z w32 c.loop-day.day-bits) unit.number unit.day c.first_day.result c.earlier-stop.result c.next_unit-unit.ensures c.first_day.ensures.before bound stop_in c.args.from c.args.end c.in-Some.found low other none is)
+    let rule = walk.rule.now in
+    let start = walk.start.number in
+    let unit = c.loop-unit.unit in
+    let from_fits : FitsSigned w32 c.args.from = c.ranges.from in
+    let end_fits : FitsSigned w32 c.args.end = c.ranges.end in
+    let here : IsUnitFrom rule start c.args.from unit.number unit.day = simp to_z-of_z at c.loop-unit.invariant.unit in
+    let before_end : unit.day <ℤ c.args.end = omega (arith, signed_arith, c.loop-unit-test.true) in
+    let next = c.first_day-next.result in
+    let begins = c.first_day-next.ensures in
+    let next_fits : FitsSigned w32 next = omega (arith, signed_arith, begins.bounds) in
+    let stop = c.earlier-stop.result in
+    let one : (stop ≡ next) ⊎ (stop ≡ c.args.end) = simp to_z-of_z at c.earlier-stop.ensures.one in
+    let bound : stop ≤ℤ next = simp to_z-of_z at c.earlier-stop.ensures.bound in
+    let stop_in = stop_in_years next c.args.end stop begins.bounds c.requires.end_in one in
+    let stop_fits : FitsSigned w32 stop = omega (arith, signed_arith, stop_in) in
+    let other : stop ≤ℤ c.args.end = simp to_z-of_z at c.earlier-stop.ensures.other_bound in
+    let is : IsFirst (IsSelected rule.frequency start) unit.day stop c.in-Some.found = simp to_z-of_z at c.in-Some.ensures in
+    let found : FitsSigned w32 c.in-Some.found = omega (arith, signed_arith, is.not_before, is.before_stop, here.bounds, stop_in) in
+    rw to_z-of_z (finds rule start c.args.from unit.number unit.day next stop here begins.before bound stop_in c.args.end c.in-Some.found other is)
 
-pub loop-day-smaller : goal.loop-day-smaller
-loop-day-smaller c =
+pub unit_behind-unit-requires-clause-number : goal.unit_behind-unit-requires-clause-number
+unit_behind-unit-requires-clause-number c =
     let walk = c.args.self.now in
-    let unit = c.next_unit-unit.result in
-    let end : FitsSigned w32 c.args.end = c.ranges.end in
-    let day : FitsSigned w32 unit.day = omega (arith, signed_arith, c.next_unit-unit.ensures.bounds) in
-    let next : FitsSigned w32 c.first_day.result = omega (arith, signed_arith, c.first_day.ensures.bounds) in
-    let stop : FitsSigned w32 c.earlier-stop.result = omega (arith, signed_arith) in
-    let one : (c.earlier-stop.result ≡ c.first_day.result) ⊎ (c.earlier-stop.result ≡ c.args.end) = simp to_z-of_z at c.earlier-stop.ensures.one in
-    let other : c.earlier-stop.result ≤ℤ c.args.end = simp to_z-of_z at c.earlier-stop.ensures.other_bound in
-    let before = starts_before walk.rule.now walk.start.number (to_z w32 c.loop-day.day-bits) unit.number unit.day c.first_day.result c.args.end c.earlier-stop.result c.next_unit-unit.ensures c.first_day.ensures.before (omega (arith, signed_arith, c.if-unit-end.false)) c.requires.end_in one in
-    simp to_z-of_z (closer c.args.end (to_z w32 c.loop-day.day-bits) c.earlier-stop.result (omega (arith, signed_arith, before, c.next_unit-unit.ensures.not_before)) other)
+    let rule = walk.rule.now in
+    let start = walk.start.number in
+    let unit = c.loop-unit.unit in
+    let from_fits : FitsSigned w32 c.args.from = c.ranges.from in
+    let end_fits : FitsSigned w32 c.args.end = c.ranges.end in
+    let here : IsUnitFrom rule start c.args.from unit.number unit.day = simp to_z-of_z at c.loop-unit.invariant.unit in
+    let before_end : unit.day <ℤ c.args.end = omega (arith, signed_arith, c.loop-unit-test.true) in
+    let day_in = IsUnitFrom-day rule start c.args.from unit.number unit.day c.args.end here before_end c.requires.end_in in
+    IsUnitFrom-number rule start c.args.from unit.number unit.day here day_in
 
-pub loop-day-preserved : goal.loop-day-preserved
-loop-day-preserved c =
+pub unit_behind-unit-requires-clause-small : goal.unit_behind-unit-requires-clause-small
+unit_behind-unit-requires-clause-small c =
     let walk = c.args.self.now in
-    let unit = c.next_unit-unit.result in
-    let from : FitsSigned w32 c.args.from = c.ranges.from in
-    let end : FitsSigned w32 c.args.end = c.ranges.end in
-    let day : FitsSigned w32 unit.day = omega (arith, signed_arith, c.next_unit-unit.ensures.bounds) in
-    let next : FitsSigned w32 c.first_day.result = omega (arith, signed_arith, c.first_day.ensures.bounds) in
-    let stop : FitsSigned w32 c.earlier-stop.result = omega (arith, signed_arith) in
-    let one : (c.earlier-stop.result ≡ c.first_day.result) ⊎ (c.earlier-stop.result ≡ c.args.end) = simp to_z-of_z at c.earlier-stop.ensures.one in
-    let bound : c.earlier-stop.result ≤ℤ c.first_day.result = simp to_z-of_z at c.earlier-stop.ensures.bound in
-    let other : c.earlier-stop.result ≤ℤ c.args.end = simp to_z-of_z at c.earlier-stop.ensures.other_bound in
-    let before = starts_before walk.rule.now walk.start.number (to_z w32 c.loop-day.day-bits) unit.number unit.day c.first_day.result c.args.end c.earlier-stop.result c.next_unit-unit.ensures c.first_day.ensures.before (omega (arith, signed_arith, c.if-unit-end.false)) c.requires.end_in one in
-    let low : c.args.from ≤ℤ to_z w32 c.loop-day.day-bits = simp to_z-of_z at c.loop-day.invariant.not_before in
-    let none : IsNoDay walk.rule.now walk.start.number c.args.from (to_z w32 c.loop-day.day-bits) = simp to_z-of_z at c.loop-day.invariant.none in
-    let unselected : IsNone (IsSelected walk.rule.now.frequency walk.start.number) unit.day c.earlier-stop.result = simp to_z-of_z at c.in_default.ensures in
-    let stop_in : IsDayOrEnd c.earlier-stop.result = (omega (arith, signed_arith, before, c.next_unit-unit.ensures.bounds.0), omega (arith, signed_arith, other, c.requires.end_in.1)) in
-    simp to_z-of_z (record {
-      in_years = stop_in;
-      not_before = omega (arith, signed_arith, low, before, c.next_unit-unit.ensures.not_before);
-      none = passes walk.rule.now walk.start.number (to_z w32 c.loop-day.day-bits) unit.number unit.day c.first_day.result c.earlier-stop.result c.next_unit-unit.ensures c.first_day.ensures.before bound stop_in c.args.from none unselected;
-    })
+    let rule = walk.rule.now in
+    let start = walk.start.number in
+    let unit = c.loop-unit.unit in
+    let from_fits : FitsSigned w32 c.args.from = c.ranges.from in
+    let end_fits : FitsSigned w32 c.args.end = c.ranges.end in
+    let here : IsUnitFrom rule start c.args.from unit.number unit.day = simp to_z-of_z at c.loop-unit.invariant.unit in
+    let before_end : unit.day <ℤ c.args.end = omega (arith, signed_arith, c.loop-unit-test.true) in
+    let day_in = IsUnitFrom-day rule start c.args.from unit.number unit.day c.args.end here before_end c.requires.end_in in
+    let number = IsUnitFrom-number rule start c.args.from unit.number unit.day here day_in in
+    omega (arith, number, unit_number-small rule.frequency rule.week_start unit.day day_in)
 
-pub returns-then-unit-end : goal.returns-then-unit-end
-returns-then-unit-end c =
+pub unit_behind-unit-requires-clause-first : goal.unit_behind-unit-requires-clause-first
+unit_behind-unit-requires-clause-first c =
     let walk = c.args.self.now in
-    let from : FitsSigned w32 c.args.from = c.ranges.from in
-    let end : FitsSigned w32 c.args.end = c.ranges.end in
-    let unit = c.next_unit-unit.result in
-    let day : FitsSigned w32 unit.day = omega (arith, signed_arith) in
-    let none : IsNoDay walk.rule.now walk.start.number c.args.from (to_z w32 c.loop-day.day-bits) = simp to_z-of_z at c.loop-day.invariant.none in
-    none_left walk.rule.now walk.start.number (to_z w32 c.loop-day.day-bits) unit.number unit.day c.args.from c.args.end c.next_unit-unit.ensures none (omega (arith, signed_arith, c.if-unit-end.true))
+    let rule = walk.rule.now in
+    let start = walk.start.number in
+    let unit = c.loop-unit.unit in
+    let from_fits : FitsSigned w32 c.args.from = c.ranges.from in
+    let end_fits : FitsSigned w32 c.args.end = c.ranges.end in
+    let next = c.first_day-next.result in
+    let begins = c.first_day-next.ensures in
+    let next_fits : FitsSigned w32 next = omega (arith, signed_arith, begins.bounds) in
+    rw to_z-of_z begins.before
+
+pub loop-unit-smaller : goal.loop-unit-smaller
+loop-unit-smaller c =
+    let walk = c.args.self.now in
+    let rule = walk.rule.now in
+    let start = walk.start.number in
+    let unit = c.loop-unit.unit in
+    let from_fits : FitsSigned w32 c.args.from = c.ranges.from in
+    let end_fits : FitsSigned w32 c.args.end = c.ranges.end in
+    let here : IsUnitFrom rule start c.args.from unit.number unit.day = simp to_z-of_z at c.loop-unit.invariant.unit in
+    let before_end : unit.day <ℤ c.args.end = omega (arith, signed_arith, c.loop-unit-test.true) in
+    let next = c.first_day-next.result in
+    let begins = c.first_day-next.ensures in
+    let next_fits : FitsSigned w32 next = omega (arith, signed_arith, begins.bounds) in
+    let day_in = IsUnitFrom-day rule start c.args.from unit.number unit.day c.args.end here before_end c.requires.end_in in
+    let number = IsUnitFrom-number rule start c.args.from unit.number unit.day here day_in in
+    let later : unit.day <ℤ next = (begins.before unit.day day_in).1 (omega (arith, number)) in
+    let behind = simp to_z-of_z at c.unit_behind-unit.ensures.not_before in
+    let bounds = c.unit_behind-unit.ensures.bounds in
+    closer (pos 2_932_897) unit.day c.unit_behind-unit.result.day (omega (arith, signed_arith, later, behind)) bounds.1
+
+pub loop-unit-preserved : goal.loop-unit-preserved
+loop-unit-preserved c =
+    let walk = c.args.self.now in
+    let rule = walk.rule.now in
+    let start = walk.start.number in
+    let unit = c.loop-unit.unit in
+    let from_fits : FitsSigned w32 c.args.from = c.ranges.from in
+    let end_fits : FitsSigned w32 c.args.end = c.ranges.end in
+    let here : IsUnitFrom rule start c.args.from unit.number unit.day = simp to_z-of_z at c.loop-unit.invariant.unit in
+    let before_end : unit.day <ℤ c.args.end = omega (arith, signed_arith, c.loop-unit-test.true) in
+    let next = c.first_day-next.result in
+    let begins = c.first_day-next.ensures in
+    let next_fits : FitsSigned w32 next = omega (arith, signed_arith, begins.bounds) in
+    let stop = c.earlier-stop.result in
+    let one : (stop ≡ next) ⊎ (stop ≡ c.args.end) = simp to_z-of_z at c.earlier-stop.ensures.one in
+    let bound : stop ≤ℤ next = simp to_z-of_z at c.earlier-stop.ensures.bound in
+    let stop_in = stop_in_years next c.args.end stop begins.bounds c.requires.end_in one in
+    let stop_fits : FitsSigned w32 stop = omega (arith, signed_arith, stop_in) in
+    let day_in = IsUnitFrom-day rule start c.args.from unit.number unit.day c.args.end here before_end c.requires.end_in in
+    let none : IsNone (IsSelected rule.frequency start) unit.day stop = simp to_z-of_z at c.in_default.ensures in
+    let passed : IsNoDay rule start c.args.from stop = passes rule start c.args.from unit.number unit.day next stop here begins.before bound stop_in none in
+    let number = IsUnitFrom-number rule start c.args.from unit.number unit.day here day_in in
+    let later : unit.day <ℤ next = (begins.before unit.day day_in).1 (omega (arith, number)) in
+    let whole : stop ≡ next = elim one [ inl e ↦ e | inr e ↦ absurd (omega (arith, signed_arith, e, bound, c.if-next-end.false)) ] in
+    let to_next : IsNoDay rule start c.args.from next = subst (IsNoDay rule start c.args.from) whole passed in
+    let behind : IsUnitFrom rule start next c.unit_behind-unit.result.number c.unit_behind-unit.result.day = simp to_z-of_z at c.unit_behind-unit.ensures in
+    simp to_z-of_z (record { unit = goes_on rule start c.args.from next c.unit_behind-unit.result.number c.unit_behind-unit.result.day (omega (arith, signed_arith, later, here.not_before)) to_next behind })
+
+pub returns-after-loop-unit : goal.returns-after-loop-unit
+returns-after-loop-unit c =
+    let walk = c.args.self.now in
+    let rule = walk.rule.now in
+    let start = walk.start.number in
+    let unit = c.loop-unit.unit in
+    let from_fits : FitsSigned w32 c.args.from = c.ranges.from in
+    let end_fits : FitsSigned w32 c.args.end = c.ranges.end in
+    let here : IsUnitFrom rule start c.args.from unit.number unit.day = simp to_z-of_z at c.loop-unit.invariant.unit in
+    none_left rule start c.args.from unit.number unit.day c.args.end here (omega (arith, signed_arith, c.loop-unit-test.false))
+
+pub returns-then-next-end : goal.returns-then-next-end
+returns-then-next-end c =
+    let walk = c.args.self.now in
+    let rule = walk.rule.now in
+    let start = walk.start.number in
+    let unit = c.loop-unit.unit in
+    let from_fits : FitsSigned w32 c.args.from = c.ranges.from in
+    let end_fits : FitsSigned w32 c.args.end = c.ranges.end in
+    let here : IsUnitFrom rule start c.args.from unit.number unit.day = simp to_z-of_z at c.loop-unit.invariant.unit in
+    let before_end : unit.day <ℤ c.args.end = omega (arith, signed_arith, c.loop-unit-test.true) in
+    let next = c.first_day-next.result in
+    let begins = c.first_day-next.ensures in
+    let next_fits : FitsSigned w32 next = omega (arith, signed_arith, begins.bounds) in
+    let stop = c.earlier-stop.result in
+    let one : (stop ≡ next) ⊎ (stop ≡ c.args.end) = simp to_z-of_z at c.earlier-stop.ensures.one in
+    let bound : stop ≤ℤ next = simp to_z-of_z at c.earlier-stop.ensures.bound in
+    let stop_in = stop_in_years next c.args.end stop begins.bounds c.requires.end_in one in
+    let stop_fits : FitsSigned w32 stop = omega (arith, signed_arith, stop_in) in
+    let none : IsNone (IsSelected rule.frequency start) unit.day stop = simp to_z-of_z at c.in_default.ensures in
+    let passed : IsNoDay rule start c.args.from stop = passes rule start c.args.from unit.number unit.day next stop here begins.before bound stop_in none in
+    let at_end : c.args.end ≤ℤ stop = elim one [ inl e ↦ omega (arith, signed_arith, e, c.if-next-end.true) | inr e ↦ omega (arith, signed_arith, e) ] in
+    IsNoDay-up_to rule start c.args.from stop c.args.end passed at_end
