@@ -1,6 +1,6 @@
 -- Which entries lie between two bounds.
-use Rattle.std.proofs.Common.{◌≡◌, ◌∙◌, ℕ, ℤ, ◌≤ℤ◌, ◌<ℤ◌, List, [], ◌∷◌, ◌++◌, map, refl, sym, ap, subst, ◌⊎◌, inl, inr, Bool, true, false, cond, not, ◌&&◌, arith, Option, Some, None, option_map, option_to_list}
-use Rattle.std.specs.List.{Contains, filter}
+use Rattle.std.proofs.Common.{◌≡◌, ◌∙◌, ℕ, ℤ, ◌≤ℤ◌, ◌<ℤ◌, List, [], ◌∷◌, ◌++◌, map, refl, sym, ap, subst, inl, inr, Bool, true, false, cond, not, ◌&&◌, arith, Option, Some, None, option_map, option_to_list}
+use Rattle.std.specs.List.{Contains}
 use Rattle.std.specs.Ordering.{nat_cmp, int_cmp, ordering_then, is_le, is_gt}
 use Rattle.std.specs.Cmp.{tied_itself}
 use Rattle.std.specs.Cmp.Lexicographic.{slice_cmp}
@@ -29,10 +29,9 @@ use Rattle.itip_view.specs.declared.days.RowDays.TheVariants.{One, Any}
 use Rattle.itip_view.specs.declared.row.Row.{Row}
 use Rattle.itip_view.specs.declared.window.Window.{Window}
 use Rattle.itip_view.proofs.Needing.{row_needs_days, row_needs_name}
-use Rattle.itip_desk.specs.Entries.{entry_cmp, entry_at, mark_of, mark_cmp, day_entries, attendee_entries, entries_of, IsNoted}
+use Rattle.itip_desk.specs.Entries.{entry_cmp, entry_at, mark_of, day_entries, attendee_entries, entries_of, IsNoted}
 use Rattle.itip_desk.specs.Index.{has, IsIndexOf}
 use Rattle.itip_desk.specs.declared.entry.Entry.{Entry}
-use Rattle.itip_desk.specs.declared.entry.Mark.{Mark}
 use Rattle.itip_desk.specs.declared.entry.Mark.TheVariants.{Day, Always, Attendee}
 use Rattle.itip_desk.proofs.Touching.{in_list}
 

@@ -1,12 +1,10 @@
 -- How sets of entries change.
-use Rattle.std.proofs.Common.{◌≡◌, ◌∙◌, ◌↔◌, ◌⊎◌, inl, inr, ℕ, List, [], ◌∷◌, ◌++◌, refl, sym, ap, subst, Bool, true, false, ◌||◌, ◌&&◌, not, cond, IsTrue}
-use Rattle.std.specs.List.{Contains, list_any, filter}
-use Rattle.std.specs.Ordering.{is_eq, eq_by_cmp}
+use Rattle.std.proofs.Common.{◌≡◌, ◌∙◌, ℕ, List, [], ◌++◌, refl, sym, ap, Bool, true, false, ◌||◌, ◌&&◌, not, cond}
+use Rattle.std.specs.Ordering.{is_eq}
 use Rattle.std.specs.Cmp.{eq_by_cmp_equiv}
 use Rattle.std.specs.BTreeMap.{is_at}
-use Rattle.std.specs.BTreeSet.{BTreeSet, contains, Updates, difference}
+use Rattle.std.specs.BTreeSet.{BTreeSet, Updates, difference}
 use Rattle.std.proofs.lemmas.Map.Views.{tells_apart, any-filter_same}
-use Rattle.itip_state.proofs.Members.{by_bool, none_in, cons_cases, cons_first, cons_later}
 use Rattle.std.proofs.lemmas.List.Folds.{list_any-append}
 use Rattle.itip_todo.specs.declared.property.Property.{Property}
 use Rattle.itip_message.specs.KeyParts.{uid_of}

@@ -1,5 +1,5 @@
 -- A UID outside what the index finds has no row.
-use Rattle.std.proofs.Common.{◌≡◌, ℕ, List}
+use Rattle.std.proofs.Common.{ℕ, List}
 use Rattle.std.specs.List.{Contains}
 use Rattle.itip_todo.specs.Table.{attendee_key}
 use Rattle.itip_message.specs.declared.item.Item.{Item}

@@ -1,9 +1,8 @@
 -- The index after a hearing.
 use Rattle.std.proofs.Common.{◌≡◌, ◌∙◌, ◌↔◌, ◌⊎◌, inl, inr, ℕ, List, [], ◌∷◌, ◌++◌, map, refl, sym, ap, subst, Bool, true, false, ◌||◌, ◌&&◌, not, cond, IsTrue, Option, Some, None, Result, Ok, Err, OnOk, OnErr, option_map, option_to_list, ◌+◌, ◌<◌, ◌≤◌, length, take, take_all, get_or, slice_index_or, arith}
 use Rattle.std.specs.Prelude.{MatchBool}
-use Rattle.std.specs.List.{Contains, list_any}
+use Rattle.std.specs.List.{Contains}
 use Rattle.std.specs.Ordering.{is_eq}
-use Rattle.std.specs.BTreeMap.{is_at}
 use Rattle.std.specs.BTreeSet.{BTreeSet}
 use Rattle.std.proofs.lemmas.List.{length-map, take_more}
 use Rattle.std.proofs.lemmas.List.Elements.{Contains-append_cases, Contains-append_left, Contains-append_right, Contains-push, Contains-push_cases}
@@ -16,7 +15,7 @@ use Rattle.itip_message.specs.Later.{IsLater}
 use Rattle.itip_message.specs.declared.item.Item.{Item}
 use Rattle.itip_message.specs.declared.key.Key.{Key}
 use Rattle.itip_message.specs.declared.key.Key.TheVariants.{Series}
-use Rattle.itip_state.specs.Kept.{IsBest, IsDead, IsKept, AreKept, ArePartOf, AreUidsOf}
+use Rattle.itip_state.specs.Kept.{IsBest, IsKept, AreKept, ArePartOf, AreUidsOf}
 use Rattle.itip_state.specs.Order.{IsState}
 use Rattle.itip_state.proofs.Best.{not_later_itself}
 use Rattle.itip_state.proofs.Members.{by_bool, none_in, cons_cases, cons_first, cons_later}
@@ -24,7 +23,7 @@ use Rattle.itip_view.specs.RowDays.{is_of_rows, has_rows, row_days}
 use Rattle.itip_view.specs.Standing.{is_live}
 use Rattle.itip_view.specs.declared.days.RowDays.{RowDays}
 use Rattle.itip_desk.specs.Entries.{entry_cmp, entry_at, mark_of, day_entries, attendee_entries, entries_of, IsNoted}
-use Rattle.itip_desk.specs.Index.{has, is_in, IsIndexOf, AreOfRows, IsTouched, AreEntriesOf, IsNotedOf, HaveEntries}
+use Rattle.itip_desk.specs.Index.{has, is_in, IsIndexOf, AreOfRows, IsTouched, AreEntriesOf, HaveEntries}
 use Rattle.itip_desk.specs.declared.entry.Entry.{Entry}
 use Rattle.itip_desk.specs.declared.entry.Mark.TheVariants.{Attendee}
 use Rattle.itip_desk.proofs.Noting.{same_entry, entry_itself}

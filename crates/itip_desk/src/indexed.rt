@@ -180,7 +180,11 @@ fn first_of_uid(alloc: Global, item: &Item) -> Result<Change, AllocError>
 }
 
 /// The same, worked out from all that is kept of these UIDs before and after.
-fn changes_in_part(alloc: Global, state: &State, found: &[&SharedItem]) -> Result<Change, AllocError>
+fn changes_in_part(
+    alloc: Global,
+    state: &State,
+    found: &[&SharedItem],
+) -> Result<Change, AllocError>
     ensures old { IfOk result (λ change. AreEntriesOf state.now (map (λ item. item.now) found.now) change.old) }
     ensures new { IfOk result (λ change. (news after : List Item) → AreOfRows (map (λ item. item.now) found.now) news → AreKept after (state.now ++ news) → AreEntriesOf after (map (λ item. item.now) found.now) change.new) }
     ensures about { IfOk result (λ change. (e : Entry) → IsTrue (has change.new e) → IsTouched (map (λ item. item.now) found.now) e.uid) }

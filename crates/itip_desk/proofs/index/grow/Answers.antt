@@ -1,5 +1,5 @@
-use Rattle.std.proofs.Common.{◌≡◌, ◌&&◌, ◌||◌, not, true, List, [], ap, sym, rules, ◌∙◌}
-use Rattle.std.specs.BTreeSet.{BTreeSet, difference}
+use Rattle.std.proofs.Common.{◌≡◌, ◌&&◌, ◌||◌, not, List, [], ap, sym, rules, ◌∙◌}
+use Rattle.std.specs.BTreeSet.{difference}
 use Rattle.itip_desk.specs.declared.entry.Entry.{Entry}
 use Rattle.itip_desk.specs.Entries.{entry_cmp}
 use Rattle.itip_desk.specs.Index.{has, is_in}

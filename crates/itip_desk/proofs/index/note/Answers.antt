@@ -1,8 +1,7 @@
-use Rattle.std.proofs.Common.{◌≡◌, ◌||◌, rules, true, sym, ◌∙◌}
+use Rattle.std.proofs.Common.{◌≡◌, rules, true}
 use Rattle.itip_state.proofs.Members.{on_ok_then}
 use Rattle.itip_view.specs.RowDays.{has_rows}
-use Rattle.itip_desk.specs.declared.entry.Entry.{Entry}
-use Rattle.itip_desk.specs.Index.{has, is_in}
+use Rattle.itip_desk.specs.Index.{has}
 use Rattle.itip_desk.proofs.Noting.{noted}
 use Rattle.itip_desk.proofs.index.note.Goals as goal
 

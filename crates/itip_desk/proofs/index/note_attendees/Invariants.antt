@@ -1,4 +1,4 @@
-use Rattle.std.proofs.Common.{◌≡◌, ◌||◌, drop, take}
+use Rattle.std.proofs.Common.{◌≡◌, ◌||◌, take}
 use Rattle.itip_desk.specs.declared.entry.Entry.{Entry}
 use Rattle.itip_desk.specs.Entries.{attendee_entries}
 use Rattle.itip_desk.specs.Index.{has, is_in}

@@ -1,6 +1,5 @@
 use Rattle.std.proofs.Common.{◌≡◌, ◌||◌, ap, rules, ◌∙◌, List, ℕ}
 use Rattle.std.specs.Ordering.{is_eq}
-use Rattle.itip_desk.specs.declared.entry.Entry.{Entry}
 use Rattle.itip_desk.specs.Entries.{entry_cmp, entry_at}
 use Rattle.itip_desk.specs.Index.{has}
 use Rattle.itip_desk.proofs.Noting.{put_in}

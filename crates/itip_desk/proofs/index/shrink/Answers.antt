@@ -1,7 +1,5 @@
 use Rattle.std.proofs.Common.{◌≡◌, ◌&&◌, not, List, [], ap, sym, rules, ◌∙◌}
-use Rattle.std.specs.BTreeSet.{difference}
 use Rattle.itip_desk.specs.declared.entry.Entry.{Entry}
-use Rattle.itip_desk.specs.Entries.{entry_cmp}
 use Rattle.itip_desk.specs.Index.{has, is_in}
 use Rattle.itip_desk.proofs.Noting.{in_difference, and_not_none}
 use Rattle.itip_desk.proofs.index.shrink.Goals as goal

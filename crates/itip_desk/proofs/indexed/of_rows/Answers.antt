@@ -1,4 +1,4 @@
-use Rattle.std.proofs.Common.{◌≡◌, ◌+◌, ◌++◌, ◌∷◌, [], ◌∙◌, List, map, take, subst, sym, ap, rules}
+use Rattle.std.proofs.Common.{◌≡◌, ◌++◌, ◌∷◌, [], ◌∙◌, List, map, take, subst, sym, ap}
 use Rattle.std.proofs.lemmas.List.{map-append}
 use Rattle.itip_message.specs.declared.item.Item.{Item}
 use Rattle.itip_view.specs.RowDays.{is_of_rows}

@@ -1,8 +1,6 @@
-use Rattle.std.proofs.Common.{◌≡◌, ◌++◌, List, subst, ap, sym, ◌∙◌, Result, Ok, Err}
+use Rattle.std.proofs.Common.{◌≡◌, ap, sym, ◌∙◌, Err}
 use Rattle.std.proofs.lemmas.Result.{err_from_is_err_and}
-use Rattle.itip_view.specs.declared.error.ViewError.{ViewError}
 use Rattle.itip_view.specs.declared.error.ViewError.TheVariants.{TooManyRows}
-use Rattle.itip_message.specs.declared.item.Item.{Item}
 use Rattle.itip_view.specs.ListText.{IsListText, list_text}
 use Rattle.itip_view.proofs.OfKept.{text_of_kept, too_many_of_kept}
 use Rattle.itip_desk.proofs.Listing.{error_of}

@@ -1,9 +1,9 @@
-use Rattle.std.proofs.Common.{◌≡◌, ◌∙◌, ℕ, List, None, map, subst, sym, ap}
+use Rattle.std.proofs.Common.{◌≡◌, ◌∙◌, ℕ, List, None, map, subst, ap}
 use Rattle.std.specs.List.{Contains}
 use Rattle.itip_message.specs.declared.item.Item.{Item}
 use Rattle.itip_state.proofs.Members.{if_ok_then}
 use Rattle.itip_view.specs.RowDays.{HasRowsIn}
-use Rattle.itip_view.specs.Rows.{AreRows, AreTooMany}
+use Rattle.itip_view.specs.Rows.{AreRows}
 use Rattle.itip_view.specs.Showing.{AreRowsWhere, AreTooManyWhere, IsAmong}
 use Rattle.itip_desk.specs.Desk.{Shown}
 use Rattle.itip_desk.proofs.Between.{all_rows, all_many}

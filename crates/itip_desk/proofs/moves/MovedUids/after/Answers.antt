@@ -1,4 +1,4 @@
-use Rattle.std.proofs.Common.{◌∷◌, [], ◌++◌, ◌∙◌, map, sym, ap, subst, arith}
+use Rattle.std.proofs.Common.{◌∷◌, [], ◌∙◌, map, sym, ap, subst, arith}
 use Rattle.std.proofs.lemmas.List.{map-append}
 use Rattle.itip_desk.proofs.Ticking.{EndsAt, one_in_front, front_carries}
 use Rattle.itip_desk.proofs.moves.MovedUids.after.Goals as goal
