@@ -12,7 +12,7 @@ use std::alloc::Global;
 use std::marker::Model;
 
 /// Desks that exchange nothing but what events bring, what they posted, and the replies so far. Each world has a past:
-/// steps that its desks heard, beginning with desks that had heard nothing, and that brought them and the packets about.
+/// the steps by which its desks and packets came about, from desks that had heard nothing.
 #[derive(Debug, Drop)]
 pub struct World {
     desks: Vec<Desk>,

@@ -11,7 +11,7 @@ use crate::indexed::IndexedState;
 use crate::moves::MovedUids;
 use itip_state::{SharedItem, State, uids};
 use itip_todo::Uid;
-use itip_view::{Row, ViewError, Window, list_text, rows_among};
+use itip_view::{Row, ViewError, Window, in_order, list_text, rows_among};
 use std::alloc::{AllocError, Global};
 use std::marker::Model;
 
@@ -63,7 +63,7 @@ impl Model for Desk {
 }
 
 impl Desk {
-    ghost use Rattle.itip_state.specs.Kept.{AreKept, AreMoved, Moves, HasEachOnce};
+    ghost use Rattle.itip_state.specs.Kept.{AreKept, AreMoved, ArePartOf, Moves, HasEachOnce};
     ghost use Rattle.itip_desk.specs.Desk.{IsDeskOf, IsDeltaOf, IsCarriedOn};
     ghost use Rattle.itip_desk.specs.Heard.{TickStep};
     ghost use Rattle.std.specs.Prelude.{◌≤◌};
@@ -173,20 +173,22 @@ impl Desk {
     ///
     /// Refused when out of memory.
     pub fn part_in(&self, window: Window) -> Result<State, AllocError>
-        ensures { IfOk result (λ part. (row : Row) → IsRow part window row ↔ IsRow self.now.kept window row) }
+        ensures part { IfOk result (λ part. (uids : List (List ℕ)) × ArePartOf part self.now.kept uids) }
+        ensures rows { IfOk result (λ part. (row : Row) → IsRow part window row ↔ IsRow self.now.kept window row) }
     {
-        let there = self.kept.uids_in(window)?;
+        let there = in_order(self.kept.uids_in(window)?)?;
         self.kept.state().part(&there)
     }
 
     /// What the rows of the attendee of an address are made of, shared with this desk: the kept items of the UIDs that are looked at for them. In each window the
-    /// same of its rows show the attendee.
+    /// rows that show the attendee are those of the desk.
     ///
     /// Refused when out of memory.
     pub fn part_naming(&self, address: &str) -> Result<State, AllocError>
-        ensures { IfOk result (λ part. (window : Window) (row : Row) → Shows address.now row → IsRow part window row ↔ IsRow self.now.kept window row) }
+        ensures part { IfOk result (λ part. (uids : List (List ℕ)) × ArePartOf part self.now.kept uids) }
+        ensures rows { IfOk result (λ part. (window : Window) (row : Row) → Shows address.now row → IsRow part window row ↔ IsRow self.now.kept window row) }
     {
-        let naming = self.kept.uids_naming(address)?;
+        let naming = in_order(self.kept.uids_naming(address)?)?;
         self.kept.state().part(&naming)
     }
 

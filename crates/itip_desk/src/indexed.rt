@@ -179,7 +179,7 @@ fn first_of_uid(alloc: Global, item: &Item) -> Result<Change, AllocError>
     Ok(Change { old, new })
 }
 
-/// The same, worked out from all that is kept of these UIDs before and after.
+/// What hearing these items changes, worked out from all that is kept of the UIDs that they are about before and after.
 fn changes_in_part(
     alloc: Global,
     state: &State,

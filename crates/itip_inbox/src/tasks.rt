@@ -14,7 +14,7 @@ use crate::read::read_inbox;
 use crate::watch::Watch;
 use itip_state::State;
 use itip_streams::{StreamFault, write_output};
-use itip_view::{Row, ViewError, Window, list_text, rows, rows_among};
+use itip_view::{Row, ViewError, Window, list_text, rows};
 use std::alloc::Global;
 use std::io::{Read, Write};
 use std::thread::Threads;
@@ -104,21 +104,7 @@ pub fn rows_for(
     ensures many { IsErrOf result ViewError.TooManyRows → AreTooManyFor (option_map (λ a. a.now) attendee.entry) state.now window }
 {
     match attendee {
-        Some(address) => rows_showing(alloc, state, window, address),
+        Some(address) => itip_view::rows_for(alloc, state, window, address),
         None => rows(alloc, state, window),
     }
-}
-
-fn rows_showing(
-    alloc: Global,
-    state: &State,
-    window: Window,
-    address: &str,
-) -> Result<Vec<Row>, ViewError>
-    ensures rows { IfOk result (λ rows. AreRowsWhere (Shows address.now) state.now window rows.items) }
-    ensures few { IfOk result (λ rows. length rows.items ≤ row_limit) }
-    ensures many { IsErrOf result ViewError.TooManyRows → AreTooManyWhere (Shows address.now) state.now window }
-{
-    let uids = state.uids()?;
-    rows_among(alloc, state, uids, window, Some(address))
 }

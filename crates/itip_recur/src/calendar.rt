@@ -125,7 +125,7 @@ fn days_in_month(year: u32, month: u8) -> u8
     civil::days_in_month(year as i16, month)
 }
 
-/// The day with this date, where the month has so many days.
+/// The day with this date; `None` where the month has fewer days.
 pub(crate) fn day_of_date(year: u32, month: u8, day: u8) -> Option<i32>
     requires year_in { year < 10_000 }
     requires month_in { IsInRange 1 12 month }

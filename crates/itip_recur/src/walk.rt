@@ -85,7 +85,7 @@ impl<'a> Walk<'a> {
     }
 
     // The next unit of the rule's own, with its first day; `next` is the day behind this unit. Its number is known
-    // from this one's, so no date is worked out.
+    // from this one's, so the date of `next` isn't worked out.
     fn unit_behind(&self, unit: UnitFrom, next: i32) -> UnitFrom
         requires day_in { IsDayNumber unit.day }
         requires next_in { IsDayOrEnd next }

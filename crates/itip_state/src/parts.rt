@@ -38,6 +38,7 @@ impl<'k> KeyParts<'k> {
     {
         KeyParts {
             uid,
+            // that of an instance, by `Key::rank`
             rank: 1,
             instance: Some(at),
             attendee: "",
@@ -50,6 +51,7 @@ impl<'k> KeyParts<'k> {
     {
         KeyParts {
             uid,
+            // that of an answer, by `Key::rank`
             rank: 3,
             instance: at,
             attendee,

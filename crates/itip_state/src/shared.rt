@@ -23,7 +23,7 @@ use std::ops::Deref;
 #[derive(Debug, Drop)]
 pub struct SharedItem {
     revision: Revision,
-    /// Where a state holds it among the items of its UID. An item of the to-do as a whole needs no such place.
+    /// Where a state holds it among the items of its UID; `None` where it is a series item, which needs no such place.
     slot: Option<Slot>,
 }
 
@@ -55,7 +55,7 @@ impl SharedItem {
         Ok(SharedItem { revision, slot })
     }
 
-    /// The item of a revision that a state holds here.
+    /// The item of a revision that a state holds at this slot, or, with none, as a series item.
     pub(crate) fn held_at(slot: Option<&Slot>, revision: &Revision) -> Result<SharedItem, NoMemory>
         requires { IsPlaceOf (option_copied slot) revision.now.key }
         ensures { IfOk result (λ shared. shared ≡ revision.now) }
@@ -98,7 +98,7 @@ impl SharedItem {
         &self.revision
     }
 
-    /// Where a state holds it among the items of its UID, or `None` where it is an item of the to-do as a whole.
+    /// Where a state holds it among the items of its UID, or `None` where it is a series item.
     pub(crate) fn slot(&self) -> Option<&Slot>
         ensures { IsPlaceOf (option_copied result) self.now.key }
     {

@@ -4,6 +4,7 @@ ghost use Rattle.std.specs.Cmp.{partial_order_from_total, partial_equiv_from_equ
 ghost use Rattle.std.specs.Ordering.{as_partial_cmp, eq_by_cmp};
 ghost use Rattle.itip_state.specs.Slots.{rest_cmp, key_cmp, slot_cmp, slot_total};
 
+use crate::parts::{self, KeyParts};
 use itip_join::{Exact, NoMemory};
 use itip_message::Key;
 use std::alloc::Global;
@@ -53,9 +54,7 @@ impl Slot {
 pub(crate) fn compare(key: &Key, other: &Key) -> Ordering
     ensures { result ≡ key_cmp key.now other.now }
 {
-    key.uid()
-        .cmp(other.uid())
-        .then_with(|| compare_rest(key, other))
+    parts::compare(key, &KeyParts::of(other))
 }
 
 /// By kind of key, instance and attendee.

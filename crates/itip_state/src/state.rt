@@ -158,7 +158,8 @@ impl State {
         self.held.join(&other.held)
     }
 
-    /// The kept items of these UIDs, each shared with this state. Each UID is looked up; no other is looked at.
+    /// The kept items of these UIDs, each shared with this state. Each UID is looked up, and what is kept of it shared, as often as it is named; no other is
+    /// looked at.
     pub fn part(&self, uids: &[&Uid]) -> Result<State, NoMemory>
         ensures { IfOk result (λ part. ArePartOf part self.now (map (λ uid. uid.now) uids.now)) }
     {

@@ -16,7 +16,7 @@ pub(crate) struct AttendeeLine<'a> {
     pub(crate) ghost of_line: { key ≡ attendee_key line.now.value },
 }
 
-/// An item that governs rows, and its ATTENDEE lines with their keys, which are made once for all of these rows.
+/// An item that can govern rows, and its ATTENDEE lines with their keys, which are made once for all of these rows.
 #[derive(Debug, Drop)]
 pub(crate) struct Governing<'a> {
     pub(crate) item: &'a Item,

@@ -31,5 +31,6 @@ pub use ranges::Ranges;
 pub use row::{Row, RowId, ShownAttendee};
 pub use standing::{is_live, standing_item, stands_beside};
 pub use std::alloc::AllocError as NoMemory;
+pub use turn::in_order;
 pub use view::{rows, rows_among, rows_for, rows_of};
 pub use window::Window;

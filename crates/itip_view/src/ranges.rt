@@ -71,7 +71,7 @@ impl<'v, 'a> Ranges<'v, 'a> {
     }
 }
 
-/// The range items of a UID that stand, by their ids, each with the keys of its attendees.
+/// The range items of a UID that stand, by the form, the zone and the moment of their ids, each with the keys of its attendees.
 ///
 /// They are the ones of its kept items, by the invariant of the type.
 #[derive(Debug, Drop)]
@@ -139,7 +139,7 @@ fn governing_each<'a>(
     Ok(governing)
 }
 
-/// Where the one stands that rules a moment, among all range items that stand, by their ids.
+/// The place of the range item that rules a moment among these; `None` where none rules it.
 fn ruling_place(standing: &[RangeFrom<'_>], at: &Moment) -> Option<usize>
     ensures inside { MatchOption result (Unit {0}) (λ place. place < length standing.now) }
     ensures rules { (part : UidPart) → AreRangesInOrder part standing.now → MatchOption result (NoneRules part.items part.uid at.now) (RulesAt part standing.now at.now) }

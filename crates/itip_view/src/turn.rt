@@ -17,8 +17,8 @@ use std::alloc::Global;
 
 pub(crate) const ROW_LIMIT: usize = 100_000;
 
-/// The UIDs given, by octets, each once.
-pub(crate) fn in_order<'a>(uids: Vec<&'a Uid>) -> Result<Vec<&'a Uid>, NoMemory>
+/// The UIDs given, by octets, each once. A refusal (out of memory) drops them.
+pub fn in_order<'a>(uids: Vec<&'a Uid>) -> Result<Vec<&'a Uid>, NoMemory>
     ensures ascend { IfOk result (λ sorted. AscendTexts (map (λ uid. uid.now) sorted.items)) }
     ensures same { IfOk result (λ sorted. (uid : List ℕ) → Contains (map (λ uid. uid.now) sorted.items) uid ↔ Contains (map (λ uid. uid.now) uids.entry.items) uid) }
 {

@@ -1,4 +1,4 @@
-use Rattle.std.proofs.Common.{◌≡◌, ◌∙◌, ◌↔◌, ℕ, List, map, subst, ap}
+use Rattle.std.proofs.Common.{◌≡◌, ◌∙◌, ◌↔◌, ℕ, List, map, subst, sym, ap}
 use Rattle.std.specs.List.{Contains}
 use Rattle.itip_message.specs.declared.item.Item.{Item}
 use Rattle.itip_state.specs.Kept.{ArePartOf}
@@ -9,15 +9,27 @@ use Rattle.itip_view.specs.declared.row.Row.{Row}
 use Rattle.itip_desk.specs.Desk.{Shown}
 use Rattle.itip_desk.proofs.Parts.{rows_in}
 use Rattle.itip_desk.proofs.desk.Desk.part_in.Goals as goal
+use Rattle.itip_desk.proofs.desk.Desk.part_in.Goals.{After-part}
 
-pub returns : goal.returns
-returns c =
-    let kept : List Item = c.args.self.now.kept in
-    let uids : List (List ℕ) = map (λ u. u.now) c.in_ok-there.there.items in
-    let same : c.self.inside.kept ≡ kept = ap (λ (d : Shown). d.kept) c.self.view_is in
-    let found : (uid : List ℕ) → HasRowsIn kept c.args.window uid → Contains uids uid = subst (λ (k : List Item). (uid : List ℕ) → HasRowsIn k c.args.window uid → Contains uids uid) same c.in_ok-there.ensures in
-    if_ok_then (λ part. ArePartOf part c.state.result.now (map (λ u. u.now) c.deref.result.now)) (λ part. (row : Row) → IsRow part c.args.window row ↔ IsRow kept c.args.window row) c.part.result
-    (λ part are. rows_in part kept uids
-    (subst (λ us. ArePartOf part kept (map (λ u. u.now) us)) c.deref.ensures.value (subst (λ (k : List Item). ArePartOf part k (map (λ u. u.now) c.deref.result.now)) (c.state.ensures ∙ same) are))
-    c.args.window found)
+-- the UIDs that are found, each once
+found : (c : After-part) → (uid : List ℕ) → HasRowsIn c.args.self.now.kept c.args.window uid → Contains (map (λ u. u.now) c.in_ok-there.there.items) uid
+found c uid has = (c.in_ok-there.ensures.same uid).1
+    (c.in_ok-uids_in.ensures uid (subst (λ (k : List Item). HasRowsIn k c.args.window uid) (sym (ap (λ (d : Shown). d.kept) c.self.view_is)) has))
+
+part_of : (c : After-part) (part : List Item) → ArePartOf part c.state.result.now (map (λ u. u.now) c.deref.result.now) → ArePartOf part c.args.self.now.kept (map (λ u. u.now) c.in_ok-there.there.items)
+part_of c part are =
+    subst (λ us. ArePartOf part c.args.self.now.kept (map (λ u. u.now) us)) c.deref.ensures.value
+    (subst (λ (k : List Item). ArePartOf part k (map (λ u. u.now) c.deref.result.now)) (c.state.ensures ∙ ap (λ (d : Shown). d.kept) c.self.view_is) are)
+
+pub returns-clause-part : goal.returns-clause-part
+returns-clause-part c =
+    let at = (goal.at.returns-clause-part c).After-part in
+    if_ok_then (λ part. ArePartOf part c.state.result.now (map (λ u. u.now) c.deref.result.now)) (λ part. (uids : List (List ℕ)) × ArePartOf part c.args.self.now.kept uids) c.part.result
+    (λ part are. (map (λ u. u.now) c.in_ok-there.there.items, part_of at part are)) c.part.ensures
+
+pub returns-clause-rows : goal.returns-clause-rows
+returns-clause-rows c =
+    let at = (goal.at.returns-clause-rows c).After-part in
+    if_ok_then (λ part. ArePartOf part c.state.result.now (map (λ u. u.now) c.deref.result.now)) (λ part. (row : Row) → IsRow part c.args.window row ↔ IsRow c.args.self.now.kept c.args.window row) c.part.result
+    (λ part are. rows_in part c.args.self.now.kept (map (λ u. u.now) c.in_ok-there.there.items) (part_of at part are) c.args.window (found at))
     c.part.ensures

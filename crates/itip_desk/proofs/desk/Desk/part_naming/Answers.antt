@@ -1,4 +1,4 @@
-use Rattle.std.proofs.Common.{◌≡◌, ◌∙◌, ◌↔◌, ℕ, List, map, subst, ap}
+use Rattle.std.proofs.Common.{◌≡◌, ◌∙◌, ◌↔◌, ℕ, List, map, subst, sym, ap}
 use Rattle.std.specs.List.{Contains}
 use Rattle.itip_todo.specs.Table.{attendee_key}
 use Rattle.itip_message.specs.declared.item.Item.{Item}
@@ -12,16 +12,27 @@ use Rattle.itip_view.specs.declared.window.Window.{Window}
 use Rattle.itip_desk.specs.Desk.{Shown}
 use Rattle.itip_desk.proofs.Parts.{rows_showing}
 use Rattle.itip_desk.proofs.desk.Desk.part_naming.Goals as goal
+use Rattle.itip_desk.proofs.desk.Desk.part_naming.Goals.{After-part}
 
-pub returns : goal.returns
-returns c =
-    let kept : List Item = c.args.self.now.kept in
-    let address : List ℕ = c.args.address.now in
-    let uids : List (List ℕ) = map (λ u. u.now) c.in_ok-naming.naming.items in
-    let same : c.self.inside.kept ≡ kept = ap (λ (d : Shown). d.kept) c.self.view_is in
-    let found : (uid : List ℕ) → NamesIn kept (attendee_key address) uid → Contains uids uid = subst (λ (k : List Item). (uid : List ℕ) → NamesIn k (attendee_key address) uid → Contains uids uid) same c.in_ok-naming.ensures in
-    if_ok_then (λ part. ArePartOf part c.state.result.now (map (λ u. u.now) c.deref.result.now)) (λ part. (window : Window) (row : Row) → Shows address row → IsRow part window row ↔ IsRow kept window row) c.part.result
-    (λ part are window. rows_showing part kept uids
-    (subst (λ us. ArePartOf part kept (map (λ u. u.now) us)) c.deref.ensures.value (subst (λ (k : List Item). ArePartOf part k (map (λ u. u.now) c.deref.result.now)) (c.state.ensures ∙ same) are))
-    window address found)
+-- the UIDs that are found, each once
+found : (c : After-part) → (uid : List ℕ) → NamesIn c.args.self.now.kept (attendee_key c.args.address.now) uid → Contains (map (λ u. u.now) c.in_ok-naming.naming.items) uid
+found c uid names = (c.in_ok-naming.ensures.same uid).1
+    (c.in_ok-uids_naming.ensures uid (subst (λ (k : List Item). NamesIn k (attendee_key c.args.address.now) uid) (sym (ap (λ (d : Shown). d.kept) c.self.view_is)) names))
+
+part_of : (c : After-part) (part : List Item) → ArePartOf part c.state.result.now (map (λ u. u.now) c.deref.result.now) → ArePartOf part c.args.self.now.kept (map (λ u. u.now) c.in_ok-naming.naming.items)
+part_of c part are =
+    subst (λ us. ArePartOf part c.args.self.now.kept (map (λ u. u.now) us)) c.deref.ensures.value
+    (subst (λ (k : List Item). ArePartOf part k (map (λ u. u.now) c.deref.result.now)) (c.state.ensures ∙ ap (λ (d : Shown). d.kept) c.self.view_is) are)
+
+pub returns-clause-part : goal.returns-clause-part
+returns-clause-part c =
+    let at = (goal.at.returns-clause-part c).After-part in
+    if_ok_then (λ part. ArePartOf part c.state.result.now (map (λ u. u.now) c.deref.result.now)) (λ part. (uids : List (List ℕ)) × ArePartOf part c.args.self.now.kept uids) c.part.result
+    (λ part are. (map (λ u. u.now) c.in_ok-naming.naming.items, part_of at part are)) c.part.ensures
+
+pub returns-clause-rows : goal.returns-clause-rows
+returns-clause-rows c =
+    let at = (goal.at.returns-clause-rows c).After-part in
+    if_ok_then (λ part. ArePartOf part c.state.result.now (map (λ u. u.now) c.deref.result.now)) (λ part. (window : Window) (row : Row) → Shows c.args.address.now row → IsRow part window row ↔ IsRow c.args.self.now.kept window row) c.part.result
+    (λ part are window. rows_showing part c.args.self.now.kept (map (λ u. u.now) c.in_ok-naming.naming.items) (part_of at part are) window c.args.address.now (found at))
     c.part.ensures
