@@ -1,4 +1,4 @@
-//! Makes calls of running desks, and calls of which a request for memory may be refused, and shows what they answer.
+//! Makes calls of running desks and of the parts of desks, and calls of which a request for memory may be refused, and shows what they answer.
 //!
 //! A line of standard input is a call: its word, and behind it the arguments in hexadecimal (`-` for an empty one),
 //! with a blank before each. A line of standard output is the answer to it, in hexadecimal. A fault is an answer too,
@@ -12,6 +12,7 @@ mod call;
 mod crossing;
 mod error;
 mod gates;
+mod kept;
 mod lists;
 mod office;
 mod picture;
@@ -23,6 +24,7 @@ use crate::beside::beside;
 use crate::call::Call;
 use crate::crossing::{run_again, steps_again};
 use crate::error::CallError;
+use crate::kept::{Names, kept, parts};
 use crate::office::{deaf_keeper, office};
 use crate::running::run_steps;
 use crate::texts::number;
@@ -77,6 +79,11 @@ fn made<R: AllocGlobal + Threads + Wait + Copy + Send + Sync + 'static>(
         ("office", [desks, workers, gate, jobs @ ..]) => {
             office(rt, number(desks)?, number(workers)?, gate, jobs)
         }
+        ("kept", [uid, at, address, texts @ ..]) => {
+            let names = Names::of(rt.alloc(), uid, at, address)?;
+            kept(rt.alloc(), &names, texts)
+        }
+        ("parts", [address, texts @ ..]) => parts(rt.alloc(), address, texts),
         ("deaf_keeper", [job]) => deaf_keeper(rt, job),
         ("steps_again", [one, other]) => steps_again(rt.alloc(), one, other),
         ("run_again", [one, other]) => run_again(rt.alloc(), one, other),
