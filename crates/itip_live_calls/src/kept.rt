@@ -34,36 +34,68 @@ impl Names {
     }
 }
 
+/// The sequences of some of the kept items of a UID.
+#[derive(Clone, Copy)]
+struct Sequences {
+    series: Option<u32>,
+    instance: Option<u32>,
+    answer: Option<u32>,
+    answer_to_whole: Option<u32>,
+}
+
 /// What a desk that took these messages keeps of a UID: whether anything, how many items, and the sequences of some of them.
 pub(crate) fn kept(alloc: Global, names: &Names, texts: &[Vec<u8>]) -> Result<Vec<u8>, CallError> {
     let desk = desk_after(alloc, texts)?;
     let state = desk.state();
     let keeps = state.keeps(&names.uid);
     let shared = state.shared_of(&[&names.uid])?.len();
-    let told = of_uid(alloc, names, &state.of_uid(&names.uid)?)?;
-    let told = format!(in alloc; "keeps {keeps} shared {shared} {told}\n")?;
+    let found = sequences_of(names, &state.of_uid(&names.uid)?)?;
+    let mut told = format!(in alloc; "keeps {keeps} shared {shared}")?;
+    add_all(alloc, &mut told, found)?;
     Ok(told.into_bytes())
 }
 
-/// The sequences of the series item, of the instance item, and of the answers of the attendee to the instance and to the to-do as a whole.
-fn of_uid(alloc: Global, names: &Names, items: &ItemsOfUid<'_>) -> Result<String, CallError> {
-    let key = Key::Series(names.uid.clone()?);
-    let series = sequence(alloc, items.best(&key))?;
-    let instance = sequence(alloc, items.instance(&names.at))?;
+fn sequences_of(names: &Names, items: &ItemsOfUid<'_>) -> Result<Sequences, AllocError> {
     let attendee = names.attendee.as_str();
-    let own = sequence(alloc, items.answer(Some(&names.at), attendee))?;
-    let whole = sequence(alloc, items.answer(None, attendee))?;
-    Ok(format!(in alloc; "series {series} instance {instance} answers {own} {whole}")?)
+    Ok(Sequences {
+        series: series_sequence(names, items)?,
+        instance: sequence(items.instance(&names.at)),
+        answer: sequence(items.answer(Some(&names.at), attendee)),
+        answer_to_whole: sequence(items.answer(None, attendee)),
+    })
 }
 
-fn sequence(alloc: Global, item: Option<&Item>) -> Result<String, AllocError> {
+fn series_sequence(names: &Names, items: &ItemsOfUid<'_>) -> Result<Option<u32>, AllocError> {
+    let key = Key::Series(names.uid.clone()?);
+    Ok(sequence(items.best(&key)))
+}
+
+fn sequence(item: Option<&Item>) -> Option<u32> {
     match item {
-        Some(item) => {
-            let own = item.own;
-            format!(in alloc; "{own}")
-        }
-        None => String::from_str(alloc, "-"),
+        Some(item) => Some(item.own),
+        None => None,
     }
+}
+
+fn add_all(alloc: Global, told: &mut String, found: Sequences) -> Result<(), AllocError> {
+    add(alloc, told, "series", found.series)?;
+    add(alloc, told, "instance", found.instance)?;
+    add(alloc, told, "answer", found.answer)?;
+    add(alloc, told, "whole", found.answer_to_whole)?;
+    told.push_str("\n")
+}
+
+fn add(
+    alloc: Global,
+    told: &mut String,
+    word: &str,
+    sequence: Option<u32>,
+) -> Result<(), AllocError> {
+    let shown = match sequence {
+        Some(sequence) => format!(in alloc; " {word} {sequence}")?,
+        None => format!(in alloc; " {word} -")?,
+    };
+    told.push_str(shown.as_str())
 }
 
 /// The list of the year 2026 of a desk that took these messages, made of its part for it, and that of an attendee, made of the part that names the attendee.
