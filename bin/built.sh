@@ -1,51 +1,43 @@
 # shellcheck shell=sh disable=SC2154
-# What the other scripts share: which crates a program is made of, where the proved one is kept, whether it is of these
-# sources, and how it is proved and built. Expects the repository's top in $top.
+# What the other scripts share of programs that are proved and built: where they are kept, whether one is of these
+# sources, and how it is made. Expects the repository's top in $top.
 built=$top/.built
 
-# The crates of a program, itself and all below it, as crates.txt lists them: the names, or with `lines` their lines.
-crates_of() {
-    awk -F: -v top="$1" -v what="${2-names}" '
-        /^[^#]*:/ { below[$1] = $2; line[$1] = $0; order[++count] = $1 }
-        END {
-            is_below[top] = 1
-            do {
-                found = 0
-                for (name in is_below) {
-                    many = split(below[name], names, " ")
-                    for (i = 1; i <= many; i++)
-                        if (names[i] in line && !(names[i] in is_below)) { is_below[names[i]] = 1; found = 1 }
-                }
-            } while (found)
-            for (i = 1; i <= count; i++)
-                if (order[i] in is_below) print what == "lines" ? line[order[i]] : order[i]
-        }' "$top/crates.txt"
-}
-
-# A sum of all that a program is built from, and of the toolchain's name.
-sum_of() {
+# The names, sizes and times of all that programs are built from, and of the toolchain's command.
+listing() {
     (
         cd "$top" || exit
-        rt version </dev/null
-        cat HANDLES
-        crates_of "$1" lines
-        for name in $(crates_of "$1"); do
-            find "crates/$name/src" "crates/$name/specs" "crates/$name/proofs" -type f 2>/dev/null
-        done | LC_ALL=C sort | tr '\n' '\0' | xargs -0 sha256sum
-    ) | sha256sum
+        find -L "$(command -v rt)" HANDLES crates.txt crates bench tools -name out -prune -o -type f -printf '%p %s %T@\n' 2>/dev/null | LC_ALL=C sort | sha256sum
+    )
 }
 
+# A sum of all that a program is built from, without comments.
+sum_of() {
+    python3 "$top/bin/repository.py" "$1"
+}
+
+# Whether the program that is kept was built from these sources: by sizes and times, and by sums where these moved.
 is_fresh() {
-    [ -x "$built/$1" ] && [ -f "$built/$1.sum" ] && [ "$(cat "$built/$1.sum")" = "$(sum_of "$1")" ]
+    [ -x "$built/$1" ] && [ -f "$built/$1.sum" ] || return
+    now=$(listing)
+    [ "$now" != "$(cat "$built/$1.files" 2>/dev/null)" ] || return 0
+    [ "$(cat "$built/$1.sum")" = "$(sum_of "$1")" ] || return
+    { echo "$now" >"$built/$1.files.$$" && mv "$built/$1.files.$$" "$built/$1.files"; } 2>/dev/null || true
 }
 
-# Keeps a program that was proved and built, with the sum of its sources as it began: an edit since then makes it stale.
-keep() {
-    mkdir -p "$built"
-    rm -f "$built/$1.sum"
+# Puts a program that was proved and built in its place, with the sum of its sources as it began: an edit since then makes
+# it stale.
+put() {
+    rm -f "$built/$1.sum" "$built/$1.files"
     cp "$2" "$built/$1.new"
     mv "$built/$1.new" "$built/$1"
     echo "$3" >"$built/$1.sum"
+}
+
+# The same, once no other run is at it.
+keep() {
+    mkdir -p "$built"
+    (flock 9 && put "$@") 9>"$built/$1.lock"
 }
 
 # Proves and builds a program, its crates side by side, and keeps it; says on standard error which crate it is at. It
@@ -56,7 +48,7 @@ prove() {
     flock 9
     if ! is_fresh "$1"; then
         sum=$(sum_of "$1")
-        "$top/bin/prove" "$1" "$built/$1.made" >&2 && keep "$1" "$built/$1.made" "$sum"
+        "$top/bin/prove" "$1" "$built/$1.made" >&2 && put "$1" "$built/$1.made" "$sum"
         rm -f "$built/$1.made"
     fi
     exec 9>&-

@@ -1,0 +1,163 @@
+"""The wrong bodies of edits/, each of which the prover has to refuse, and the record of what came of each."""
+import datetime
+import glob
+import hashlib
+import os
+import re
+import shutil
+from collections import namedtuple
+
+import repository
+
+EDITS = os.path.join(repository.TOP, "edits")
+RECORD = os.path.join(EDITS, "RECORD")
+HEAD = """\
+# The wrong bodies of edits/: when each was last refused, a sum of the text that it was tried on (the edit, its crate and those
+# below without comments and docs, and the toolchain's logic), and how: at a goal of the function that it changes (goal) or of
+# another (caller), since a proof by hand no longer fits (proof), for a lost name (name), or by a limit of the prover (limit).
+"""
+# What says little of a contract: such an edit is due until it is refused in another way.
+WEAK = ("name", "limit")
+
+# `gate` says what an edit of the gate turns, and `pairs` has the file, the old and the new text of each change.
+Edit = namedtuple("Edit", "crate name gate pairs")
+Record = namedtuple("Record", "date sum how")
+
+
+def read_edit(path):
+    gate, file, old, pairs = None, None, None, []
+    for line in repository.text_of(path).split("\n"):
+        word, _, rest = line.partition(": ")
+        if word == "gate":
+            gate = rest
+        elif word == "file":
+            file = rest.strip()
+        elif word == "old":
+            old = rest
+        elif line.startswith("new:"):
+            pairs.append((file, old, line[len("new:") :].removeprefix(" ")))
+            old = None
+    return Edit(os.path.basename(os.path.dirname(path)), os.path.basename(path).removesuffix(".edit"), gate, pairs)
+
+
+def all_edits():
+    """All edits, each by `CRATE/NAME`."""
+    found = [read_edit(it) for it in sorted(glob.glob(os.path.join(EDITS, "*", "*.edit")))]
+    return {label(it): it for it in found}
+
+
+def label(edit):
+    return f"{edit.crate}/{edit.name}"
+
+
+def edited(edit):
+    """The texts of the files that an edit changes, by their path in the crate, or why it can't be applied."""
+    texts = {}
+    for file, old, new in edit.pairs:
+        if not file or not old:
+            return None, "a new: text has no file: or old: before it"
+        text = texts.get(file, repository.text_of(repository.crates()[edit.crate].folder, file))
+        if text.count(old) != 1:
+            return None, f"an old: text is in {file} {text.count(old)} times, and not once"
+        texts[file] = text.replace(old, new)
+    return (texts, None) if texts else (None, "it changes nothing")
+
+
+def sum_of(edit):
+    """A sum of what the prover's answer to an edit rests on."""
+    return hashlib.sha256(repr((edit.pairs, repository.sum_of(edit.crate))).encode()).hexdigest()[:16]
+
+
+def read_records():
+    lines = [it.split() for it in repository.text_of(RECORD).splitlines() if it and not it.startswith("#")]
+    return {name: Record(*rest) for name, *rest in lines}
+
+
+def write_records(records):
+    known = all_edits()
+    kept = [f"{name} {' '.join(records[name])}\n" for name in sorted(records) if name in known]
+    repository.write(HEAD + "".join(kept), RECORD)
+
+
+def is_valid(edit, records):
+    """Whether an edit was refused on this text, in a way that says something of a contract."""
+    found = records.get(label(edit))
+    return found is not None and found.sum == sum_of(edit) and found.how not in WEAK
+
+
+def due(edits, records):
+    """The gate's edits that no record speaks for."""
+    return [it for it in edits.values() if it.gate and not is_valid(it, records)]
+
+
+def picked(edits, commit, count=3):
+    """Some edits of one crate, which the commit's id chooses, so that a record of what nobody tried is found out."""
+    by_hash = lambda name: hashlib.sha256(f"{commit} {name}".encode()).hexdigest()
+    crate = min({it.crate for it in edits.values()}, key=by_hash)
+    return [edits[it] for it in sorted((it for it in edits if edits[it].crate == crate), key=by_hash)[:count]]
+
+
+def lay_out(tree, edits):
+    """Puts edits under must-fail/ of the crates of a scratch tree, where the toolchain looks for them."""
+    for edit in edits:
+        folder = os.path.join(tree, "crates", edit.crate, "must-fail")
+        os.makedirs(folder, exist_ok=True)
+        shutil.copy(os.path.join(EDITS, edit.crate, f"{edit.name}.edit"), folder)
+
+
+FUNCTION = re.compile(r"\s*(?:pub(?:\([^)]*\))? )?(?:const )?(?:unsafe )?fn (\w+)")
+
+
+def function_at(text, line):
+    """The function in which a line (from 1) of a source file stands, or None."""
+    lines = text.split("\n")
+    for at in range(min(line, len(lines)) - 1, -1, -1):
+        found = FUNCTION.match(lines[at])
+        if found:
+            end = lines[at][: len(lines[at]) - len(lines[at].lstrip())] + "}"
+            return None if end in (it.rstrip() for it in lines[at : line - 1]) else found[1]
+    return None
+
+
+def how_of(edit, said):
+    """How the toolchain says that an edit was refused, or None where it was not."""
+    if not said.startswith(": refused, as it must be"):
+        return None
+    if said.startswith(": refused, as it must be (only"):
+        return "name" if "names what the edit took away" in said else "limit"
+    at = re.match(r": refused, as it must be: (?:note: )?(?:\./)?(src/[^:]+):(\d+):", said)
+    if not at:
+        return "proof"
+    texts, _ = edited(edit)
+    changed = {(file, function_at(texts[file], texts[file][: texts[file].index(new)].count("\n") + 1)) for file, _, new in edit.pairs if new in texts[file]}
+    text = texts.get(at[1]) or repository.text_of(repository.crates()[edit.crate].folder, at[1])
+    goal = at[1], function_at(text, int(at[2]))
+    return "goal" if goal in changed or any(it is None for _, it in changed) else "caller"
+
+
+def outcomes(edits, output):
+    """What the toolchain's output says of each edit that it tried: the words after its name, by the edit's label."""
+    said = dict(re.findall(r"^(?:rt: )?must-fail ([\w-]+/[\w.-]+)\.edit(:.*)$", output, re.MULTILINE))
+    return {label(it): said.get(label(it), ": NOT TRIED: the toolchain says nothing of it") for it in edits}
+
+
+def judged(edits, output, records):
+    """The records with what came of these edits, and a line for each that was not refused as it has to be."""
+    today, found, wrong = datetime.date.today().isoformat(), dict(records), []
+    for edit in edits:
+        said = outcomes([edit], output)[label(edit)]
+        how = how_of(edit, said)
+        before = records.get(label(edit))
+        if how is None:
+            found.pop(label(edit), None)
+        elif before is None or before[1:] != (sum_of(edit), how):
+            found[label(edit)] = Record(today, sum_of(edit), how)
+        if how is None or how in WEAK:
+            wrong.append(f"{label(edit)}{said}")
+    return found, wrong
+
+
+def faults(edits, records):
+    """What is wrong with edits and their records before any is tried: a line for each."""
+    found = [f"{name}: {why}" for name, it in edits.items() for why in [edited(it)[1]] if why]
+    return found + [f"{name}: edits/RECORD names it, and there is no such edit" for name in records if name not in edits]
