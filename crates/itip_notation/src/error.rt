@@ -1,0 +1,24 @@
+//! Why a text gives no value, or a value no text.
+
+use std::alloc::{AllocError, AllocFailed};
+
+/// Why a text gives no value, or a value no text.
+#[derive(Clone, Copy, Debug, Drop)]
+pub enum NotationError {
+    /// Memory was refused.
+    NoMemory,
+    /// The text is no value of the type.
+    NoValue,
+}
+
+impl From<AllocError> for NotationError {
+    fn from(_: AllocError) -> NotationError {
+        NotationError::NoMemory
+    }
+}
+
+impl<T: Drop> From<AllocFailed<T>> for NotationError {
+    fn from(_: AllocFailed<T>) -> NotationError {
+        NotationError::NoMemory
+    }
+}
