@@ -5,7 +5,7 @@ use crate::error::CallError;
 use crate::narrow::Narrow;
 use crate::pieces::Pieces;
 use crate::texts::{count, text, year};
-use itip_office::{Commands, read_script, run_script};
+use itip_office::{read_script, run_script};
 use itip_streams::{StreamFault, write_output};
 use std::alloc::{AllocError, Global};
 
@@ -20,8 +20,6 @@ pub(crate) fn answer(
             let reader = Pieces::new(script, count(step)?, count(fails_at)?);
             read(alloc, reader)
         }
-        ("feeds", [feeds]) => feeds_alone(alloc, count(feeds)?),
-        ("run_feeds", [feeds]) => run_feeds(alloc, count(feeds)?),
         ("write_output", [step, room, fails, output]) => {
             let writer = Narrow::new(alloc, count(step)?, count(room)?, truth(fails)?);
             write(alloc, writer, output)
@@ -48,33 +46,6 @@ fn read(alloc: Global, mut reader: Pieces<'_>) -> Result<Vec<u8>, CallError> {
         Some(script) => Ok(script),
         None => Ok(String::from_str(alloc, "too long")?.into_bytes()),
     }
-}
-
-/// Whether a script of so many line feeds is read, and how many commands it has.
-fn feeds_alone(alloc: Global, count: usize) -> Result<Vec<u8>, CallError> {
-    let feeds = vec![in alloc; b'\n'; count]?;
-    let is_read = read_script(alloc, &mut feeds.as_slice())?.is_some();
-    let commands = count_commands(&feeds);
-    Ok(format!(in alloc; "read {is_read} commands {commands}")?.into_bytes())
-}
-
-fn count_commands(script: &[u8]) -> u64 {
-    let mut count: u64 = 0;
-    for _ in Commands::new(script) {
-        count = count.saturating_add(1);
-    }
-    count
-}
-
-/// Runs a script of so many line feeds at one desk.
-fn run_feeds(alloc: Global, count: usize) -> Result<Vec<u8>, CallError> {
-    let feeds = vec![in alloc; b'\n'; count]?;
-    run(
-        alloc,
-        Pieces::new(&feeds, usize::MAX, usize::MAX),
-        Narrow::new(alloc, usize::MAX, usize::MAX, true),
-        1,
-    )
 }
 
 /// Whether all was written, and what the writer holds.
