@@ -1,5 +1,5 @@
 //! What an answer or a refresh keeps of its to-do.
-ghost use Rattle.std.specs.Prelude.{◌≡◌, IfOk};
+ghost use Rattle.std.specs.Prelude.{◌≡◌, ◌∷◌, [], IfOk};
 ghost use Rattle.itip_todo.specs.Lawful.{IsLawful};
 ghost use Rattle.itip_todo.specs.PartsOf.{parts_of};
 ghost use Rattle.itip_message.specs.Items.{only_of, attendee_key_of, refreshes};
@@ -8,7 +8,7 @@ use crate::key::Key;
 use crate::kind::Kind;
 use itip_lines::{ListOf, NoMemory};
 use itip_moment::Moment;
-use itip_todo::{Property, Todo, attendee_key};
+use itip_todo::{Property, Todo, Uid, attendee_key};
 use std::alloc::Global;
 
 /// The one attendee that it is of, and few properties (our own rule).
@@ -16,14 +16,14 @@ pub(crate) fn only_of(alloc: Global, attendee: &Property, todo: &Todo) -> Result
     requires { IsLawful (only_of attendee.now (parts_of todo.now)) }
     ensures { IfOk result (λ only. parts_of only ≡ only_of attendee.now (parts_of todo.now)) }
 {
-    let mut attendees = Vec::new(alloc);
-    attendees.push(attendee.clone()?)?;
+    let attendees = alone(alloc, attendee)?;
+    let (uid, rid, organizer) = copies(todo)?;
     Ok(Todo {
-        uid: todo.uid.clone()?,
+        uid,
         stamp: todo.stamp,
         seq: todo.seq,
         base: None,
-        rid: copy_moment(&todo.rid)?,
+        rid,
         range: false,
         start: None,
         due: None,
@@ -31,13 +31,32 @@ pub(crate) fn only_of(alloc: Global, attendee: &Property, todo: &Todo) -> Result
         percent: todo.percent,
         priority: None,
         summary: None,
-        organizer: copy_property(&todo.organizer)?,
-        attendees: ListOf::from_vec(attendees),
+        organizer,
+        attendees,
         rule: ListOf::new(alloc),
         rdates: ListOf::new(alloc),
         exdates: ListOf::new(alloc),
         others: ListOf::new(alloc),
     })
+}
+
+/// The list of a copy of this attendee.
+fn alone(alloc: Global, attendee: &Property) -> Result<ListOf<Property>, NoMemory>
+    ensures { IfOk result (λ list. list ≡ attendee.now ∷ []) }
+{
+    let mut attendees = Vec::new(alloc);
+    attendees.push(attendee.clone()?)?;
+    Ok(ListOf::from_vec(attendees))
+}
+
+/// Copies of UID, RECURRENCE-ID and ORGANIZER.
+fn copies(todo: &Todo) -> Result<(Uid, Option<Moment>, Option<Property>), NoMemory>
+    ensures { IfOk result (λ copy. (copy.0 ≡ todo.now.uid) × (copy.1 ≡ todo.now.rid) × (copy.2 ≡ todo.now.organizer)) }
+{
+    let uid = todo.uid.clone()?;
+    let rid = todo.rid.clone()?;
+    let organizer = todo.organizer.clone()?;
+    Ok((uid, rid, organizer))
 }
 
 /// The key of what an attendee answers, or wants.
@@ -64,16 +83,4 @@ fn refreshes(kind: Kind) -> bool
     ensures { result ≡ refreshes kind }
 {
     kind == Kind::Refresh
-}
-
-fn copy_moment(moment: &Option<Moment>) -> Result<Option<Moment>, NoMemory>
-    ensures { IfOk result (λ copy. copy ≡ moment.now) }
-{
-    moment.clone()
-}
-
-fn copy_property(property: &Option<Property>) -> Result<Option<Property>, NoMemory>
-    ensures { IfOk result (λ copy. copy ≡ property.now) }
-{
-    property.clone()
 }

@@ -4,8 +4,9 @@ ghost use Rattle.std.specs.Option.{is_some};
 ghost use Rattle.itip_todo.specs.PartsOf.{parts_of};
 ghost use Rattle.itip_todo.specs.Written.{content_octets};
 ghost use Rattle.itip_message.specs.Faults.{IfFault};
-ghost use Rattle.itip_message.specs.Items.{Draft, draft_of, canonical_octets, canonical_contents, bare, method_of, method_text, IsCanonical, one_if};
-ghost use Rattle.itip_message.specs.Message.{IsOver, Gives};
+ghost use Rattle.itip_message.specs.Items.{Draft, draft_of, canonical_octets, canonical_contents, bare, method_of, method_text, IsCanonical, IsItem, IsWithinLimits, one_if};
+ghost use Rattle.itip_message.specs.Message.{IsItemOf, IsOver, Gives};
+ghost use Rattle.itip_message.specs.declared.key.Key.{Key};
 ghost use Rattle.itip_message.specs.declared.kind.Kind.{Kind};
 
 use crate::error::{Fault, ReadError};
@@ -40,19 +41,44 @@ pub(crate) fn finish_item(
     ensures found { IfOk result (Gives (draft_of key eff todo kind)) }
     ensures fault { IfErr result (λ e. IfFault e (IsOver (draft_of key eff todo kind ∷ []))) }
 {
-    let octets = write_canonical(alloc, kind, &todo)?;
-    if octets.len() > OCTETS_LIMIT || line_count(&todo) > LINES_LIMIT {
-        return Err(ReadError::Fault(Fault::TooMany));
+    match bytes_within(alloc, kind, &todo) {
+        Ok(bytes) => Ok(item_of(kind, key, eff, todo, bytes)),
+        Err(error) => {
+            // By calls: what is dropped in place is proved anew, field by field and case by case.
+            drop(key);
+            drop(todo);
+            Err(error)
+        }
     }
-    Ok(Item {
+}
+
+/// The item of a to-do in canonical form, whose bytes these are.
+fn item_of(kind: Kind, key: Key, eff: u32, todo: Todo, bytes: Bytes) -> Item
+    requires { IsItem key todo.seq eff todo.stamp bytes todo kind }
+    ensures { IsItemOf (draft_of key eff todo kind) result }
+{
+    Item {
         key,
         own: todo.seq,
         eff,
         stamp: todo.stamp,
-        bytes: Bytes::new(octets),
+        bytes,
         todo,
         kind,
-    })
+    }
+}
+
+/// The canonical bytes of a to-do, where the form is within the limits.
+fn bytes_within(alloc: Global, kind: Kind, todo: &Todo) -> Result<Bytes, ReadError>
+    ensures bytes { IfOk result (λ bytes. bytes ≡ canonical_octets kind (parts_of todo.now)) }
+    ensures within { IfOk result (λ _. (key : Key) (eff : ℕ) → IsWithinLimits (draft_of key eff todo.now kind)) }
+    ensures fault { IfErr result (λ e. (key : Key) (eff : ℕ) → IfFault e (IsOver (draft_of key eff todo.now kind ∷ []))) }
+{
+    let octets = write_canonical(alloc, kind, todo)?;
+    if octets.len() > OCTETS_LIMIT || line_count(todo) > LINES_LIMIT {
+        return Err(ReadError::Fault(Fault::TooMany));
+    }
+    Ok(Bytes::new(octets))
 }
 
 /// How many lines the canonical form has, or a number that is too great.

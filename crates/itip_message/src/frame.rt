@@ -1,5 +1,5 @@
 //! Components in components: which lines of a message stand where.
-ghost use Rattle.std.specs.Prelude.{◌≡◌, ◌∷◌, ◌++◌, [], ℕ, List, IfOk, IfErr, Ok, Err};
+ghost use Rattle.std.specs.Prelude.{◌≡◌, ◌<◌, ◌∷◌, ◌++◌, [], ℕ, List, length, true, false, IfOk, IfErr, Ok, Err};
 ghost use Rattle.std.specs.Str.{str_to_ascii_uppercase};
 ghost use Rattle.std.specs.Option.{option_to_list};
 ghost use Rattle.std.specs.Vec.Iter.{into_iter_items};
@@ -16,7 +16,7 @@ use std::vec::IntoIter;
 const DEPTH_LIMIT: usize = 32;
 
 /// A line that a message is made of, as it stands.
-#[derive(Debug, Drop)]
+#[derive(Drop)]
 pub(crate) enum Placed {
     /// A property directly in the VCALENDAR.
     CalendarLine(Line),
@@ -72,25 +72,60 @@ fn place_line(
     ensures fault { IfErr result (λ e. IfFault e (λ f. (lines : List Line) → place (innermost_first inside.old.items) (line ∷ lines) ≡ Err f)) }
 {
     if inside.is_empty() {
+        drop(line);
         return Err(ReadError::Fault(Fault::Nesting));
     }
     if is_begin(&line) {
-        if inside.len() >= DEPTH_LIMIT {
-            return Err(ReadError::Fault(Fault::Nesting));
-        }
-        let name = component_name(alloc, &line)?;
-        let placed = opening(inside, &name);
-        inside.push(name)?;
-        return Ok(placed);
+        let placed = place_begin(alloc, inside, &line);
+        drop(line);
+        return placed;
     }
     if is_end(&line) {
-        let name = component_name(alloc, &line)?;
-        if !end(inside, &name) {
-            return Err(ReadError::Fault(Fault::Nesting));
-        }
-        return Ok(None);
+        let placed = place_end(alloc, inside, &line);
+        drop(line);
+        return placed;
     }
     Ok(property(inside, line))
+}
+
+/// Places the line that begins a component inside these.
+fn place_begin(
+    alloc: Global,
+    inside: &mut Vec<Text>,
+    line: &Line,
+) -> Result<Option<Placed>, ReadError>
+    requires { (is_begin line.now ≡ true) × (0 < length inside.old.items) }
+    ensures placed { IfOk result (λ placed. (lines : List Line)
+        → place (innermost_first inside.old.items) (line.now ∷ lines) ≡ with_front (option_to_list placed) (place (innermost_first inside.new.items) lines)) }
+    ensures fault { IfErr result (λ e. IfFault e (λ f. (lines : List Line) → place (innermost_first inside.old.items) (line.now ∷ lines) ≡ Err f)) }
+{
+    if inside.len() >= DEPTH_LIMIT {
+        return Err(ReadError::Fault(Fault::Nesting));
+    }
+    let name = component_name(alloc, line)?;
+    let placed = opening(inside, &name);
+    inside.push(name)?;
+    Ok(placed)
+}
+
+/// Places the line that ends a component: the innermost, or it is out of place.
+fn place_end(
+    alloc: Global,
+    inside: &mut Vec<Text>,
+    line: &Line,
+) -> Result<Option<Placed>, ReadError>
+    requires { (is_begin line.now ≡ false) × (is_end line.now ≡ true) × (0 < length inside.old.items) }
+    ensures placed { IfOk result (λ placed. (lines : List Line)
+        → place (innermost_first inside.old.items) (line.now ∷ lines) ≡ with_front (option_to_list placed) (place (innermost_first inside.new.items) lines)) }
+    ensures fault { IfErr result (λ e. IfFault e (λ f. (lines : List Line) → place (innermost_first inside.old.items) (line.now ∷ lines) ≡ Err f)) }
+{
+    let name = component_name(alloc, line)?;
+    let ended = end(inside, &name);
+    drop(name);
+    if !ended {
+        return Err(ReadError::Fault(Fault::Nesting));
+    }
+    Ok(None)
 }
 
 fn is_begin(line: &Line) -> bool

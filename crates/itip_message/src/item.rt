@@ -53,15 +53,21 @@ impl Clone for Item {
     fn clone(&self) -> Result<Item, NoMemory> {
         let bytes = self.bytes.clone()?;
         let key = self.key.clone()?;
-        let todo = self.todo.clone()?;
-        Ok(Item {
-            key,
-            own: self.own,
-            eff: self.eff,
-            stamp: self.stamp,
-            bytes,
-            todo,
-            kind: self.kind,
-        })
+        match self.todo.clone() {
+            Ok(todo) => Ok(Item {
+                key,
+                own: self.own,
+                eff: self.eff,
+                stamp: self.stamp,
+                bytes,
+                todo,
+                kind: self.kind,
+            }),
+            Err(refused) => {
+                // By a call: what is dropped in place is proved anew, field by field and case by case.
+                drop(key);
+                Err(refused)
+            }
+        }
     }
 }

@@ -1,14 +1,16 @@
 //! The items of a message's to-dos.
 ghost use Rattle.std.specs.Prelude.{◌≡◌, ◌≢◌, ◌≤◌, ◌∷◌, [], map, true, false, IfOk, IfErr, OnOk};
 ghost use Rattle.std.specs.List.{AllByRecursion};
+ghost use Rattle.std.specs.Option.{option_map};
 ghost use Rattle.itip_moment.specs.declared.moment.Moment.{Moment};
 ghost use Rattle.itip_todo.specs.Lawful.{IsLawful};
 ghost use Rattle.itip_todo.specs.PartsOf.{parts_of};
 ghost use Rattle.itip_message.specs.Faults.{IfFault};
 ghost use Rattle.itip_message.specs.Needs.{Suits};
-ghost use Rattle.itip_message.specs.Items.{drafts, drafts_of, kind_of, raised, task_draft, instance_draft, instance_key, attendee_draft, canonical_base, is_task, Sends, IsCanonical};
+ghost use Rattle.itip_message.specs.Items.{drafts, drafts_of, kind_of, raised, task_draft, series_draft, add_drafts, instance_draft, instance_key, attendee_draft, canonical_base, is_task, Sends, IsCanonical};
 ghost use Rattle.itip_message.specs.Message.{GivesItems, IsOver, Adds, Gives};
 ghost use Rattle.itip_message.specs.declared.kind.Kind.TheVariants as kinds;
+ghost use Rattle.itip_message.specs.declared.kind.Method.TheVariants as methods;
 
 use crate::attendee::{key_of, only_of};
 use crate::canonical::finish_item;
@@ -57,18 +59,52 @@ fn add_items(
     match kind {
         Kind::Request | Kind::Cancel => {
             items.push(task_item(alloc, kind, above, todo)?)?;
+            Ok(())
         }
-        Kind::Add => {
-            if let Some(start) = &todo.start {
-                let key = instance_key(false, &todo.uid, start)?;
-                items.push(instance_item(alloc, kind, key, above, todo)?)?;
-            }
-        }
+        Kind::Add => add_instance(alloc, above, todo, items),
         Kind::Remove | Kind::Reply | Kind::Refresh => {
-            add_attendees(alloc, kind, &todo, items)?;
+            let added = add_attendees(alloc, kind, &todo, items);
+            drop(todo);
+            added
         }
     }
-    Ok(())
+}
+
+/// Adds the item of the instance that DTSTART names.
+fn add_instance(
+    alloc: Global,
+    above: u32,
+    todo: Todo,
+    items: &mut Vec<Item>,
+) -> Result<(), ReadError>
+    requires { Suits methods.Add (parts_of todo) × (above ≤ 2147483647) }
+    ensures found { OnOk result (Adds (add_drafts (raised (parts_of todo) above) todo.start (parts_of todo)) items.old.items items.new.items) }
+    ensures fault { IfErr result (λ e. IfFault e (IsOver (add_drafts (raised (parts_of todo) above) todo.start (parts_of todo)))) }
+{
+    match started_key(&todo) {
+        Ok(Some(key)) => {
+            items.push(instance_item(alloc, Kind::Add, key, above, todo)?)?;
+            Ok(())
+        }
+        Ok(None) => {
+            drop(todo);
+            Ok(())
+        }
+        Err(refused) => {
+            drop(todo);
+            Err(refused.into())
+        }
+    }
+}
+
+/// The key of the instance that DTSTART names, or `None` without DTSTART.
+fn started_key(todo: &Todo) -> Result<Option<Key>, NoMemory>
+    ensures { IfOk result (λ key. key ≡ option_map (instance_key false todo.now.uid) todo.now.start) }
+{
+    match &todo.start {
+        Some(start) => Ok(Some(instance_key(false, &todo.uid, start)?)),
+        None => Ok(None),
+    }
 }
 
 /// The item of the series, or of the instance that RECURRENCE-ID names, or of it and all after it.
@@ -77,14 +113,43 @@ fn task_item(alloc: Global, kind: Kind, above: u32, todo: Todo) -> Result<Item, 
     ensures found { IfOk result (Gives (task_draft kind (raised (parts_of todo) above) todo.rid (parts_of todo))) }
     ensures fault { IfErr result (λ e. IfFault e (IsOver (task_draft kind (raised (parts_of todo) above) todo.rid (parts_of todo) ∷ []))) }
 {
-    if let Some(id) = &todo.rid {
-        let key = instance_key(todo.range, &todo.uid, id)?;
-        return instance_item(alloc, kind, key, above, todo);
+    match named_key(&todo) {
+        Ok(Some(key)) => instance_item(alloc, kind, key, above, todo),
+        Ok(None) => series_item(alloc, kind, todo),
+        Err(refused) => {
+            drop(todo);
+            Err(refused.into())
+        }
     }
-    let mut todo = todo;
-    todo.base = None;
-    let key = Key::Series(todo.uid.clone()?);
-    finish_item(alloc, kind, key, todo.seq, todo)
+}
+
+/// The key of the instance that RECURRENCE-ID names, or of it and all after it, or `None` without RECURRENCE-ID.
+fn named_key(todo: &Todo) -> Result<Option<Key>, NoMemory>
+    ensures { IfOk result (λ key. key ≡ option_map (instance_key todo.now.range todo.now.uid) todo.now.rid) }
+{
+    match &todo.rid {
+        Some(id) => Ok(Some(instance_key(todo.range, &todo.uid, id)?)),
+        None => Ok(None),
+    }
+}
+
+/// The item of the series. It has no X-DESK-BASE.
+fn series_item(alloc: Global, kind: Kind, todo: Todo) -> Result<Item, ReadError>
+    requires { IsCanonical (series_draft kind (parts_of todo)) }
+    ensures found { IfOk result (Gives (series_draft kind (parts_of todo))) }
+    ensures fault { IfErr result (λ e. IfFault e (IsOver (series_draft kind (parts_of todo) ∷ []))) }
+{
+    match todo.uid.clone() {
+        Ok(uid) => {
+            let mut todo = todo;
+            todo.base = None;
+            finish_item(alloc, kind, Key::Series(uid), todo.seq, todo)
+        }
+        Err(refused) => {
+            drop(todo);
+            Err(refused.into())
+        }
+    }
 }
 
 /// The key of an instance, or of it and all after it.
@@ -161,6 +226,11 @@ fn attendee_item(
     ensures fault { IfErr result (λ e. IfFault e (IsOver (attendee_draft kind (parts_of todo.now) attendee.now ∷ []))) }
 {
     let key = key_of(alloc, kind, todo, attendee)?;
-    let only = only_of(alloc, attendee, todo)?;
-    finish_item(alloc, kind, key, todo.seq, only)
+    match only_of(alloc, attendee, todo) {
+        Ok(only) => finish_item(alloc, kind, key, todo.seq, only),
+        Err(refused) => {
+            drop(key);
+            Err(refused.into())
+        }
+    }
 }

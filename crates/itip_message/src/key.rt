@@ -1,3 +1,5 @@
+ghost use Rattle.std.specs.Prelude.{◌≡◌, IfOk};
+
 use itip_lines::{NoMemory, Text};
 use itip_moment::Moment;
 use itip_todo::Uid;
@@ -93,11 +95,26 @@ impl Clone for Key {
             Key::Instance(uid, at) => Ok(Key::Instance(uid.clone()?, at.clone()?)),
             Key::Range(uid, at) => Ok(Key::Range(uid.clone()?, at.clone()?)),
             Key::Answer(uid, at, attendee) => {
-                Ok(Key::Answer(uid.clone()?, at.clone()?, attendee.clone()?))
+                let (uid, at, attendee) = copy_parts(uid, at, attendee)?;
+                Ok(Key::Answer(uid, at, attendee))
             }
             Key::Refresh(uid, at, attendee) => {
-                Ok(Key::Refresh(uid.clone()?, at.clone()?, attendee.clone()?))
+                let (uid, at, attendee) = copy_parts(uid, at, attendee)?;
+                Ok(Key::Refresh(uid, at, attendee))
             }
         }
     }
+}
+
+fn copy_parts(
+    uid: &Uid,
+    at: &Option<Moment>,
+    attendee: &Text,
+) -> Result<(Uid, Option<Moment>, Text), NoMemory>
+    ensures { IfOk result (λ copy. (copy.0 ≡ uid.now) × (copy.1 ≡ at.now) × (copy.2 ≡ attendee.now)) }
+{
+    let uid = uid.clone()?;
+    let attendee = attendee.clone()?;
+    let at = at.clone()?;
+    Ok((uid, at, attendee))
 }

@@ -63,12 +63,24 @@ pub fn csv_text(alloc: Global, rows: &[Row]) -> Result<Vec<u8>, AllocError> {
 fn put_row(alloc: Global, sheet: &mut Writer<Vec<u8>>, row: &Row) -> Result<(), AllocError> {
     let attendees = row.attendees.as_slice();
     if attendees.is_empty() {
-        written(sheet.serialize(alloc, &fields_of(alloc, row, None)?))?;
+        put_record(alloc, sheet, row, None)?;
     }
     for attendee in attendees {
-        written(sheet.serialize(alloc, &fields_of(alloc, row, Some(attendee))?))?;
+        put_record(alloc, sheet, row, Some(attendee))?;
     }
     Ok(())
+}
+
+fn put_record(
+    alloc: Global,
+    sheet: &mut Writer<Vec<u8>>,
+    row: &Row,
+    attendee: Option<&ShownAttendee>,
+) -> Result<(), AllocError> {
+    let fields = fields_of(alloc, row, attendee)?;
+    let put = written(sheet.serialize(alloc, &fields));
+    drop(fields);
+    put
 }
 
 // A vector takes what is written to it, unless memory is refused.

@@ -10,7 +10,7 @@ use itip_todo::Uid;
 use std::cmp::Ordering;
 
 /// The parts of a key. A key is made where an item is heard, and a look-up needs none.
-#[derive(Clone, Copy, Debug, Drop)]
+#[derive(Clone, Copy, Drop)]
 pub(crate) struct KeyParts<'k> {
     uid: &'k Uid,
     /// The place of the kind of the key (`Key::rank`).

@@ -47,9 +47,13 @@ impl SharedItem {
     pub fn new(alloc: Global, item: Item) -> Result<SharedItem, NoMemory>
         ensures { IfOk result (λ shared. shared ≡ item) }
     {
-        let slot = match &item.key {
-            Key::Series(_) => None,
-            key => Some(Slot::new(alloc, key.clone()?)?),
+        let slot = match slot_of(alloc, &item.key) {
+            Ok(slot) => slot,
+            Err(refused) => {
+                // By a call: what is dropped in place is proved anew, field by field and case by case.
+                drop(item);
+                return Err(refused);
+            }
         };
         let revision = Revision::new(alloc, item)?;
         Ok(SharedItem { revision, slot })
@@ -161,6 +165,17 @@ impl Ord for SharedItem {
     fn cmp(&self, other: &SharedItem) -> Ordering {
         self.item().cmp(other.item())
     }
+}
+
+/// The slot of an item of this key, or `None` where it is a series item.
+fn slot_of(alloc: Global, key: &Key) -> Result<Option<Slot>, NoMemory>
+    ensures { IfOk result (λ slot. IsPlaceOf slot key.now) }
+{
+    let slot = match key {
+        Key::Series(_) => None,
+        key => Some(Slot::new(alloc, key.clone()?)?),
+    };
+    Ok(slot)
 }
 
 /// The items given, by canonical octets, each once. A refusal (out of memory) drops them.

@@ -3,6 +3,7 @@ ghost use Rattle.std.specs.Prelude.{◌≡◌, IfOk};
 
 use crate::property::Property;
 use crate::todo::Todo;
+use crate::uid::Uid;
 use itip_lines::{Line, ListOf, NoMemory, Text};
 use itip_moment::Moment;
 
@@ -14,7 +15,7 @@ pub(crate) struct Times {
     pub due: Option<Moment>,
 }
 
-pub(crate) fn copy_times(todo: &Todo) -> Result<Times, NoMemory>
+fn copy_times(todo: &Todo) -> Result<Times, NoMemory>
     ensures { IfOk result (λ copy. copy ≡ record { rid = todo.now.rid; start = todo.now.start; due = todo.now.due }) }
 {
     Ok(Times {
@@ -32,7 +33,7 @@ pub(crate) struct Subject {
     pub attendees: ListOf<Property>,
 }
 
-pub(crate) fn copy_subject(todo: &Todo) -> Result<Subject, NoMemory>
+fn copy_subject(todo: &Todo) -> Result<Subject, NoMemory>
     ensures { IfOk result (λ copy. copy ≡ record { summary = todo.now.summary; organizer = todo.now.organizer; attendees = todo.now.attendees }) }
 {
     Ok(Subject {
@@ -40,6 +41,24 @@ pub(crate) fn copy_subject(todo: &Todo) -> Result<Subject, NoMemory>
         organizer: todo.organizer.clone()?,
         attendees: todo.attendees.clone()?,
     })
+}
+
+/// The UID, when the to-do is, and what it is about.
+pub(crate) fn copy_head(todo: &Todo) -> Result<(Uid, Times, Subject), NoMemory>
+    ensures uid { IfOk result (λ copy. copy.0 ≡ todo.now.uid) }
+    ensures times { IfOk result (λ copy. copy.1 ≡ record { rid = todo.now.rid; start = todo.now.start; due = todo.now.due }) }
+    ensures subject { IfOk result (λ copy. copy.2 ≡ record { summary = todo.now.summary; organizer = todo.now.organizer; attendees = todo.now.attendees }) }
+{
+    let uid = todo.uid.clone()?;
+    let times = copy_times(todo)?;
+    // By a call: what is dropped in place is proved anew, field by field and case by case.
+    match copy_subject(todo) {
+        Ok(subject) => Ok((uid, times, subject)),
+        Err(refused) => {
+            drop(times);
+            Err(refused)
+        }
+    }
 }
 
 /// How a to-do recurs, and its lines of all other properties.

@@ -1,6 +1,7 @@
 //! The to-do of all lines.
-ghost use Rattle.std.specs.Prelude.{◌≡◌, [], List, None, Some, IfOk, OnOk, IfErr};
+ghost use Rattle.std.specs.Prelude.{◌≡◌, [], ℕ, List, None, Some, IfOk, OnOk, IfErr};
 ghost use Rattle.itip_todo.specs.declared.error.Fault.TheVariants as fault;
+ghost use Rattle.itip_todo.specs.declared.property_name.PropertyName.TheVariants as name;
 ghost use Rattle.std.specs.BTreeSet.{IsOrdered};
 ghost use Rattle.itip_lines.specs.declared.line.Line.{Line};
 ghost use Rattle.itip_moment.specs.Order.{moment_cmp};
@@ -11,8 +12,9 @@ use crate::draft::Draft;
 use crate::error::{Fault, TodoError};
 use crate::property_name::PropertyName;
 use crate::todo::Todo;
+use crate::uid::Uid;
 use itip_lines::{ListOf, NoMemory};
-use itip_moment::Moment;
+use itip_moment::{Moment, Stamp};
 use std::alloc::Global;
 use std::collections::BTreeSet;
 
@@ -22,13 +24,10 @@ pub(crate) fn finish(alloc: Global, draft: Draft) -> Result<Todo, TodoError>
     ensures found { IfOk result (λ todo. (lines : List Line) → AreGood [] lines → IsDraftOf (lines_of lines) draft → ReadsTodo lines todo) }
     ensures fault { IfErr result (λ e. IfFault e (λ f. (lines : List Line) → AreGood [] lines → IsDraftOf (lines_of lines) draft → RefusesTodo lines f)) }
 {
-    let uid = present(draft.uid, PropertyName::Uid)?;
-    let stamp = present(draft.stamp, PropertyName::DtStamp)?;
-    let rdates = in_order(alloc, draft.rdates)?;
-    let exdates = in_order(alloc, draft.exdates)?;
+    let needed = values_of(alloc, draft.uid, draft.stamp, draft.rdates, draft.exdates)?;
     Ok(Todo {
-        uid,
-        stamp,
+        uid: needed.uid,
+        stamp: needed.stamp,
         seq: draft.seq.unwrap_or(0),
         base: draft.base,
         rid: draft.rid,
@@ -42,9 +41,45 @@ pub(crate) fn finish(alloc: Global, draft: Draft) -> Result<Todo, TodoError>
         organizer: draft.organizer,
         attendees: ListOf::from_vec(draft.attendees),
         rule: ListOf::from_vec(draft.rule),
+        rdates: needed.rdates,
+        exdates: needed.exdates,
+        others: ListOf::from_vec(draft.others),
+    })
+}
+
+/// What a to-do has to have, and the sets of its moments in their order.
+#[derive(Drop)]
+struct Needed {
+    uid: Uid,
+    stamp: Stamp,
+    rdates: ListOf<Moment>,
+    exdates: ListOf<Moment>,
+}
+
+fn values_of(
+    alloc: Global,
+    uid: Option<Uid>,
+    stamp: Option<Stamp>,
+    rdates: BTreeSet<Moment>,
+    exdates: BTreeSet<Moment>,
+) -> Result<Needed, TodoError>
+    ensures uid { IfOk result (λ needed. uid ≡ Some needed.uid) }
+    ensures stamp { IfOk result (λ needed. stamp ≡ Some needed.stamp) }
+    ensures rdates { IfOk result (λ needed. needed.rdates ≡ rdates.keys) }
+    ensures exdates { IfOk result (λ needed. needed.exdates ≡ exdates.keys) }
+    ensures ordered { OnOk result (IsOrdered moment_cmp rdates × IsOrdered moment_cmp exdates) }
+    ensures no_uid { IfErr result (λ e. uid ≡ None → IfFault e (λ f. f ≡ fault.Missing name.Uid)) }
+    ensures no_stamp { IfErr result (λ e. (text : List ℕ) → uid ≡ Some text → IfFault e (λ f. (f ≡ fault.Missing name.DtStamp) × (stamp ≡ None))) }
+{
+    let uid = present(uid, PropertyName::Uid)?;
+    let stamp = present(stamp, PropertyName::DtStamp)?;
+    let rdates = in_order(alloc, rdates)?;
+    let exdates = in_order(alloc, exdates)?;
+    Ok(Needed {
+        uid,
+        stamp,
         rdates,
         exdates,
-        others: ListOf::from_vec(draft.others),
     })
 }
 

@@ -2,7 +2,7 @@
 ghost use Rattle.std.specs.Prelude.{◌≡◌};
 ghost use Rattle.itip_todo.specs.Lawful.{IsLawful, IsLawful-prop};
 
-use crate::copies::{copy_lists, copy_subject, copy_times};
+use crate::copies::{copy_head, copy_lists};
 use crate::property::Property;
 use crate::status::Status;
 use crate::uid::Uid;
@@ -58,10 +58,9 @@ impl Clone for Todo {
     ghost is_clone = { λ todo copy. copy ≡ todo };
 
     fn clone(&self) -> Result<Todo, NoMemory> {
-        let uid = self.uid.clone()?;
-        let times = copy_times(self)?;
-        let subject = copy_subject(self)?;
         let lists = copy_lists(self)?;
+        let head = copy_head(self)?;
+        let (uid, times, subject) = head;
         Ok(Todo {
             uid,
             stamp: self.stamp,

@@ -9,7 +9,7 @@ use itip_todo::{Property, attendee_key};
 use std::alloc::Global;
 
 /// An ATTENDEE line, and the key of its attendee.
-#[derive(Debug, Drop)]
+#[derive(Drop)]
 pub(crate) struct AttendeeLine<'a> {
     pub(crate) line: &'a Property,
     pub(crate) key: Text,
@@ -17,7 +17,7 @@ pub(crate) struct AttendeeLine<'a> {
 }
 
 /// An item that can govern rows, and its ATTENDEE lines with their keys, which are made once for all of these rows.
-#[derive(Debug, Drop)]
+#[derive(Drop)]
 pub(crate) struct Governing<'a> {
     pub(crate) item: &'a Item,
     pub(crate) lines: Vec<AttendeeLine<'a>>,

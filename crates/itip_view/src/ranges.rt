@@ -74,7 +74,7 @@ impl<'v, 'a> Ranges<'v, 'a> {
 /// The range items of a UID that stand, by the form, the zone and the moment of their ids, each with the keys of its attendees.
 ///
 /// They are the ones of its kept items, by the invariant of the type.
-#[derive(Debug, Drop)]
+#[derive(Drop)]
 pub(crate) struct GoverningRanges<'v, 'a> {
     items: &'v ItemsOfUid<'a>,
     standing: Vec<RangeFrom<'a>>,

@@ -1,54 +1,17 @@
-use Rattle.std.proofs.Common.{◌≡◌, ◌∙◌, ap, ℕ, ◌<◌, ◌≤◌, List, length, refl, arith}
-use Rattle.std.specs.Prelude.{min}
-use Rattle.itip_todo.specs.PartsOf.{parts_of}
-use Rattle.itip_message.specs.Items.{draft_of, canonical_contents, canonical_octets}
-use Rattle.itip_message.proofs.Adding.{over_one}
+use Rattle.std.proofs.Common.{refl}
 use Rattle.itip_message.proofs.canonical.finish_item.Goals as goal
-use Rattle.itip_message.proofs.canonical.finish_item.Goals.{then-len-gt-OCTETS_LIMIT-via-then-len-gt-OCTETS_LIMIT, then-len-gt-OCTETS_LIMIT-via-else-len-gt-OCTETS_LIMIT+then-line_count-gt-LINES_LIMIT}
 
-long_octets : (octets : List ℕ) (n : ℕ) → n ≡ length octets → 262144 < n → length octets ≤ 262144 → ⊥
-long_octets octets n e h k = omega (arith, e)
+pub item_of-requires : goal.item_of-requires
+item_of-requires c = record {
+  is_canonical = c.requires;
+  within = c.in-Ok.ensures.within c.args.key c.args.eff;
+  own_is = refl;
+  stamp_is = refl;
+  bytes_are = c.in-Ok.ensures.bytes;
+}
 
-many_lines : (count n : ℕ) → n ≡ min count 18446744073709551615 → 20000 < n → count ≤ 20000 → ⊥
-many_lines count n e h k = omega (arith, e)
+pub returns-in-Ok-clause-found : goal.returns-in-Ok-clause-found
+returns-in-Ok-clause-found c = (c.item_of.ensures, c.in-Ok.ensures.within c.args.key c.args.eff)
 
-few_lines : (count n : ℕ) → n ≡ min count 18446744073709551615 → n ≤ 20000 → count ≤ 20000
-few_lines count n e h = omega (arith, e)
-
-few_octets : (octets canonical : List ℕ) (n : ℕ) → octets ≡ canonical → n ≡ length octets → n ≤ 262144 → length canonical ≤ 262144
-few_octets octets canonical n same e h = let l = ap length same in omega (arith, e, l)
-
-pub returns-then-len-gt-OCTETS_LIMIT-clause-fault : goal.returns-then-len-gt-OCTETS_LIMIT-clause-fault
-returns-then-len-gt-OCTETS_LIMIT-clause-fault c =
-    let known : c.len.result ≡ length c.in_ok-octets.octets.items = omega arith in
-    over_one _ (draft_of c.args.key c.args.eff c.args.todo c.args.kind) refl (λ within.
-    elim c.then-len-gt-OCTETS_LIMIT.branch [
-      | then-len-gt-OCTETS_LIMIT-via-then-len-gt-OCTETS_LIMIT w ↦ long_octets (canonical_octets c.args.kind (parts_of c.args.todo)) c.len.result (known ∙ ap length c.in_ok-octets.ensures) w.if-len-gt-OCTETS_LIMIT.true within.octets
-      | then-len-gt-OCTETS_LIMIT-via-else-len-gt-OCTETS_LIMIT+then-line_count-gt-LINES_LIMIT w ↦ many_lines (length (canonical_contents c.args.kind (parts_of c.args.todo))) w.line_count.result (w.line_count.ensures c.args.kind) w.if-line_count-gt-LINES_LIMIT.true within.lines
-    ])
-
-pub invariant_of-result : goal.invariant_of-result
-invariant_of-result c =
-    let known : c.len.result ≡ length c.in_ok-octets.octets.items = omega arith in
-    record {
-      canonical = ∣ record {
-        is_canonical = c.requires;
-        within = record {
-          octets = few_octets c.in_ok-octets.octets.items (canonical_octets c.args.kind (parts_of c.args.todo)) c.len.result c.in_ok-octets.ensures known c.if-len-gt-OCTETS_LIMIT.false;
-          lines = few_lines (length (canonical_contents c.args.kind (parts_of c.args.todo))) c.line_count.result (c.line_count.ensures c.args.kind) c.if-line_count-gt-LINES_LIMIT.false;
-        };
-        own_is = refl;
-        stamp_is = refl;
-        bytes_are = c.new.ensures ∙ c.in_ok-octets.ensures;
-      } ∣₁;
-    }
-
-pub returns-clause-found : goal.returns-clause-found
-returns-clause-found c =
-    let known : c.len.result ≡ length c.in_ok-octets.octets.items = omega arith in (
-      record { key_is = refl; kind_is = refl; eff_is = refl; parts_are = refl; own_is = refl; stamp_is = refl; bytes_are = c.new.ensures ∙ c.in_ok-octets.ensures },
-      record {
-        octets = few_octets c.in_ok-octets.octets.items (canonical_octets c.args.kind (parts_of c.args.todo)) c.len.result c.in_ok-octets.ensures known c.if-len-gt-OCTETS_LIMIT.false;
-        lines = few_lines (length (canonical_contents c.args.kind (parts_of c.args.todo))) c.line_count.result (c.line_count.ensures c.args.kind) c.if-line_count-gt-LINES_LIMIT.false;
-      },
-    )
+pub returns-in-Err-clause-fault : goal.returns-in-Err-clause-fault
+returns-in-Err-clause-fault c = c.in-Err.ensures.fault c.args.key c.args.eff

@@ -1,5 +1,5 @@
 use Rattle.std.proofs.Common.{◌≡◌, ◌∙◌, sym, ap, List, [], ◌∷◌, subst, Option, Some, None, inl, inr, true, refl, map, ◌⊎◌}
-use Rattle.std.proofs.lemmas.Result.{err_from_is_err_and}
+use Rattle.std.specs.Prelude.{OnOk, IfErr}
 use Rattle.itip_moment.specs.declared.moment.Moment.{Moment}
 use Rattle.itip_todo.specs.Parts.{Parts}
 use Rattle.itip_todo.specs.PartsOf.{parts_of}
@@ -9,20 +9,34 @@ use Rattle.itip_message.specs.Message.{Adds, IsOver}
 use Rattle.itip_message.specs.Needs.{Suits}
 use Rattle.itip_message.specs.declared.key.Key.{Key}
 use Rattle.itip_message.specs.declared.kind.Kind.{Kind}
+use Rattle.itip_message.specs.declared.kind.Method.{Method}
 use Rattle.itip_message.specs.declared.kind.Kind.TheVariants as kind
 use Rattle.itip_message.proofs.Adding.{adds_one, adds_none}
 use Rattle.itip_message.proofs.Drafting.{sends, add_canonical, task_drafts}
 use Rattle.itip_message.proofs.items.add_items.Goals as goal
 
-pub instance_item-requires : goal.instance_item-requires
-instance_item-requires c =
-    let parts : Parts = parts_of c.args.todo in
-    let is_add : kind_of c.args.method parts ≡ kind.Add = sym c.kind_of-kind.ensures ∙ c.in-Add.is in
-    let suits : Suits (method_of kind.Add) parts = subst (λ (k : Kind). Suits (method_of k) parts) is_add (sends c.args.method parts c.requires.0).suits in (
-      subst (λ (k : Kind). IsCanonical (instance_draft k (raised parts c.args.above) c.in_ok-key-in-Add.key parts)) (sym c.in-Add.is)
-          (subst (λ (key : Key). IsCanonical (instance_draft kind.Add (raised parts c.args.above) key parts)) (sym c.in_ok-key-in-Add.ensures) (add_canonical parts c.in-Some.start c.args.above suits c.in-Some.is)),
+-- the kind is that of an added instance
+is_add : (m : Method) (k : Kind) (parts : Parts) → k ≡ kind_of m parts → k ≡ kind.Add → kind_of m parts ≡ kind.Add
+is_add m k parts e is = sym e ∙ is
+
+pub add_instance-requires : goal.add_instance-requires
+add_instance-requires c =
+    let parts : Parts = parts_of c.args.todo in (
+      subst (λ (k : Kind). Suits (method_of k) parts) (is_add c.args.method c.kind_of-kind.result parts c.kind_of-kind.ensures c.in-Add.is) (sends c.args.method parts c.requires.0).suits,
       c.requires.1,
     )
+
+pub returns-in-Add-clause-found : goal.returns-in-Add-clause-found
+returns-in-Add-clause-found c =
+    let parts : Parts = parts_of c.args.todo in
+    let same = ap (λ (k : Kind). drafts_of k (raised parts c.args.above) parts) (is_add c.args.method c.kind_of-kind.result parts c.kind_of-kind.ensures c.in-Add.is) in
+    subst (λ (ds : List Draft). OnOk c.add_instance.result (Adds ds c.args.items.now.items c.add_instance.new.items.items)) (sym same) c.add_instance.ensures.found
+
+pub returns-in-Add-clause-fault : goal.returns-in-Add-clause-fault
+returns-in-Add-clause-fault c =
+    let parts : Parts = parts_of c.args.todo in
+    let same = ap (λ (k : Kind). drafts_of k (raised parts c.args.above) parts) (is_add c.args.method c.kind_of-kind.result parts c.kind_of-kind.ensures c.in-Add.is) in
+    subst (λ (ds : List Draft). IfErr c.add_instance.result (λ e. IfFault e (IsOver ds))) (sym same) c.add_instance.ensures.fault
 
 pub returns-in_ok-push-in-Request-clause-found : goal.returns-in_ok-push-in-Request-clause-found
 returns-in_ok-push-in-Request-clause-found c =
@@ -34,27 +48,21 @@ returns-in_ok-push-in-Request-clause-found c =
     subst (λ (ds : List Draft). Adds ds c.args.items.now.items c.push.new.self.items) (sym one)
     (adds_one _ c.in_ok-task_item-in-Request.field-0 c.args.items.now.items c.push.new.self.items c.in_ok-task_item-in-Request.ensures.found c.in_ok-push-in-Request.ensures.items)
 
-none_added : (eff : _) (start : Option Moment) (parts : Parts) → ((id : Moment) → start ≡ Some id → ⊥) → add_drafts eff start parts ≡ []
-none_added eff None parts h = refl
-none_added eff (Some id) parts h = absurd (h id refl)
-
-pub returns-in_default-clause-found : goal.returns-in_default-clause-found
-returns-in_default-clause-found c =
-    let parts : Parts = parts_of c.args.todo in
-    let eff = raised parts c.args.above in
-    let is_add : kind_of c.args.method parts ≡ kind.Add = sym c.kind_of-kind.ensures ∙ c.in-Add.is in
-    let none : drafts_of (kind_of c.args.method parts) eff parts ≡ [] = ap (λ (l : Kind). drafts_of l eff parts) is_add ∙ none_added eff c.args.todo.start parts c.in_default.not-Some in
-    subst (λ (ds : List Draft). Adds ds c.args.items.now.items c.args.items.now.items) (sym none) (adds_none c.args.items.now.items)
-
 attended : (k : Kind) (eff : _) (parts : Parts) → (k ≡ kind.Remove) ⊎ ((k ≡ kind.Reply) ⊎ (k ≡ kind.Refresh)) → map (attendee_draft k parts) parts.attendees ≡ drafts_of k eff parts
 attended k eff parts (inl e) = subst (λ (l : Kind). map (attendee_draft l parts) parts.attendees ≡ drafts_of l eff parts) (sym e) refl
 attended k eff parts (inr (inl e)) = subst (λ (l : Kind). map (attendee_draft l parts) parts.attendees ≡ drafts_of l eff parts) (sym e) refl
 attended k eff parts (inr (inr e)) = subst (λ (l : Kind). map (attendee_draft l parts) parts.attendees ≡ drafts_of l eff parts) (sym e) refl
 
-pub returns-in_err-add_attendees-in-Remove-clause-fault : goal.returns-in_err-add_attendees-in-Remove-clause-fault
-returns-in_err-add_attendees-in-Remove-clause-fault c =
-    let p = err_from_is_err_and c.from_residual-in_err-add_attendees-in-Remove.result c.from_residual-in_err-add_attendees-in-Remove.ensures.1 in
+pub returns-in-Remove-clause-found : goal.returns-in-Remove-clause-found
+returns-in-Remove-clause-found c =
     let parts : Parts = parts_of c.args.todo in
     let eff = raised parts c.args.above in
     let same = attended c.kind_of-kind.result eff parts c.in-Remove.is ∙ ap (λ (l : Kind). drafts_of l eff parts) c.kind_of-kind.ensures in
-    rw (p.1, p.2) (subst (λ (ds : List Draft). IfFault c.in_err-add_attendees-in-Remove.field-0.0 (IsOver ds)) same c.in_err-add_attendees-in-Remove.ensures.fault)
+    subst (λ (ds : List Draft). OnOk c.add_attendees-added.result (Adds ds c.args.items.now.items c.add_attendees-added.new.items.items)) same c.add_attendees-added.ensures.found
+
+pub returns-in-Remove-clause-fault : goal.returns-in-Remove-clause-fault
+returns-in-Remove-clause-fault c =
+    let parts : Parts = parts_of c.args.todo in
+    let eff = raised parts c.args.above in
+    let same = attended c.kind_of-kind.result eff parts c.in-Remove.is ∙ ap (λ (l : Kind). drafts_of l eff parts) c.kind_of-kind.ensures in
+    subst (λ (ds : List Draft). IfErr c.add_attendees-added.result (λ e. IfFault e (IsOver ds))) same c.add_attendees-added.ensures.fault

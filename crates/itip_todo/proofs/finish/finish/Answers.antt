@@ -1,19 +1,25 @@
-use Rattle.std.proofs.Common.{◌≡◌, ℕ, List, sym, subst, ◌∙◌, Option}
+use Rattle.std.proofs.Common.{◌≡◌, ℕ, List, [], refl, inl, inr, sym, subst, ◌∙◌, Option, Some, None}
 use Rattle.std.proofs.lemmas.Result.{err_from_is_err_and}
 use Rattle.itip_moment.specs.declared.stamp.Stamp.{Stamp}
-use Rattle.itip_todo.specs.Drafts.{draft_parts}
+use Rattle.itip_lines.specs.declared.line.Line.{Line}
+use Rattle.itip_todo.specs.Drafts.{draft_parts, IsDraftOf}
 use Rattle.itip_todo.specs.Lawful.{IsLawful}
 use Rattle.itip_todo.specs.Parts.{Parts}
-use Rattle.itip_todo.specs.Reading.{IsOptional, IsOrNought, IsUidOf, IsStampOf, IsSequenceOf, first_named, lines_of}
+use Rattle.itip_todo.specs.Reading.{IsOptional, IsOrNought, IsUidOf, IsStampOf, IsSequenceOf, IfFault, AreGood, RefusesTodo, first_named, lines_of}
+use Rattle.itip_todo.specs.declared.draft.Draft.{Draft}
+use Rattle.itip_todo.specs.declared.error.Fault.{Fault}
+use Rattle.itip_todo.specs.declared.error.Fault.TheVariants as fault
+use Rattle.itip_todo.specs.declared.error.TodoError.{TodoError}
+use Rattle.itip_todo.specs.declared.error.TodoError.TheVariants as error
 use Rattle.itip_todo.specs.declared.property_name.PropertyName.TheVariants as name
-use Rattle.itip_todo.proofs.Finishing.{or_nought, moments_of, stampless}
+use Rattle.itip_todo.proofs.Finishing.{or_nought, moments_of, is_absent, stampless}
 use Rattle.itip_todo.proofs.finish.finish.Goals as goal
 
 pub invariant_of-result : goal.invariant_of-result
 invariant_of-result c =
     let full : Parts = record {
-      uid = c.in_ok-uid.uid;
-      stamp = c.in_ok-stamp.stamp;
+      uid = c.in_ok-needed.needed.uid;
+      stamp = c.in_ok-needed.needed.stamp;
       seq = c.unwrap_or.result;
       base = c.args.draft.base;
       rid = c.args.draft.rid;
@@ -27,13 +33,13 @@ invariant_of-result c =
       organizer = c.args.draft.organizer;
       attendees = c.from_vec.result;
       rule = c.from_vec-2.result;
-      rdates = c.in_ok-rdates.rdates;
-      exdates = c.in_ok-exdates.exdates;
+      rdates = c.in_ok-needed.needed.rdates;
+      exdates = c.in_ok-needed.needed.exdates;
       others = c.from_vec-3.result;
     } in
-    let same : full ≡ draft_parts c.in_ok-uid.uid c.in_ok-stamp.stamp c.args.draft = λ i. record {
-      uid = c.in_ok-uid.uid;
-      stamp = c.in_ok-stamp.stamp;
+    let same : full ≡ draft_parts c.in_ok-needed.needed.uid c.in_ok-needed.needed.stamp c.args.draft = λ i. record {
+      uid = c.in_ok-needed.needed.uid;
+      stamp = c.in_ok-needed.needed.stamp;
       seq = c.unwrap_or.ensures i;
       base = c.args.draft.base;
       rid = c.args.draft.rid;
@@ -47,17 +53,17 @@ invariant_of-result c =
       organizer = c.args.draft.organizer;
       attendees = c.from_vec.ensures i;
       rule = c.from_vec-2.ensures i;
-      rdates = c.in_ok-rdates.ensures.list i;
-      exdates = c.in_ok-exdates.ensures.list i;
+      rdates = c.in_ok-needed.ensures.rdates i;
+      exdates = c.in_ok-needed.ensures.exdates i;
       others = c.from_vec-3.ensures i;
     } in
-    record { lawful = subst IsLawful (sym same) (c.requires c.in_ok-uid.uid c.in_ok-stamp.stamp c.in_ok-uid.ensures.some c.in_ok-stamp.ensures.some c.in_ok-rdates.ensures.ordered c.in_ok-exdates.ensures.ordered) }
+    record { lawful = subst IsLawful (sym same) (c.requires c.in_ok-needed.needed.uid c.in_ok-needed.needed.stamp c.in_ok-needed.ensures.uid c.in_ok-needed.ensures.stamp c.in_ok-needed.ensures.ordered.0 c.in_ok-needed.ensures.ordered.1) }
 
 pub returns-clause-found : goal.returns-clause-found
 returns-clause-found c = λ lines good is. record {
   good = good;
-  uid = subst (λ (v : Option (List ℕ)). IsOptional IsUidOf (first_named name.Uid lines) v) c.in_ok-uid.ensures.some (is name.Uid);
-  stamp = subst (λ (v : Option Stamp). IsOptional IsStampOf (first_named name.DtStamp lines) v) c.in_ok-stamp.ensures.some (is name.DtStamp);
+  uid = subst (λ (v : Option (List ℕ)). IsOptional IsUidOf (first_named name.Uid lines) v) c.in_ok-needed.ensures.uid (is name.Uid);
+  stamp = subst (λ (v : Option Stamp). IsOptional IsStampOf (first_named name.DtStamp lines) v) c.in_ok-needed.ensures.stamp (is name.DtStamp);
   seq = subst (λ n. IsOrNought IsSequenceOf (first_named name.Sequence lines) n) (sym c.unwrap_or.ensures) (or_nought IsSequenceOf (first_named name.Sequence lines) c.args.draft.seq (is name.Sequence));
   base = is name.DeskBase;
   rid = (is name.RecurrenceId).0;
@@ -71,12 +77,32 @@ returns-clause-found c = λ lines good is. record {
   organizer = is name.Organizer;
   attendees = c.from_vec.ensures ∙ (is name.Attendee).whole;
   rule = c.from_vec-2.ensures ∙ is name.RRule;
-  rdates = moments_of (lines_of lines name.RDate) c.args.draft.rdates c.in_ok-rdates.rdates (is name.RDate) c.in_ok-rdates.ensures.list c.in_ok-rdates.ensures.ordered;
-  exdates = moments_of (lines_of lines name.ExDate) c.args.draft.exdates c.in_ok-exdates.exdates (is name.ExDate) c.in_ok-exdates.ensures.list c.in_ok-exdates.ensures.ordered;
+  rdates = moments_of (lines_of lines name.RDate) c.args.draft.rdates c.in_ok-needed.needed.rdates (is name.RDate) c.in_ok-needed.ensures.rdates c.in_ok-needed.ensures.ordered.0;
+  exdates = moments_of (lines_of lines name.ExDate) c.args.draft.exdates c.in_ok-needed.needed.exdates (is name.ExDate) c.in_ok-needed.ensures.exdates c.in_ok-needed.ensures.ordered.1;
   others = c.from_vec-3.ensures ∙ is name.Others;
 }
 
-pub returns-in_err-stamp-clause-fault : goal.returns-in_err-stamp-clause-fault
-returns-in_err-stamp-clause-fault c =
-    let p = err_from_is_err_and c.from_residual-in_err-stamp.result c.from_residual-in_err-stamp.ensures.1 in
-    rw (p.1, p.2) (stampless c.in_err-stamp.field-0.0 c.args.draft c.in_ok-uid.uid c.in_ok-uid.ensures.some c.in_err-stamp.ensures.fault)
+abbrev Refuses : Draft → Fault → Type 0
+Refuses draft f = (lines : List Line) → AreGood [] lines → IsDraftOf (lines_of lines) draft → RefusesTodo lines f
+
+-- a draft without a UID is refused for want of UID
+uidless : (e : TodoError) (draft : Draft) → draft.uid ≡ None → IfFault e (λ f. f ≡ fault.Missing name.Uid) → IfFault e (Refuses draft)
+uidless error.NoMemory draft none missing = tt
+uidless (error.Fault f) draft none same = λ lines good is. inr (inl (
+  good,
+  is_absent IsUidOf (first_named name.Uid lines) (subst (λ (v : Option (List ℕ)). IsOptional IsUidOf (first_named name.Uid lines) v) none (is name.Uid)),
+  same,
+))
+
+lacking : (e : TodoError) (draft : Draft) → (draft.uid ≡ None → IfFault e (λ f. f ≡ fault.Missing name.Uid))
+    → ((text : List ℕ) → draft.uid ≡ Some text → IfFault e (λ f. (f ≡ fault.Missing name.DtStamp) × (draft.stamp ≡ None))) → IfFault e (Refuses draft)
+lacking e draft no_uid no_stamp =
+    elim draft.uid as (λ (uid : Option (List ℕ)). draft.uid ≡ uid → IfFault e (Refuses draft)) [
+      | None ↦ λ none. uidless e draft none (no_uid none)
+      | Some text ↦ λ some. stampless e draft text some (no_stamp text some)
+    ] refl
+
+pub returns-in_err-needed-clause-fault : goal.returns-in_err-needed-clause-fault
+returns-in_err-needed-clause-fault c =
+    let p = err_from_is_err_and c.from_residual.result c.from_residual.ensures.1 in
+    rw (p.1, p.2) (lacking c.in_err-needed.field-0.0 c.args.draft c.in_err-needed.ensures.no_uid c.in_err-needed.ensures.no_stamp)
