@@ -19,16 +19,23 @@ pub(crate) fn beside<R: AllocGlobal + Threads + Wait + Sync>(
     rt: &R,
     batches: u64,
 ) -> Result<Vec<u8>, CallError> {
-    let alloc = rt.alloc();
-    let window = window()?;
-    let lists = lists(alloc, batches, window)?;
-    let (mut keeper, passes) = start_desk(rt, PASSES)?;
-    let right = publish_beside(rt, &mut keeper, passes, &lists, window);
-    let published = meet(rt, keeper, Vec::new(alloc))?.published;
-    let right = right?;
-    Ok(format!(in alloc;
+    let lists = lists(rt.alloc(), batches, window()?)?;
+    let (published, right) = counts(rt, &lists, window()?)?;
+    Ok(format!(in rt.alloc();
         "published {published}, passes that saw beginnings, and then all: {right}"
     )?.into_bytes())
+}
+
+/// How many batches were published, and how many passes saw what they had to.
+fn counts<R: AllocGlobal + Threads + Wait + Sync>(
+    rt: &R,
+    lists: &[Vec<u8>],
+    window: Window,
+) -> Result<(u64, usize), CallError> {
+    let (mut keeper, passes) = start_desk(rt, PASSES)?;
+    let right = publish_beside(rt, &mut keeper, passes, lists, window);
+    let published = meet(rt, keeper, Vec::new(rt.alloc()))?.published;
+    Ok((published, right?))
 }
 
 /// How many passes saw what they had to.

@@ -3,7 +3,7 @@
 use crate::error::CallError;
 use std::alloc::Global;
 
-/// A word, and the arguments behind it.
+/// A word, and the arguments after it.
 #[derive(Drop)]
 pub(crate) struct Call<'a> {
     pub(crate) word: &'a str,

@@ -2,7 +2,8 @@
 
 use crate::error::CallError;
 use crate::picture::world_picture;
-use itip_delta::{Cause, Event, World, run_world};
+use crate::refusal::note_refusal;
+use itip_delta::{Cause, Event, Reply, World, run_world};
 use itip_lines::Bytes;
 use std::alloc::Global;
 
@@ -28,45 +29,71 @@ fn deliver(alloc: Global, desk: usize, text: &[u8]) -> Result<Event, CallError> 
 }
 
 /// All that the world shows after the events, each done once more where memory is refused.
-pub(crate) fn steps_again(alloc: Global, one: &[u8], other: &[u8]) -> Result<Vec<u8>, CallError> {
-    let events = crossing(alloc, one, other)?;
-    let mut world = World::start(alloc, 2)?;
+pub(crate) fn steps_again<R: AllocGlobal + Eprint>(
+    rt: &R,
+    one: &[u8],
+    other: &[u8],
+) -> Result<Vec<u8>, CallError> {
+    let events = crossing(rt.alloc(), one, other)?;
+    let mut world = World::start(rt.alloc(), 2)?;
     for event in &events {
-        step_again(alloc, &mut world, event)?;
+        step(rt, &mut world, event)?;
     }
-    world_picture(alloc, &world)
+    world_picture(rt.alloc(), &world)
 }
 
-fn step_again(alloc: Global, world: &mut World, event: &Event) -> Result<(), CallError> {
-    let before = world_picture(alloc, world)?;
+fn step<R: AllocGlobal + Eprint>(
+    rt: &R,
+    world: &mut World,
+    event: &Event,
+) -> Result<(), CallError> {
+    let before = world_picture(rt.alloc(), world)?;
+    if is_done(world, event)? {
+        return Ok(());
+    }
+    note_refusal(rt);
+    if world_picture(rt.alloc(), world)? != before {
+        return Err(CallError::Changed);
+    }
+    if is_done(world, event)? {
+        return Ok(());
+    }
+    Err(CallError::NothingOnceMore)
+}
+
+/// Does an event, and says whether there was memory for it.
+fn is_done(world: &mut World, event: &Event) -> Result<bool, CallError> {
     match world.step(event) {
-        Ok(()) => Ok(()),
-        Err(Cause::NoMemory) => {
-            if world_picture(alloc, world)? != before {
-                return Err(CallError::Changed);
-            }
-            world.step(event).map_err(|_| CallError::NoMemory)
-        }
-        Err(_) => Err(CallError::Changed),
+        Ok(()) => Ok(true),
+        Err(Cause::NoMemory) => Ok(false),
+        Err(cause) => Err(CallError::from(cause)),
     }
 }
 
 /// All that the world shows after the events. Where memory is refused the run stops, and has replied as the whole run does by then.
-pub(crate) fn run_again(alloc: Global, one: &[u8], other: &[u8]) -> Result<Vec<u8>, CallError> {
-    let events = crossing(alloc, one, other)?;
-    let world = match run_world(alloc, 2, &events) {
-        Ok(world) => return world_picture(alloc, &world),
+pub(crate) fn run_again<R: AllocGlobal + Eprint>(
+    rt: &R,
+    one: &[u8],
+    other: &[u8],
+) -> Result<Vec<u8>, CallError> {
+    let events = crossing(rt.alloc(), one, other)?;
+    match run_world(rt.alloc(), 2, &events) {
+        Ok(world) => world_picture(rt.alloc(), &world),
         Err(stopped) => {
             if stopped.cause != Cause::NoMemory {
-                return Err(CallError::Changed);
+                return Err(CallError::from(stopped.cause));
             }
-            stopped.world
+            note_refusal(rt);
+            whole_run(rt.alloc(), &events, stopped.world.replies())
         }
-    };
-    let done = world.replies().len();
-    let whole = run_world(alloc, 2, &events).map_err(|_| CallError::NoMemory)?;
-    if whole.replies().get(..done) != Some(world.replies()) {
+    }
+}
+
+/// The whole run, which has to begin with these replies.
+fn whole_run(alloc: Global, events: &[Event], begun: &[Reply]) -> Result<Vec<u8>, CallError> {
+    let world = run_world(alloc, 2, events).map_err(|_| CallError::NothingOnceMore)?;
+    if !world.replies().starts_with(begun) {
         return Err(CallError::Changed);
     }
-    world_picture(alloc, &whole)
+    world_picture(alloc, &world)
 }

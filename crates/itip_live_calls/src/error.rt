@@ -1,51 +1,74 @@
 //! Why a call gives no value.
 
 use hex::FromHexError;
+use itip_delta::Cause;
 use itip_desk::DeskError;
 use itip_live::{LiveError, PassError};
-use itip_message::{Fault, ReadError};
+use itip_message::ReadError;
+use itip_notation::NotationError;
 use itip_view::{BadWindow, ViewError};
 use itip_workers::OfficeError;
 use std::alloc::{AllocError, AllocFailed, Global};
 use std::io;
-use thiserror::Error;
 
-/// Why a call gives no value: a fault that is its answer, or a want that ends the run.
-#[derive(Debug, Drop, Error)]
+/// Why a call gives no value: a fault, which is its answer, or what ends the run.
+///
+/// Of the errors of the crates below only the names are kept. To keep the errors would have their drops proved anew here.
+#[derive(Clone, Copy)]
 pub(crate) enum CallError {
-    #[error("no memory")]
     NoMemory,
-    #[error("reading or writing failed")]
     Io,
-    #[error("a line is no call in hexadecimal")]
+    /// A line is no call in hexadecimal.
     Line,
     /// No call has this word, or it does not take these arguments.
-    #[error("no such call")]
     NoSuchCall,
-    #[error("a refusal changed something")]
+    /// A refusal changed something.
     Changed,
-    #[error("{0:?}")]
-    Message(Fault),
-    #[error("{0:?}")]
-    Desk(DeskError),
-    #[error("{0:?}")]
-    Window(BadWindow),
-    #[error("{0:?}")]
-    View(ViewError),
-    #[error("{0:?}")]
-    Live(LiveError),
-    #[error("{0:?}")]
-    Pass(PassError),
-    #[error("{0:?}")]
-    Office(OfficeError),
+    /// A call that was refused memory gave nothing when it was made once more, with memory.
+    NothingOnceMore,
+    BadMessage,
+    BadWindow,
+    TicksSpent,
+    NoDesk,
+    NoPacket,
+    TooManyRows,
+    NoPlace,
+    NoEntry,
+    BatchesSpent,
+    GateClosed,
+    ChannelClosed,
+    StrangeDone,
 }
 
 impl CallError {
+    pub(crate) fn text(self) -> &'static str {
+        match self {
+            CallError::NoMemory => "no memory",
+            CallError::Io => "reading or writing failed",
+            CallError::Line => "a line is no call in hexadecimal",
+            CallError::NoSuchCall => "no such call",
+            CallError::Changed => "a refusal changed something",
+            CallError::NothingOnceMore => "made once more, the call gave nothing",
+            CallError::BadMessage => "BadMessage",
+            CallError::BadWindow => "BadWindow",
+            CallError::TicksSpent => "TicksSpent",
+            CallError::NoDesk => "NoDesk",
+            CallError::NoPacket => "NoPacket",
+            CallError::TooManyRows => "TooManyRows",
+            CallError::NoPlace => "NoPlace",
+            CallError::NoEntry => "NoEntry",
+            CallError::BatchesSpent => "BatchesSpent",
+            CallError::GateClosed => "GateClosed",
+            CallError::ChannelClosed => "ChannelClosed",
+            CallError::StrangeDone => "StrangeDone",
+        }
+    }
+
     /// The fault as an answer. What ends the run is given back.
     pub(crate) fn into_answer(self, alloc: Global) -> Result<Vec<u8>, CallError> {
         match self {
             CallError::NoMemory | CallError::Io | CallError::Line => Err(self),
-            fault => Ok(format!(in alloc; "{fault}")?.into_bytes()),
+            fault => Ok(Vec::from_slice(alloc, fault.text().as_bytes())?),
         }
     }
 }
@@ -80,11 +103,20 @@ impl From<FromHexError> for CallError {
     }
 }
 
+impl From<NotationError> for CallError {
+    fn from(error: NotationError) -> CallError {
+        match error {
+            NotationError::NoMemory => CallError::NoMemory,
+            NotationError::NoValue => CallError::NoSuchCall,
+        }
+    }
+}
+
 impl From<ReadError> for CallError {
     fn from(error: ReadError) -> CallError {
         match error {
             ReadError::NoMemory => CallError::NoMemory,
-            ReadError::Fault(fault) => CallError::Message(fault),
+            ReadError::Fault(_) => CallError::BadMessage,
         }
     }
 }
@@ -93,14 +125,25 @@ impl From<DeskError> for CallError {
     fn from(error: DeskError) -> CallError {
         match error {
             DeskError::NoMemory => CallError::NoMemory,
-            fault => CallError::Desk(fault),
+            DeskError::TicksSpent => CallError::TicksSpent,
+        }
+    }
+}
+
+impl From<Cause> for CallError {
+    fn from(cause: Cause) -> CallError {
+        match cause {
+            Cause::NoMemory => CallError::NoMemory,
+            Cause::TicksSpent => CallError::TicksSpent,
+            Cause::NoDesk => CallError::NoDesk,
+            Cause::NoPacket => CallError::NoPacket,
         }
     }
 }
 
 impl From<BadWindow> for CallError {
-    fn from(fault: BadWindow) -> CallError {
-        CallError::Window(fault)
+    fn from(_: BadWindow) -> CallError {
+        CallError::BadWindow
     }
 }
 
@@ -108,7 +151,7 @@ impl From<ViewError> for CallError {
     fn from(error: ViewError) -> CallError {
         match error {
             ViewError::NoMemory => CallError::NoMemory,
-            fault => CallError::View(fault),
+            ViewError::TooManyRows => CallError::TooManyRows,
         }
     }
 }
@@ -117,16 +160,8 @@ impl From<LiveError> for CallError {
     fn from(error: LiveError) -> CallError {
         match error {
             LiveError::NoMemory => CallError::NoMemory,
-            fault => CallError::Live(fault),
-        }
-    }
-}
-
-impl From<OfficeError> for CallError {
-    fn from(error: OfficeError) -> CallError {
-        match error {
-            OfficeError::NoMemory => CallError::NoMemory,
-            fault => CallError::Office(fault),
+            LiveError::NoPlace => CallError::NoPlace,
+            LiveError::BatchesSpent => CallError::BatchesSpent,
         }
     }
 }
@@ -135,7 +170,20 @@ impl From<PassError> for CallError {
     fn from(error: PassError) -> CallError {
         match error {
             PassError::NoMemory | PassError::NoListMemory => CallError::NoMemory,
-            fault => CallError::Pass(fault),
+            PassError::TooManyRows => CallError::TooManyRows,
+            PassError::NoEntry => CallError::NoEntry,
+        }
+    }
+}
+
+impl From<OfficeError> for CallError {
+    fn from(error: OfficeError) -> CallError {
+        match error {
+            OfficeError::NoMemory => CallError::NoMemory,
+            OfficeError::NoPlace => CallError::NoPlace,
+            OfficeError::GateClosed => CallError::GateClosed,
+            OfficeError::ChannelClosed => CallError::ChannelClosed,
+            OfficeError::StrangeDone => CallError::StrangeDone,
         }
     }
 }

@@ -16,7 +16,8 @@ const OPEN: &str = "open";
 /// How many jobs a gate tells apart.
 const JOBS: u64 = 64;
 
-/// Whom a gate holds before a job: the worker that does it, or the keeper that publishes what it brought; and until which job is done, or for good.
+/// Whom a gate holds before a job: the worker that does it, or the keeper that publishes what it brought; and until which job
+/// is done, or for good.
 #[derive(Drop)]
 struct Hold {
     is_keeper: bool,

@@ -22,15 +22,19 @@ pub(crate) fn revision(alloc: Global, number: u64) -> Result<Batch, CallError> {
 pub(crate) fn lists(alloc: Global, count: u64, window: Window) -> Result<Vec<Vec<u8>>, CallError> {
     let mut desk = Desk::empty_at(alloc, 0);
     let mut lists = Vec::new(alloc);
-    lists.push(desk.list(window)?)?;
+    lists.push(list_of(&desk, window)?)?;
     for number in 0..count {
-        take(alloc, &mut desk, number)?;
-        lists.push(desk.list(window)?)?;
+        lists.push(list_after(&mut desk, &revision(alloc, number)?, window)?)?;
     }
     Ok(lists)
 }
 
-fn take(alloc: Global, desk: &mut Desk, number: u64) -> Result<(), CallError> {
-    desk.take(&revision(alloc, number)?)?;
-    Ok(())
+/// The list of a desk after one more batch.
+fn list_after(desk: &mut Desk, batch: &Batch, window: Window) -> Result<Vec<u8>, CallError> {
+    desk.take(batch)?;
+    list_of(desk, window)
+}
+
+fn list_of(desk: &Desk, window: Window) -> Result<Vec<u8>, CallError> {
+    Ok(desk.list(window)?)
 }

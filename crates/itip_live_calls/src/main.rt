@@ -1,30 +1,34 @@
-//! Makes calls of running desks and of the parts of desks, and calls of which a request for memory may be refused, and shows what they answer.
+//! Makes calls with threads, and calls of which a request for memory may be refused, and shows what they answer.
 //!
-//! A line of standard input is a call: its word, and behind it the arguments in hexadecimal (`-` for an empty one),
-//! with a blank before each. A line of standard output is the answer to it, in hexadecimal. A fault is an answer too,
-//! by its name, and so is `no such call`. `bin/calls itip_live_calls` sends the calls of `examples/calls/itip_live_calls`
-//! and compares what is answered.
+//! A line of standard input is a call: its word, and after it the arguments in hexadecimal (`-` for an empty one), with a
+//! blank before each. A line of standard output is the answer to it, in hexadecimal. A fault is an answer too, by its name,
+//! and so is `no such call`. `bin/calls` sends the calls of `examples/calls/itip_live_calls` and compares what is answered,
+//! and `bin/refusals` those of `examples/refusals/itip_live_calls`.
+//!
+//! It is proved at each landing, so values are few and short-lived, and each call is a small function.
 #![tactic(auto)]
 
 mod again;
 mod beside;
 mod call;
 mod crossing;
+mod desks;
 mod error;
 mod gates;
-mod kept;
+mod joins;
 mod lists;
 mod office;
 mod picture;
+mod reading;
+mod refusal;
 mod running;
+mod states;
 mod texts;
 mod watch;
 
 use crate::beside::beside;
 use crate::call::Call;
-use crate::crossing::{run_again, steps_again};
 use crate::error::CallError;
-use crate::kept::{Names, kept, parts};
 use crate::office::{deaf_keeper, office};
 use crate::running::run_steps;
 use crate::texts::number;
@@ -37,38 +41,37 @@ fn main(rt: HostRuntime) -> ExitCode {
     match run(&rt) {
         Ok(()) => ExitCode::SUCCESS,
         Err(error) => {
-            let _ = eprintln!(rt; "itip_live_calls: {error}");
+            let text = error.text();
+            let _ = eprintln!(rt; "itip_live_calls: {text}");
             ExitCode::from(2)
         }
     }
 }
 
-fn run<R: AllocGlobal + Input + Print + Threads + Wait + Copy + Send + Sync + 'static>(
+fn run<R: AllocGlobal + Input + Print + Eprint + Threads + Wait + Copy + Send + Sync + 'static>(
     rt: &R,
 ) -> Result<(), CallError> {
-    let alloc = rt.alloc();
-    for line in BufReader::new(alloc, rt.reader())?.lines(alloc) {
+    for line in BufReader::new(rt.alloc(), rt.reader())?.lines(rt.alloc()) {
         let line = line?;
         let answer = answer(rt, line.as_str())?;
-        rt.println(hex::encode(alloc, answer)?.as_str())?;
+        rt.println(hex::encode(rt.alloc(), answer)?.as_str())?;
     }
     Ok(())
 }
 
 /// What the call of a line answers.
-fn answer<R: AllocGlobal + Threads + Wait + Copy + Send + Sync + 'static>(
+fn answer<R: AllocGlobal + Eprint + Threads + Wait + Copy + Send + Sync + 'static>(
     rt: &R,
     line: &str,
 ) -> Result<Vec<u8>, CallError> {
-    let alloc = rt.alloc();
-    let call = Call::of_line(alloc, line)?;
+    let call = Call::of_line(rt.alloc(), line)?;
     match made(rt, call.word, &call.arguments) {
         Ok(answer) => Ok(answer),
-        Err(error) => error.into_answer(alloc),
+        Err(error) => error.into_answer(rt.alloc()),
     }
 }
 
-fn made<R: AllocGlobal + Threads + Wait + Copy + Send + Sync + 'static>(
+fn made<R: AllocGlobal + Eprint + Threads + Wait + Copy + Send + Sync + 'static>(
     rt: &R,
     word: &str,
     arguments: &[Vec<u8>],
@@ -79,14 +82,7 @@ fn made<R: AllocGlobal + Threads + Wait + Copy + Send + Sync + 'static>(
         ("office", [desks, workers, gate, jobs @ ..]) => {
             office(rt, number(desks)?, number(workers)?, gate, jobs)
         }
-        ("kept", [uid, at, address, texts @ ..]) => {
-            let names = Names::of(rt.alloc(), uid, at, address)?;
-            kept(rt.alloc(), &names, texts)
-        }
-        ("parts", [address, texts @ ..]) => parts(rt.alloc(), address, texts),
         ("deaf_keeper", [job]) => deaf_keeper(rt, job),
-        ("steps_again", [one, other]) => steps_again(rt.alloc(), one, other),
-        ("run_again", [one, other]) => run_again(rt.alloc(), one, other),
         _ => again::answer(rt, word, arguments),
     }
 }

@@ -13,7 +13,7 @@ use std::thread::Threads;
 
 /// Runs jobs on threads under a gate, and tells the outcome of each, and how much each desk keeps.
 ///
-/// A job is its number and `take D`, `carry A B` or `look D`, and behind the line of a take its message.
+/// A job is its number and `take D`, `carry A B` or `look D`, and after the line of a take its message.
 pub(crate) fn office<R: AllocGlobal + Threads + Wait + Copy + Send + Sync + 'static>(
     rt: &R,
     desks: u64,
@@ -21,17 +21,21 @@ pub(crate) fn office<R: AllocGlobal + Threads + Wait + Copy + Send + Sync + 'sta
     gate: &[u8],
     jobs: &[Vec<u8>],
 ) -> Result<Vec<u8>, CallError> {
-    let alloc = rt.alloc();
-    let gate = HoldingGate::of_lines(alloc, gate)?;
+    let gate = HoldingGate::of_lines(rt.alloc(), gate)?;
+    let jobs = jobs_of(rt.alloc(), jobs)?;
+    if desks < 1 || desks > 16 || workers < 1 || workers > 8 {
+        return Err(CallError::NoSuchCall);
+    }
+    let office = run_office(rt, desks as usize, workers as usize, jobs, gate)?;
+    told(rt.alloc(), &office)
+}
+
+fn jobs_of(alloc: Global, jobs: &[Vec<u8>]) -> Result<Vec<Job>, CallError> {
     let mut all = Vec::new(alloc);
     for job in jobs {
         all.push(job_of(alloc, job)?)?;
     }
-    if desks < 1 || desks > 16 || workers < 1 || workers > 8 {
-        return Err(CallError::NoSuchCall);
-    }
-    let office = run_office(rt, desks as usize, workers as usize, all, gate)?;
-    told(alloc, &office)
+    Ok(all)
 }
 
 fn job_of(alloc: Global, job: &[u8]) -> Result<Job, CallError> {
@@ -47,21 +51,8 @@ fn job_of(alloc: Global, job: &[u8]) -> Result<Job, CallError> {
 fn task_of(alloc: Global, task: &str, message: &str) -> Result<Task, CallError> {
     let (word, rest) = task.split_once(' ').ok_or(CallError::NoSuchCall)?;
     match word {
-        "take" => {
-            let mut bytes = Vec::new(alloc);
-            bytes.extend_from_slice(message.as_bytes())?;
-            Ok(Task::Text {
-                desk: number_of(rest)?,
-                bytes: Bytes::new(bytes),
-            })
-        }
-        "carry" => {
-            let (from, to) = rest.split_once(' ').ok_or(CallError::NoSuchCall)?;
-            Ok(Task::Carry {
-                from: number_of(from)?,
-                to: number_of(to)?,
-            })
-        }
+        "take" => take_of(alloc, number_of(rest)?, message.as_bytes()),
+        "carry" => carry_of(rest),
         "look" => Ok(Task::Look {
             desk: number_of(rest)?,
             window: window()?,
@@ -70,21 +61,53 @@ fn task_of(alloc: Global, task: &str, message: &str) -> Result<Task, CallError> 
     }
 }
 
+fn take_of(alloc: Global, desk: u64, message: &[u8]) -> Result<Task, CallError> {
+    Ok(Task::Text {
+        desk,
+        bytes: Bytes::new(Vec::from_slice(alloc, message)?),
+    })
+}
+
+fn carry_of(desks: &str) -> Result<Task, CallError> {
+    let (from, to) = desks.split_once(' ').ok_or(CallError::NoSuchCall)?;
+    Ok(Task::Carry {
+        from: number_of(from)?,
+        to: number_of(to)?,
+    })
+}
+
 fn told(alloc: Global, office: &Office) -> Result<Vec<u8>, CallError> {
     let mut told = Vec::new(alloc);
     for (number, outcome) in &office.replies {
-        let line = outcome_line(alloc, *number, outcome)?;
-        told.extend_from_slice(line.as_bytes())?;
-        if let Outcome::Looked { text } = outcome {
-            told.extend_from_slice(text.as_slice())?;
-        }
+        add_outcome(alloc, *number, outcome, &mut told)?;
     }
     for (number, desk) in office.desks.iter().enumerate() {
-        let entries = desk.entries();
-        let line = format!(in alloc; "desk {number} entries {entries}\n")?;
-        told.extend_from_slice(line.as_bytes())?;
+        add_desk(alloc, number, desk.entries(), &mut told)?;
     }
     Ok(told)
+}
+
+fn add_desk(
+    alloc: Global,
+    number: usize,
+    entries: usize,
+    told: &mut Vec<u8>,
+) -> Result<(), CallError> {
+    let line = format!(in alloc; "desk {number} entries {entries}\n")?;
+    Ok(told.extend_from_slice(line.as_bytes())?)
+}
+
+fn add_outcome(
+    alloc: Global,
+    number: u64,
+    outcome: &Outcome,
+    told: &mut Vec<u8>,
+) -> Result<(), CallError> {
+    told.extend_from_slice(outcome_line(alloc, number, outcome)?.as_bytes())?;
+    if let Outcome::Looked { text } = outcome {
+        told.extend_from_slice(text.as_slice())?;
+    }
+    Ok(())
 }
 
 fn outcome_line(alloc: Global, number: u64, outcome: &Outcome) -> Result<String, CallError> {
@@ -102,12 +125,16 @@ fn outcome_line(alloc: Global, number: u64, outcome: &Outcome) -> Result<String,
 
 /// A worker that has a text for a keeper who takes nothing.
 pub(crate) fn deaf_keeper<R: AllocGlobal + Wait>(rt: &R, job: &[u8]) -> Result<Vec<u8>, CallError> {
-    let alloc = rt.alloc();
-    let job = job_of(alloc, job)?;
+    let answered = answered(rt, job_of(rt.alloc(), job)?)?;
+    Ok(format!(in rt.alloc(); "{answered}")?.into_bytes())
+}
+
+/// How many jobs are answered, of one.
+fn answered<R: AllocGlobal + Wait>(rt: &R, job: Job) -> Result<usize, CallError> {
     let (keeper, passes) = start_desk(rt, 1)?;
     let answered = answered_alone(rt, passes, job);
-    let _ = meet(rt, keeper, Vec::new(alloc));
-    Ok(format!(in alloc; "{}", answered?)?.into_bytes())
+    let _ = meet(rt, keeper, Vec::new(rt.alloc()));
+    answered
 }
 
 /// How many jobs a worker answers itself, of one.

@@ -4,9 +4,10 @@ ghost use Rattle.std.specs.Option.{ForSome};
 ghost use Rattle.itip_live.specs.Ends.{keeper_pair, pass_pair, receipt_pair};
 
 use crate::error::CallError;
+use crate::refusal::note_refusal;
 use crate::texts::{batch, number_of, text, window};
 use itip_desk::Batch;
-use itip_live::{Keeper, Met, Pass, PassError, Receipt, meet, start_desk};
+use itip_live::{Keeper, LiveError, Met, Pass, PassError, Receipt, meet, start_desk};
 use itip_view::Window;
 use std::alloc::Global;
 use std::sync::Wait;
@@ -23,18 +24,18 @@ struct Running {
 
 /// Takes these steps, then meets, and tells what each gave.
 ///
-/// A step is a message, which is submitted, or one of `pending`, `publish`, `learn P`, `list P`, `mine P ADDRESS`, `seen P` and `since P TICK`, where P is the pass 0 or 1.
-pub(crate) fn run_steps<R: AllocGlobal + Wait>(
+/// A step is a message, which is submitted, or one of `pending`, `publish`, `learn P`, `list P`, `mine P ADDRESS`, `seen P` and
+/// `since P TICK`, where P is the pass 0 or 1.
+pub(crate) fn run_steps<R: AllocGlobal + Eprint + Wait>(
     rt: &R,
     steps: &[Vec<u8>],
 ) -> Result<Vec<u8>, CallError> {
-    let alloc = rt.alloc();
     let mut running = start(rt)?;
-    let mut told = String::new(alloc);
+    let mut told = String::new(rt.alloc());
     let taken = take_steps(rt, &mut running, steps, &mut told);
     let met = running.finish(rt);
     taken?;
-    add_met(alloc, &met?, &mut told)?;
+    add_met(rt.alloc(), &met?, &mut told)?;
     Ok(told.into_bytes())
 }
 
@@ -54,7 +55,7 @@ fn start<R: AllocGlobal + Wait>(rt: &R) -> Result<Running, CallError> {
     }
 }
 
-fn take_steps<R: AllocGlobal + Wait>(
+fn take_steps<R: AllocGlobal + Eprint + Wait>(
     rt: &R,
     running: &mut Running,
     steps: &[Vec<u8>],
@@ -62,7 +63,7 @@ fn take_steps<R: AllocGlobal + Wait>(
 ) -> Result<(), CallError> {
     for step in steps {
         if step.starts_with(b"BEGIN") {
-            running.submit(rt.alloc(), step)?;
+            running.submit(rt, batch(rt.alloc(), step)?)?;
         } else {
             told.push_str(running.take_step(rt, text(step)?)?.as_str())?;
         }
@@ -71,63 +72,73 @@ fn take_steps<R: AllocGlobal + Wait>(
 }
 
 impl Running {
-    /// Submits a message, once more where it comes back.
-    fn submit(&mut self, alloc: Global, message: &[u8]) -> Result<(), CallError> {
+    /// Submits a batch, once more where it comes back.
+    fn submit<R: Eprint>(&mut self, rt: &R, batch: Batch) -> Result<(), CallError> {
         let pending = self.keeper.pending();
-        let Err(back) = self.keeper.submit(batch(alloc, message)?) else {
+        let Err(back) = self.keeper.submit(batch) else {
             return Ok(());
         };
+        note_refusal(rt);
         if self.keeper.pending() != pending {
             return Err(CallError::Changed);
         }
-        self.keeper.submit(back).map_err(|_| CallError::NoMemory)
+        self.keeper
+            .submit(back)
+            .map_err(|_| CallError::NothingOnceMore)
     }
 
-    fn take_step<R: AllocGlobal + Wait>(
+    fn take_step<R: AllocGlobal + Eprint + Wait>(
         &mut self,
         rt: &R,
         step: &str,
     ) -> Result<String, CallError> {
-        let alloc = rt.alloc();
         let (word, rest) = step.split_once(' ').unwrap_or((step, ""));
         match word {
-            "pending" => {
-                let pending = self.keeper.pending();
-                Ok(format!(in alloc; "pending {pending}\n")?)
-            }
+            "pending" => counted(rt.alloc(), word, self.keeper.pending() as u64),
             "publish" => {
                 self.publish(rt)?;
-                Ok(String::new(alloc))
+                Ok(String::new(rt.alloc()))
             }
             "learn" => {
                 self.learn(rest)?;
-                Ok(String::new(alloc))
+                Ok(String::new(rt.alloc()))
             }
-            "list" => self.list(alloc, rest),
-            "mine" => self.list_for(alloc, rest),
-            "seen" => {
-                let seen = self.seen(rest)?;
-                Ok(format!(in alloc; "seen {seen}\n")?)
-            }
-            "since" => {
-                let items = self.since(rest)?;
-                Ok(format!(in alloc; "items {items}\n")?)
-            }
+            _ => self.look(rt, word, rest),
+        }
+    }
+
+    /// A step by which a pass shows something.
+    fn look<R: AllocGlobal + Eprint>(
+        &mut self,
+        rt: &R,
+        word: &str,
+        rest: &str,
+    ) -> Result<String, CallError> {
+        match word {
+            "list" => self.list(rt, rest),
+            "mine" => self.list_for(rt, rest),
+            "seen" => counted(rt.alloc(), word, self.seen(rest)?),
+            "since" => counted(rt.alloc(), "items", self.since(rt, rest)?),
             _ => Err(CallError::NoSuchCall),
         }
     }
 
     /// Publishes, once more where it is refused; a refusal leaves what is pending.
-    fn publish<R: Wait>(&mut self, rt: &R) -> Result<(), CallError> {
+    fn publish<R: Eprint + Wait>(&mut self, rt: &R) -> Result<(), CallError> {
         let pending = self.keeper.pending();
-        if let Ok(receipt) = self.keeper.publish(rt) {
-            self.receipt = Some(receipt);
-            return Ok(());
+        match self.keeper.publish(rt) {
+            Ok(receipt) => {
+                self.receipt = Some(receipt);
+                return Ok(());
+            }
+            Err(LiveError::NoMemory) => note_refusal(rt),
+            Err(error) => return Err(CallError::from(error)),
         }
         if self.keeper.pending() != pending {
             return Err(CallError::Changed);
         }
-        self.receipt = Some(self.keeper.publish(rt)?);
+        let receipt = self.keeper.publish(rt);
+        self.receipt = Some(receipt.map_err(|_| CallError::NothingOnceMore)?);
         Ok(())
     }
 
@@ -144,27 +155,27 @@ impl Running {
         Ok(())
     }
 
-    fn list(&mut self, alloc: Global, pass: &str) -> Result<String, CallError> {
-        let window = window()?;
+    fn list<R: AllocGlobal + Eprint>(&mut self, rt: &R, pass: &str) -> Result<String, CallError> {
         let list = match pass {
-            "0" => list_again(&mut self.first, window)?,
-            "1" => list_again(&mut self.second, window)?,
+            "0" => list_again(rt, &mut self.first, window()?)?,
+            "1" => list_again(rt, &mut self.second, window()?)?,
             _ => return Err(CallError::NoSuchCall),
         };
-        let list = text(list.as_slice())?;
-        Ok(format!(in alloc; "list\n{list}")?)
+        told(rt.alloc(), "list", &list)
     }
 
-    fn list_for(&mut self, alloc: Global, rest: &str) -> Result<String, CallError> {
+    fn list_for<R: AllocGlobal + Eprint>(
+        &mut self,
+        rt: &R,
+        rest: &str,
+    ) -> Result<String, CallError> {
         let (pass, address) = rest.split_once(' ').ok_or(CallError::NoSuchCall)?;
-        let window = window()?;
         let list = match pass {
-            "0" => list_for_again(&mut self.first, window, address)?,
-            "1" => list_for_again(&mut self.second, window, address)?,
+            "0" => list_for_again(rt, &mut self.first, window()?, address)?,
+            "1" => list_for_again(rt, &mut self.second, window()?, address)?,
             _ => return Err(CallError::NoSuchCall),
         };
-        let list = text(list.as_slice())?;
-        Ok(format!(in alloc; "mine\n{list}")?)
+        told(rt.alloc(), "mine", &list)
     }
 
     fn seen(&self, pass: &str) -> Result<u64, CallError> {
@@ -176,15 +187,15 @@ impl Running {
     }
 
     /// How many items the delta since a tick has.
-    fn since(&mut self, rest: &str) -> Result<usize, CallError> {
+    fn since<R: Eprint>(&mut self, rt: &R, rest: &str) -> Result<u64, CallError> {
         let (pass, tick) = rest.split_once(' ').ok_or(CallError::NoSuchCall)?;
         let tick = number_of(tick)?;
         let delta = match pass {
-            "0" => since_again(&mut self.first, tick)?,
-            "1" => since_again(&mut self.second, tick)?,
+            "0" => since_again(rt, &mut self.first, tick)?,
+            "1" => since_again(rt, &mut self.second, tick)?,
             _ => return Err(CallError::NoSuchCall),
         };
-        Ok(delta.as_slice().len())
+        Ok(delta.as_slice().len() as u64)
     }
 
     fn finish<R: AllocGlobal + Wait>(self, rt: &R) -> Result<Met, CallError> {
@@ -204,32 +215,59 @@ impl Running {
     }
 }
 
+/// A number after its word.
+fn counted(alloc: Global, word: &str, number: u64) -> Result<String, CallError> {
+    Ok(format!(in alloc; "{word} {number}\n")?)
+}
+
+/// A list after the word that asks for it.
+fn told(alloc: Global, word: &str, list: &[u8]) -> Result<String, CallError> {
+    let list = text(list)?;
+    Ok(format!(in alloc; "{word}\n{list}")?)
+}
+
 /// The list of a pass, asked for once more where memory is refused.
-fn list_again(pass: &mut Pass, window: Window) -> Result<Vec<u8>, CallError>
+fn list_again<R: Eprint>(rt: &R, pass: &mut Pass, window: Window) -> Result<Vec<u8>, CallError>
     ensures { pass_pair pass.new ≡ pass_pair pass.old }
 {
     match pass.list(window) {
-        Err(PassError::NoListMemory) => Ok(pass.list(window)?),
+        Err(PassError::NoListMemory) => {
+            note_refusal(rt);
+            pass.list(window).map_err(|_| CallError::NothingOnceMore)
+        }
         list => Ok(list?),
     }
 }
 
 /// The rows of an attendee, asked for once more where memory is refused.
-fn list_for_again(pass: &mut Pass, window: Window, address: &str) -> Result<Vec<u8>, CallError>
+fn list_for_again<R: Eprint>(
+    rt: &R,
+    pass: &mut Pass,
+    window: Window,
+    address: &str,
+) -> Result<Vec<u8>, CallError>
     ensures { pass_pair pass.new ≡ pass_pair pass.old }
 {
     match pass.list_for(window, address) {
-        Err(PassError::NoListMemory) => Ok(pass.list_for(window, address)?),
+        Err(PassError::NoListMemory) => {
+            note_refusal(rt);
+            pass.list_for(window, address)
+                .map_err(|_| CallError::NothingOnceMore)
+        }
         list => Ok(list?),
     }
 }
 
 /// The delta of a pass, asked for once more where memory is refused.
-fn since_again(pass: &mut Pass, tick: u64) -> Result<Batch, CallError>
+fn since_again<R: Eprint>(rt: &R, pass: &mut Pass, tick: u64) -> Result<Batch, CallError>
     ensures { pass_pair pass.new ≡ pass_pair pass.old }
 {
     match pass.delta_since(tick) {
-        Err(PassError::NoMemory) => Ok(pass.delta_since(tick)?),
+        Err(PassError::NoMemory) => {
+            note_refusal(rt);
+            pass.delta_since(tick)
+                .map_err(|_| CallError::NothingOnceMore)
+        }
         delta => Ok(delta?),
     }
 }
