@@ -13,10 +13,18 @@ pub(crate) fn take_again<R: AllocGlobal + Eprint>(
     rt: &R,
     texts: &[Vec<u8>],
 ) -> Result<Vec<u8>, CallError> {
-    let [texts @ .., last] = texts else {
-        return Err(CallError::NoSuchCall);
-    };
-    let mut desk = desk_after(rt.alloc(), texts)?;
+    match texts {
+        [before @ .., last] => taken(rt, before, last),
+        [] => Err(CallError::NoSuchCall),
+    }
+}
+
+fn taken<R: AllocGlobal + Eprint>(
+    rt: &R,
+    before: &[Vec<u8>],
+    last: &[u8],
+) -> Result<Vec<u8>, CallError> {
+    let mut desk = desk_after(rt.alloc(), before)?;
     take(rt, &mut desk, &batch(rt.alloc(), last)?)?;
     picture(rt.alloc(), &desk)
 }
