@@ -99,16 +99,6 @@ class Quick:
                     file.write(text)
 
 
-def answer_of(program, given, room):
-    """What a quick build of a program writes to this input, which is its only one."""
-    quick = Quick(program, room)
-    for at in range(2):
-        ran = subprocess.run([quick.stand_in], input=given, stdout=subprocess.PIPE)
-        if not at:
-            said = quick.answer(quick.shares()[0])
-    return said if ran.returncode == NO_ANSWER else None, ran.stdout
-
-
 def script_of(words, program):
     """The command of a test on a program."""
     return [os.path.join(BIN, words[0]), *words[1:], program]
