@@ -2,8 +2,8 @@
 //!
 //! A line of standard input is a call: its word, and after it the arguments in hexadecimal (`-` for an empty one), with a
 //! blank before each. A line of standard output is the answer to it, in hexadecimal. A fault is an answer too, by its name,
-//! and so is `no such call`. `bin/calls` sends the calls of `examples/calls/itip_live_calls` and compares what is answered,
-//! and `bin/refusals` those of `examples/refusals/itip_live_calls`.
+//! and so is `no such call`. `tools/calls` sends the calls of `examples/calls/itip_live_calls` and compares what is answered,
+//! and `tools/refusals` those of `examples/refusals/itip_live_calls`.
 //!
 //! It is proved at each landing, so values are few and short-lived, and each call is a small function.
 #![tactic(auto)]

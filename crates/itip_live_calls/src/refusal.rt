@@ -1,6 +1,6 @@
 //! What a call says of a refusal.
 
-/// What is said where the call under test itself was refused memory. `bin/refusals` counts it.
+/// What is said where the call under test itself was refused memory. `tools/refusals` counts it.
 const REFUSED: &str = "the call was refused memory";
 
 /// Says on standard error that the call under test was refused memory.

@@ -2,7 +2,7 @@
 //!
 //! A line of standard input is a call: its word, and after it the arguments in hexadecimal (`-` for an empty one), with a
 //! blank before each. A line of standard output is the answer to it, in hexadecimal. A fault is an answer too, by its name,
-//! and so is `no such call`. `bin/calls` sends the calls of `examples/calls/itip_calls` and compares what is answered.
+//! and so is `no such call`. `tools/calls` sends the calls of `examples/calls/itip_calls` and compares what is answered.
 //!
 //! `topics` has the words of all calls, and each other file the calls of one topic. None of this is proved: it is text that
 //! `rt try` runs over the proved crates.

@@ -9,7 +9,7 @@ import subprocess
 import sys
 from collections import namedtuple
 
-TOP = os.path.dirname(os.path.dirname(os.path.abspath(__file__)))
+TOP = os.path.dirname(os.path.dirname(os.path.dirname(os.path.abspath(__file__))))
 # What a proof reads of a crate, and what a program is run on.
 TEXTS = ("src", "specs", "proofs")
 PARTS = (*TEXTS, "args", "stdin", "stdout", "status")

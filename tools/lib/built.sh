@@ -7,13 +7,13 @@ built=$top/.built
 listing() {
     (
         cd "$top" || exit
-        find -L "$(command -v rt)" HANDLES crates.txt crates bench tools -name out -prune -o -type f -printf '%p %s %T@\n' 2>/dev/null | LC_ALL=C sort | sha256sum
+        find -L "$(command -v rt)" HANDLES crates.txt crates bench/itip_* tools/itip_* -name out -prune -o -type f -printf '%p %s %T@\n' 2>/dev/null | LC_ALL=C sort | sha256sum
     )
 }
 
 # A sum of all that a program is built from, without comments.
 sum_of() {
-    python3 "$top/bin/repository.py" "$1"
+    python3 "$top/tools/lib/repository.py" "$1"
 }
 
 # Whether the program that is kept was built from these sources: by sizes and times, and by sums where these moved.

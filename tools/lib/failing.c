@@ -1,6 +1,6 @@
 /* Loaded before a program (LD_PRELOAD), has its standard input or output fail. READ_MOST: a read gives at most so many octets. READ_FAILS: the read of
    this number, counted from 1, fails. WRITE_TAKES: after so many octets a write fails, or accepts none where WRITE_NOUGHT is there. READS names a file of
-   eight octets in which the number of reads stands. For bin/hostile alone; no proof speaks of it. */
+   eight octets in which the number of reads stands. For tools/hostile alone; no proof speaks of it. */
 #define _GNU_SOURCE
 #include <errno.h>
 #include <fcntl.h>
