@@ -1,7 +1,7 @@
 //! Why nothing more was measured.
 
 use itip_desk::DeskError;
-use itip_live::LiveError;
+use itip_running::LiveError;
 use itip_message::ReadError;
 use itip_recur::RecurError;
 use itip_view::{BadWindow, ViewError};

@@ -4,7 +4,7 @@ use crate::beside::{Listing, Lists, READERS, Run, Writes, list_alone, list_besid
 use crate::error::BenchError;
 use crate::revisions::{ITEMS, revisions};
 use itip_desk::{Batch, Desk};
-use itip_live::{Keeper, Pass, meet, start_desk};
+use itip_running::{Keeper, Pass, meet, start_desk};
 use itip_view::Window;
 use std::alloc::{AllocError, Global};
 use std::rt::Clock;

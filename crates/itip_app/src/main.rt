@@ -4,14 +4,8 @@
 //! Its status is 0, or 1 where something printed was a refusal, 2 for bad words or a bad window, and 3 for a fault.
 #![tactic(auto)]
 
-mod cause;
-mod check;
-mod fault;
-mod filter;
-mod office;
 mod run;
-mod why;
-mod words;
+mod tell;
 
 use std::io::IsTerminal;
 use std::process::ExitCode;

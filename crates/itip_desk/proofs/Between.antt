@@ -16,10 +16,10 @@ use Rattle.itip_view.proofs.Showing.{into_filter}
 use Rattle.std.proofs.lemmas.List.Elements.{Contains-append_left, Contains-append_right}
 use Rattle.itip_todo.specs.Table.{attendee_key}
 use Rattle.itip_todo.specs.declared.property.Property.{Property}
-use Rattle.itip_message.specs.KeyParts.{uid_of}
-use Rattle.itip_message.specs.declared.item.Item.{Item}
-use Rattle.itip_message.specs.declared.key.Key.{Key}
-use Rattle.itip_message.specs.declared.key.Key.TheVariants.{Series, Instance, Range, Answer, Refresh}
+use Rattle.itip_items.specs.KeyParts.{uid_of}
+use Rattle.itip_items.specs.declared.item.Item.{Item}
+use Rattle.itip_items.specs.declared.key.Key.{Key}
+use Rattle.itip_items.specs.declared.key.Key.TheVariants.{Series, Instance, Range, Answer, Refresh}
 use Rattle.itip_view.specs.RowDays.{is_of_rows, has_rows, days_at, row_days, Meets, HasRowsIn, NamesIn}
 use Rattle.itip_view.specs.Rows.{AreRows, AreTooMany}
 use Rattle.itip_view.specs.Showing.{Shows, IsAmong, AreRowsWhere, AreTooManyWhere}

@@ -6,8 +6,8 @@ use Rattle.std.specs.Cmp.Lexicographic.{slice_cmp}
 use Rattle.std.proofs.lemmas.Bool.Decides.{nat_tests}
 use Rattle.std.proofs.lemmas.List.Elements.{Contains-append_cases, Contains-append_left, Contains-append_right}
 use Rattle.itip_join.specs.KeyByKey.{value_at}
-use Rattle.itip_message.specs.KeyParts.{uid_of}
-use Rattle.itip_message.specs.declared.item.Item.{Item}
+use Rattle.itip_items.specs.KeyParts.{uid_of}
+use Rattle.itip_items.specs.declared.item.Item.{Item}
 use Rattle.itip_state.specs.Kept.{AreKept, IsKept, KeepSame, Moves}
 use Rattle.itip_state.proofs.Members.{by_bool}
 use Rattle.itip_state.proofs.Keeping.{Covers, covers_kept, covers_itself, kept_again, kept_of_parts, kept_iff, same_absorbed}

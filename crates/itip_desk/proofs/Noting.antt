@@ -7,8 +7,8 @@ use Rattle.std.specs.BTreeSet.{BTreeSet, Updates, difference}
 use Rattle.std.proofs.lemmas.Map.Views.{tells_apart, any-filter_same}
 use Rattle.std.proofs.lemmas.List.Folds.{list_any-append}
 use Rattle.itip_todo.specs.declared.property.Property.{Property}
-use Rattle.itip_message.specs.KeyParts.{uid_of}
-use Rattle.itip_message.specs.declared.item.Item.{Item}
+use Rattle.itip_items.specs.KeyParts.{uid_of}
+use Rattle.itip_items.specs.declared.item.Item.{Item}
 use Rattle.itip_view.specs.RowDays.{has_rows}
 use Rattle.itip_desk.specs.Entries.{entry_cmp, entry_total, entry_exact, day_entries, attendee_entries, entries_of}
 use Rattle.itip_desk.specs.Index.{has, is_in}

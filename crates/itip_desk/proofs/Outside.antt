@@ -2,7 +2,7 @@
 use Rattle.std.proofs.Common.{ℕ, List}
 use Rattle.std.specs.List.{Contains}
 use Rattle.itip_todo.specs.Table.{attendee_key}
-use Rattle.itip_message.specs.declared.item.Item.{Item}
+use Rattle.itip_items.specs.declared.item.Item.{Item}
 use Rattle.itip_state.specs.Kept.{AreKept}
 use Rattle.itip_state.proofs.Keeping.{kept_again}
 use Rattle.itip_view.specs.RowDays.{HasRowsIn, NamesIn}

@@ -2,7 +2,7 @@
 use Rattle.std.proofs.Common.{ℕ, List, ◌↔◌}
 use Rattle.std.specs.List.{Contains}
 use Rattle.itip_todo.specs.Table.{attendee_key}
-use Rattle.itip_message.specs.declared.item.Item.{Item}
+use Rattle.itip_items.specs.declared.item.Item.{Item}
 use Rattle.itip_state.specs.Kept.{ArePartOf}
 use Rattle.itip_view.specs.RowDays.{HasRowsIn, NamesIn}
 use Rattle.itip_view.specs.Rows.{IsRow}

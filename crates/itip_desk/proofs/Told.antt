@@ -1,12 +1,12 @@
 -- Whether an item is kept can be told, so two sets that it can't be told apart that they keep the same do keep the same.
 use Rattle.std.proofs.Common.{◌≡◌, ℕ, List, [], ◌∷◌, ◌↔◌, ◌⊎◌, inl, inr, sym, ap, subst, ◌∙◌, true, false}
 use Rattle.std.specs.List.{Contains}
-use Rattle.itip_message.specs.KeyParts.{uid_of}
-use Rattle.itip_message.specs.declared.item.Item.{Item}
-use Rattle.itip_message.specs.declared.key.Key.{Key}
-use Rattle.itip_message.specs.declared.key.Key.TheVariants.{Series}
-use Rattle.itip_message.proofs.Keys.{Told, told_bytes}
-use Rattle.itip_message.proofs.SameItem.{same_item}
+use Rattle.itip_items.specs.KeyParts.{uid_of}
+use Rattle.itip_items.specs.declared.item.Item.{Item}
+use Rattle.itip_items.specs.declared.key.Key.{Key}
+use Rattle.itip_items.specs.declared.key.Key.TheVariants.{Series}
+use Rattle.itip_items.proofs.Keys.{Told, told_bytes}
+use Rattle.itip_items.proofs.SameItem.{same_item}
 use Rattle.itip_state.specs.Kept.{IsBest, IsKept, KeepSame}
 use Rattle.itip_state.specs.Plain.{keeps}
 use Rattle.itip_state.proofs.Members.{by_bool, none_in, cons_cases, cons_first, cons_later}

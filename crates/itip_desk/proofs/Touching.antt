@@ -10,11 +10,11 @@ use Rattle.std.proofs.Math.ListN.{get_or-map}
 use Rattle.itip_state.specs.Kept.{ArePart}
 use Rattle.itip_todo.specs.Table.{attendee_key}
 use Rattle.itip_todo.specs.declared.property.Property.{Property}
-use Rattle.itip_message.specs.KeyParts.{uid_of}
-use Rattle.itip_message.specs.Later.{IsLater}
-use Rattle.itip_message.specs.declared.item.Item.{Item}
-use Rattle.itip_message.specs.declared.key.Key.{Key}
-use Rattle.itip_message.specs.declared.key.Key.TheVariants.{Series}
+use Rattle.itip_items.specs.KeyParts.{uid_of}
+use Rattle.itip_items.specs.Later.{IsLater}
+use Rattle.itip_items.specs.declared.item.Item.{Item}
+use Rattle.itip_items.specs.declared.key.Key.{Key}
+use Rattle.itip_items.specs.declared.key.Key.TheVariants.{Series}
 use Rattle.itip_state.specs.Kept.{IsBest, IsKept, AreKept, ArePartOf, AreUidsOf}
 use Rattle.itip_state.specs.Order.{IsState}
 use Rattle.itip_state.proofs.Best.{not_later_itself}

@@ -4,9 +4,9 @@ use Rattle.std.specs.List.{Contains}
 use Rattle.std.specs.Ordering.{nat_cmp}
 use Rattle.std.specs.Cmp.Lexicographic.{slice_cmp}
 use Rattle.std.specs.Coded.{Coded, code_by, coded×, coded_ℕ, coded_list}
-use Rattle.itip_message.specs.KeyParts.{uid_of}
-use Rattle.itip_message.specs.contracts.item.Item as item
-use Rattle.itip_message.specs.declared.item.Item.{Item}
+use Rattle.itip_items.specs.KeyParts.{uid_of}
+use Rattle.itip_items.specs.contracts.item.Item as item
+use Rattle.itip_items.specs.declared.item.Item.{Item}
 use Rattle.itip_join.specs.KeyByKey.{value_at}
 use Rattle.itip_state.specs.Kept.{AreKept, KeepSame, Moves}
 use Rattle.itip_desk.specs.Heard.{heard, Ticks, MovedAfter}

@@ -6,3 +6,6 @@ pub mod Index
 pub mod Heard
 pub mod Desk
 pub mod Moves
+pub mod Delta
+pub mod Refusals
+pub mod Listed

@@ -1,7 +1,7 @@
 //! What a desk takes in one step.
 ghost use Rattle.std.specs.Prelude.{◌≡◌, IfOk};
 
-use itip_message::Item;
+use itip_items::Item;
 use itip_state::{SharedItem, by_octets};
 use std::alloc::{AllocError, Global};
 use std::marker::Model;
@@ -14,12 +14,12 @@ pub struct Batch {
 
 impl Model for Batch {
     ghost use Rattle.std.specs.Prelude.{List};
-    ghost use Rattle.itip_message.specs.declared.item.Item.{Item};
+    ghost use Rattle.itip_items.specs.declared.item.Item.{Item};
 
     ghost Value = { List Item };
 
     ghost use Rattle.std.specs.Coded.{coded_list};
-    ghost use Rattle.itip_message.specs.contracts.item.Item as item;
+    ghost use Rattle.itip_items.specs.contracts.item.Item as item;
 
     ghost coded = { coded_list item.the_row.coded };
 

@@ -2,14 +2,14 @@
 ghost use Rattle.std.specs.Prelude.{◌≡◌, ◌↔◌, ◌⊎◌, ◌||◌, ◌&&◌, not, cond, true, false, List, ℕ, ◌++◌, map, IsTrue, IfOk, OnOk, OnErr};
 ghost use Rattle.std.specs.List.{Contains};
 ghost use Rattle.std.specs.Ordering.{is_eq};
-ghost use Rattle.itip_message.specs.KeyParts.{uid_of};
-ghost use Rattle.itip_message.specs.declared.item.Item.{Item};
+ghost use Rattle.itip_items.specs.KeyParts.{uid_of};
+ghost use Rattle.itip_items.specs.declared.item.Item.{Item};
 ghost use Rattle.itip_desk.specs.declared.entry.Entry.{Entry};
 ghost use Rattle.itip_desk.specs.Entries.{entry_cmp, day_entries, attendee_entries, entries_of, IsNoted};
 ghost use Rattle.itip_desk.specs.Index.{has, is_in, AreEntriesOf};
 
 use crate::entry::{Entry, Mark};
-use itip_message::Item;
+use itip_items::Item;
 use itip_todo::{Property, Uid, attendee_key};
 use itip_view::{has_rows, row_days};
 use std::alloc::{AllocError, Global};

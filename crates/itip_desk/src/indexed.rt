@@ -1,6 +1,6 @@
 //! A state with an index of its kept items.
 ghost use Rattle.std.specs.Prelude.{◌≡◌, ◌++◌, ◌↔◌, ◌⊎◌, [], false, ℕ, List, map, IsTrue, IfOk, OnOk, OnErr};
-ghost use Rattle.itip_message.specs.declared.item.Item.{Item};
+ghost use Rattle.itip_items.specs.declared.item.Item.{Item};
 ghost use Rattle.itip_state.specs.Kept.{AreKept};
 ghost use Rattle.itip_state.specs.Order.{IsState};
 ghost use Rattle.std.specs.List.{Contains};
@@ -13,7 +13,7 @@ ghost use Rattle.itip_desk.specs.Index.{has, is_in, IsTouched, AreOfRows, AreEnt
 use crate::entry::Entry;
 use crate::found::{find_in, find_named};
 use crate::index::{grow, note, shrink};
-use itip_message::{Item, Key};
+use itip_items::{Item, Key};
 use itip_state::{SharedItem, State, uids};
 use itip_todo::{Uid, attendee_key};
 use itip_view::Window;
@@ -31,12 +31,12 @@ pub(crate) struct IndexedState {
 
 impl Model for IndexedState {
     ghost use Rattle.std.specs.Prelude.{List};
-    ghost use Rattle.itip_message.specs.declared.item.Item.{Item};
+    ghost use Rattle.itip_items.specs.declared.item.Item.{Item};
 
     ghost Value = { List Item };
 
     ghost use Rattle.std.specs.Coded.{coded_list};
-    ghost use Rattle.itip_message.specs.contracts.item.Item as item;
+    ghost use Rattle.itip_items.specs.contracts.item.Item as item;
 
     ghost coded = { coded_list item.the_row.coded };
 

@@ -1,7 +1,10 @@
 //! The laws of convergence and of deltas. They hold with no code: each function is empty.
-ghost use Rattle.std.specs.Prelude.{List, ◌++◌, ℕ};
-ghost use Rattle.itip_message.specs.declared.item.Item.{Item};
+ghost use Rattle.std.specs.Prelude.{◌≡◌, ◌⊎◌, List, ◌++◌, ℕ};
+ghost use Rattle.itip_items.specs.declared.item.Item.{Item};
 ghost use Rattle.itip_state.specs.Kept.{AreKept, SameItems};
+ghost use Rattle.itip_message.specs.declared.error.MessageRefusal.{MessageRefusal};
+ghost use Rattle.itip_desk.specs.Octets.{AscendOctets};
+ghost use Rattle.itip_desk.specs.Delta.{delta_octets, ReadsDelta, RefusesDelta};
 ghost use Rattle.itip_desk.specs.Heard.{heard, TellsAfter};
 ghost use Rattle.itip_desk.specs.Desk.{Shown, IsDeskOf, IsDeltaOf};
 
@@ -21,4 +24,17 @@ pub fn delta_brings_up_to_date()
     ensures told { (steps more : List (List Item)) (start : ℕ) (older newer : Shown) (told : List Item) →
         IsDeskOf steps start older → IsDeskOf (steps ++ more) start newer → TellsAfter start (steps ++ more) older.tick told →
         AreKept newer.kept (older.kept ++ told) }
+{}
+
+/// What was written of a batch is read as this batch.
+pub fn delta_read_again()
+    ensures { (batch : List Item) → AscendOctets batch → ReadsDelta (delta_octets batch) batch }
+{}
+
+/// Octets are read as one batch, or refused for one cause, and not both.
+pub fn one_delta()
+    ensures some { (bytes : List ℕ) → ((batch : List Item) × ReadsDelta bytes batch) ⊎ ((refusal : MessageRefusal) × RefusesDelta bytes refusal) }
+    ensures batch { (bytes : List ℕ) (batch other : List Item) → ReadsDelta bytes batch → ReadsDelta bytes other → batch ≡ other }
+    ensures refusal { (bytes : List ℕ) (refusal other : MessageRefusal) → RefusesDelta bytes refusal → RefusesDelta bytes other → refusal ≡ other }
+    ensures apart { (bytes : List ℕ) (batch : List Item) (refusal : MessageRefusal) → ReadsDelta bytes batch → RefusesDelta bytes refusal → ⊥ }
 {}

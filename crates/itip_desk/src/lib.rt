@@ -1,7 +1,8 @@
-//! A desk: it hears batches of items, keeps what the rules keep of them, and tells what moved since.
+//! A desk: it hears batches of items, keeps what the rules keep of them, and tells what moved since. A batch is written as a delta, and octets are read as one.
 #![tactic(auto)]
 
 mod batch;
+mod delta;
 mod desk;
 mod entry;
 mod error;
@@ -9,10 +10,15 @@ mod found;
 mod index;
 mod indexed;
 mod laws;
+mod listed;
 mod moves;
+mod refusal;
 
 pub use batch::Batch;
+pub use delta::{read_delta, write_delta};
 pub use desk::{Changed, Desk};
 pub use error::DeskError;
-pub use laws::{delta_brings_up_to_date, desks_converge};
+pub use laws::{delta_brings_up_to_date, delta_read_again, desks_converge, one_delta};
+pub use listed::{write_headed, write_listed};
+pub use refusal::Refusal;
 pub use std::alloc::AllocError as NoMemory;

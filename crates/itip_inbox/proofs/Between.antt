@@ -5,10 +5,10 @@ use Rattle.std.proofs.lemmas.List.Elements.{All-nil, Contains-append_cases, Cont
 use Rattle.itip_lines.specs.Cutting.{lines_of}
 use Rattle.itip_lines.specs.Scan.{LacksBlank}
 use Rattle.itip_state.proofs.Members.{none_in}
-use Rattle.itip_delta.specs.Cutting.{IsCalendar, AreApart, IsRest, unless_empty, IsCutInto}
-use Rattle.itip_delta.specs.Scanned.{messages_of}
-use Rattle.itip_delta.proofs.Cuts.{cut_by_scan}
-use Rattle.itip_delta.proofs.OneCut.{one_cut}
+use Rattle.itip_message.specs.Cutting.{IsCalendar, AreApart, IsRest, unless_empty, IsCutInto}
+use Rattle.itip_message.specs.Scanned.{messages_of}
+use Rattle.itip_message.proofs.Cuts.{cut_by_scan}
+use Rattle.itip_message.proofs.OneCut.{one_cut}
 use Rattle.itip_inbox.specs.Compaction.{HasMessage, HasSameMessages, EndsBetween, EachEndsBetween, IsPartedInto}
 
 concat_both : (xs ys : List (List ℕ)) → concat (xs ++ ys) ≡ concat xs ++ concat ys

@@ -6,14 +6,14 @@ use Rattle.std.specs.declared.cmp.Ordering.{Ordering}
 use Rattle.std.specs.declared.cmp.Ordering.TheVariants.{Less, Equal, Greater}
 use Rattle.std.proofs.lemmas.List.Kept.{AllPairs-cons}
 use Rattle.std.proofs.lemmas.Map.Lookups.{exact_bytes}
-use Rattle.itip_message.specs.OctetOrder.{octets_cmp, octets_total}
-use Rattle.itip_message.specs.declared.item.Item.{Item}
-use Rattle.itip_message.proofs.SameItem.{same_item}
+use Rattle.itip_items.specs.OctetOrder.{octets_cmp, octets_total}
+use Rattle.itip_items.specs.declared.item.Item.{Item}
+use Rattle.itip_items.proofs.SameItem.{same_item}
 use Rattle.itip_state.specs.Kept.{IsKept}
 use Rattle.itip_state.proofs.Members.{none_in, cons_cases, cons_first, cons_later, all_each, no_pairs}
 use Rattle.itip_desk.specs.Octets.{AscendOctets}
 use Rattle.itip_desk.proofs.Told.{told_kept}
-use Rattle.itip_delta.specs.Delta.{delta_octets}
+use Rattle.itip_desk.specs.Delta.{delta_octets}
 use Rattle.itip_inbox.specs.Compaction.{AreKeptOctets}
 
 either_in : (x : Item) (xs : List Item) (i : Item) → (x ≡ i) ⊎ Contains xs i → Contains (x ∷ xs) i

@@ -1,7 +1,7 @@
 -- What is kept where more is heard.
 use Rattle.std.proofs.Common.{subst, List, [], ◌∷◌, ◌++◌, append_assoc, inl, inr}
 use Rattle.std.proofs.lemmas.List.Elements.{Contains-append_cases, Contains-append_left, Contains-append_right}
-use Rattle.itip_message.specs.declared.item.Item.{Item}
+use Rattle.itip_items.specs.declared.item.Item.{Item}
 use Rattle.itip_state.specs.Kept.{AreKept, SameItems}
 use Rattle.itip_state.specs.Told.{AreNews}
 use Rattle.itip_state.proofs.Keeping.{Covers, AreAmong, covers_itself, kept_of_parts, kept_beside, are_kept_by, are_kept_same}

@@ -9,3 +9,5 @@ mod Telling
 mod Between
 mod Parts
 mod Outputs
+mod Showing
+mod Recording

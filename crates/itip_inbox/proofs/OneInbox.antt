@@ -1,24 +1,24 @@
 -- An input is one inbox, and has one compaction.
 use Rattle.std.proofs.Common.{◌≡◌, ◌∙◌, sym, ap, refl, subst, ℕ, Bool, List, [], ◌∷◌, Result, Ok, Err}
-use Rattle.itip_message.specs.declared.error.Fault.{Fault}
-use Rattle.itip_message.specs.declared.item.Item.{Item}
+use Rattle.itip_message.specs.declared.error.MessageRefusal.{MessageRefusal}
+use Rattle.itip_items.specs.declared.item.Item.{Item}
 use Rattle.itip_message.proofs.OneMessage.{one_message, one_cause, message_apart}
 use Rattle.itip_state.specs.Kept.{SameItems}
-use Rattle.itip_delta.specs.Delta.{delta_octets}
-use Rattle.itip_delta.proofs.Deltas.{one_order}
-use Rattle.itip_delta.proofs.OneCut.{one_cut}
-use Rattle.itip_inbox.specs.declared.refusal.Refusal.{Refusal}
+use Rattle.itip_desk.specs.Delta.{delta_octets}
+use Rattle.itip_desk.proofs.ReadDeltas.{one_order}
+use Rattle.itip_message.proofs.OneCut.{one_cut}
+use Rattle.itip_inbox.specs.declared.refused.RefusedMessage.{RefusedMessage}
 use Rattle.itip_inbox.specs.Inbox.{IsAnswer, AreAnswers, heard_of, refusals_from, IsInbox, is_some_refused}
 use Rattle.itip_inbox.specs.Compaction.{AreKeptOctets, IsCompaction}
 
 -- a text is one thing
-one_answer : (text : List ℕ) (a b : Result (List Item) Fault) → IsAnswer text a → IsAnswer text b → a ≡ b
+one_answer : (text : List ℕ) (a b : Result (List Item) MessageRefusal) → IsAnswer text a → IsAnswer text b → a ≡ b
 one_answer text (Ok xs) (Ok ys) h k = ap Ok (one_message text xs ys h k)
 one_answer text (Ok xs) (Err g) h k = absurd (message_apart text xs g h k)
 one_answer text (Err f) (Ok ys) h k = absurd (message_apart text ys f k h)
 one_answer text (Err f) (Err g) h k = ap Err (one_cause text f g h k)
 
-one_answers : (texts : List (List ℕ)) (xs ys : List (Result (List Item) Fault)) → AreAnswers texts xs → AreAnswers texts ys → xs ≡ ys
+one_answers : (texts : List (List ℕ)) (xs ys : List (Result (List Item) MessageRefusal)) → AreAnswers texts xs → AreAnswers texts ys → xs ≡ ys
 one_answers [] [] [] h k = refl
 one_answers [] [] (y ∷ ys) h k = absurd k
 one_answers [] (x ∷ xs) ys h k = absurd h
@@ -26,7 +26,7 @@ one_answers (t ∷ ts) [] ys h k = absurd h
 one_answers (t ∷ ts) (x ∷ xs) [] h k = absurd k
 one_answers (t ∷ ts) (x ∷ xs) (y ∷ ys) h k = λ i. one_answer t x y h.0 k.0 i ∷ one_answers ts xs ys h.1 k.1 i
 
-pub one_inbox : (input : List ℕ) (heard others : List Item) (refusals more : List Refusal) → IsInbox input heard refusals → IsInbox input others more → (heard ≡ others) × (refusals ≡ more)
+pub one_inbox : (input : List ℕ) (heard others : List Item) (refusals more : List RefusedMessage) → IsInbox input heard refusals → IsInbox input others more → (heard ≡ others) × (refusals ≡ more)
 one_inbox input heard others refusals more a b =
     let cut : a.messages ≡ b.messages = one_cut input a.messages b.messages a.cut b.cut in
     let same : a.hears.answers ≡ b.hears.answers =

@@ -4,7 +4,7 @@ use Rattle.std.specs.Prelude.{IfSome, OnErr}
 use Rattle.std.specs.Io.KnownBytes.{Appends}
 use Rattle.std.proofs.KnownBytes.{Appends-nil, Appends-trans}
 use Rattle.std.proofs.lemmas.List.{take_more, take_all}
-use Rattle.itip_message.specs.declared.item.Item.{Item}
+use Rattle.itip_items.specs.declared.item.Item.{Item}
 use Rattle.itip_state.specs.Kept.{AreKept, IsItemsOf}
 use Rattle.itip_view.specs.ListText.{list_text}
 use Rattle.itip_view.specs.Rows.{row_limit}
@@ -13,10 +13,10 @@ use Rattle.itip_view.specs.declared.row.Row.{Row}
 use Rattle.itip_view.specs.declared.window.Window.{Window}
 use Rattle.itip_view.proofs.OneList.{one_list_text, text_or_too_many, one_text_for, text_for_or_too_many}
 use Rattle.itip_view.proofs.OfKept.{text_of_kept, text_for_of_kept, too_many_of_kept, many_where_of_kept}
-use Rattle.itip_delta.specs.Delta.{delta_octets}
-use Rattle.itip_delta.proofs.Deltas.{one_order}
+use Rattle.itip_desk.specs.Delta.{delta_octets}
+use Rattle.itip_desk.proofs.ReadDeltas.{one_order}
 use Rattle.itip_streams.specs.Written.{AppendsFront, MovesOut}
-use Rattle.itip_inbox.specs.declared.refusal.Refusal.{Refusal}
+use Rattle.itip_inbox.specs.declared.refused.RefusedMessage.{RefusedMessage}
 use Rattle.itip_inbox.specs.Inbox.{Holds, is_some_refused}
 use Rattle.itip_inbox.specs.Compaction.{IsCompaction, WritesCompaction, WritesSoFar}
 use Rattle.itip_inbox.specs.TaskList.{IsTextFor, AreRowsFor, AreTooManyFor, IsListed, IsTaskList, WritesTaskList}
@@ -84,7 +84,7 @@ items_end old mid new items i kept so_far past appended =
 kept_items : (batch kept heard : List Item) → IsItemsOf batch kept → AreKept kept heard → AreKept batch heard
 kept_items batch kept heard is keeps i = (λ h. (keeps i).0 ((is.same i).0 h), λ k. (is.same i).1 ((keeps i).1 k))
 
-pub compaction_written : (old new read : Option (List ℕ)) (kept batch : List Item) (refusals : List Refusal) (count : ℕ) (refused : Bool) → IfSome read (λ input. Holds input kept refusals count) → IsItemsOf batch kept
+pub compaction_written : (old new read : Option (List ℕ)) (kept batch : List Item) (refusals : List RefusedMessage) (count : ℕ) (refused : Bool) → IfSome read (λ input. Holds input kept refusals count) → IsItemsOf batch kept
     → Appends old new (delta_octets batch) → refused ≡ is_some_refused refusals → IfSome read (λ input. WritesCompaction old new input refused)
 compaction_written old new None kept batch refusals count refused holds items appended is = tt
 compaction_written old new (Some input) kept batch refusals count refused holds items appended is = record {
@@ -100,17 +100,17 @@ compaction_written old new (Some input) kept batch refusals count refused holds 
 }
 
 -- items of a set are the same list
-same_items : (items batch set : List Item) → IsItemsOf items set → IsItemsOf batch set → items ≡ batch
+pub same_items : (items batch set : List Item) → IsItemsOf items set → IsItemsOf batch set → items ≡ batch
 same_items items batch set a b = one_order items batch a.ascend b.ascend (λ i. (λ h. (b.same i).1 ((a.same i).0 h), λ h. (a.same i).1 ((b.same i).0 h)))
 
 -- the batch of a compaction is that of what is kept
-its_batch : (input octets : List ℕ) (kept : List Item) (refusals : List Refusal) (count : ℕ) (refused : Bool) → Holds input kept refusals count → (is : IsCompaction input octets refused) → IsItemsOf is.kept.batch kept
+its_batch : (input octets : List ℕ) (kept : List Item) (refusals : List RefusedMessage) (count : ℕ) (refused : Bool) → Holds input kept refusals count → (is : IsCompaction input octets refused) → IsItemsOf is.kept.batch kept
 its_batch input octets kept refusals count refused holds is =
     let one : is.heard ≡ holds.heard = (one_inbox input is.heard holds.heard is.refusals refusals is.inbox holds.inbox).0 in
     let are : AreKept is.kept.batch holds.heard = subst (λ (heard : List Item). AreKept is.kept.batch heard) one is.kept.kept in
     record { ascend = is.kept.ascend; same = λ i. (λ h. (holds.keeps i).1 ((are i).0 h), λ h. (are i).1 ((holds.keeps i).0 h)) }
 
-pub compaction_front : (old new read : Option (List ℕ)) (kept batch : List Item) (refusals : List Refusal) (count : ℕ) → IfSome read (λ input. Holds input kept refusals count) → IsItemsOf batch kept → AppendsFront old new (delta_octets batch)
+pub compaction_front : (old new read : Option (List ℕ)) (kept batch : List Item) (refusals : List RefusedMessage) (count : ℕ) → IfSome read (λ input. Holds input kept refusals count) → IsItemsOf batch kept → AppendsFront old new (delta_octets batch)
     → IfSome read (λ input. (octets : List ℕ) (refused : Bool) → IsCompaction input octets refused → AppendsFront old new octets)
 compaction_front old new None kept batch refusals count holds items front = tt
 compaction_front old new (Some input) kept batch refusals count holds items front = λ octets refused is.
@@ -147,7 +147,7 @@ listed_once heard window attendee text other refusal more (inl a) (inr b) = absu
 listed_once heard window attendee text other refusal more (inr a) (inl b) = absurd (text_apart attendee heard window other b.0 a.0)
 listed_once heard window attendee text other refusal more (inr a) (inr b) = a.1 ∙ sym b.1
 
-pub list_written : (old new read : Option (List ℕ)) (kept : List Item) (refusals : List Refusal) (count : ℕ) (window : Window) (attendee : Option (List ℕ)) (text : List ℕ) (refusal refused : Bool)
+pub list_written : (old new read : Option (List ℕ)) (kept : List Item) (refusals : List RefusedMessage) (count : ℕ) (window : Window) (attendee : Option (List ℕ)) (text : List ℕ) (refusal refused : Bool)
     → IfSome read (λ input. Holds input kept refusals count) → ((heard : List Item) → AreKept kept heard → IsListed heard window attendee text refusal) → Appends old new text
     → refused ≡ (is_some_refused refusals || refusal) → IfSome read (λ input. WritesTaskList old new input window attendee refused)
 list_written old new None kept refusals count window attendee text refusal refused holds listed appended is = tt
@@ -157,7 +157,7 @@ list_written old new (Some input) kept refusals count window attendee text refus
   appended = appended;
 }
 
-pub list_front : (old new read : Option (List ℕ)) (kept : List Item) (refusals : List Refusal) (count : ℕ) (window : Window) (attendee : Option (List ℕ)) (text : List ℕ) (refusal : Bool)
+pub list_front : (old new read : Option (List ℕ)) (kept : List Item) (refusals : List RefusedMessage) (count : ℕ) (window : Window) (attendee : Option (List ℕ)) (text : List ℕ) (refusal : Bool)
     → IfSome read (λ input. Holds input kept refusals count) → ((heard : List Item) → AreKept kept heard → IsListed heard window attendee text refusal) → AppendsFront old new text
     → IfSome read (λ input. (other : List ℕ) (refused : Bool) → IsTaskList input window attendee other refused → AppendsFront old new other)
 list_front old new None kept refusals count window attendee text refusal holds listed front = tt

@@ -2,16 +2,16 @@
 use Rattle.std.proofs.Common.{◌≡◌, ◌∙◌, sym, ap, refl, subst, ℕ, ◌+◌, ◌↔◌, Bool, false, List, [], ◌∷◌, ◌++◌, map, inl, inr, append-nil, Result, Ok}
 use Rattle.std.specs.List.{Contains, concat}
 use Rattle.std.proofs.lemmas.List.Elements.{Contains-append_cases, Contains-append_left, Contains-append_right}
-use Rattle.itip_message.specs.declared.error.Fault.{Fault}
-use Rattle.itip_message.specs.declared.item.Item.{Item}
+use Rattle.itip_message.specs.declared.error.MessageRefusal.{MessageRefusal}
+use Rattle.itip_items.specs.declared.item.Item.{Item}
 use Rattle.itip_message.proofs.ReadAgain.{reads_again}
 use Rattle.itip_state.specs.Kept.{IsKept, SameItems}
 use Rattle.itip_state.proofs.Keeping.{Covers, covers_kept, covers_itself, kept_of_parts, kept_iff, kept_part}
 use Rattle.itip_state.proofs.Members.{none_in}
-use Rattle.itip_delta.specs.Scanned.{messages_of}
-use Rattle.itip_delta.specs.Delta.{delta_octets}
-use Rattle.itip_delta.proofs.Cuts.{cut_by_scan}
-use Rattle.itip_delta.proofs.Deltas.{messages_written, one_order}
+use Rattle.itip_message.specs.Scanned.{messages_of}
+use Rattle.itip_desk.specs.Delta.{delta_octets}
+use Rattle.itip_message.proofs.Cuts.{cut_by_scan}
+use Rattle.itip_desk.proofs.ReadDeltas.{messages_written, one_order}
 use Rattle.itip_inbox.specs.Inbox.{AreAnswers, heard_of, refusals_from, IsInbox, is_some_refused}
 use Rattle.itip_inbox.specs.Compaction.{AreKeptOctets, IsCompaction, AreCompactions, SomeTellsItem, HasSameItems}
 use Rattle.itip_inbox.proofs.Octets.{octets_none, octets_both}
@@ -20,7 +20,7 @@ use Rattle.itip_inbox.proofs.Telling.{heard_told}
 
 -- ---- what was written is heard again
 
-abbrev alone : List Item → List (Result (List Item) Fault)
+abbrev alone : List Item → List (Result (List Item) MessageRefusal)
 alone items = map (λ (i : Item). Ok (i ∷ [])) items
 
 are_alone : (items : List Item) → AreAnswers (map (λ (i : Item). i.bytes) items) (alone items)

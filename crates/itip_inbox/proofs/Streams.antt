@@ -2,10 +2,10 @@
 use Rattle.std.proofs.Common.{◌≡◌, ◌∙◌, sym, ap, refl, ℕ, ◌<◌, List, [], ◌∷◌, ◌++◌, length, subst, append_assoc, append-nil, Option, Some, None}
 use Rattle.std.specs.Prelude.{IfSome}
 use Rattle.std.specs.Io.KnownBytes.{Consumes, IsAtEnd}
-use Rattle.itip_message.specs.declared.item.Item.{Item}
-use Rattle.itip_delta.specs.Scanned.{messages_of, CutsMessage, StaysCut}
-use Rattle.itip_delta.proofs.Cuts.{cut_by_scan}
-use Rattle.itip_inbox.specs.declared.refusal.Refusal.{Refusal}
+use Rattle.itip_items.specs.declared.item.Item.{Item}
+use Rattle.itip_message.specs.Scanned.{messages_of, CutsMessage, StaysCut}
+use Rattle.itip_message.proofs.Cuts.{cut_by_scan}
+use Rattle.itip_inbox.specs.declared.refused.RefusedMessage.{RefusedMessage}
 use Rattle.itip_inbox.specs.Inbox.{Hears, Holds}
 use Rattle.itip_inbox.specs.Streaming.{MovesIn, LeavesMessages, StaysCutInto, KeepsMessages, ReadsSoFar}
 
@@ -34,7 +34,7 @@ leaves_cut None new messages texts held left l cut = tt
 leaves_cut (Some input) None messages texts held left l cut = absurd l
 leaves_cut (Some input) (Some rest) messages texts held left l cut = l ∙ ap (λ (t : List (List ℕ)). messages ++ t) (cut rest) ∙ sym (append_assoc messages texts (messages_of (left ++ rest)))
 
-module _ (old new : Option (List ℕ)) (held : List ℕ) (kept : List Item) (refusals : List Refusal) (count : ℕ) where
+module _ (old new : Option (List ℕ)) (held : List ℕ) (kept : List Item) (refusals : List RefusedMessage) (count : ℕ) where
   pub reads_none : old ≡ new → held ≡ [] → KeepsMessages [] kept refusals count → ReadsSoFar old new held kept refusals count
   reads_none same none keeps = record {
     messages = [];
@@ -43,7 +43,7 @@ module _ (old new : Option (List ℕ)) (held : List ℕ) (kept : List Item) (ref
   }
 
   -- a share is read and cut, and its messages are heard
-  pub reads_share : (newer : Option (List ℕ)) (filled left : List ℕ) (texts : List (List ℕ)) (now : List Item) (more : List Refusal) (number : ℕ) → ReadsSoFar old new held kept refusals count
+  pub reads_share : (newer : Option (List ℕ)) (filled left : List ℕ) (texts : List (List ℕ)) (now : List Item) (more : List RefusedMessage) (number : ℕ) → ReadsSoFar old new held kept refusals count
       → MovesIn new newer held filled → StaysCutInto filled texts left
       → ((messages : List (List ℕ)) → KeepsMessages messages kept refusals count → KeepsMessages (messages ++ texts) now more number)
       → ReadsSoFar old newer left now more number
@@ -53,7 +53,7 @@ module _ (old new : Option (List ℕ)) (held : List ℕ) (kept : List Item) (ref
     leaves = leaves_cut old newer so_far.messages texts filled left (leaves_moved old new newer so_far.messages held filled so_far.leaves moved) cut;
   }
 
-holds : (old new : Option (List ℕ)) (messages texts : List (List ℕ)) (filled : List ℕ) (now : List Item) (more : List Refusal) (number : ℕ) → LeavesMessages old new messages filled → IsAtEnd new → texts ≡ messages_of filled
+holds : (old new : Option (List ℕ)) (messages texts : List (List ℕ)) (filled : List ℕ) (now : List Item) (more : List RefusedMessage) (number : ℕ) → LeavesMessages old new messages filled → IsAtEnd new → texts ≡ messages_of filled
     → KeepsMessages (messages ++ texts) now more number → IfSome old (λ input. Holds input now more number)
 holds None new messages texts filled now more number l end is keeps = tt
 holds (Some input) None messages texts filled now more number l end is keeps = absurd l
@@ -68,7 +68,7 @@ holds (Some input) (Some rest) messages texts filled now more number l end is ke
     }
 
 -- the last share is read and heard
-pub reads_last : (old new newer : Option (List ℕ)) (held filled : List ℕ) (kept now : List Item) (refusals more : List Refusal) (count number : ℕ) (texts : List (List ℕ)) → ReadsSoFar old new held kept refusals count
+pub reads_last : (old new newer : Option (List ℕ)) (held filled : List ℕ) (kept now : List Item) (refusals more : List RefusedMessage) (count number : ℕ) (texts : List (List ℕ)) → ReadsSoFar old new held kept refusals count
     → MovesIn new newer held filled → IsAtEnd newer → texts ≡ messages_of filled
     → ((messages : List (List ℕ)) → KeepsMessages messages kept refusals count → KeepsMessages (messages ++ texts) now more number)
     → IfSome old (λ input. Holds input now more number)

@@ -3,19 +3,19 @@ use Rattle.std.proofs.Common.{◌≡◌, sym, subst, ℕ, ◌↔◌, List, [], �
 use Rattle.std.specs.List.{Contains}
 use Rattle.std.proofs.lemmas.List.Elements.{Contains-append_cases, Contains-append_left, Contains-append_right}
 use Rattle.itip_message.specs.Message.{ReadsMessage}
-use Rattle.itip_message.specs.declared.error.Fault.{Fault}
-use Rattle.itip_message.specs.declared.item.Item.{Item}
+use Rattle.itip_message.specs.declared.error.MessageRefusal.{MessageRefusal}
+use Rattle.itip_items.specs.declared.item.Item.{Item}
 use Rattle.itip_message.proofs.OneMessage.{one_message, message_apart}
 use Rattle.itip_state.proofs.Members.{none_in, cons_cases, cons_first, cons_later}
-use Rattle.itip_delta.proofs.OneCut.{one_cut}
-use Rattle.itip_inbox.specs.declared.refusal.Refusal.{Refusal}
+use Rattle.itip_message.proofs.OneCut.{one_cut}
+use Rattle.itip_inbox.specs.declared.refused.RefusedMessage.{RefusedMessage}
 use Rattle.itip_inbox.specs.Inbox.{AreAnswers, heard_of, IsInbox}
 use Rattle.itip_inbox.specs.Compaction.{HasMessage, SomeHasMessage, HasSameMessages, TellsItem, SomeTellsItem, HasSameItems}
 use Rattle.itip_inbox.proofs.OneInbox.{one_inbox}
 use Rattle.itip_inbox.proofs.SomeInbox.{some_inbox}
 
 -- what is heard of a text is what it tells
-pub heard_told : (text : List ℕ) (heard : List Item) (refusals : List Refusal) → IsInbox text heard refusals → (item : Item) → Contains heard item ↔ TellsItem text item
+pub heard_told : (text : List ℕ) (heard : List Item) (refusals : List RefusedMessage) → IsInbox text heard refusals → (item : Item) → Contains heard item ↔ TellsItem text item
 heard_told text heard refusals inbox item = (
   λ h. record { heard = heard; refusals = refusals; inbox = inbox; among = h },
   λ t. subst (λ (items : List Item). Contains items item) (one_inbox text t.heard heard t.refusals refusals t.inbox inbox).0 t.among,
@@ -32,7 +32,7 @@ record Says (P : List ℕ → Type 0) (item : Item) : Type 0 where
 says_more : (P Q : List ℕ → Type 0) (item : Item) → ((message : List ℕ) → P message → Q message) → Says P item → Says Q item
 says_more P Q item more s = record { message = s.message; has = more s.message s.has; items = s.items; reads = s.reads; among = s.among }
 
-heard_says : (messages : List (List ℕ)) (answers : List (Result (List Item) Fault)) (item : Item) → AreAnswers messages answers → Contains (heard_of answers) item → Says (Contains messages) item
+heard_says : (messages : List (List ℕ)) (answers : List (Result (List Item) MessageRefusal)) (item : Item) → AreAnswers messages answers → Contains (heard_of answers) item → Says (Contains messages) item
 heard_says [] [] item each h = absurd (none_in item h)
 heard_says [] (x ∷ xs) item each h = absurd each
 heard_says (t ∷ ts) [] item each h = absurd each
@@ -43,7 +43,7 @@ heard_says (t ∷ ts) (Ok items ∷ xs) item each h =
     ]
 heard_says (t ∷ ts) (Err cause ∷ xs) item each h = says_more (Contains ts) (Contains (t ∷ ts)) item (cons_later t ts) (heard_says ts xs item each.1 h)
 
-in_heard : (messages : List (List ℕ)) (answers : List (Result (List Item) Fault)) (item : Item) (message : List ℕ) (items : List Item) → AreAnswers messages answers → Contains messages message → ReadsMessage message items → Contains items item
+in_heard : (messages : List (List ℕ)) (answers : List (Result (List Item) MessageRefusal)) (item : Item) (message : List ℕ) (items : List Item) → AreAnswers messages answers → Contains messages message → ReadsMessage message items → Contains items item
     → Contains (heard_of answers) item
 in_heard [] answers item message items each h reads among = absurd (none_in message h)
 in_heard (t ∷ ts) [] item message items each h reads among = absurd each

@@ -2,13 +2,13 @@
 use Rattle.std.specs.Prelude.{◌≡◌, ◌↔◌, ◌⊎◌, ℕ, Bool, List, [], ◌∷◌, ◌++◌, Option}
 use Rattle.std.specs.List.{Contains, AllByRecursion, concat}
 use Rattle.std.specs.Io.KnownBytes.{Appends}
-use Rattle.itip_message.specs.declared.item.Item.{Item}
+use Rattle.itip_items.specs.declared.item.Item.{Item}
 use Rattle.itip_state.specs.Kept.{AreKept}
 use Rattle.itip_desk.specs.Octets.{AscendOctets}
-use Rattle.itip_delta.specs.Cutting.{IsCalendar, AreApart, IsCutInto}
-use Rattle.itip_delta.specs.Delta.{delta_octets}
+use Rattle.itip_message.specs.Cutting.{IsCalendar, AreApart, IsCutInto}
+use Rattle.itip_desk.specs.Delta.{delta_octets}
 use Rattle.itip_inbox.specs.Inbox.{IsInbox, is_some_refused}
-use Rattle.itip_inbox.specs.declared.refusal.Refusal.{Refusal}
+use Rattle.itip_inbox.specs.declared.refused.RefusedMessage.{RefusedMessage}
 
 -- the octets of the kept items of a set, by canonical octets, each once
 pub record AreKeptOctets (heard : List Item) (octets : List ℕ) : Type 0 where
@@ -20,7 +20,7 @@ pub record AreKeptOctets (heard : List Item) (octets : List ℕ) : Type 0 where
 -- The octets of what is kept of all messages of an input that are not refused, and whether one is.
 pub record IsCompaction (input octets : List ℕ) (refused : Bool) : Type 0 where
   pub heard : List Item
-  pub refusals : List Refusal
+  pub refusals : List RefusedMessage
   pub inbox : IsInbox input heard refusals
   pub kept : AreKeptOctets heard octets
   pub refused_is : refused ≡ is_some_refused refusals
@@ -62,7 +62,7 @@ HasSameMessages whole parts = (message : List ℕ) → HasMessage whole message 
 -- an item that a text tells: a message of the text gives it
 pub record TellsItem (text : List ℕ) (item : Item) : Type 0 where
   pub heard : List Item
-  pub refusals : List Refusal
+  pub refusals : List RefusedMessage
   pub inbox : IsInbox text heard refusals
   pub among : Contains heard item
 

@@ -1,6 +1,9 @@
-pub use Rattle.itip_delta.specs.Cutting
-pub use Rattle.itip_delta.specs.Delta
+pub use Rattle.itip_message.specs.Cutting
+pub use Rattle.itip_desk.specs.Delta
+pub use Rattle.itip_desk.specs.Refusals
 pub mod Inbox
 pub mod Compaction
 pub mod TaskList
+pub mod Records
+pub mod Shown
 pub mod Streaming

@@ -2,19 +2,19 @@
 use Rattle.std.specs.Prelude.{◌≡◌, ℕ, List, ◌++◌, length, Option, Some, None, ⊤, Result, IfOk, IfErr, Bool, IsTrue}
 use Rattle.std.specs.Io.KnownBytes.{IsAtEnd}
 use Rattle.std.specs.List.{AllZip, Contains}
-use Rattle.itip_message.specs.Faults.{IfFault}
+use Rattle.itip_message.specs.Refusals.{IfRefused}
 use Rattle.itip_message.specs.Message.{ReadsMessage, RefusesMessage}
 use Rattle.itip_message.specs.declared.error.ReadError.{ReadError}
-use Rattle.itip_message.specs.declared.item.Item.{Item}
+use Rattle.itip_items.specs.declared.item.Item.{Item}
 use Rattle.itip_state.specs.Kept.{AreKept}
 use Rattle.itip_state.specs.Told.{AreNews}
-use Rattle.itip_delta.specs.Scanned.{messages_of}
+use Rattle.itip_message.specs.Scanned.{messages_of}
 use Rattle.itip_inbox.specs.Inbox.{Hears}
-use Rattle.itip_inbox.specs.declared.refusal.Refusal.{Refusal}
+use Rattle.itip_inbox.specs.declared.refused.RefusedMessage.{RefusedMessage}
 
 -- what reading a text beside a set of kept items may give, memory aside: those of its items that are news beside the set
 abbrev pub MayTell : List Item → List ℕ → Result (List Item) ReadError → Type 0
-MayTell kept text answer = IfOk answer (λ news. (items : List Item) × ReadsMessage text items × AreNews kept items news) × IfErr answer (λ e. IfFault e (RefusesMessage text))
+MayTell kept text answer = IfOk answer (λ news. (items : List Item) × ReadsMessage text items × AreNews kept items news) × IfErr answer (λ e. IfRefused e (RefusesMessage text))
 
 -- The octets that are held, and those that are not read, are together the same as before.
 abbrev pub MovesIn : Option (List ℕ) → Option (List ℕ) → List ℕ → List ℕ → Type 0
@@ -33,20 +33,20 @@ abbrev pub StaysCutInto : List ℕ → List (List ℕ) → List ℕ → Type 0
 StaysCutInto bytes texts left = (more : List ℕ) → messages_of (bytes ++ more) ≡ texts ++ messages_of (left ++ more)
 
 -- what is kept of the messages that came, the refusals, and the number of messages
-pub record KeepsMessages (messages : List (List ℕ)) (kept : List Item) (refusals : List Refusal) (count : ℕ) : Type 0 where
+pub record KeepsMessages (messages : List (List ℕ)) (kept : List Item) (refusals : List RefusedMessage) (count : ℕ) : Type 0 where
   pub heard : List Item
   pub hears : Hears messages heard refusals
   pub keeps : AreKept kept heard
   pub count_is : count ≡ length messages
 
 -- The messages of an input so far, and what is left of it.
-pub record ReadsSoFar (old new : Option (List ℕ)) (held : List ℕ) (kept : List Item) (refusals : List Refusal) (count : ℕ) : Type 0 where
+pub record ReadsSoFar (old new : Option (List ℕ)) (held : List ℕ) (kept : List Item) (refusals : List RefusedMessage) (count : ℕ) : Type 0 where
   pub messages : List (List ℕ)
   pub keeps : KeepsMessages messages kept refusals count
   pub leaves : LeavesMessages old new messages held
 
 -- Some of these answers were gone through, of texts that stand behind messages that came before; they were read beside the items that were kept at first.
-pub record TakesSoFar (before texts : List (List ℕ)) (first : List Item) (left : List (Result (List Item) ReadError)) (kept : List Item) (refusals : List Refusal) (count : ℕ) : Type 0 where
+pub record TakesSoFar (before texts : List (List ℕ)) (first : List Item) (left : List (Result (List Item) ReadError)) (kept : List Item) (refusals : List RefusedMessage) (count : ℕ) : Type 0 where
   pub done : List (List ℕ)
   pub rest : List (List ℕ)
   pub heard : List Item
@@ -58,7 +58,7 @@ pub record TakesSoFar (before texts : List (List ℕ)) (first : List Item) (left
   pub count_is : count ≡ length (before ++ done)
 
 -- The first messages of some octets were heard, and these octets are left.
-pub record HearsFirst (octets left : List ℕ) (kept now : List Item) (refusals more : List Refusal) (count number : ℕ) : Type 0 where
+pub record HearsFirst (octets left : List ℕ) (kept now : List Item) (refusals more : List RefusedMessage) (count number : ℕ) : Type 0 where
   pub texts : List (List ℕ)
   pub cut : StaysCutInto octets texts left
   pub hears : (messages : List (List ℕ)) → KeepsMessages messages kept refusals count → KeepsMessages (messages ++ texts) now more number

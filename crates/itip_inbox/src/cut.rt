@@ -1,9 +1,9 @@
 //! Cutting what was read of an input into messages. Nothing is copied but what is left.
 ghost use Rattle.std.specs.Prelude.{◌≡◌, map, IfOk};
-ghost use Rattle.itip_delta.specs.Scanned.{messages_of};
+ghost use Rattle.itip_message.specs.Scanned.{messages_of};
 ghost use Rattle.itip_inbox.specs.Streaming.{StaysCutInto};
 
-use itip_delta::{next_message, whole_message};
+use itip_message::{next_message, whole_message};
 use std::alloc::{AllocError, Global};
 
 /// Messages, and the octets behind them, which are not known to be whole messages.

@@ -1,11 +1,11 @@
 //! What hears an input.
 ghost use Rattle.std.specs.Prelude.{◌≡◌, ◌≢◌, ◌++◌, ◌+◌, ℕ, List, [], map, IfOk, IfErr, OnOk, OnErr};
 ghost use Rattle.std.specs.List.{AllZip};
-ghost use Rattle.itip_message.specs.declared.item.Item.{Item};
+ghost use Rattle.itip_items.specs.declared.item.Item.{Item};
 ghost use Rattle.itip_state.specs.Kept.{AreKept};
 ghost use Rattle.itip_inbox.specs.Streaming.{KeepsMessages, TakesSoFar};
 
-use crate::refusal::Refusal;
+use crate::refused::RefusedMessage;
 use crate::texts::read_texts;
 use itip_lines::ListOf;
 use itip_message::ReadError;
@@ -20,7 +20,7 @@ pub struct Inbox {
     /// What is kept of the messages.
     pub state: State,
     /// The refused messages, in their order.
-    pub refusals: Vec<Refusal>,
+    pub refusals: Vec<RefusedMessage>,
     /// How many messages there were, refused ones too.
     pub messages: u64,
 }
@@ -66,9 +66,9 @@ impl Inbox {
             self.messages = one_more(self.messages)?;
             match answer {
                 Ok(news) => hear_news(&mut self.state, news.as_slice())?,
-                Err(ReadError::Fault(cause)) => self.refusals.push(Refusal {
+                Err(ReadError::Refused(refusal)) => self.refusals.push(RefusedMessage {
                     message: self.messages,
-                    cause,
+                    refusal,
                 })?,
                 Err(ReadError::NoMemory) => return Err(StreamFault::Memory),
             }

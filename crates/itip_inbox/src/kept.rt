@@ -1,22 +1,19 @@
 //! The octets of what is kept of an input.
 ghost use Rattle.std.specs.Prelude.{◌≡◌, ◌≢◌, ◌++◌, ℕ, Bool, List, IfOk, IfErr, OnOk, OnErr, IsErrOf, IfSome};
 ghost use Rattle.std.specs.Io.KnownBytes.{Appends, Keeps};
-ghost use Rattle.itip_delta.specs.Delta.{delta_octets};
-ghost use Rattle.itip_streams.specs.Written.{AppendsFront, MovesOut};
+ghost use Rattle.itip_desk.specs.Delta.{delta_octets};
+ghost use Rattle.itip_streams.specs.Written.{AppendsFront};
 ghost use Rattle.itip_inbox.specs.Compaction.{IsCompaction, WritesCompaction};
 ghost use Rattle.itip_inbox.specs.Inbox.{is_some_refused};
 
 use crate::read::read_inbox;
-use crate::refusal::Refusal;
+use crate::refused::RefusedMessage;
 use crate::watch::Watch;
 use itip_state::SharedItem;
-use itip_streams::{StreamFault, write_output};
+use itip_streams::{StreamFault, write_if_many, write_output};
 use std::alloc::Global;
 use std::io::{Read, Write};
 use std::thread::Threads;
-
-// How many octets are kept before they are written.
-const CHUNK: usize = 65_536;
 
 /// Reads an input to its end and writes the octets of what is kept of its messages, and says whether one was refused.
 ///
@@ -44,11 +41,11 @@ pub fn compact<R: Read, W: Write, S: Watch>(
 }
 
 /// Tells of each refused message, and says whether there is one.
-pub fn tell<S: Watch>(refusals: &[Refusal], watch: &mut S) -> bool
+pub(crate) fn tell<S: Watch>(refusals: &[RefusedMessage], watch: &mut S) -> bool
     ensures { result ≡ is_some_refused refusals.now }
 {
     for refusal in refusals {
-        watch.refused(refusal.message, refusal.cause.number());
+        watch.refused(refusal.message, refusal.refusal);
     }
     !refusals.is_empty()
 }
@@ -69,17 +66,4 @@ pub fn write_items<W: Write>(
         write_if_many(writer, &mut kept)?;
     }
     write_output(writer, kept.as_slice())
-}
-
-// Writes the octets that are kept once they are many.
-fn write_if_many<W: Write>(writer: &mut W, kept: &mut Vec<u8>) -> Result<(), StreamFault>
-    ensures moved { OnOk result (MovesOut (W.contents writer.old) (W.contents writer.new) kept.old.items kept.new.items) }
-    ensures front { OnErr result (AppendsFront (W.contents writer.old) (W.contents writer.new) kept.old.items) }
-    ensures fault { IfErr result (λ fault. fault ≡ StreamFault.Write) }
-{
-    if kept.len() >= CHUNK {
-        write_output(writer, kept.as_slice())?;
-        kept.clear();
-    }
-    Ok(())
 }

@@ -1,23 +1,37 @@
 //! Messages in, what counts out: an input of messages one after another, of which all are heard.
 //!
+//! Octets become messages by `itip_message`: `whole_message` cuts them off while more octets may come, `next_message` once the
+//! input is at its end. Each is read by `read_message`, many side by side, and a state hears its items; a refused message is not
+//! heard, and the others are. What is kept of all is a batch, by canonical octets and each once, and is written as `itip_desk`
+//! writes a delta. There a refused message refuses all octets (`read_delta`); here it does not.
+//!
 //! What is kept of what was kept is what is kept of all. So parts of an input may be compacted apart, on any machine and
-//! in any order, and the results once more. A refused message is not heard, and the others are.
+//! in any order, and the results once more.
 #![tactic(auto)]
 
+mod csv_records;
 mod cut;
 mod inbox;
+mod json_records;
 mod kept;
 mod laws;
 mod read;
-mod refusal;
+mod records;
+mod refused;
+mod row_texts;
+mod shown;
 mod tasks;
 mod texts;
 mod watch;
 
+pub use csv_records::csv_text;
 pub use inbox::Inbox;
-pub use kept::{compact, tell, write_items};
+pub use json_records::json_text;
+pub use kept::{compact, write_items};
 pub use laws::{compaction_of_compactions, items_of_parts, one_compaction};
 pub use read::read_inbox;
-pub use refusal::Refusal;
+pub use records::{Notation, list_records};
+pub use refused::RefusedMessage;
+pub use shown::check;
 pub use tasks::{list, rows_for};
 pub use watch::Watch;

@@ -1,6 +1,6 @@
 //! Reading an input to its end, and no more of it at a time than a share.
 ghost use Rattle.std.specs.Prelude.{◌≢◌, ◌++◌, ℕ, List, IfOk, IfErr, OnOk, IfSome};
-ghost use Rattle.itip_delta.specs.Scanned.{messages_of};
+ghost use Rattle.itip_message.specs.Scanned.{messages_of};
 ghost use Rattle.itip_inbox.specs.Inbox.{Holds};
 ghost use Rattle.itip_inbox.specs.Streaming.{Fills, HearsFirst, KeepsMessages};
 

@@ -2,7 +2,7 @@
 ghost use Rattle.std.specs.Prelude.{◌≡◌, ◌≢◌, ◌≤◌, ℕ, Bool, List, length, IfOk, IfErr, OnErr, IsErrOf, IfSome};
 ghost use Rattle.std.specs.Io.KnownBytes.{Keeps};
 ghost use Rattle.std.specs.Option.{option_map};
-ghost use Rattle.itip_message.specs.declared.item.Item.{Item};
+ghost use Rattle.itip_items.specs.declared.item.Item.{Item};
 ghost use Rattle.itip_state.specs.Kept.{AreKept};
 ghost use Rattle.itip_streams.specs.Written.{AppendsFront};
 ghost use Rattle.itip_inbox.specs.TaskList.{IsTaskList, WritesTaskList, IsListed, IsTextFor, AreRowsFor, AreTooManyFor};
@@ -11,15 +11,15 @@ ghost use Rattle.itip_view.specs.Showing.{AreRowsWhere, AreTooManyWhere, Shows};
 
 use crate::kept::tell;
 use crate::read::read_inbox;
+use crate::refused::refusal_text;
 use crate::watch::Watch;
+use itip_desk::Refusal;
 use itip_state::State;
 use itip_streams::{StreamFault, write_output};
 use itip_view::{Row, ViewError, Window, list_text, rows};
 use std::alloc::Global;
 use std::io::{Read, Write};
 use std::thread::Threads;
-
-const TOO_MANY_ROWS: &[u8] = b"refused 31\n";
 
 /// Reads an input to its end and writes the task list of its messages in a window, or `refused 31` where more than 100,000
 /// rows stand there; where an attendee is named, only of the rows that show this address. Says whether a message was
@@ -49,10 +49,11 @@ pub fn list<R: Read, W: Write, S: Watch>(
     Ok(is_refused || listed.is_refusal)
 }
 
+/// What is written of a list.
 #[derive(Drop)]
-struct Listed {
-    text: Vec<u8>,
-    is_refusal: bool,
+pub(crate) struct Listed {
+    pub(crate) text: Vec<u8>,
+    pub(crate) is_refusal: bool,
 }
 
 fn list_of(
@@ -70,7 +71,7 @@ fn list_of(
             is_refusal: false,
         }),
         Err(ViewError::TooManyRows) => Ok(Listed {
-            text: Vec::from_slice(alloc, TOO_MANY_ROWS)?,
+            text: refusal_text(alloc, Refusal::TooManyRows)?,
             is_refusal: true,
         }),
         Err(ViewError::NoMemory) => Err(StreamFault::Memory),

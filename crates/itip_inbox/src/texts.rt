@@ -3,8 +3,9 @@ ghost use Rattle.std.specs.Prelude.{◌≡◌, map, IfOk, IfErr};
 ghost use Rattle.std.specs.List.{AllZip};
 ghost use Rattle.itip_inbox.specs.Streaming.{MayTell};
 
+use itip_items::Item;
 use itip_lines::ListOf;
-use itip_message::{Item, ReadError, read_message};
+use itip_message::{ReadError, read_message};
 use itip_state::{SharedItem, State};
 use rayon::prelude::*;
 use std::alloc::{AllocError, Global};

@@ -5,10 +5,10 @@ use Rattle.std.specs.List.{AllByRecursion}
 use Rattle.std.proofs.lemmas.List.{append_cancel_left}
 use Rattle.std.proofs.lemmas.List.Elements.{All-append, All-cons, All-nil}
 use Rattle.std.proofs.lemmas.Bool.Decides.{eqb_tells}
-use Rattle.itip_lines.specs.Cutting.{Break, Piece, IsPiece, IsCutting, HasNoLf, break_bytes, joined, stretches, unfolded, without_empty, lines_of}
+use Rattle.itip_lines.specs.Cutting.{Break, Piece, IsPiece, IsCutting, HasNoLf, break_bytes, joined, stretches, unfolded, without_empty, lines_of, numbered, numbered_lines_of, with_octets}
 use Rattle.itip_lines.specs.Cutting.Break.{lf, crlf}
 use Rattle.itip_lines.specs.Parts.{begins}
-use Rattle.itip_lines.specs.Scan.{stretches_of, onto_stretches, lines_onto}
+use Rattle.itip_lines.specs.Scan.{stretches_of, onto_stretches, lines_onto, numbered_stretches, texts_onto}
 use Rattle.itip_lines.proofs.Stretches.{stretches_of_break, stretches_of_last}
 
 -- ---- there is a cutting
@@ -132,6 +132,15 @@ unfolding lines_onto
 lines_of_cut bytes ps l cut = ap without_empty (from_start (stretches ps l) ∙ ap (onto_stretches []) (sym (stretches_of_cut bytes ps l cut)))
   where
     from_start : (cs : List (List ℕ)) → unfolded cs ≡ onto_stretches [] cs
+    from_start [] = refl
+    from_start (c ∷ cs) = refl
+
+-- and so are the numbered ones
+pub numbered_of_cut : (bytes : List ℕ) (ps : List Piece) (l : List ℕ) → IsCutting bytes ps l → numbered_lines_of ps l ≡ with_octets (texts_onto 1 [] 1 bytes)
+unfolding texts_onto
+numbered_of_cut bytes ps l cut = ap with_octets (from_start (stretches ps l) ∙ ap (numbered_stretches 1 [] 1) (sym (stretches_of_cut bytes ps l cut)))
+  where
+    from_start : (cs : List (List ℕ)) → numbered cs ≡ numbered_stretches 1 [] 1 cs
     from_start [] = refl
     from_start (c ∷ cs) = refl
 

@@ -1,6 +1,6 @@
--- Each text is read, or has a fault.
+-- Each text is read, or refused.
 use Rattle.std.proofs.Common.{◌≡◌, ◌∙◌, sym, ap, refl, zero, suc, ℕ, ◌+◌, ◌<◌, true, false, List, [], ◌∷◌, ◌++◌, length, take, drop, arith, subst, inl, inr, ◌⊎◌, length-append}
-use Rattle.std.specs.Prelude.{◌==◌}
+use Rattle.std.specs.Prelude.{◌==◌, Some}
 use Rattle.std.specs.Str.{IsUtf8, is_utf8, str_to_ascii_uppercase}
 use Rattle.std.specs.List.{list_all, prefix_len}
 use Rattle.std.proofs.lemmas.Bool.Decides.{eqb_tells, leb_tells}
@@ -8,14 +8,16 @@ use Rattle.std.proofs.lemmas.Str.{IsUtf8-from_is_utf8, is_utf8-from_IsUtf8}
 use Rattle.itip_lines.specs.Octets.{is_name_octet, is_value_octet, is_quotable_octet, is_plain_octet}
 use Rattle.itip_lines.specs.Lawful.{line_limit}
 use Rattle.itip_lines.specs.Spelling.{IsTail, Spells}
-use Rattle.itip_lines.specs.Cutting.{lines_of}
+use Rattle.itip_lines.specs.Cutting.{NumberedText, numbered_lines_of}
 use Rattle.itip_lines.specs.Parts.{IsRun, begins, ends_param, CutsValue, LacksValue, ReadsValues, LacksValues, ReadsParam, LacksParam, LacksTail, LacksLine}
 use Rattle.itip_lines.specs.Parts.CutsValue.{quoted, plain}
-use Rattle.itip_lines.specs.Reading.{text_limit, count_limit, IsWithinLimits, IsGood, AreLines, HasFault, FirstFault, Reads, Refused}
+use Rattle.itip_lines.specs.Reading.{text_limit, count_limit, IsWithinLimits, IsGood, line_at, AreLines, HasCause, FirstRefusal, Reads, too_long, Refused}
 use Rattle.itip_lines.specs.declared.line.Line.{Line}
 use Rattle.itip_lines.specs.declared.line.Param.{Param}
-use Rattle.itip_lines.specs.declared.error.Fault.{Fault}
-use Rattle.itip_lines.specs.declared.error.Fault.TheVariants.{TooLong, TooMany, NotUtf8, BadLine}
+use Rattle.itip_lines.specs.declared.line.NumberedLine.{NumberedLine}
+use Rattle.itip_lines.specs.declared.error.LineCause.{LineCause}
+use Rattle.itip_lines.specs.declared.error.LineCause.TheVariants.{TooMany, NotUtf8, BadLine}
+use Rattle.itip_lines.specs.declared.error.LineRefusal.{LineRefusal}
 use Rattle.itip_lines.proofs.Runs.{run_of_prefix}
 use Rattle.itip_lines.proofs.Values.{lacks_quote}
 use Rattle.itip_lines.proofs.ValueLists.{HasValues, no_values, more_values, all_values, lacks_next, lacks_end, cut_shorter}
@@ -155,39 +157,39 @@ decide_limits n text =
       ]
     ]
 
-decide_line : (n : ℕ) (text : List ℕ) → ((l : Line) × IsGood n text l) ⊎ ((f : Fault) × HasFault n text f)
+decide_line : (n : ℕ) (text : List ℕ) → ((l : Line) × IsGood n text l) ⊎ ((cause : LineCause) × HasCause n text cause)
 decide_line n text =
     elim (decide_limits n text) [
       | inr beyond ↦ inr (TooMany, beyond)
-      | inl within ↦ elim (is_utf8 text) as (λ v. is_utf8 text ≡ v → ((l : Line) × IsGood n text l) ⊎ ((f : Fault) × HasFault n text f)) [
-        | false ↦ λ e. inr (NotUtf8 n, (refl, within, λ u. (let t : false ≡ true = sym e ∙ is_utf8-from_IsUtf8 text u in cc)))
+      | inl within ↦ elim (is_utf8 text) as (λ v. is_utf8 text ≡ v → ((l : Line) × IsGood n text l) ⊎ ((cause : LineCause) × HasCause n text cause)) [
+        | false ↦ λ e. inr (NotUtf8, (within, λ u. (let t : false ≡ true = sym e ∙ is_utf8-from_IsUtf8 text u in cc)))
         | true ↦ λ e. let u = IsUtf8-from_is_utf8 text e in elim (decide_spelling text u) [
-          | inr lacks ↦ inr (BadLine n, (refl, within, u, lacks))
+          | inr lacks ↦ inr (BadLine, (within, u, lacks))
           | inl is ↦ inl (record { name = is.0; params = is.1; value = is.2; lawful = lawful_line text is.0 is.1 is.2 is.3 u within.short }, record { within = within; utf8 = u; spells = is.3 })
         ]
       ] refl
     ]
 
-decide_lines : (n : ℕ) (ts : List (List ℕ)) → ((ls : List Line) × AreLines n ts ls) ⊎ ((f : Fault) × FirstFault n ts f)
+decide_lines : (n : ℕ) (ts : List NumberedText) → ((ls : List NumberedLine) × AreLines n ts ls) ⊎ ((refusal : LineRefusal) × FirstRefusal n ts refusal)
 decide_lines n [] = inl ([], tt)
 decide_lines n (t ∷ ts) =
-    elim (decide_line n t) [
-      | inr fault ↦ inr (fault.0, inl fault.1)
+    elim (decide_line n t.text) [
+      | inr bad ↦ inr (record { cause = bad.0; line = Some t.number }, inl (refl, bad.1))
       | inl good ↦ elim (decide_lines (n + 1) ts) [
-        | inr fault ↦ inr (fault.0, inr (good, fault.1))
-        | inl more ↦ inl (good.0 ∷ more.0, (good.1, more.1))
+        | inr bad ↦ inr (bad.0, inr (good, bad.1))
+        | inl more ↦ inl (line_at t.number good.0 ∷ more.0, (refl, good.1, more.1))
       ]
     ]
 
 -- a text is read, or it is refused
-pub reads_or_refused : (bytes : List ℕ) → ((lines : List Line) × Reads bytes lines) ⊎ ((fault : Fault) × Refused bytes fault)
+pub reads_or_refused : (bytes : List ℕ) → ((lines : List NumberedLine) × Reads bytes lines) ⊎ ((refusal : LineRefusal) × Refused bytes refusal)
 reads_or_refused bytes =
     elim (leb_tells (length bytes) text_limit) [
-      | inr long ↦ inr (TooLong, inl (refl, long.1))
+      | inr long ↦ inr (too_long, inl (refl, long.1))
       | inl short ↦
           let cutting = cutting_of bytes in
-          elim (decide_lines 1 (lines_of cutting.pieces cutting.last)) [
+          elim (decide_lines 1 (numbered_lines_of cutting.pieces cutting.last)) [
             | inl good ↦ inl (good.0, record { pieces = cutting.pieces; last = cutting.last; short = short.1; cut = cutting.cut; lines_are = good.1 })
-            | inr fault ↦ inr (fault.0, inr (record { pieces = cutting.pieces; last = cutting.last; short = short.1; cut = cutting.cut; first = fault.1 }))
+            | inr bad ↦ inr (bad.0, inr (record { pieces = cutting.pieces; last = cutting.last; short = short.1; cut = cutting.cut; first = bad.1 }))
           ]
     ]

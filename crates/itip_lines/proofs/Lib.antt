@@ -1,4 +1,5 @@
 pub mod SameLine
+pub mod Numbers
 pub mod Stretches
 pub mod Runs
 pub mod OctetLemmas

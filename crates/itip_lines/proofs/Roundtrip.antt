@@ -14,13 +14,17 @@ use Rattle.itip_lines.specs.Lawful.{line_limit, value_text, values_text, param_t
 use Rattle.itip_lines.specs.Spelling.{SpellsName, ValueThen, ValuesThen, ParamThen, IsTail, Spells}
 use Rattle.itip_lines.specs.declared.line.Param.{Param}
 use Rattle.itip_lines.specs.declared.line.Line.{Line}
-use Rattle.itip_lines.specs.Cutting.{without_empty}
-use Rattle.itip_lines.specs.Reading.{text_limit, count_limit, IsGood, AreLines, Reads}
-use Rattle.itip_lines.specs.Scan.{LacksBlank, stretches_of, lines_onto}
+use Rattle.itip_lines.specs.declared.line.NumberedLine.{NumberedLine}
+use Rattle.itip_lines.specs.Cutting.{NumberedText, text_at, texts_of, with_octets, without_empty, numbered_lines_of}
+use Rattle.itip_lines.specs.Reading.{text_limit, count_limit, IsGood, line_at, plain_lines, AreLines, Reads, ReadsLines}
+use Rattle.itip_lines.specs.Scan.{LacksBlank, stretches_of, lines_onto, numbered_stretches, texts_onto}
 use Rattle.itip_lines.specs.Writing.{fits, folded, unfolded_text, written, all_written}
 use Rattle.itip_lines.proofs.OctetLemmas.{upper_is_name, upper_same, name_value, quotable_value}
 use Rattle.itip_lines.proofs.Utf8Parts.{utf8_name}
-use Rattle.itip_lines.proofs.Cuttings.{cutting_of, lines_of_cut}
+use Rattle.itip_lines.proofs.Cuttings.{cutting_of, lines_of_cut, numbered_of_cut}
+use Rattle.itip_lines.proofs.Numbers.{lines_plain, texts_plain, begins_at}
+use Rattle.itip_lines.proofs.SameLine.{same_numbered}
+use Rattle.itip_lines.proofs.Stretches.{stretches_of_some}
 use Rattle.itip_lines.proofs.Unfolding.{unfolds, written_lacks_blank}
 
 -- ---- a line spells itself
@@ -181,21 +185,26 @@ lines_written (l ∷ ls) =
 good_line : (n : ℕ) (l : Line) → n ≤ count_limit → IsGood n (unfolded_text l) l
 good_line n l h = record { within = record { few = h; short = line_short l }; utf8 = (clean_line l).utf8; spells = line_spells l }
 
-good_lines : (n : ℕ) (lines : List Line) → n + length lines ≤ count_limit + 1 → AreLines n (map unfolded_text lines) lines
-good_lines n [] h = tt
-good_lines n (l ∷ ls) h = (good_line n l (omega arith), good_lines (n + 1) ls (omega arith))
+same_texts : (a b : List ℕ) (more others : List (List ℕ)) → a ∷ more ≡ b ∷ others → (a ≡ b) × (more ≡ others)
+same_texts a b more others e = (cc, cc)
+
+-- texts of lines are these lines, whatever their numbers
+good_lines : (n : ℕ) (ts : List NumberedText) (lines : List Line) → texts_of ts ≡ map unfolded_text lines → n + length lines ≤ count_limit + 1 → (numbered : List NumberedLine) × (plain_lines numbered ≡ lines) × AreLines n ts numbered
+good_lines n [] [] e h = ([], refl, tt)
+good_lines n [] (l ∷ ls) e h = absurd cc
+good_lines n (t ∷ ts) [] e h = absurd cc
+good_lines n (t ∷ ts) (l ∷ ls) e h =
+    let parts = same_texts t.text (unfolded_text l) (texts_of ts) (map unfolded_text ls) e in
+    let more = good_lines (n + 1) ts ls parts.1 (omega arith) in
+    (line_at t.number l ∷ more.0, ap (λ xs. l ∷ xs) more.1, (refl, subst (λ (text : List ℕ). IsGood n text l) (sym parts.0) (good_line n l (omega arith)), more.2))
 
 -- what was written of some lines is read as these lines, within the limits of a text
-pub reads_written : (lines : List Line) → length lines ≤ count_limit → length (all_written lines) ≤ text_limit → Reads (all_written lines) lines
+pub reads_written : (lines : List Line) → length lines ≤ count_limit → length (all_written lines) ≤ text_limit → ReadsLines (all_written lines) lines
 reads_written lines few short =
     let cutting = cutting_of (all_written lines) in
-    record {
-      pieces = cutting.pieces;
-      last = cutting.last;
-      short = short;
-      cut = cutting.cut;
-      lines_are = subst (λ (ts : List (List ℕ)). AreLines 1 ts lines) (sym (lines_of_cut (all_written lines) cutting.pieces cutting.last cutting.cut ∙ lines_written lines)) (good_lines 1 lines (omega arith));
-    }
+    let texts = lines_plain cutting.pieces cutting.last ∙ lines_of_cut (all_written lines) cutting.pieces cutting.last cutting.cut ∙ lines_written lines in
+    let good = good_lines 1 (numbered_lines_of cutting.pieces cutting.last) lines texts (omega arith) in
+    (good.0, good.1, record { pieces = cutting.pieces; last = cutting.last; short = short; cut = cutting.cut; lines_are = good.2 })
 
 folded_short : (used : ℕ) (bs : List ℕ) → length (folded used bs) ≤ 4 * length bs + 2
 folded_short used [] = omega arith
@@ -209,8 +218,33 @@ written_short : (l : Line) → length (written l) ≤ text_limit
 unfolding written
 written_short l = omega (arith, folded_short 0 (unfolded_text l), line_short l)
 
--- what was written of one line is read as this line
-pub one_written : (l : Line) → Reads (written l) (l ∷ [])
+-- the first line begins in the first stretch
+first_text : (text : List ℕ) → (first : List ℕ) × (others : List NumberedText) × (texts_onto 1 [] 1 text ≡ text_at 1 first ∷ others)
+unfolding texts_onto
+first_text text = first (stretches_of text) (stretches_of_some text)
+  where
+    first : (cs : List (List ℕ)) → 0 < length cs → (first : List ℕ) × (others : List NumberedText) × (numbered_stretches 1 [] 1 cs ≡ text_at 1 first ∷ others)
+    first [] h = absurd (omega arith)
+    first (c ∷ cs) h = begins_at 1 c (1 + 1) cs
+
+one_numbered : (l : Line) → ReadsLines (written l ++ []) (l ∷ []) → Reads (written l ++ []) (line_at 1 l ∷ [])
+one_numbered l (numbered, plain, reads) =
+    let at = first_text (written l ++ []) in
+    let texts = sym (ap texts_of at.2) ∙ texts_plain 1 [] 1 (written l ++ []) ∙ unfolds_written l [] (λ b t e. absurd cc) in
+    let are = subst (λ (ts : List NumberedText). AreLines 1 ts numbered) (numbered_of_cut (written l ++ []) reads.pieces reads.last reads.cut ∙ ap with_octets at.2) reads.lines_are in
+    subst (λ (ls : List NumberedLine). Reads (written l ++ []) ls) (only at.0 at.1 numbered (same_texts at.0 (unfolded_text l) (texts_of at.1) (lines_onto [] []) texts).0 are plain) reads
+  where
+    only : (first : List ℕ) (others : List NumberedText) (ls : List NumberedLine) → first ≡ unfolded_text l → AreLines 1 (with_octets (text_at 1 first ∷ others)) ls → plain_lines ls ≡ l ∷ [] → ls ≡ line_at 1 l ∷ []
+    only [] others ls e are plain = absurd (omega (arith, ap length e, line_some l))
+    only (b ∷ first) others [] e are plain = absurd are
+    only (b ∷ first) others (m ∷ []) e are plain = ap (λ (x : NumberedLine). x ∷ []) (same_numbered m (line_at 1 l) are.0 (same_first m.line plain))
+      where
+        same_first : (x : Line) → x ∷ [] ≡ l ∷ [] → x ≡ l
+        same_first x p = cc
+    only (b ∷ first) others (m ∷ (k ∷ ls)) e are plain = absurd cc
+
+-- what was written of one line is read as this line, which is the first
+pub one_written : (l : Line) → Reads (written l) (line_at 1 l ∷ [])
 one_written l =
-    subst (λ (bytes : List ℕ). Reads bytes (l ∷ [])) (append-nil (written l))
-    (reads_written (l ∷ []) (omega arith) (omega (arith, written_short l, ap length (append-nil (written l)))))
+    subst (λ (bytes : List ℕ). Reads bytes (line_at 1 l ∷ [])) (append-nil (written l))
+    (one_numbered l (reads_written (l ∷ []) (omega arith) (omega (arith, written_short l, ap length (append-nil (written l))))))

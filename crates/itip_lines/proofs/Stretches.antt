@@ -1,12 +1,13 @@
 -- The stretches of a text, one after another.
-use Rattle.std.proofs.Common.{◌≡◌, ◌∙◌, ap, refl, ℕ, ◌<◌, Bool, true, false, cond, List, [], ◌∷◌, ◌++◌, length, arith, subst, inl, inr}
+use Rattle.std.proofs.Common.{◌≡◌, ◌∙◌, sym, ap, refl, ℕ, ◌+◌, ◌<◌, Bool, true, false, cond, List, [], ◌∷◌, ◌++◌, length, arith, subst, inl, inr}
 use Rattle.std.specs.Prelude.{◌==◌, ◌||◌}
 use Rattle.std.specs.List.{slice_split, All, onto_first}
 use Rattle.std.proofs.lemmas.Bool.{ne_eqb}
 use Rattle.std.proofs.lemmas.Bool.Decides.{eqb_tells}
 use Rattle.std.proofs.lemmas.List.Splits.{slice_split_at, slice_split_none, slice_split-cons_no}
-use Rattle.itip_lines.specs.Cutting.{HasNoLf, unfolded_onto, is_blank}
-use Rattle.itip_lines.specs.Scan.{StripsCr, BeginsWithBlank, LacksBlank, without_cr, without_crs, stretches_of, lines_onto, onto_stretches}
+use Rattle.itip_lines.specs.Cutting.{HasNoLf, text_at, texts_of, numbered_onto, is_blank}
+use Rattle.itip_lines.specs.Scan.{StripsCr, BeginsWithBlank, LacksBlank, without_cr, without_crs, stretches_of, lines_onto, numbered_stretches, texts_onto}
+use Rattle.itip_lines.proofs.Numbers.{texts_plain}
 
 none_split : (x : List ℕ) → HasNoLf x → All (λ b. (b == 10) ≡ false) x
 none_split x h = λ k d l. ne_eqb _ 10 (h k d l)
@@ -86,9 +87,9 @@ first_stretch (x ∷ xs) b c cs e =
     octet_first ([] ∷ (d ∷ ds)) h = elim (x == 13) as (λ v. cond v [] (x ∷ []) ∷ without_crs (d ∷ ds) ≡ (b ∷ c) ∷ cs → x ≡ b) [ true ↦ λ k. absurd cc | false ↦ λ k. cc ] h
     octet_first ((y ∷ ys) ∷ (d ∷ ds)) h = cc
 
-onto_blank : (line : List ℕ) (b : ℕ) (cs : List (List ℕ)) → 0 < length cs → is_blank b ≡ true → unfolded_onto line (onto_first b cs) ≡ onto_stretches line cs
-onto_blank line b [] l h = absurd (omega arith)
-onto_blank line b (c ∷ cs) l h = rw h refl
+onto_blank : (at : ℕ) (line : List ℕ) (b next : ℕ) (cs : List (List ℕ)) → 0 < length cs → is_blank b ≡ true → numbered_onto at line next (onto_first b cs) ≡ numbered_stretches at line next cs
+onto_blank at line b next [] l h = absurd (omega arith)
+onto_blank at line b next (c ∷ cs) l h = rw h refl
 
 pub stretches_of_some : (text : List ℕ) → 0 < length (stretches_of text)
 unfolding stretches_of
@@ -106,26 +107,34 @@ blank_octet b h = elim (eqb_tells b 32) [
 ]
 
 -- a fold: the stretch goes on the line, and what follows the blank goes on after it
-pub lines_onto_fold : (line text s behind more : List ℕ) → stretches_of text ≡ s ∷ stretches_of behind → BeginsWithBlank behind more → lines_onto line text ≡ lines_onto (line ++ s) more
-unfolding lines_onto
-lines_onto_fold line text s behind more e (b, is, blank) =
+pub texts_onto_fold : (at : ℕ) (line : List ℕ) (here : ℕ) (text s behind more : List ℕ) → stretches_of text ≡ s ∷ stretches_of behind → BeginsWithBlank behind more → texts_onto at line here text ≡ texts_onto at (line ++ s) (here + 1) more
+unfolding texts_onto
+texts_onto_fold at line here text s behind more e (b, is, blank) =
     let o = blank_octet b blank in
-    ap (onto_stretches line) (e ∙ ap (λ t. s ∷ stretches_of t) is)
-    ∙ ap (unfolded_onto (line ++ s)) (stretches_of_cons b more o.0 o.1)
-    ∙ onto_blank (line ++ s) b (stretches_of more) (stretches_of_some more) blank
+    ap (numbered_stretches at line here) (e ∙ ap (λ t. s ∷ stretches_of t) is)
+    ∙ ap (numbered_onto at (line ++ s) (here + 1)) (stretches_of_cons b more o.0 o.1)
+    ∙ onto_blank at (line ++ s) b (here + 1) (stretches_of more) (stretches_of_some more) blank
 
--- a break: the line ends with the stretch
-pub lines_onto_break : (line text s behind : List ℕ) → stretches_of text ≡ s ∷ stretches_of behind → LacksBlank behind → lines_onto line text ≡ (line ++ s) ∷ lines_onto [] behind
-unfolding lines_onto
-lines_onto_break line text s behind e lacks =
-    ap (onto_stretches line) e ∙ ends (line ++ s) (stretches_of behind) (λ b c cs is. let f = first_stretch behind b c cs is in lacks b f.0 f.1)
+pub lines_onto_fold : (line text s behind more : List ℕ) → stretches_of text ≡ s ∷ stretches_of behind → BeginsWithBlank behind more → lines_onto line text ≡ lines_onto (line ++ s) more
+lines_onto_fold line text s behind more e blank = sym (texts_plain 0 line 0 text) ∙ ap texts_of (texts_onto_fold 0 line 0 text s behind more e blank) ∙ texts_plain 0 (line ++ s) (0 + 1) more
+
+-- a break: the line ends with the stretch, and the next one begins behind the break
+pub texts_onto_break : (at : ℕ) (line : List ℕ) (here : ℕ) (text s behind : List ℕ) → stretches_of text ≡ s ∷ stretches_of behind → LacksBlank behind → texts_onto at line here text ≡ text_at at (line ++ s) ∷ texts_onto (here + 1) [] (here + 1) behind
+unfolding texts_onto
+texts_onto_break at line here text s behind e lacks =
+    ap (numbered_stretches at line here) e ∙ ends (line ++ s) (here + 1) (stretches_of behind) (λ b c cs is. let f = first_stretch behind b c cs is in lacks b f.0 f.1)
   where
-    ends : (l : List ℕ) (ds : List (List ℕ)) → ((b : ℕ) (c : List ℕ) (cs : List (List ℕ)) → ds ≡ (b ∷ c) ∷ cs → is_blank b ≡ false) → unfolded_onto l ds ≡ l ∷ onto_stretches [] ds
-    ends l [] h = refl
-    ends l ([] ∷ ds) h = refl
-    ends l ((b ∷ c) ∷ ds) h = rw (h b c ds refl) refl
+    ends : (l : List ℕ) (next : ℕ) (ds : List (List ℕ)) → ((b : ℕ) (c : List ℕ) (cs : List (List ℕ)) → ds ≡ (b ∷ c) ∷ cs → is_blank b ≡ false) → numbered_onto at l next ds ≡ text_at at l ∷ numbered_stretches next [] next ds
+    ends l next [] h = refl
+    ends l next ([] ∷ ds) h = refl
+    ends l next ((b ∷ c) ∷ ds) h = rw (h b c ds refl) refl
+
+pub lines_onto_break : (line text s behind : List ℕ) → stretches_of text ≡ s ∷ stretches_of behind → LacksBlank behind → lines_onto line text ≡ (line ++ s) ∷ lines_onto [] behind
+lines_onto_break line text s behind e lacks =
+    sym (texts_plain 0 line 0 text) ∙ ap texts_of (texts_onto_break 0 line 0 text s behind e lacks)
+    ∙ ap (λ ls. (line ++ s) ∷ ls) (texts_plain (0 + 1) [] (0 + 1) behind)
 
 -- the end of the text
-pub lines_onto_last : (line text s : List ℕ) → stretches_of text ≡ s ∷ [] → lines_onto line text ≡ (line ++ s) ∷ []
-unfolding lines_onto
-lines_onto_last line text s e = ap (onto_stretches line) e
+pub texts_onto_last : (at : ℕ) (line : List ℕ) (here : ℕ) (text s : List ℕ) → stretches_of text ≡ s ∷ [] → texts_onto at line here text ≡ text_at at (line ++ s) ∷ []
+unfolding texts_onto
+texts_onto_last at line here text s e = ap (numbered_stretches at line here) e

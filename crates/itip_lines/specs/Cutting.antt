@@ -1,6 +1,6 @@
 -- The cutting of a text at its line breaks, and its unfolded lines (RFC 5545 3.1).
-use Rattle.std.specs.Prelude.{◌≡◌, ◌≢◌, ℕ, Bool, cond, ◌||◌, ◌==◌, List, [], ◌∷◌, ◌++◌, map}
-use Rattle.std.specs.List.{All, AllByRecursion}
+use Rattle.std.specs.Prelude.{◌≡◌, ◌≢◌, ℕ, ◌+◌, Bool, true, false, cond, ◌||◌, ◌==◌, List, [], ◌∷◌, ◌++◌, map}
+use Rattle.std.specs.List.{All, AllByRecursion, filter}
 
 -- a line break is LF (10), or CR (13) with LF directly behind it
 pub data Break : Type 0 where
@@ -61,3 +61,38 @@ without_empty ((b ∷ l) ∷ ls) = (b ∷ l) ∷ without_empty ls
 -- the lines of a cutting: unfolded, without the empty ones
 abbrev pub lines_of : List Piece → List ℕ → List (List ℕ)
 lines_of pieces last = without_empty (unfolded (stretches pieces last))
+
+-- ---- the same lines, each with the number of its first stretch
+
+-- A text, and the number of the stretch in which it begins. Each stretch is one physical line, and they count from 1.
+pub record NumberedText : Type 0 where
+  pub number : ℕ
+  pub text : List ℕ
+
+abbrev pub text_at : ℕ → List ℕ → NumberedText
+text_at number text = record { number = number; text = text }
+
+-- the line began in stretch `at`, and the first of the other stretches has the number `next`
+abbrev pub numbered_onto : ℕ → List ℕ → ℕ → List (List ℕ) → List NumberedText
+numbered_onto at line next [] = text_at at line ∷ []
+numbered_onto at line next ([] ∷ cs) = text_at at line ∷ numbered_onto next [] (next + 1) cs
+numbered_onto at line next ((b ∷ c) ∷ cs) = cond (is_blank b) (numbered_onto at (line ++ c) (next + 1) cs) (text_at at line ∷ numbered_onto next (b ∷ c) (next + 1) cs)
+
+abbrev pub numbered : List (List ℕ) → List NumberedText
+numbered [] = []
+numbered (c ∷ cs) = numbered_onto 1 c 2 cs
+
+abbrev pub has_octets : List ℕ → Bool
+has_octets [] = false
+has_octets (b ∷ text) = true
+
+abbrev pub with_octets : List NumberedText → List NumberedText
+with_octets ts = filter (λ t. has_octets t.text) ts
+
+-- the lines of a cutting, with their numbers
+abbrev pub numbered_lines_of : List Piece → List ℕ → List NumberedText
+numbered_lines_of pieces last = with_octets (numbered (stretches pieces last))
+
+-- the texts alone
+abbrev pub texts_of : List NumberedText → List (List ℕ)
+texts_of ts = map (λ t. t.text) ts

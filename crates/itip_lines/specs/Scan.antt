@@ -1,9 +1,10 @@
 -- The stretches and lines of a text from a place on, computed: what one scan finds (our own form).
-use Rattle.std.specs.Prelude.{◌≡◌, ◌≢◌, ◌⊎◌, false, IsTrue, ℕ, cond, ◌==◌, Option, Some, None, List, [], ◌∷◌, ◌++◌}
+use Rattle.std.specs.Prelude.{◌≡◌, ◌≢◌, ◌⊎◌, false, IsTrue, ℕ, ◌+◌, cond, ◌==◌, Option, Some, None, List, [], ◌∷◌, ◌++◌, length}
 use Rattle.std.specs.List.{slice_split}
-use Rattle.itip_lines.specs.Cutting.{unfolded_onto, is_blank, without_empty}
+use Rattle.itip_lines.specs.Cutting.{NumberedText, numbered_onto, unfolded_onto, is_blank, with_octets}
 use Rattle.itip_lines.specs.Reading.{AreLines}
-use Rattle.itip_lines.specs.declared.line.Line.{Line}
+use Rattle.itip_lines.specs.declared.line.NumberedLine.{NumberedLine}
+use Rattle.itip_lines.specs.declared.scan.Rest.{Rest}
 use denote.Ref.{Bor}
 
 -- a stretch before LF, without the CR of its break
@@ -36,6 +37,11 @@ abbrev pub stretches_behind : Option (Bor (List ℕ)) → List (List ℕ)
 stretches_behind None = []
 stretches_behind (Some rest) = stretches_of rest.now
 
+-- one more than the octets after a break, and nothing where there was none
+abbrev pub length_behind : Option (Bor (List ℕ)) → ℕ
+length_behind None = 0
+length_behind (Some rest) = length rest.now + 1
+
 -- the unfolded lines of these stretches, the first of which goes on this line
 abbrev pub onto_stretches : List ℕ → List (List ℕ) → List (List ℕ)
 onto_stretches line [] = []
@@ -45,13 +51,21 @@ onto_stretches line (c ∷ cs) = unfolded_onto (line ++ c) cs
 unfoldable pub lines_onto : List ℕ → List ℕ → List (List ℕ)
 lines_onto line text = onto_stretches line (stretches_of text)
 
--- the unfolded lines behind a break, if there was one
-abbrev pub lines_behind : Option (Bor (List ℕ)) → List (List ℕ)
-lines_behind None = []
-lines_behind (Some rest) = lines_onto [] rest.now
+-- The same, numbered: the first stretch has the number `here`, and goes on this line, which began in stretch `at`.
+abbrev pub numbered_stretches : ℕ → List ℕ → ℕ → List (List ℕ) → List NumberedText
+numbered_stretches at line here [] = []
+numbered_stretches at line here (c ∷ cs) = numbered_onto at (line ++ c) (here + 1) cs
+
+unfoldable pub texts_onto : ℕ → List ℕ → ℕ → List ℕ → List NumberedText
+texts_onto at line here text = numbered_stretches at line here (stretches_of text)
+
+-- the unfolded lines of what is left after a break, if there was one
+abbrev pub texts_behind : Option Rest → List NumberedText
+texts_behind None = []
+texts_behind (Some rest) = texts_onto rest.number [] rest.number rest.text.now
 
 -- `lines` are the lines of the text as far as it was read, and `rest` is left
-pub record HasRead (text : List ℕ) (lines : List Line) (rest : Option (Bor (List ℕ))) : Type 0 where
-  pub done : List (List ℕ)
-  pub all : without_empty (lines_onto [] text) ≡ done ++ without_empty (lines_behind rest)
+pub record HasRead (text : List ℕ) (lines : List NumberedLine) (rest : Option Rest) : Type 0 where
+  pub done : List NumberedText
+  pub all : with_octets (texts_onto 1 [] 1 text) ≡ done ++ with_octets (texts_behind rest)
   pub are : AreLines 1 done lines

@@ -1,26 +1,51 @@
-//! Why a text is not read.
+//! Why a text is not read, and where.
 ghost use Rattle.std.specs.Prelude.{◌≡◌};
 ghost use Rattle.itip_lines.specs.declared.error.LineError.TheVariants.{NoMemory};
 
 use std::alloc::{AllocError, AllocFailed};
+use std::fmt;
 use thiserror::Error;
 
-/// What is wrong with a text. Lines are numbered from 1, unfolded and without the empty ones.
+/// What is wrong with a text.
 #[derive(Clone, Copy, PartialEq, Eq, Debug, Drop, Error)]
-pub enum Fault {
+pub enum LineCause {
     /// The text has more than 1,048,576 octets.
     #[error("the text has more than 1,048,576 octets")]
     TooLong,
     /// The text has more than 20,000 lines, or a line has more than 65,536 octets.
     #[error("the text has more than 20,000 lines, or a line of more than 65,536 octets")]
     TooMany,
-    /// The line of this number is not of the grammar (RFC 5545 3.1).
-    #[error("line {0} is no content line")]
-    BadLine(usize),
-    /// The line of this number is not UTF-8.
-    #[error("line {0} is not UTF-8")]
-    NotUtf8(usize),
+    /// A line is not of the grammar (RFC 5545 3.1).
+    #[error("a line is no content line")]
+    BadLine,
+    /// A line is not UTF-8.
+    #[error("a line is not UTF-8")]
+    NotUtf8,
 }
+
+/// Why a text is refused: what is wrong, and where.
+#[derive(Clone, Copy, PartialEq, Eq, Debug)]
+pub struct LineRefusal {
+    pub cause: LineCause,
+    /// The number, from 1, of the physical line in which the first faulty line begins, folded and empty ones counted.
+    /// `None` exactly for `TooLong`.
+    pub line: Option<usize>,
+}
+
+/// The cause, and the line where there is one: `line 7 is no content line`.
+impl fmt::Display for LineRefusal {
+    fn fmt<W: fmt::Write>(&self, f: &mut fmt::Formatter<W>) -> fmt::Result {
+        let LineRefusal { cause, line } = *self;
+        match (cause, line) {
+            (LineCause::BadLine, Some(line)) => write!(f, "line {line} is no content line"),
+            (LineCause::NotUtf8, Some(line)) => write!(f, "line {line} is not UTF-8"),
+            (_, Some(line)) => write!(f, "{cause}, line {line}"),
+            (_, None) => write!(f, "{cause}"),
+        }
+    }
+}
+
+impl std::error::Error for LineRefusal {}
 
 /// Why no lines were given.
 #[derive(Debug, Drop, Error)]
@@ -30,7 +55,7 @@ pub enum LineError {
     NoMemory,
     /// The text is not one of content lines.
     #[error("{0}")]
-    Fault(Fault),
+    Refused(LineRefusal),
 }
 
 impl From<AllocError> for LineError {

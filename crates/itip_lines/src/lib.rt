@@ -1,5 +1,5 @@
-//! Content lines (RFC 5545 3.1): bytes are read into `Line`s, or refused for their first fault, and a `Line`
-//! is written with folds.
+//! Content lines (RFC 5545 3.1): bytes are read into numbered `Line`s, or refused with the place of their first fault,
+//! and a `Line` is written with folds.
 //!
 //! `Text`, `Bytes` and `ListOf` are strings and vectors that contracts see as plain lists.
 #![tactic(auto)]
@@ -16,9 +16,9 @@ mod text;
 mod write;
 
 pub use bytes::Bytes;
-pub use error::{Fault, LineError};
+pub use error::{LineCause, LineError, LineRefusal};
 pub use laws::{cutting_laws, reading_laws, writing_laws};
-pub use line::{Line, Param};
+pub use line::{Line, NumberedLine, Param};
 pub use list::ListOf;
 pub use read::read_lines;
 pub use text::Text;

@@ -25,6 +25,15 @@ pub struct Line {
     pub ghost lawful: { IsLawful name params value } by { IsLawful-prop name params value },
 }
 
+/// A content line, and where it stands in its text.
+#[derive(Debug, Drop)]
+pub struct NumberedLine {
+    /// The number, from 1, of the physical line in which the line begins. A physical line ends at LF: folded and empty
+    /// ones are counted.
+    pub number: usize,
+    pub line: Line,
+}
+
 impl Clone for Param {
     ghost is_clone = { λ param copy. copy ≡ param };
 

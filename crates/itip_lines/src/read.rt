@@ -1,12 +1,14 @@
 //! Reading a text of content lines.
-ghost use Rattle.std.specs.Prelude.{◌+◌, ◌<◌, OnOk, IfOk, IfErr, length};
-ghost use Rattle.itip_lines.specs.Reading.{Reads, Refused, IfFault, HasFault};
-ghost use Rattle.itip_lines.specs.Scanned.{PushesLine, ReadsNext, HasNextFault};
+ghost use Rattle.std.specs.Prelude.{◌≡◌, ◌+◌, ◌<◌, ◌≤◌, OnOk, IfOk, IfErr, Some, length};
+ghost use Rattle.itip_lines.specs.Cutting.{text_at};
+ghost use Rattle.itip_lines.specs.Reading.{Reads, Refused, IfRefused, HasRefusal};
+ghost use Rattle.itip_lines.specs.Scanned.{PushesLine, ReadsNext, HasNextRefusal, last_number, number_limit};
+ghost use Rattle.itip_lines.specs.declared.error.LineError.TheVariants as error;
 
-use crate::error::{Fault, LineError};
+use crate::error::{LineCause, LineError, LineRefusal};
 use crate::grammar::read_text;
-use crate::line::Line;
-use crate::scan::{End, cut_stretch, unfold};
+use crate::line::NumberedLine;
+use crate::scan::{End, Rest, cut_stretch, unfold};
 use std::alloc::Global;
 
 /// The most octets of a text (our own limit).
@@ -19,68 +21,86 @@ const LINE_LIMIT: usize = 65_536;
 /// As many lines as most messages have.
 const USUAL: usize = 16;
 
-/// The content lines of a text (RFC 5545 3.1), unfolded, in order, the empty ones left out.
+/// The content lines of a text (RFC 5545 3.1), unfolded, in order, the empty ones left out, each with the number of the
+/// physical line in which it begins.
 ///
-/// A line break is LF or CRLF, and one before SPACE or HTAB is a fold. Faults have the first faulty line's
-/// number, from 1: more than 20,000 lines or 65,536 octets come first, then UTF-8, then the grammar. A text
-/// of more than 1,048,576 octets is not looked at.
-pub fn read_lines(alloc: Global, text: &[u8]) -> Result<Vec<Line>, LineError>
+/// A line break is LF or CRLF, and one before SPACE or HTAB is a fold. A refusal names the place of the first faulty
+/// line: more than 20,000 lines or 65,536 octets come first, then UTF-8, then the grammar. A text of more than 1,048,576
+/// octets is not looked at.
+pub fn read_lines(alloc: Global, text: &[u8]) -> Result<Vec<NumberedLine>, LineError>
     ensures found { IfOk result (λ lines. Reads text.now lines.items) }
-    ensures fault { IfErr result (λ e. IfFault e (Refused text.now)) }
+    ensures refused { IfErr result (λ e. IfRefused e (Refused text.now)) }
 {
     if text.len() > TEXT_LIMIT {
-        return Err(LineError::Fault(Fault::TooLong));
+        return Err(LineError::Refused(LineRefusal {
+            cause: LineCause::TooLong,
+            line: None,
+        }));
     }
     let mut lines = Vec::with_capacity(alloc, USUAL)?;
-    let mut rest = Some(text);
+    let mut rest = Some(Rest { number: 1, text });
     while let Some(left) = rest {
         rest = read_next(alloc, left, &mut lines)?;
     }
     Ok(lines)
 }
 
-/// Reads the first unfolded line of a text, and gives what stands behind its break.
+/// Reads the first unfolded line of what is left of a text, and returns what is left after it.
 fn read_next<'a>(
     alloc: Global,
-    text: &'a [u8],
-    lines: &mut Vec<Line>,
-) -> Result<Option<&'a [u8]>, LineError>
-    ensures next { IfOk result (ReadsNext text.now lines.old.items lines.new.items) }
-    ensures fault { IfErr result (λ e. IfFault e (HasNextFault text.now lines.old.items)) }
+    left: Rest<'a>,
+    lines: &mut Vec<NumberedLine>,
+) -> Result<Option<Rest<'a>>, LineError>
+    requires { last_number left ≤ number_limit }
+    ensures next { IfOk result (ReadsNext left.entry lines.old.items lines.new.items) }
+    ensures refused { IfErr result (λ e. IfRefused e (HasNextRefusal left.entry lines.old.items)) }
 {
-    let (stretch, end) = cut_stretch(text);
+    let (stretch, end) = cut_stretch(left);
     match end {
         End::Line(after) => {
-            push_line(alloc, stretch, lines)?;
+            push_line(alloc, left.number, stretch, lines)?;
             Ok(after)
         }
         End::Fold(more) => {
             let (line, after) = unfold(alloc, stretch, more)?;
-            push_line(alloc, line.as_slice(), lines)?;
+            push_line(alloc, left.number, line.as_slice(), lines)?;
             Ok(after)
         }
     }
 }
 
-/// Reads an unfolded line and puts it behind the others; an empty one is left out.
-fn push_line(alloc: Global, text: &[u8], lines: &mut Vec<Line>) -> Result<(), LineError>
-    ensures pushed { OnOk result (PushesLine lines.old.items text.now lines.new.items) }
-    ensures fault { IfErr result (λ e. IfFault e (λ f.
-        (0 < length text.now) × HasFault (length lines.old.items + 1) text.now f)) }
+/// Reads an unfolded line, which begins in the physical line of this number, and appends it; an empty one is left out.
+fn push_line(
+    alloc: Global,
+    number: usize,
+    text: &[u8],
+    lines: &mut Vec<NumberedLine>,
+) -> Result<(), LineError>
+    ensures pushed { OnOk result (PushesLine lines.old.items (text_at number text.now) lines.new.items) }
+    ensures refused { IfErr result (λ e. IfRefused e (λ refusal.
+        (0 < length text.now) × HasRefusal (length lines.old.items + 1) (text_at number text.now) refusal)) }
 {
     if text.is_empty() {
         return Ok(());
     }
     if lines.len() >= COUNT_LIMIT || text.len() > LINE_LIMIT {
-        return Err(LineError::Fault(Fault::TooMany));
+        return Err(refused(LineCause::TooMany, number));
     }
-    let number = lines.len() + 1;
     let Ok(_) = str::from_utf8(text) else {
-        return Err(LineError::Fault(Fault::NotUtf8(number)));
+        return Err(refused(LineCause::NotUtf8, number));
     };
     let Some(line) = read_text(alloc, text)? else {
-        return Err(LineError::Fault(Fault::BadLine(number)));
+        return Err(refused(LineCause::BadLine, number));
     };
-    lines.push(line)?;
+    lines.push(NumberedLine { number, line })?;
     Ok(())
+}
+
+fn refused(cause: LineCause, number: usize) -> LineError
+    ensures { result ≡ error.Refused (record { cause = cause; line = Some number }) }
+{
+    LineError::Refused(LineRefusal {
+        cause,
+        line: Some(number),
+    })
 }

@@ -1,18 +1,26 @@
 //! From a text to its unfolded lines.
 ghost use Rattle.std.specs.Prelude.{◌≡◌, ◌+◌, ◌<◌, ◌≤◌, ◌++◌, ◌∷◌, IfOk, MatchOption, List, ℕ, length};
-ghost use Rattle.itip_lines.specs.Cutting.{HasNoLf, unfolded_onto};
-ghost use Rattle.itip_lines.specs.Scan.{StripsCr, LacksBlank, BeginsWithBlank, without_cr, stretches_of, stretches_behind, lines_onto, lines_behind};
-ghost use Rattle.itip_lines.specs.Scanned.{lines_by, left_behind, left_by};
+ghost use Rattle.itip_lines.specs.Cutting.{HasNoLf, text_at};
+ghost use Rattle.itip_lines.specs.Scan.{StripsCr, LacksBlank, BeginsWithBlank};
+ghost use Rattle.itip_lines.specs.Scan.{stretches_of, stretches_behind, length_behind, texts_onto, texts_behind};
+ghost use Rattle.itip_lines.specs.Scanned.{texts_by, left_behind, left_by, last_number, last_behind, last_by, number_limit};
 
 use std::alloc::{AllocError, Global};
 
-/// How a stretch of a text ends, with the text behind that end.
+/// What is left of a text, and the number of its first physical line, from 1.
+#[derive(Clone, Copy)]
+pub(crate) struct Rest<'a> {
+    pub number: usize,
+    pub text: &'a [u8],
+}
+
+/// How a stretch of a text ends, with what is left after it.
 #[derive(Drop)]
 pub(crate) enum End<'a> {
     /// With a fold: a line break and one blank.
-    Fold(&'a [u8]),
+    Fold(Rest<'a>),
     /// With a line break, or with the text.
-    Line(Option<&'a [u8]>),
+    Line(Option<Rest<'a>>),
 }
 
 /// What stands before the first LF, and what stands behind it.
@@ -37,7 +45,7 @@ fn strip_cr(stretch: &[u8]) -> &[u8]
 /// The stretch before the first line break, and what stands behind that break.
 fn cut_break(text: &[u8]) -> (&[u8], Option<&[u8]>)
     ensures stretches { stretches_of text.now ≡ result.0.now ∷ stretches_behind result.1 }
-    ensures shorter { left_behind result.1 < length text.now + 1 }
+    ensures shorter { length_behind result.1 < length text.now + 1 }
 {
     match cut_lf(text) {
         Some((front, after)) => (strip_cr(front), Some(after)),
@@ -55,31 +63,42 @@ fn strip_blank(text: &[u8]) -> Option<&[u8]>
     }
 }
 
-/// The stretch before the first line break, and how it ends.
-pub(crate) fn cut_stretch(text: &[u8]) -> (&[u8], End<'_>)
-    ensures lines { (line : List ℕ)
-        → lines_onto line text.now ≡ lines_by (line ++ result.0.now) result.1 }
-    ensures shorter { left_by result.1 < length text.now + 1 }
+/// The first physical line of what is left, without its break, and how it ends.
+pub(crate) fn cut_stretch(rest: Rest<'_>) -> (&[u8], End<'_>)
+    requires { last_number rest ≤ number_limit }
+    ensures lines { (at : ℕ) (line : List ℕ)
+        → texts_onto at line rest.entry.number rest.entry.text.now ≡ texts_by at (line ++ result.0.now) result.1 }
+    ensures shorter { left_by result.1 < length rest.entry.text.now + 1 }
+    ensures within { last_by result.1 ≤ last_number rest.entry }
 {
-    let (stretch, after) = cut_break(text);
+    let (stretch, after) = cut_break(rest.text);
     let Some(behind) = after else {
         return (stretch, End::Line(None));
     };
+    let number = rest.number + 1;
     match strip_blank(behind) {
-        Some(more) => (stretch, End::Fold(more)),
-        None => (stretch, End::Line(Some(behind))),
+        Some(text) => (stretch, End::Fold(Rest { number, text })),
+        None => (
+            stretch,
+            End::Line(Some(Rest {
+                number,
+                text: behind,
+            })),
+        ),
     }
 }
 
-/// The line that begins with a stretch and goes on, behind a fold, with `more`; and the text behind it.
+/// The line that begins with a stretch and goes on, after a fold, with `more`; and what is left after it.
 pub(crate) fn unfold<'a>(
     alloc: Global,
     stretch: &[u8],
-    more: &'a [u8],
-) -> Result<(Vec<u8>, Option<&'a [u8]>), AllocError>
-    ensures lines { IfOk result (λ r.
-        lines_onto stretch.now more.now ≡ r.0.items ∷ lines_behind r.1) }
-    ensures shorter { IfOk result (λ r. left_behind r.1 < length more.now + 1) }
+    more: Rest<'a>,
+) -> Result<(Vec<u8>, Option<Rest<'a>>), AllocError>
+    requires { last_number more ≤ number_limit }
+    ensures lines { IfOk result (λ r. (at : ℕ)
+        → texts_onto at stretch.now more.entry.number more.entry.text.now ≡ text_at at r.0.items ∷ texts_behind r.1) }
+    ensures shorter { IfOk result (λ r. left_behind r.1 < length more.entry.text.now + 1) }
+    ensures within { IfOk result (λ r. last_behind r.1 ≤ last_number more.entry) }
 {
     let mut line = stretch.to_vec(alloc)?;
     let mut rest = more;

@@ -4,7 +4,7 @@ use crate::error::CallError;
 use crate::lists::{lists, revision};
 use crate::texts::window;
 use crate::watch::Watch;
-use itip_live::{Keeper, Pass, meet, start_desk};
+use itip_running::{Keeper, Pass, meet, start_desk};
 use itip_view::Window;
 use std::alloc::{AllocError, Global};
 use std::sync::Wait;

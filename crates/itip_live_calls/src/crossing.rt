@@ -3,8 +3,8 @@
 use crate::error::CallError;
 use crate::picture::world_picture;
 use crate::refusal::note_refusal;
-use itip_delta::{Cause, Event, Reply, World, run_world};
 use itip_lines::Bytes;
+use itip_world::{Cause, Event, Outcome, World, run_world};
 use std::alloc::Global;
 
 /// The eight events.
@@ -28,7 +28,7 @@ fn deliver(alloc: Global, desk: usize, text: &[u8]) -> Result<Event, CallError> 
     })
 }
 
-/// All that the world shows after the events, each done once more where memory is refused.
+/// All that the world shows after the events, each done once more where an allocation failed.
 pub(crate) fn steps_again<R: AllocGlobal + Eprint>(
     rt: &R,
     one: &[u8],
@@ -39,7 +39,7 @@ pub(crate) fn steps_again<R: AllocGlobal + Eprint>(
     for event in &events {
         step(rt, &mut world, event)?;
     }
-    world_picture(rt.alloc(), &world)
+    world_picture(rt.alloc(), &world, events.len())
 }
 
 fn step<R: AllocGlobal + Eprint>(
@@ -47,12 +47,12 @@ fn step<R: AllocGlobal + Eprint>(
     world: &mut World,
     event: &Event,
 ) -> Result<(), CallError> {
-    let before = world_picture(rt.alloc(), world)?;
+    let before = world_picture(rt.alloc(), world, 0)?;
     if is_done(world, event)? {
         return Ok(());
     }
     note_refusal(rt);
-    if world_picture(rt.alloc(), world)? != before {
+    if world_picture(rt.alloc(), world, 0)? != before {
         return Err(CallError::Changed);
     }
     if is_done(world, event)? {
@@ -64,13 +64,14 @@ fn step<R: AllocGlobal + Eprint>(
 /// Does an event, and says whether there was memory for it.
 fn is_done(world: &mut World, event: &Event) -> Result<bool, CallError> {
     match world.step(event) {
-        Ok(()) => Ok(true),
+        Ok(_) => Ok(true),
         Err(Cause::NoMemory) => Ok(false),
         Err(cause) => Err(CallError::from(cause)),
     }
 }
 
-/// All that the world shows after the events. Where memory is refused the run stops, and has replied as the whole run does by then.
+/// All that the world shows after the events. Where an allocation failed the run stops, and the outcomes are those of the whole run by
+/// then.
 pub(crate) fn run_again<R: AllocGlobal + Eprint>(
     rt: &R,
     one: &[u8],
@@ -78,22 +79,22 @@ pub(crate) fn run_again<R: AllocGlobal + Eprint>(
 ) -> Result<Vec<u8>, CallError> {
     let events = crossing(rt.alloc(), one, other)?;
     match run_world(rt.alloc(), 2, &events) {
-        Ok(world) => world_picture(rt.alloc(), &world),
+        Ok(ran) => world_picture(rt.alloc(), &ran.world, ran.outcomes.len()),
         Err(stopped) => {
             if stopped.cause != Cause::NoMemory {
                 return Err(CallError::from(stopped.cause));
             }
             note_refusal(rt);
-            whole_run(rt.alloc(), &events, stopped.world.replies())
+            whole_run(rt.alloc(), &events, &stopped.outcomes)
         }
     }
 }
 
-/// The whole run, which has to begin with these replies.
-fn whole_run(alloc: Global, events: &[Event], begun: &[Reply]) -> Result<Vec<u8>, CallError> {
-    let world = run_world(alloc, 2, events).map_err(|_| CallError::NothingOnceMore)?;
-    if !world.replies().starts_with(begun) {
+/// The whole run, which has to begin with these outcomes.
+fn whole_run(alloc: Global, events: &[Event], begun: &[Outcome]) -> Result<Vec<u8>, CallError> {
+    let ran = run_world(alloc, 2, events).map_err(|_| CallError::NothingOnceMore)?;
+    if !ran.outcomes.starts_with(begun) {
         return Err(CallError::Changed);
     }
-    world_picture(alloc, &world)
+    world_picture(alloc, &ran.world, ran.outcomes.len())
 }

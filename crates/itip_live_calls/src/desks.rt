@@ -4,8 +4,7 @@ use crate::error::CallError;
 use crate::picture::picture;
 use crate::refusal::note_refusal;
 use crate::texts::{batch, desk_after, window};
-use itip_delta::write_delta;
-use itip_desk::{Batch, Desk, DeskError};
+use itip_desk::{Batch, Desk, DeskError, write_delta};
 use itip_view::{ViewError, Window};
 
 /// All that a desk shows that has taken these messages, the last of them once more where memory is refused.

@@ -1,13 +1,13 @@
 //! Why a call gives no value.
 
 use hex::FromHexError;
-use itip_delta::Cause;
-use itip_desk::DeskError;
-use itip_live::{LiveError, PassError};
+use itip_desk::{DeskError, Refusal};
 use itip_message::ReadError;
 use itip_notation::NotationError;
+use itip_office::OfficeError;
+use itip_running::{LiveError, PassError};
 use itip_view::{BadWindow, ViewError};
-use itip_workers::OfficeError;
+use itip_world::Cause;
 use std::alloc::{AllocError, AllocFailed, Global};
 use std::io;
 
@@ -35,6 +35,7 @@ pub(crate) enum CallError {
     NoPlace,
     NoEntry,
     BatchesSpent,
+    CountSpent,
     GateClosed,
     ChannelClosed,
     StrangeDone,
@@ -58,6 +59,7 @@ impl CallError {
             CallError::NoPlace => "NoPlace",
             CallError::NoEntry => "NoEntry",
             CallError::BatchesSpent => "BatchesSpent",
+            CallError::CountSpent => "CountSpent",
             CallError::GateClosed => "GateClosed",
             CallError::ChannelClosed => "ChannelClosed",
             CallError::StrangeDone => "StrangeDone",
@@ -116,7 +118,7 @@ impl From<ReadError> for CallError {
     fn from(error: ReadError) -> CallError {
         match error {
             ReadError::NoMemory => CallError::NoMemory,
-            ReadError::Fault(_) => CallError::BadMessage,
+            ReadError::Refused(_) => CallError::BadMessage,
         }
     }
 }
@@ -134,9 +136,20 @@ impl From<Cause> for CallError {
     fn from(cause: Cause) -> CallError {
         match cause {
             Cause::NoMemory => CallError::NoMemory,
-            Cause::TicksSpent => CallError::TicksSpent,
-            Cause::NoDesk => CallError::NoDesk,
-            Cause::NoPacket => CallError::NoPacket,
+            Cause::Refused(refusal) => CallError::from(refusal),
+        }
+    }
+}
+
+impl From<Refusal> for CallError {
+    fn from(refusal: Refusal) -> CallError {
+        match refusal {
+            Refusal::Message(_) => CallError::BadMessage,
+            Refusal::TicksSpent { .. } => CallError::TicksSpent,
+            Refusal::TooManyRows => CallError::TooManyRows,
+            Refusal::NoDesk(_) => CallError::NoDesk,
+            Refusal::NoPacket(_) => CallError::NoPacket,
+            Refusal::NoCommand | Refusal::LongScript => CallError::NoSuchCall,
         }
     }
 }
@@ -179,11 +192,13 @@ impl From<PassError> for CallError {
 impl From<OfficeError> for CallError {
     fn from(error: OfficeError) -> CallError {
         match error {
+            OfficeError::CountSpent => CallError::CountSpent,
             OfficeError::NoMemory => CallError::NoMemory,
             OfficeError::NoPlace => CallError::NoPlace,
             OfficeError::GateClosed => CallError::GateClosed,
             OfficeError::ChannelClosed => CallError::ChannelClosed,
             OfficeError::StrangeDone => CallError::StrangeDone,
+            OfficeError::NoEntry => CallError::NoEntry,
         }
     }
 }

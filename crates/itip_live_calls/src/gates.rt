@@ -2,7 +2,7 @@
 
 use crate::error::CallError;
 use crate::texts::{number_of, text};
-use itip_workers::Gate;
+use itip_office::Gate;
 use std::alloc::Global;
 use std::sync::atomic::{AtomicU64, Ordering};
 use std::thread;

@@ -5,8 +5,8 @@ use crate::gates::HoldingGate;
 use crate::texts::{number_of, text, window};
 use crossbeam_channel::unbounded;
 use itip_lines::Bytes;
-use itip_live::{Pass, meet, start_desk};
-use itip_workers::{Job, Office, OpenGate, Outcome, Task, run_office, worker_loop};
+use itip_office::{Job, Office, OpenGate, Outcome, Work, run_office, worker_loop};
+use itip_running::{Pass, meet, start_desk};
 use std::alloc::Global;
 use std::sync::Wait;
 use std::thread::Threads;
@@ -41,19 +41,19 @@ fn jobs_of(alloc: Global, jobs: &[Vec<u8>]) -> Result<Vec<Job>, CallError> {
 fn job_of(alloc: Global, job: &[u8]) -> Result<Job, CallError> {
     let job = text(job)?;
     let (line, message) = job.split_once('\n').unwrap_or((job, ""));
-    let (number, task) = line.split_once(' ').ok_or(CallError::NoSuchCall)?;
+    let (number, work) = line.split_once(' ').ok_or(CallError::NoSuchCall)?;
     Ok(Job {
         number: number_of(number)?,
-        task: task_of(alloc, task, message)?,
+        work: work_of(alloc, work, message)?,
     })
 }
 
-fn task_of(alloc: Global, task: &str, message: &str) -> Result<Task, CallError> {
-    let (word, rest) = task.split_once(' ').ok_or(CallError::NoSuchCall)?;
+fn work_of(alloc: Global, work: &str, message: &str) -> Result<Work, CallError> {
+    let (word, rest) = work.split_once(' ').ok_or(CallError::NoSuchCall)?;
     match word {
         "take" => take_of(alloc, number_of(rest)?, message.as_bytes()),
         "carry" => carry_of(rest),
-        "look" => Ok(Task::Look {
+        "look" => Ok(Work::Look {
             desk: number_of(rest)?,
             window: window()?,
         }),
@@ -61,16 +61,16 @@ fn task_of(alloc: Global, task: &str, message: &str) -> Result<Task, CallError> 
     }
 }
 
-fn take_of(alloc: Global, desk: u64, message: &[u8]) -> Result<Task, CallError> {
-    Ok(Task::Text {
+fn take_of(alloc: Global, desk: u64, message: &[u8]) -> Result<Work, CallError> {
+    Ok(Work::Text {
         desk,
         bytes: Bytes::new(Vec::from_slice(alloc, message)?),
     })
 }
 
-fn carry_of(desks: &str) -> Result<Task, CallError> {
+fn carry_of(desks: &str) -> Result<Work, CallError> {
     let (from, to) = desks.split_once(' ').ok_or(CallError::NoSuchCall)?;
-    Ok(Task::Carry {
+    Ok(Work::Carry {
         from: number_of(from)?,
         to: number_of(to)?,
     })
@@ -119,7 +119,10 @@ fn outcome_line(alloc: Global, number: u64, outcome: &Outcome) -> Result<String,
             format!(in alloc; "{number} carried from {from} to {to} items {items}\n")?
         }
         Outcome::Looked { .. } => format!(in alloc; "{number} looked\n")?,
-        Outcome::Refused(cause) => format!(in alloc; "{number} refused {cause}\n")?,
+        Outcome::Refused(refusal) => {
+            let cause = refusal.number();
+            format!(in alloc; "{number} refused {cause}\n")?
+        }
     })
 }
 

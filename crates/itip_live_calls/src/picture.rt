@@ -2,9 +2,9 @@
 
 use crate::error::CallError;
 use crate::texts::window;
-use itip_delta::{World, write_delta};
-use itip_desk::Desk;
-use itip_message::Item;
+use itip_desk::{Desk, write_delta};
+use itip_items::Item;
+use itip_world::World;
 use std::alloc::Global;
 
 /// The canonical octets of items, in their order.
@@ -29,10 +29,13 @@ pub(crate) fn picture(alloc: Global, desk: &Desk) -> Result<Vec<u8>, CallError> 
     Ok(shown)
 }
 
-/// What the desks of a world show, its packets, and the number of its replies.
-pub(crate) fn world_picture(alloc: Global, world: &World) -> Result<Vec<u8>, CallError> {
-    let replies = world.replies().len();
-    let mut shown = format!(in alloc; "replies {replies}\n")?.into_bytes();
+/// What the desks of a world show, and its packets, after this many events.
+pub(crate) fn world_picture(
+    alloc: Global,
+    world: &World,
+    events: usize,
+) -> Result<Vec<u8>, CallError> {
+    let mut shown = format!(in alloc; "replies {events}\n")?.into_bytes();
     for desk in world.desks() {
         shown.extend_from_slice(&picture(alloc, desk)?)?;
     }

@@ -3,9 +3,9 @@
 use crate::error::CallError;
 use crate::picture::octets;
 use crate::refusal::note_refusal;
-use itip_delta::read_delta;
-use itip_desk::Batch;
-use itip_message::{Item, ReadError, read_all, read_message};
+use itip_desk::{Batch, read_delta};
+use itip_items::Item;
+use itip_message::{ReadError, read_all, read_message};
 use std::alloc::Global;
 use std::thread::Threads;
 
@@ -57,7 +57,7 @@ enum Outcome {
 fn came_of(read: &Result<Vec<Item>, ReadError>) -> Outcome {
     match read {
         Ok(items) => Outcome::Items(items.len()),
-        Err(ReadError::Fault(fault)) => Outcome::Refused(fault.number()),
+        Err(ReadError::Refused(fault)) => Outcome::Refused(fault.number()),
         Err(ReadError::NoMemory) => Outcome::NoMemory,
     }
 }

@@ -1,13 +1,13 @@
 //! A running desk with two passes, step by step on one thread.
 ghost use Rattle.std.specs.Prelude.{◌≡◌};
 ghost use Rattle.std.specs.Option.{ForSome};
-ghost use Rattle.itip_live.specs.Ends.{keeper_pair, pass_pair, receipt_pair};
+ghost use Rattle.itip_running.specs.Ends.{keeper_pair, pass_pair, receipt_pair};
 
 use crate::error::CallError;
 use crate::refusal::note_refusal;
 use crate::texts::{batch, number_of, text, window};
 use itip_desk::Batch;
-use itip_live::{Keeper, LiveError, Met, Pass, PassError, Receipt, meet, start_desk};
+use itip_running::{Keeper, LiveError, Met, Pass, PassError, Receipt, meet, start_desk};
 use itip_view::Window;
 use std::alloc::Global;
 use std::sync::Wait;

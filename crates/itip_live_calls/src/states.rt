@@ -3,7 +3,8 @@
 use crate::error::CallError;
 use crate::picture::octets;
 use crate::refusal::note_refusal;
-use itip_message::{Item, read_message};
+use itip_items::Item;
+use itip_message::read_message;
 use itip_state::State;
 use std::alloc::Global;
 

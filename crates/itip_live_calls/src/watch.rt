@@ -1,6 +1,6 @@
 //! A pass that lists while its keeper publishes.
 
-use itip_live::Pass;
+use itip_running::Pass;
 use itip_view::Window;
 
 /// How often a pass lists at most.

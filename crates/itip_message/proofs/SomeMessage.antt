@@ -1,10 +1,11 @@
 -- A text is a message, or it is refused.
-use Rattle.std.proofs.Common.{◌≡◌, refl, ℕ, suc, ◌≤◌, List, [], ◌∷◌, ◌++◌, length, map, arith, inl, inr, ◌⊎◌, true, Option, Some, None, Ok, Err}
+use Rattle.std.proofs.Common.{◌≡◌, refl, ℕ, suc, ◌+◌, ◌≤◌, List, [], ◌∷◌, ◌++◌, length, map, arith, inl, inr, ◌⊎◌, true, Option, Some, None, Ok, Err}
 use Rattle.std.specs.Prelude.{Result}
 use Rattle.std.specs.List.{AllByRecursion, Any}
 use Rattle.std.proofs.lemmas.Bool.Decides.{leb_tells}
 use Rattle.itip_lines.specs.Reading as lines
-use Rattle.itip_lines.specs.declared.line.Line.{Line}
+use Rattle.itip_lines.specs.Reading.{plain_lines}
+use Rattle.itip_lines.specs.declared.line.NumberedLine.{NumberedLine}
 use Rattle.itip_lines.proofs.Decided.{reads_or_refused}
 use Rattle.itip_moment.specs.declared.moment.Moment.{Moment}
 use Rattle.itip_todo.specs.Lawful.{IsLawful}
@@ -15,43 +16,47 @@ use Rattle.itip_todo.specs.declared.property.Property.{Property}
 use Rattle.itip_todo.specs.declared.todo.Todo.{Todo}
 use Rattle.itip_todo.proofs.SameTodo.{todo_of}
 use Rattle.itip_todo.proofs.SomeTodo.{some_todo}
-use Rattle.itip_message.specs.Faults.{of_lines, of_todo}
+use Rattle.itip_message.specs.Refusals.{of_lines, of_todo, in_todo, large_form}
+use Rattle.itip_message.specs.Places.{place_of}
 use Rattle.itip_message.specs.Frame.{frame, todos}
 use Rattle.itip_message.specs.Head.{head}
-use Rattle.itip_message.specs.Items.{Draft, drafts, drafts_of, task_draft, add_drafts, attendee_draft, only_of, kind_of, raised, series_sequence, is_task, canonical_base, canonical_contents, canonical_octets, Sends, IsCanonical, IsWithinLimits}
-use Rattle.itip_message.specs.Needs.{method_fault, Suits}
-use Rattle.itip_message.specs.Message.{ReadsComponent, RefusesComponent, AreComponents, FirstRefused, IsItemOf, AreItemsOf, drafts_among, HasHead, ReadsMessage, RefusesMessage, at_lines, at_frame, at_head, at_component, at_canonical_form}
+use Rattle.itip_items.specs.Items.{Draft, drafts, drafts_of, task_draft, add_drafts, attendee_draft, only_of, kind_of, raised, series_sequence, is_task, canonical_base, canonical_contents, canonical_octets, Sends, IsCanonical, IsWithinLimits}
+use Rattle.itip_items.specs.Needs.{method_cause, Suits}
+use Rattle.itip_items.specs.declared.error.MethodCause.{MethodCause}
+use Rattle.itip_message.specs.Message.{ReadsComponent, RefusesComponent, AreComponents, FirstRefused, HasHead, ReadsMessage, RefusesMessage, at_lines, at_frame, at_head, at_component, at_canonical_form}
+use Rattle.itip_items.specs.Given.{IsItemOf, AreItemsOf, IsOver, FirstOver, drafts_among, drafts_each}
+use Rattle.itip_message.specs.declared.sort.Component.{Component}
 use Rattle.itip_message.specs.declared.frame.Placed.{Placed}
-use Rattle.itip_message.specs.declared.item.Item.{Item}
-use Rattle.itip_message.specs.declared.kind.Kind.{Kind}
-use Rattle.itip_message.specs.declared.kind.Kind.TheVariants as kind
-use Rattle.itip_message.specs.declared.kind.Method.{Method}
-use Rattle.itip_message.specs.declared.kind.Method.TheVariants as method
-use Rattle.itip_message.specs.declared.error.Fault.{Fault}
-use Rattle.itip_message.specs.declared.error.Fault.TheVariants as fault
-use Rattle.itip_message.proofs.Drafting.{sends, series_canonical, instance_canonical, add_canonical, attendee_canonical}
-use Rattle.itip_message.proofs.Lawfulness.{base_lawful, raised_small, canonical_small, series_small, only_each}
+use Rattle.itip_items.specs.declared.item.Item.{Item}
+use Rattle.itip_items.specs.declared.kind.Kind.{Kind}
+use Rattle.itip_items.specs.declared.kind.Kind.TheVariants as kind
+use Rattle.itip_items.specs.declared.kind.Method.{Method}
+use Rattle.itip_items.specs.declared.kind.Method.TheVariants as method
+use Rattle.itip_message.specs.declared.error.MessageRefusal.{MessageRefusal}
+use Rattle.itip_message.specs.declared.error.MessageCause.TheVariants as causes
+use Rattle.itip_items.proofs.Drafting.{sends, series_canonical, instance_canonical, add_canonical, attendee_canonical}
+use Rattle.itip_items.proofs.Lawfulness.{base_lawful, raised_small, canonical_small, series_small, only_each}
 use Rattle.itip_message.proofs.Properties.{framed_suit}
 
 -- ---- components
 
-decide_component : (m : Method) (ls : List Line) → ((todo : Todo) × ReadsComponent m ls todo) ⊎ ((f : Fault) × RefusesComponent m ls f)
-decide_component m ls =
-    elim (some_todo ls) [
-      | inr refused ↦ inr (of_todo refused.0, inl (refused.0, refused.1, refl))
-      | inl read ↦ fitting read.0 read.1 (method_fault m (parts_of read.0)) refl
+decide_component : (m : Method) (n : ℕ) (c : Component) → ((todo : Todo) × ReadsComponent m c todo) ⊎ ((f : MessageRefusal) × RefusesComponent m n c f)
+decide_component m n c =
+    elim (some_todo c.lines) [
+      | inr refused ↦ inr (of_todo n refused.0, inl (refused.0, refused.1, refl))
+      | inl read ↦ fitting read.0 read.1 (method_cause m (parts_of read.0)) refl
     ]
   where
-    fitting : (todo : Todo) → ReadsTodo ls todo → (o : Option Fault) → method_fault m (parts_of todo) ≡ o → ((t : Todo) × ReadsComponent m ls t) ⊎ ((f : Fault) × RefusesComponent m ls f)
+    fitting : (todo : Todo) → ReadsTodo (plain_lines c.lines) todo → (o : Option MethodCause) → method_cause m (parts_of todo) ≡ o → ((t : Todo) × ReadsComponent m c t) ⊎ ((f : MessageRefusal) × RefusesComponent m n c f)
     fitting todo reads None e = inl (todo, record { reads = reads; fits = e })
-    fitting todo reads (Some f) e = inr (f, inr (todo, reads, e))
+    fitting todo reads (Some cause) e = inr (in_todo n (causes.Misfit cause) (place_of cause c.lines), inr (todo, cause, reads, e, refl))
 
-decide_components : (m : Method) (all : List (List Line)) → ((todos : List Todo) × AreComponents m all todos) ⊎ ((f : Fault) × FirstRefused m all f)
-decide_components m [] = inl ([], tt)
-decide_components m (ls ∷ all) =
-    elim (decide_component m ls) [
+decide_components : (m : Method) (n : ℕ) (all : List Component) → ((todos : List Todo) × AreComponents m all todos) ⊎ ((f : MessageRefusal) × FirstRefused m n all f)
+decide_components m n [] = inl ([], tt)
+decide_components m n (c ∷ all) =
+    elim (decide_component m n c) [
       | inr refused ↦ inr (refused.0, inl refused.1)
-      | inl first ↦ elim (decide_components m all) [
+      | inl first ↦ elim (decide_components m (n + 1) all) [
         | inr refused ↦ inr (refused.0, inr (first, refused.1))
         | inl more ↦ inl (first.0 ∷ more.0, (first.1, more.1))
       ]
@@ -69,14 +74,32 @@ decide_draft draft =
       ]
     ]
 
-decide_drafts : (ds : List Draft) → AllByRecursion IsWithinLimits ds ⊎ Any (λ draft. ¬ IsWithinLimits draft) ds
-decide_drafts [] = inl tt
-decide_drafts (d ∷ ds) =
+some_drafts : (ds : List Draft) → AllByRecursion IsWithinLimits ds ⊎ Any (λ draft. ¬ IsWithinLimits draft) ds
+some_drafts [] = inl tt
+some_drafts (d ∷ ds) =
     elim (decide_draft d) [
       | inr over ↦ inr (0, d, omega arith, refl, over)
-      | inl within ↦ elim (decide_drafts ds) [
+      | inl within ↦ elim (some_drafts ds) [
         | inl more ↦ inl (within, more)
         | inr (k, x, less, at, over) ↦ inr (suc k, x, omega arith, at, over)
+      ]
+    ]
+
+decide_drafts : (ds : List Draft) → AllByRecursion IsWithinLimits ds ⊎ IsOver ds
+decide_drafts ds = elim (some_drafts ds) [ inl within ↦ inl within | inr over ↦ inr (record { over = over }) ]
+
+within_both : (ds es : List Draft) → AllByRecursion IsWithinLimits ds → AllByRecursion IsWithinLimits es → AllByRecursion IsWithinLimits (ds ++ es)
+within_both [] es h k = k
+within_both (d ∷ ds) es h k = (h.0, within_both ds es h.1 k)
+
+decide_each : (n : ℕ) (m : Method) (all rest : List Parts) → AllByRecursion IsWithinLimits (drafts_among m all rest) ⊎ ((todo : ℕ) × FirstOver n (drafts_each m all rest) todo)
+decide_each n m all [] = inl tt
+decide_each n m all (parts ∷ rest) =
+    elim (decide_drafts _) [
+      | inr over ↦ inr (n, inl (refl, over))
+      | inl within ↦ elim (decide_each (n + 1) m all rest) [
+        | inr more ↦ inr (more.0, inr (within, more.1))
+        | inl more ↦ inl (within_both _ (drafts_among m all rest) within more)
       ]
     ]
 
@@ -147,33 +170,33 @@ items_of (d ∷ ds) h within =
 -- ---- the stages, from the last to the first
 
 abbrev ReadOrRefused : List ℕ → Type 0
-ReadOrRefused bytes = ((items : List Item) × ReadsMessage bytes items) ⊎ ((f : Fault) × RefusesMessage bytes f)
+ReadOrRefused bytes = ((items : List Item) × ReadsMessage bytes items) ⊎ ((f : MessageRefusal) × RefusesMessage bytes f)
 
-module _ (bytes : List ℕ) (content : List Line) (reads : lines.Reads bytes content) where
+module _ (bytes : List ℕ) (content : List NumberedLine) (reads : lines.Reads bytes content) where
   with_components : (placed : List Placed) (m : Method) (all : List Todo) → frame content ≡ Ok placed → HasHead bytes m (todos placed) → AreComponents m (todos placed) all → ReadOrRefused bytes
   with_components placed m all framed has are =
-      elim (decide_drafts (drafts m (map parts_of all))) [
-        | inr over ↦ inr (fault.TooMany, at_canonical_form (record { method_is = m; components = todos placed; all = all; begins = has; read = are; over = over }))
+      elim (decide_each 1 m (map parts_of all) (map parts_of all)) [
+        | inr over ↦ inr (large_form over.0, at_canonical_form over.0 (record { method_is = m; components = todos placed; all = all; begins = has; read = are; over = over.1 }))
         | inl within ↦
             let items = items_of (drafts m (map parts_of all)) (among_sound m all all (framed_suit m content placed all framed are)) within in
             inl (items.0, record { method_is = m; components = todos placed; all = all; begins = has; read = are; within = within; items_are = items.1 })
       ]
 
-  with_head : (placed : List Placed) → frame content ≡ Ok placed → (r : Result Method Fault) → head placed ≡ r → ReadOrRefused bytes
+  with_head : (placed : List Placed) → frame content ≡ Ok placed → (r : Result Method MessageRefusal) → head placed ≡ r → ReadOrRefused bytes
   with_head placed framed (Err f) e = inr (f, at_head content placed f reads framed e)
   with_head placed framed (Ok m) e =
       let has : HasHead bytes m (todos placed) = record { content = content; placed = placed; reads = reads; framed = framed; headed = e; components_are = refl } in
-      elim (decide_components m (todos placed)) [
+      elim (decide_components m 1 (todos placed)) [
         | inr refused ↦ inr (refused.0, at_component m (todos placed) refused.0 has refused.1)
         | inl read ↦ with_components placed m read.0 framed has read.1
       ]
 
-  with_frame : (r : Result (List Placed) Fault) → frame content ≡ r → ReadOrRefused bytes
+  with_frame : (r : Result (List Placed) MessageRefusal) → frame content ≡ r → ReadOrRefused bytes
   with_frame (Err f) e = inr (f, at_frame content f reads e)
   with_frame (Ok placed) e = with_head placed e (head placed) refl
 
 -- octets are read as items, or they are refused
-pub some_message : (bytes : List ℕ) → ((items : List Item) × ReadsMessage bytes items) ⊎ ((f : Fault) × RefusesMessage bytes f)
+pub some_message : (bytes : List ℕ) → ((items : List Item) × ReadsMessage bytes items) ⊎ ((f : MessageRefusal) × RefusesMessage bytes f)
 some_message bytes =
     elim (reads_or_refused bytes) [
       | inr refused ↦ inr (of_lines refused.0, at_lines refused.0 refused.1)

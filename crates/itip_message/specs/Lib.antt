@@ -1,12 +1,10 @@
-pub mod KeyParts
-pub mod Needs
-pub mod Items
-pub mod Later
-pub mod Faults
+pub mod Refusals
 pub mod Frame
 pub mod Head
 pub mod Sorting
+pub mod Places
 pub mod Message
-pub mod OctetOrder
-pub mod Revisions
 pub mod Numbers
+pub mod Cutting
+pub mod Scanned
+pub mod Passing

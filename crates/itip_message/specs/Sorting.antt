@@ -1,16 +1,17 @@
 -- Lines that are sorted so far, and what they are with those that follow (our own form).
 use Rattle.std.specs.Prelude.{◌≡◌, List, ◌∷◌, ◌++◌}
-use Rattle.itip_lines.specs.declared.line.Line.{Line}
+use Rattle.itip_lines.specs.declared.line.NumberedLine.{NumberedLine}
 use Rattle.itip_message.specs.Frame.{calendar_lines, todos_within}
 use Rattle.itip_message.specs.declared.frame.Placed.{Placed}
+use Rattle.itip_message.specs.declared.sort.Component.{Component}
 use Rattle.itip_message.specs.declared.sort.Sorted.{Sorted}
 
 -- the properties directly in the VCALENDAR
-abbrev pub calendar_with : Sorted → List Placed → List Line
+abbrev pub calendar_with : Sorted → List Placed → List NumberedLine
 calendar_with sorted rest = sorted.calendar.items ++ calendar_lines rest
 
--- the properties of each VTODO
-abbrev pub todos_with : Sorted → List Placed → List (List Line)
+-- each VTODO with its properties
+abbrev pub todos_with : Sorted → List Placed → List Component
 todos_with sorted rest = sorted.closed.items ++ todos_within sorted.open rest
 
 -- sorting one more line left the rest to be sorted so

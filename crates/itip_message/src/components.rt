@@ -1,39 +1,51 @@
 //! The to-dos of a message.
 ghost use Rattle.std.specs.Prelude.{IfOk, IfErr};
-ghost use Rattle.itip_message.specs.Faults.{IfFault};
-ghost use Rattle.itip_message.specs.Message.{ReadsComponent, RefusesComponent, AreComponents, FirstRefused};
+ghost use Rattle.itip_message.specs.Message.{IfRefused, ReadsComponent, RefusesComponent, AreComponents, FirstRefused};
 
-use crate::error::ReadError;
-use crate::kind::Method;
-use crate::needs::method_fault;
-use itip_lines::{Line, ListOf};
+use crate::error::{MessageCause, MessageRefusal, ReadError, todo_gives};
+use crate::places::place_of;
+use crate::sort::Component;
+use itip_items::{Method, method_cause};
 use itip_todo::{Todo, read_todo};
 use std::alloc::Global;
 
-/// The to-dos of these components in order, or the fault of the first that has one.
+/// The to-dos of these components in order, or the refusal of the first that is refused.
 pub(crate) fn read_components(
     alloc: Global,
     method: Method,
-    components: &[ListOf<Line>],
+    components: &[Component],
 ) -> Result<Vec<Todo>, ReadError>
     ensures found { IfOk result (λ all. AreComponents method components.now all.items) }
-    ensures fault { IfErr result (λ e. IfFault e (FirstRefused method components.now)) }
+    ensures fault { IfErr result (λ e. IfRefused e (FirstRefused method 1 components.now)) }
 {
     let mut all = Vec::new(alloc);
-    for lines in components {
-        all.push(read_component(alloc, method, lines.as_slice())?)?;
+    for (at, component) in components.iter().enumerate() {
+        all.push(read_component(alloc, method, at + 1, component)?)?;
     }
     Ok(all)
 }
 
-/// The to-do of a component, where it is what the method needs.
-fn read_component(alloc: Global, method: Method, lines: &[Line]) -> Result<Todo, ReadError>
-    ensures found { IfOk result (ReadsComponent method lines.now) }
-    ensures fault { IfErr result (λ e. IfFault e (RefusesComponent method lines.now)) }
+/// The to-do of a component, where it is what the method needs. The number of the to-do is given, from 1.
+fn read_component(
+    alloc: Global,
+    method: Method,
+    number: usize,
+    component: &Component,
+) -> Result<Todo, ReadError>
+    ensures found { IfOk result (ReadsComponent method component.now) }
+    ensures fault { IfErr result (λ e. IfRefused e (RefusesComponent method number component.now)) }
 {
-    let todo = read_todo(alloc, lines)?;
-    match method_fault(method, &todo) {
-        Some(fault) => Err(ReadError::Fault(fault)),
+    let lines = component.lines.as_slice();
+    let todo = match read_todo(alloc, lines) {
+        Ok(todo) => todo,
+        Err(error) => return Err(todo_gives(number, error)),
+    };
+    match method_cause(method, &todo) {
+        Some(cause) => Err(ReadError::Refused(MessageRefusal {
+            cause: MessageCause::Misfit(cause),
+            todo: Some(number),
+            line: place_of(cause, lines),
+        })),
         None => Ok(todo),
     }
 }

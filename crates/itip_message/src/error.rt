@@ -1,26 +1,23 @@
-//! Why a text is no message.
+//! Why a text is no message, and where.
 ghost use Rattle.std.specs.Prelude.{◌≡◌};
 ghost use Rattle.itip_message.specs.declared.error.ReadError.TheVariants.{NoMemory};
-ghost use Rattle.itip_message.specs.Faults.{line_gives, todo_gives, of_lines, of_todo};
+ghost use Rattle.itip_message.specs.Numbers.{line_number, todo_number, method_number};
+ghost use Rattle.itip_message.specs.Refusals.{line_gives, todo_gives, form_gives, of_lines, of_todo};
 
-use itip_lines::LineError;
-use itip_todo::{PropertyName, TodoError};
+use itip_items::{FormError, MethodCause};
+use itip_lines::{LineCause, LineError, LineRefusal};
+use itip_todo::{PropertyName, TodoCause, TodoError, TodoRefusal};
 use std::alloc::{AllocError, AllocFailed};
+use std::fmt;
 use thiserror::Error;
 
 /// What is wrong with a text: the first cause, in the order of reading.
 #[derive(Clone, Copy, PartialEq, Eq, Debug, Drop, Error)]
-pub enum Fault {
-    /// The text has more than 1,048,576 octets.
-    #[error("the text is too long")]
-    TooLong,
-    /// The line of this number is no content line (RFC 5545 3.1).
-    #[error("line {0} is no content line")]
-    BadLine(usize),
-    /// The line of this number is not UTF-8.
-    #[error("line {0} is not UTF-8")]
-    NotUtf8(usize),
-    /// An END is missing or doesn't match, components are nested deeper than 32, or a line stands behind END:VCALENDAR.
+pub enum MessageCause {
+    /// The text is not one of content lines.
+    #[error("{0}")]
+    Lines(LineCause),
+    /// An END is missing or doesn't match, components are nested deeper than 32, or a line stands after END:VCALENDAR.
     #[error("components are badly nested")]
     Nesting,
     /// There is no line, or the first isn't BEGIN:VCALENDAR.
@@ -35,65 +32,159 @@ pub enum Fault {
     /// No VTODO stands directly in the VCALENDAR.
     #[error("there is no to-do")]
     NoTodo,
-    /// The property has to be there, and is not.
-    #[error("{0} is missing")]
-    Missing(PropertyName),
-    /// The property may stand once, and stands again.
-    #[error("{0} stands twice")]
-    Twice(PropertyName),
-    /// The value is not one that the property may have.
-    #[error("{0} has a bad value")]
-    BadValue(PropertyName),
-    /// RECURRENCE-ID has a RANGE other than THISANDFUTURE, or attendees are removed from an instance and all after it.
-    #[error("RECURRENCE-ID has a RANGE that is not read")]
-    Range,
-    /// An ADD has RECURRENCE-ID, RRULE or RDATE.
-    #[error("an added instance recurs")]
-    AddForm,
-    /// There are too many lines, to-dos or attendees, a line is too long, or a canonical form is too large.
-    #[error("there is too much")]
-    TooMany,
-    /// Two attendees have one address.
-    #[error("two attendees have one address")]
-    SameAttendee,
+    /// There are more than 1,000 to-dos.
+    #[error("there are more than 1,000 to-dos")]
+    ManyTodos,
+    /// A VTODO is no to-do.
+    #[error("{0}")]
+    Todo(TodoCause),
+    /// A to-do is not what its method needs.
+    #[error("{0}")]
+    Misfit(MethodCause),
+    /// A canonical form is too large.
+    #[error("a canonical form has more than 262,144 octets or 20,000 lines")]
+    LargeForm,
 }
 
-impl Fault {
+impl MessageCause {
+    ghost use Rattle.itip_message.specs.Numbers.{number_of_cause};
+
+    /// The number under which the refusal is shown, 1 to 15.
+    pub fn number(self) -> u32
+        ensures { result ≡ number_of_cause self }
+    {
+        match self {
+            MessageCause::Lines(cause) => line_number(cause),
+            MessageCause::Nesting => 4,
+            MessageCause::NoCalendar => 5,
+            MessageCause::Version => 6,
+            MessageCause::Method => 7,
+            MessageCause::NoTodo => 8,
+            MessageCause::Todo(cause) => todo_number(cause),
+            MessageCause::Misfit(cause) => method_number(cause),
+            MessageCause::ManyTodos | MessageCause::LargeForm => 14,
+        }
+    }
+
+    /// The property that is at fault, where it is that of one.
+    pub fn property(self) -> Option<PropertyName> {
+        match self {
+            MessageCause::Todo(
+                TodoCause::Missing(property)
+                | TodoCause::Twice(property)
+                | TodoCause::BadValue(property),
+            ) => Some(property),
+            MessageCause::Misfit(MethodCause::Missing(property) | MethodCause::Twice(property)) =>
+                Some(property),
+            MessageCause::Todo(TodoCause::Range) | MessageCause::Misfit(MethodCause::Range) => {
+                Some(PropertyName::RecurrenceId)
+            }
+            MessageCause::Todo(TodoCause::TooMany | TodoCause::SameAttendee) => {
+                Some(PropertyName::Attendee)
+            }
+            _ => None,
+        }
+    }
+}
+
+fn line_number(cause: LineCause) -> u32
+    ensures { result ≡ line_number cause }
+{
+    match cause {
+        LineCause::TooLong => 1,
+        LineCause::BadLine => 2,
+        LineCause::NotUtf8 => 3,
+        LineCause::TooMany => 14,
+    }
+}
+
+fn todo_number(cause: TodoCause) -> u32
+    ensures { result ≡ todo_number cause }
+{
+    match cause {
+        TodoCause::Missing(_) => 9,
+        TodoCause::Twice(_) => 10,
+        TodoCause::BadValue(_) => 11,
+        TodoCause::Range => 12,
+        TodoCause::TooMany => 14,
+        TodoCause::SameAttendee => 15,
+    }
+}
+
+fn method_number(cause: MethodCause) -> u32
+    ensures { result ≡ method_number cause }
+{
+    match cause {
+        MethodCause::Missing(_) => 9,
+        MethodCause::Twice(_) => 10,
+        MethodCause::Range => 12,
+        MethodCause::AddForm => 13,
+    }
+}
+
+/// Why a text is no message: what is wrong, and where.
+#[derive(Clone, Copy, PartialEq, Eq, Debug)]
+pub struct MessageRefusal {
+    pub cause: MessageCause,
+    /// The number of the to-do, from 1, where the cause is that of one.
+    pub todo: Option<usize>,
+    /// The number of the line as it stands in the text, from 1, folded and empty lines counted; where it is folded that of its beginning.
+    pub line: Option<usize>,
+}
+
+impl MessageRefusal {
     ghost use Rattle.itip_message.specs.Numbers.{number_of};
+    ghost use Rattle.itip_message.specs.Refusals.{at_line};
+
+    /// The refusal for this cause in a line, or in none.
+    pub(crate) fn at_line(cause: MessageCause, line: Option<usize>) -> MessageRefusal
+        ensures { result ≡ at_line cause line }
+    {
+        MessageRefusal {
+            cause,
+            todo: None,
+            line,
+        }
+    }
 
     /// The number under which the refusal is shown, 1 to 15.
     pub fn number(self) -> u32
         ensures { result ≡ number_of self }
     {
-        match self {
-            Fault::TooLong => 1,
-            Fault::BadLine(_) => 2,
-            Fault::NotUtf8(_) => 3,
-            Fault::Nesting => 4,
-            Fault::NoCalendar => 5,
-            Fault::Version => 6,
-            Fault::Method => 7,
-            Fault::NoTodo => 8,
-            Fault::Missing(_) => 9,
-            Fault::Twice(_) => 10,
-            Fault::BadValue(_) => 11,
-            Fault::Range => 12,
-            Fault::AddForm => 13,
-            Fault::TooMany => 14,
-            Fault::SameAttendee => 15,
-        }
+        self.cause.number()
     }
 }
+
+/// The cause, then the to-do and the line, where they are known: `DUE has a bad value in to-do 2, line 14`.
+impl fmt::Display for MessageRefusal {
+    fn fmt<W: fmt::Write>(&self, f: &mut fmt::Formatter<W>) -> fmt::Result {
+        let MessageRefusal { cause, todo, line } = *self;
+        if let MessageCause::Lines(cause) = cause {
+            let refusal = LineRefusal { cause, line };
+            return write!(f, "{refusal}");
+        }
+        write!(f, "{cause}")?;
+        if let Some(todo) = todo {
+            write!(f, " in to-do {todo}")?;
+        }
+        if let Some(line) = line {
+            write!(f, ", line {line}")?;
+        }
+        Ok(())
+    }
+}
+
+impl std::error::Error for MessageRefusal {}
 
 /// Why no items were given.
 #[derive(Debug, Drop, Error)]
 pub enum ReadError {
-    /// Memory was refused.
+    /// An allocation failed.
     #[error("no memory to read a message")]
     NoMemory,
     /// The text is no message.
     #[error("{0}")]
-    Fault(Fault),
+    Refused(MessageRefusal),
 }
 
 impl From<AllocError> for ReadError {
@@ -112,31 +203,11 @@ impl<T: Drop> From<AllocFailed<T>> for ReadError {
     }
 }
 
-impl From<itip_lines::Fault> for Fault {
-    ghost from_gives = { λ fault f. f ≡ of_lines fault };
+impl From<LineRefusal> for MessageRefusal {
+    ghost from_gives = { λ refusal r. r ≡ of_lines refusal };
 
-    fn from(fault: itip_lines::Fault) -> Fault {
-        match fault {
-            itip_lines::Fault::TooLong => Fault::TooLong,
-            itip_lines::Fault::TooMany => Fault::TooMany,
-            itip_lines::Fault::BadLine(line) => Fault::BadLine(line),
-            itip_lines::Fault::NotUtf8(line) => Fault::NotUtf8(line),
-        }
-    }
-}
-
-impl From<itip_todo::Fault> for Fault {
-    ghost from_gives = { λ fault f. f ≡ of_todo fault };
-
-    fn from(fault: itip_todo::Fault) -> Fault {
-        match fault {
-            itip_todo::Fault::Missing(property) => Fault::Missing(property),
-            itip_todo::Fault::Twice(property) => Fault::Twice(property),
-            itip_todo::Fault::BadValue(property) => Fault::BadValue(property),
-            itip_todo::Fault::Range => Fault::Range,
-            itip_todo::Fault::TooMany => Fault::TooMany,
-            itip_todo::Fault::SameAttendee => Fault::SameAttendee,
-        }
+    fn from(refusal: LineRefusal) -> MessageRefusal {
+        MessageRefusal::at_line(MessageCause::Lines(refusal.cause), refusal.line)
     }
 }
 
@@ -146,18 +217,42 @@ impl From<LineError> for ReadError {
     fn from(error: LineError) -> ReadError {
         match error {
             LineError::NoMemory => ReadError::NoMemory,
-            LineError::Fault(fault) => ReadError::Fault(Fault::from(fault)),
+            LineError::Refused(refusal) => ReadError::Refused(MessageRefusal::from(refusal)),
         }
     }
 }
 
-impl From<TodoError> for ReadError {
-    ghost from_gives = { λ error e. e ≡ todo_gives error };
+impl From<FormError> for ReadError {
+    ghost from_gives = { λ error e. e ≡ form_gives error };
 
-    fn from(error: TodoError) -> ReadError {
+    fn from(error: FormError) -> ReadError {
         match error {
-            TodoError::NoMemory => ReadError::NoMemory,
-            TodoError::Fault(fault) => ReadError::Fault(Fault::from(fault)),
+            FormError::NoMemory => ReadError::NoMemory,
+            FormError::TooLarge { todo } => ReadError::Refused(MessageRefusal {
+                cause: MessageCause::LargeForm,
+                todo: Some(todo),
+                line: None,
+            }),
         }
+    }
+}
+
+/// The error of the to-do of a number, from 1, as one of the message.
+pub(crate) fn todo_gives(number: usize, error: TodoError) -> ReadError
+    ensures { result ≡ todo_gives number error }
+{
+    match error {
+        TodoError::NoMemory => ReadError::NoMemory,
+        TodoError::Refused(refusal) => ReadError::Refused(of_todo(number, refusal)),
+    }
+}
+
+fn of_todo(number: usize, refusal: TodoRefusal) -> MessageRefusal
+    ensures { result ≡ of_todo number refusal }
+{
+    MessageRefusal {
+        cause: MessageCause::Todo(refusal.cause),
+        todo: Some(number),
+        line: refusal.line,
     }
 }

@@ -1,14 +1,18 @@
 //! Components in components: which lines of a message stand where.
-ghost use Rattle.std.specs.Prelude.{◌≡◌, ◌<◌, ◌∷◌, ◌++◌, [], ℕ, List, length, true, false, IfOk, IfErr, Ok, Err};
+ghost use Rattle.std.specs.Prelude.{◌≡◌, ◌<◌, ◌∷◌, ◌++◌, [], ℕ, List, length, true, false, Some, IfOk, IfErr, Ok, Err};
 ghost use Rattle.std.specs.Str.{str_to_ascii_uppercase};
 ghost use Rattle.std.specs.Option.{option_to_list};
 ghost use Rattle.std.specs.Vec.Iter.{into_iter_items};
-ghost use Rattle.itip_lines.specs.declared.line.Line.{Line};
-ghost use Rattle.itip_message.specs.Faults.{IfFault};
-ghost use Rattle.itip_message.specs.Frame.{frame, place, innermost_first, with_front, opening, property, component_name, is_begin, is_end, same_text};
+ghost use Rattle.itip_lines.specs.declared.line.NumberedLine.{NumberedLine};
+ghost use Rattle.itip_message.specs.Refusals.{IfRefused, at_line};
+ghost use Rattle.itip_message.specs.declared.error.MessageCause.TheVariants as causes;
+ghost use Rattle.itip_message.specs.declared.error.ReadError.TheVariants as error;
+ghost use Rattle.itip_message.specs.Frame.{frame, place, innermost_first, with_front, opening, property, component_name};
+ghost use Rattle.itip_items.specs.Needs.{is_begin, is_end};
+ghost use Rattle.itip_todo.specs.Participation.{same_text};
 
-use crate::error::{Fault, ReadError};
-use itip_lines::{Line, NoMemory, Text};
+use crate::error::{MessageCause, MessageRefusal, ReadError};
+use itip_lines::{Line, NoMemory, NumberedLine, Text};
 use std::alloc::Global;
 use std::vec::IntoIter;
 
@@ -19,33 +23,49 @@ const DEPTH_LIMIT: usize = 32;
 #[derive(Drop)]
 pub(crate) enum Placed {
     /// A property directly in the VCALENDAR.
-    CalendarLine(Line),
-    /// A VTODO begins directly in the VCALENDAR.
-    TodoBegins,
+    CalendarLine(NumberedLine),
+    /// A VTODO begins directly in the VCALENDAR, in the line of this number.
+    TodoBegins(usize),
     /// A property directly in that VTODO.
-    TodoLine(Line),
+    TodoLine(NumberedLine),
 }
 
 /// The lines of a message as they are placed, those of other components left out (RFC 5545 3.4).
-pub(crate) fn frame(alloc: Global, lines: Vec<Line>) -> Result<Vec<Placed>, ReadError>
+pub(crate) fn frame(alloc: Global, lines: Vec<NumberedLine>) -> Result<Vec<Placed>, ReadError>
     ensures found { IfOk result (λ placed. frame lines.items ≡ Ok placed.items) }
-    ensures fault { IfErr result (λ e. IfFault e (λ f. frame lines.items ≡ Err f)) }
+    ensures fault { IfErr result (λ e. IfRefused e (λ f. frame lines.items ≡ Err f)) }
 {
     let mut lines = lines.into_iter();
     let Some(first) = lines.next() else {
-        return Err(ReadError::Fault(Fault::NoCalendar));
+        return Err(no_calendar(None));
     };
-    let name = component_name(alloc, &first)?;
-    if !is_begin(&first) || name.as_str() != "VCALENDAR" {
-        return Err(ReadError::Fault(Fault::NoCalendar));
+    let name = component_name(alloc, &first.line)?;
+    if !is_begin(&first.line) || name.as_str() != "VCALENDAR" {
+        return Err(no_calendar(Some(first.number)));
     }
     place_lines(alloc, name, lines)
 }
 
+fn no_calendar(line: Option<usize>) -> ReadError
+    ensures { result ≡ error.Refused (at_line causes.NoCalendar line) }
+{
+    ReadError::Refused(MessageRefusal::at_line(MessageCause::NoCalendar, line))
+}
+
+fn nested(line: Option<usize>) -> ReadError
+    ensures { result ≡ error.Refused (at_line causes.Nesting line) }
+{
+    ReadError::Refused(MessageRefusal::at_line(MessageCause::Nesting, line))
+}
+
 /// The lines inside a component.
-fn place_lines(alloc: Global, name: Text, lines: IntoIter<Line>) -> Result<Vec<Placed>, ReadError>
+fn place_lines(
+    alloc: Global,
+    name: Text,
+    lines: IntoIter<NumberedLine>,
+) -> Result<Vec<Placed>, ReadError>
     ensures found { IfOk result (λ placed. place (name ∷ []) (into_iter_items lines) ≡ Ok placed.items) }
-    ensures fault { IfErr result (λ e. IfFault e (λ f. place (name ∷ []) (into_iter_items lines) ≡ Err f)) }
+    ensures fault { IfErr result (λ e. IfRefused e (λ f. place (name ∷ []) (into_iter_items lines) ≡ Err f)) }
 {
     let mut inside = Vec::new(alloc);
     inside.push(name)?;
@@ -56,7 +76,7 @@ fn place_lines(alloc: Global, name: Text, lines: IntoIter<Line>) -> Result<Vec<P
         }
     }
     if !inside.is_empty() {
-        return Err(ReadError::Fault(Fault::Nesting));
+        return Err(nested(None));
     }
     Ok(placed)
 }
@@ -65,22 +85,23 @@ fn place_lines(alloc: Global, name: Text, lines: IntoIter<Line>) -> Result<Vec<P
 fn place_line(
     alloc: Global,
     inside: &mut Vec<Text>,
-    line: Line,
+    line: NumberedLine,
 ) -> Result<Option<Placed>, ReadError>
-    ensures placed { IfOk result (λ placed. (lines : List Line)
+    ensures placed { IfOk result (λ placed. (lines : List NumberedLine)
         → place (innermost_first inside.old.items) (line ∷ lines) ≡ with_front (option_to_list placed) (place (innermost_first inside.new.items) lines)) }
-    ensures fault { IfErr result (λ e. IfFault e (λ f. (lines : List Line) → place (innermost_first inside.old.items) (line ∷ lines) ≡ Err f)) }
+    ensures fault { IfErr result (λ e. IfRefused e (λ f. (lines : List NumberedLine) → place (innermost_first inside.old.items) (line ∷ lines) ≡ Err f)) }
 {
     if inside.is_empty() {
+        let number = line.number;
         drop(line);
-        return Err(ReadError::Fault(Fault::Nesting));
+        return Err(nested(Some(number)));
     }
-    if is_begin(&line) {
+    if is_begin(&line.line) {
         let placed = place_begin(alloc, inside, &line);
         drop(line);
         return placed;
     }
-    if is_end(&line) {
+    if is_end(&line.line) {
         let placed = place_end(alloc, inside, &line);
         drop(line);
         return placed;
@@ -92,18 +113,18 @@ fn place_line(
 fn place_begin(
     alloc: Global,
     inside: &mut Vec<Text>,
-    line: &Line,
+    line: &NumberedLine,
 ) -> Result<Option<Placed>, ReadError>
-    requires { (is_begin line.now ≡ true) × (0 < length inside.old.items) }
-    ensures placed { IfOk result (λ placed. (lines : List Line)
+    requires { (is_begin line.now.line ≡ true) × (0 < length inside.old.items) }
+    ensures placed { IfOk result (λ placed. (lines : List NumberedLine)
         → place (innermost_first inside.old.items) (line.now ∷ lines) ≡ with_front (option_to_list placed) (place (innermost_first inside.new.items) lines)) }
-    ensures fault { IfErr result (λ e. IfFault e (λ f. (lines : List Line) → place (innermost_first inside.old.items) (line.now ∷ lines) ≡ Err f)) }
+    ensures fault { IfErr result (λ e. IfRefused e (λ f. (lines : List NumberedLine) → place (innermost_first inside.old.items) (line.now ∷ lines) ≡ Err f)) }
 {
     if inside.len() >= DEPTH_LIMIT {
-        return Err(ReadError::Fault(Fault::Nesting));
+        return Err(nested(Some(line.number)));
     }
-    let name = component_name(alloc, line)?;
-    let placed = opening(inside, &name);
+    let name = component_name(alloc, &line.line)?;
+    let placed = opening(inside, &name, line.number);
     inside.push(name)?;
     Ok(placed)
 }
@@ -112,18 +133,18 @@ fn place_begin(
 fn place_end(
     alloc: Global,
     inside: &mut Vec<Text>,
-    line: &Line,
+    line: &NumberedLine,
 ) -> Result<Option<Placed>, ReadError>
-    requires { (is_begin line.now ≡ false) × (is_end line.now ≡ true) × (0 < length inside.old.items) }
-    ensures placed { IfOk result (λ placed. (lines : List Line)
+    requires { (is_begin line.now.line ≡ false) × (is_end line.now.line ≡ true) × (0 < length inside.old.items) }
+    ensures placed { IfOk result (λ placed. (lines : List NumberedLine)
         → place (innermost_first inside.old.items) (line.now ∷ lines) ≡ with_front (option_to_list placed) (place (innermost_first inside.new.items) lines)) }
-    ensures fault { IfErr result (λ e. IfFault e (λ f. (lines : List Line) → place (innermost_first inside.old.items) (line.now ∷ lines) ≡ Err f)) }
+    ensures fault { IfErr result (λ e. IfRefused e (λ f. (lines : List NumberedLine) → place (innermost_first inside.old.items) (line.now ∷ lines) ≡ Err f)) }
 {
-    let name = component_name(alloc, line)?;
+    let name = component_name(alloc, &line.line)?;
     let ended = end(inside, &name);
     drop(name);
     if !ended {
-        return Err(ReadError::Fault(Fault::Nesting));
+        return Err(nested(Some(line.number)));
     }
     Ok(None)
 }
@@ -154,12 +175,12 @@ pub(crate) fn upper_case(alloc: Global, text: &Text) -> Result<Text, NoMemory>
     Text::upper(alloc, text.as_str())
 }
 
-/// What a component of this name that begins inside these adds.
-fn opening(inside: &[Text], name: &Text) -> Option<Placed>
-    ensures { option_to_list result ≡ opening (innermost_first inside.now) name.now }
+/// What a component of this name adds that begins inside these, in the line of this number.
+fn opening(inside: &[Text], name: &Text, number: usize) -> Option<Placed>
+    ensures { option_to_list result ≡ opening (innermost_first inside.now) name.now number }
 {
     if inside.len() == 1 && name.as_str() == "VTODO" {
-        return Some(Placed::TodoBegins);
+        return Some(Placed::TodoBegins(number));
     }
     None
 }
@@ -173,7 +194,7 @@ fn end(inside: &mut Vec<Text>, name: &Text) -> bool
 }
 
 /// What a property inside these components adds.
-fn property(inside: &[Text], line: Line) -> Option<Placed>
+fn property(inside: &[Text], line: NumberedLine) -> Option<Placed>
     ensures { option_to_list result ≡ property (innermost_first inside.now) line }
 {
     if inside.len() == 1 {

@@ -1,12 +1,12 @@
 //! Reading many messages at once.
 ghost use Rattle.std.specs.Prelude.{IfOk, IfErr};
 ghost use Rattle.std.specs.List.{AllZip};
-ghost use Rattle.itip_message.specs.Faults.{IfFault};
+ghost use Rattle.itip_message.specs.Refusals.{IfRefused};
 ghost use Rattle.itip_message.specs.Message.{ReadsMessage, RefusesMessage};
 
 use crate::error::ReadError;
-use crate::item::Item;
 use crate::read::read_message;
+use itip_items::Item;
 use itip_lines::NoMemory;
 use rayon::prelude::*;
 use std::alloc::Global;
@@ -21,14 +21,14 @@ pub fn read_all(
     texts: &[Vec<u8>],
 ) -> Result<Vec<Result<Vec<Item>, ReadError>>, NoMemory>
     ensures { IfOk result (λ answers. AllZip (λ text answer.
-        IfOk answer (λ items. ReadsMessage text.items items.items) × IfErr answer (λ e. IfFault e (RefusesMessage text.items)))
+        IfOk answer (λ items. ReadsMessage text.items items.items) × IfErr answer (λ e. IfRefused e (RefusesMessage text.items)))
         texts.now answers.items) }
 {
     texts
         .par_iter()
         .map(
             |text: &Vec<u8>| -> Result<Vec<Item>, ReadError>
-                ensures { IfOk result (λ items. ReadsMessage text.now.items items.items) × IfErr result (λ e. IfFault e (RefusesMessage text.now.items)) }
+                ensures { IfOk result (λ items. ReadsMessage text.now.items items.items) × IfErr result (λ e. IfRefused e (RefusesMessage text.now.items)) }
             { read_message(alloc, text) },
         )
         .collect(rt, alloc)

@@ -1,15 +1,14 @@
 //! Reading a message.
 ghost use Rattle.std.specs.Prelude.{IfOk, IfErr};
-ghost use Rattle.itip_message.specs.Faults.{IfFault};
+ghost use Rattle.itip_message.specs.Refusals.{IfRefused};
 ghost use Rattle.itip_message.specs.Message.{ReadsMessage, RefusesMessage};
 
 use crate::components::read_components;
 use crate::error::ReadError;
 use crate::frame::frame;
 use crate::head::read_head;
-use crate::item::Item;
-use crate::items::make_items;
 use crate::sort::sort;
+use itip_items::{Item, make_items};
 use itip_lines::read_lines;
 use std::alloc::Global;
 
@@ -19,12 +18,12 @@ use std::alloc::Global;
 /// memory is answered only where a growth was refused.
 pub fn read_message(alloc: Global, text: &[u8]) -> Result<Vec<Item>, ReadError>
     ensures found { IfOk result (λ items. ReadsMessage text.now items.items) }
-    ensures fault { IfErr result (λ e. IfFault e (RefusesMessage text.now)) }
+    ensures fault { IfErr result (λ e. IfRefused e (RefusesMessage text.now)) }
 {
     let lines = read_lines(alloc, text)?;
     let placed = frame(alloc, lines)?;
     let (calendar, components) = sort(alloc, placed)?;
-    let method = read_head(alloc, &calendar, components.len())?;
+    let method = read_head(alloc, &calendar, &components)?;
     let all = read_components(alloc, method, &components)?;
-    make_items(alloc, method, all)
+    Ok(make_items(alloc, method, all)?)
 }

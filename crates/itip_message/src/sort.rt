@@ -1,29 +1,63 @@
-//! The properties directly in the VCALENDAR, and those of each VTODO.
+//! The properties directly in the VCALENDAR, and each VTODO with its own.
 ghost use Rattle.std.specs.Prelude.{◌≡◌, List, IfOk, OnOk};
 ghost use Rattle.itip_message.specs.Frame.{calendar_lines, todos};
 ghost use Rattle.itip_message.specs.declared.frame.Placed.{Placed};
 ghost use Rattle.itip_message.specs.Sorting.{Continues};
 
 use crate::frame::Placed;
-use itip_lines::{Line, ListOf, NoMemory};
+use itip_lines::{ListOf, NoMemory, NumberedLine};
 use std::alloc::Global;
+
+/// A VTODO directly in the VCALENDAR.
+#[derive(Drop)]
+pub(crate) struct Component {
+    /// The number of the line that begins it.
+    pub begins: usize,
+    /// The properties directly in it.
+    pub lines: ListOf<NumberedLine>,
+}
+
+impl Component {
+    ghost use Rattle.std.specs.Prelude.{◌≡◌};
+    ghost use Rattle.itip_message.specs.Frame.{begun, with_line};
+
+    fn begun(alloc: Global, number: usize) -> Component
+        ensures { result ≡ begun number }
+    {
+        Component {
+            begins: number,
+            lines: ListOf::new(alloc),
+        }
+    }
+
+    fn with_line(self, line: NumberedLine) -> Result<Component, NoMemory>
+        ensures { IfOk result (λ component. component ≡ with_line self line) }
+    {
+        let mut lines = self.lines.into_vec();
+        lines.push(line)?;
+        Ok(Component {
+            begins: self.begins,
+            lines: ListOf::from_vec(lines),
+        })
+    }
+}
 
 /// The lines that are sorted so far.
 #[derive(Drop)]
 pub(crate) struct Sorted {
     /// The properties directly in the VCALENDAR.
-    pub calendar: Vec<Line>,
-    /// The properties of each VTODO but the last.
-    pub closed: Vec<ListOf<Line>>,
-    /// The properties of the last VTODO.
-    pub open: Option<ListOf<Line>>,
+    pub calendar: Vec<NumberedLine>,
+    /// Each VTODO but the last.
+    pub closed: Vec<Component>,
+    /// The last VTODO.
+    pub open: Option<Component>,
 }
 
 /// Sorts lines as they are placed.
 pub(crate) fn sort(
     alloc: Global,
     placed: Vec<Placed>,
-) -> Result<(Vec<Line>, Vec<ListOf<Line>>), NoMemory>
+) -> Result<(Vec<NumberedLine>, Vec<Component>), NoMemory>
     ensures { IfOk result (λ sorted. (sorted.0.items ≡ calendar_lines placed.items) × (sorted.1.items ≡ todos placed.items)) }
 {
     let mut sorted = Sorted {
@@ -39,8 +73,8 @@ pub(crate) fn sort(
         mut closed,
         open,
     } = sorted;
-    if let Some(lines) = open {
-        closed.push(lines)?;
+    if let Some(component) = open {
+        closed.push(component)?;
     }
     Ok((calendar, closed))
 }
@@ -51,16 +85,14 @@ fn put(alloc: Global, sorted: &mut Sorted, placed: Placed) -> Result<(), NoMemor
 {
     match placed {
         Placed::CalendarLine(line) => sorted.calendar.push(line)?,
-        Placed::TodoBegins => {
-            if let Some(lines) = sorted.open.replace(ListOf::new(alloc)) {
-                sorted.closed.push(lines)?;
+        Placed::TodoBegins(number) => {
+            if let Some(component) = sorted.open.replace(Component::begun(alloc, number)) {
+                sorted.closed.push(component)?;
             }
         }
         Placed::TodoLine(line) => {
-            if let Some(lines) = sorted.open.take() {
-                let mut lines = lines.into_vec();
-                lines.push(line)?;
-                sorted.open = Some(ListOf::from_vec(lines));
+            if let Some(component) = sorted.open.take() {
+                sorted.open = Some(component.with_line(line)?);
             }
         }
     }

@@ -1,89 +1,132 @@
-//! The jobs of a script, for an office.
-ghost use Rattle.std.specs.Prelude.{◌≡◌};
-ghost use Rattle.std.specs.Option.{option_map};
-ghost use Rattle.itip_office.specs.Jobs.{errand_of, errand_at, spelled_errand};
+//! What an office is asked to do.
+ghost use Rattle.std.specs.Prelude.{◌≡◌, ◌↔◌, IsTrue};
 
-use crate::line::{content, first_line, leading_stretch};
-use crate::word::{is_word, read_number, split_word};
+use itip_lines::Bytes;
+use itip_view::Window;
+use std::alloc::AllocError;
 
-/// A command of a script that an office runs. Desks are numbers as written, whether or not there is such a desk.
-#[derive(Clone, Copy, Debug)]
-pub enum JobCommand<'a> {
-    /// `!take d` and the message behind it, byte for byte.
-    Take { desk: u64, text: &'a [u8] },
-    /// `!carry a b`: all that desk `a` keeps comes to desk `b`.
+/// A job of an office, and its number.
+#[derive(Debug, Drop)]
+pub struct Job {
+    pub number: u64,
+    pub work: Work,
+}
+
+/// What a job asks for. Desks are numbered from 0, whether or not there is such a desk.
+#[derive(Debug, Drop)]
+pub enum Work {
+    /// The desk takes a message.
+    Text { desk: u64, bytes: Bytes },
+    /// All that one desk keeps comes to another.
     Carry { from: u64, to: u64 },
-    /// `!look d`
-    Look { desk: u64 },
-    /// Any other line that begins with `!`.
-    Malformed,
+    /// The task list of the desk in a window is looked at.
+    Look { desk: u64, window: Window },
 }
 
-/// The commands of a script for an office that are left.
-#[derive(Drop)]
-pub struct JobCommands<'a> {
-    rest: &'a [u8],
-}
-
-impl<'a> JobCommands<'a> {
-    ghost use Rattle.std.specs.Prelude.{◌≡◌};
-    ghost use Rattle.itip_office.specs.Jobs.{errands_of};
-    ghost use Rattle.itip_office.specs.LeftJobs.{errands_left};
-
-    /// The commands of a script for an office, in order: one for each line that begins with `!`. Lines that belong to no `!take` are passed over. Texts are
-    /// slices of the script.
-    pub fn new(script: &'a [u8]) -> Self
-        ensures { errands_left result ≡ errands_of script.now }
+impl Job {
+    /// Whether two jobs are the same.
+    pub(crate) fn is_same(&self, other: &Job) -> bool
+        ensures { IsTrue result → self.now ≡ other.now }
     {
-        JobCommands { rest: script }
+        self.number == other.number && self.work.is_same(&other.work)
+    }
+
+    pub(crate) fn desk(&self) -> u64
+        ensures { result ≡ desk_of self.now.work }
+    {
+        match self.work {
+            Work::Text { desk, .. } => desk,
+            Work::Carry { to, .. } => to,
+            Work::Look { desk, .. } => desk,
+        }
+    }
+
+    /// Whether the desks that it names are there, where there are so many.
+    pub(crate) fn is_within(&self, desks: u64) -> bool
+        ensures { IsTrue result ↔ AreThere desks self.now.work }
+    {
+        match self.work {
+            Work::Text { desk, .. } => desk < desks,
+            Work::Carry { from, to } => from < desks && to < desks,
+            Work::Look { desk, .. } => desk < desks,
+        }
+    }
+
+    ghost use Rattle.itip_office.specs.Texts.{desk_of, AreThere};
+}
+
+impl Work {
+    fn is_same(&self, other: &Work) -> bool
+        ensures { IsTrue result → self.now ≡ other.now }
+    {
+        match (self, other) {
+            (
+                Work::Text { desk, bytes },
+                Work::Text {
+                    desk: at,
+                    bytes: others,
+                },
+            ) => { desk == at && bytes == others }
+            (
+                Work::Carry { from, to },
+                Work::Carry {
+                    from: start,
+                    to: end,
+                },
+            ) => { from == start && to == end }
+            (
+                Work::Look { desk, window },
+                Work::Look {
+                    desk: at,
+                    window: other,
+                },
+            ) => { desk == at && is_same_window(*window, *other) }
+            _ => false,
+        }
     }
 }
 
-impl<'a> Iterator for JobCommands<'a> {
-    ghost use Rattle.std.specs.Iterator.{YieldsFirstBy, item_count};
-    ghost use Rattle.itip_office.specs.Jobs.{errand_of};
-    ghost use Rattle.itip_office.specs.LeftJobs.{errands_left};
-
-    type Item = JobCommand<'a>;
-
-    ghost next_gives = { YieldsFirstBy errand_of errands_left };
-
-    ghost remaining = { item_count errands_left };
-
-    fn next(&mut self) -> Option<JobCommand<'a>> {
-        let before = leading_stretch(self.rest);
-        let (line, after) = first_line(before.after)?;
-        let message = leading_stretch(after);
-        self.rest = message.after;
-        Some(job_at(content(line), message.text))
-    }
+fn is_same_window(one: Window, other: Window) -> bool
+    ensures { IsTrue result → one ≡ other }
+{
+    has_same_days(one, other)
 }
 
-fn job_at<'a>(said: &'a [u8], message: &'a [u8]) -> JobCommand<'a>
-    ensures { errand_of result ≡ errand_at said.now message.now }
+fn has_same_days(one: Window, other: Window) -> bool
+    ensures { IsTrue result → (one.from ≡ other.from) × (one.to ≡ other.to) }
 {
-    spelled_job(said, message).unwrap_or(JobCommand::Malformed)
+    one == other
 }
 
-fn spelled_job<'a>(said: &'a [u8], message: &'a [u8]) -> Option<JobCommand<'a>>
-    ensures { option_map errand_of result ≡ spelled_errand said.now message.now }
-{
-    let (word, arguments) = split_word(said);
-    if is_word(word, b"!take") {
-        let desk = read_number(arguments)?;
-        Some(JobCommand::Take {
-            desk,
-            text: message,
+impl Clone for Job {
+    ghost is_clone = { λ job copy. copy ≡ job };
+
+    fn clone(&self) -> Result<Job, AllocError> {
+        let work = self.work.clone()?;
+        Ok(Job {
+            number: self.number,
+            work,
         })
-    } else if is_word(word, b"!carry") {
-        let (first, second) = split_word(arguments);
-        let from = read_number(first)?;
-        let to = read_number(second)?;
-        Some(JobCommand::Carry { from, to })
-    } else if is_word(word, b"!look") {
-        let desk = read_number(arguments)?;
-        Some(JobCommand::Look { desk })
-    } else {
-        None
+    }
+}
+
+impl Clone for Work {
+    ghost is_clone = { λ work copy. copy ≡ work };
+
+    fn clone(&self) -> Result<Work, AllocError> {
+        match self {
+            Work::Text { desk, bytes } => {
+                let bytes = bytes.clone()?;
+                Ok(Work::Text { desk: *desk, bytes })
+            }
+            Work::Carry { from, to } => Ok(Work::Carry {
+                from: *from,
+                to: *to,
+            }),
+            Work::Look { desk, window } => Ok(Work::Look {
+                desk: *desk,
+                window: *window,
+            }),
+        }
     }
 }

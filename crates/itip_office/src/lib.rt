@@ -1,30 +1,38 @@
-//! Scripts: reading one whole, cutting it into commands, and writing the replies.
+//! An office: jobs run on threads, over one running desk for each place, as a script asks for them.
 //!
-//! A script is a run of physical lines. A line that begins with `!` is a command; the lines behind a
-//! `!take` are the message that it takes, byte for byte; other lines than empty ones are out of place.
-//! The format is our own.
+//! Workers take jobs from one channel: they read texts, carry deltas from desk to desk and look at lists. What is to be merged they send to the desk's keeper,
+//! which merges and publishes. Once all jobs are done the desks meet and exchange everything.
+//!
+//! Where an office answers, the same texts are taken whatever the schedule, and all desks end with what is kept of one set, which has each item of these texts.
+//! Where no job is a carry it has no other, so the desks end as those of one thread. What a carry brings depends on the schedule, and no clause says which items
+//! these may be.
 #![tactic(auto)]
 
-mod answer;
-mod command;
-mod cut;
-mod input;
+mod error;
+mod exchange;
+mod gate;
+mod gather;
+mod held;
 mod job;
-mod laws;
-mod line;
+mod keeper;
+mod merge;
 mod office;
-mod reply;
-mod reports;
-mod run;
+mod outcome;
+mod replies;
+mod script;
+mod script_jobs;
+mod team;
 mod watch;
-mod word;
+mod worker;
+mod written;
 
-pub use command::{Command, ReportName};
-pub use cut::Commands;
-pub use input::{MAX_OCTETS, read_script};
-pub use itip_streams::StreamFault as ScriptFault;
-pub use job::{JobCommand, JobCommands};
-pub use laws::{one_cutting, one_output, one_spelling};
-pub use run::{run_script, run_script_watched};
+pub use error::{OfficeError, ScriptError};
+pub use gate::{Gate, OpenGate};
+pub use job::{Job, Work};
+pub use keeper::keeper_loop;
+pub use merge::Merge;
+pub use office::{Office, run_office};
+pub use outcome::Outcome;
+pub use script::run_jobs;
 pub use watch::Watch;
-pub use word::read_number;
+pub use worker::worker_loop;

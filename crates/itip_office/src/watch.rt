@@ -1,17 +1,24 @@
-//! Who is told what commands were answered.
-use crate::command::Command;
+//! Who is told what an office refused.
 
-/// What is told of a script beside the output. Nothing that is read or written depends on it.
+use itip_desk::Refusal;
+
+/// What is told of a script's jobs beside the output: the jobs that are refused, in the order of their numbers, and then the lists, in the
+/// order of desks. Nothing that is read or written depends on it.
 pub trait Watch {
-    /// The next command was answered, or refused for the cause of this number.
-    fn answered(&mut self, command: &Command<'_>, refusal: Option<u32>);
+    /// The job of this number was refused.
+    fn refused_job(&mut self, number: u64, refusal: Refusal);
 
-    /// The script was refused as a whole, for the cause of this number.
-    fn refused_script(&mut self, cause: u32);
+    /// The list of the desk of this number was refused.
+    fn refused_list(&mut self, desk: u64, refusal: Refusal);
+
+    /// The script was refused as a whole.
+    fn refused_script(&mut self, refusal: Refusal);
 }
 
 impl Watch for () {
-    fn answered(&mut self, _command: &Command<'_>, _refusal: Option<u32>) {}
+    fn refused_job(&mut self, _number: u64, _refusal: Refusal) {}
 
-    fn refused_script(&mut self, _cause: u32) {}
+    fn refused_list(&mut self, _desk: u64, _refusal: Refusal) {}
+
+    fn refused_script(&mut self, _refusal: Refusal) {}
 }

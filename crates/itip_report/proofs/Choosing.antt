@@ -5,7 +5,7 @@ use Rattle.std.proofs.Math.ListN.{get_or-map}
 use Rattle.std.proofs.lemmas.List.{length-map, take_more}
 use Rattle.std.proofs.lemmas.List.Elements.{Contains-get_or, Contains-append_left, Contains-push, Contains-push_cases}
 use Rattle.std.proofs.lemmas.List.Quantifiers.{all_pairs_push}
-use Rattle.itip_message.specs.declared.item.Item.{Item}
+use Rattle.itip_items.specs.declared.item.Item.{Item}
 use Rattle.itip_state.specs.Kept.{AscendKeys, SameItems}
 use Rattle.itip_state.proofs.Members.{none_in, no_pairs}
 use Rattle.itip_state.proofs.Ordered.{IsBefore}

@@ -6,12 +6,12 @@ use Rattle.itip_moment.specs.declared.moment.Moment.{Moment}
 use Rattle.itip_todo.specs.Parts.{Parts}
 use Rattle.itip_todo.specs.PartsOf.{parts_of}
 use Rattle.itip_todo.specs.declared.property.Property.{Property}
-use Rattle.itip_message.specs.Items.{Draft, drafts_of, task_draft, add_drafts, attendee_draft, instance_sequence, kind_of, method_of}
-use Rattle.itip_message.specs.declared.item.Item.{Item}
-use Rattle.itip_message.specs.declared.kind.Kind.{Kind}
-use Rattle.itip_message.specs.declared.kind.Kind.TheVariants as kind
-use Rattle.itip_message.proofs.Lawfulness.{raised_small, series_small}
-use Rattle.itip_message.proofs.SameItem.{draft, alone}
+use Rattle.itip_items.specs.Items.{Draft, drafts_of, task_draft, add_drafts, attendee_draft, instance_sequence, kind_of, method_of}
+use Rattle.itip_items.specs.declared.item.Item.{Item}
+use Rattle.itip_items.specs.declared.kind.Kind.{Kind}
+use Rattle.itip_items.specs.declared.kind.Kind.TheVariants as kind
+use Rattle.itip_items.proofs.Lawfulness.{raised_small, series_small}
+use Rattle.itip_items.proofs.SameItem.{draft, alone}
 use Rattle.itip_state.specs.Organizers.{IsLastUsed}
 use Rattle.itip_report.specs.Organizing.{IsNext, last_sequence}
 

@@ -7,8 +7,8 @@ use Rattle.std.specs.Cmp.Lexicographic.{slice_cmp}
 use Rattle.std.specs.declared.cmp.Ordering.TheVariants.{Less}
 use Rattle.std.proofs.lemmas.List.Elements.{Contains-append_cases, Contains-append_left, Contains-append_right, Contains-push, Contains-push_cases}
 use Rattle.itip_moment.specs.Order.{moment_cmp}
-use Rattle.itip_message.specs.KeyParts.{uid_of, rank_of, instance_of, attendee_of}
-use Rattle.itip_message.specs.declared.item.Item.{Item}
+use Rattle.itip_items.specs.KeyParts.{uid_of, rank_of, instance_of, attendee_of}
+use Rattle.itip_items.specs.declared.item.Item.{Item}
 use Rattle.itip_state.specs.Kept.{ArePart, AreUidsOf}
 use Rattle.itip_state.proofs.Members.{none_in, no_pairs, pairs_append}
 use Rattle.itip_report.specs.Lines.{place_cmp, AscendPlaces, AreReported}

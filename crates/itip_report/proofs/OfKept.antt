@@ -1,10 +1,10 @@
 -- The reports need only what is kept.
 use Rattle.std.proofs.Common.{ℕ, zero, suc, List, subst, sym, inl, inr, Option, Some, None}
 use Rattle.itip_moment.specs.declared.moment.Moment.{Moment}
-use Rattle.itip_message.specs.KeyParts.{uid_of, instance_of}
-use Rattle.itip_message.specs.declared.item.Item.{Item}
-use Rattle.itip_message.specs.declared.key.Key.{Key}
-use Rattle.itip_message.specs.declared.key.Key.TheVariants.{Series, Instance}
+use Rattle.itip_items.specs.KeyParts.{uid_of, instance_of}
+use Rattle.itip_items.specs.declared.item.Item.{Item}
+use Rattle.itip_items.specs.declared.key.Key.{Key}
+use Rattle.itip_items.specs.declared.key.Key.TheVariants.{Series, Instance}
 use Rattle.itip_state.specs.Kept.{IsBest, IsDead, IsKept, AreKept}
 use Rattle.itip_state.specs.Organizers.{IsOrganizers, IsLastUsed}
 use Rattle.itip_state.proofs.Best.{best_above}

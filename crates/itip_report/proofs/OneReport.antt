@@ -3,8 +3,8 @@ use Rattle.std.proofs.Common.{◌≡◌, ℕ, zero, suc, ◌≤◌, List, ◌∷
 use Rattle.std.specs.Prelude.{map}
 use Rattle.std.specs.List.{Contains, flat_map}
 use Rattle.std.specs.declared.cmp.Ordering.TheVariants.{Less}
-use Rattle.itip_message.specs.declared.item.Item.{Item}
-use Rattle.itip_message.specs.declared.key.Key.TheVariants.{Series}
+use Rattle.itip_items.specs.declared.item.Item.{Item}
+use Rattle.itip_items.specs.declared.key.Key.TheVariants.{Series}
 use Rattle.itip_state.specs.Organizers.{IsLastUsed}
 use Rattle.itip_state.proofs.OneOrder.{less_one_way, same_ascending}
 use Rattle.itip_view.proofs.OneRow.{one_best}

@@ -15,9 +15,9 @@ use Rattle.std.proofs.lemmas.Map.Keys.{IsDistinct-IsPermutation, apart_from_dist
 use Rattle.std.proofs.lemmas.Map.Lookups.{CmpEqualImpliesEq}
 use Rattle.itip_moment.specs.Order.{moment_cmp}
 use Rattle.itip_moment.specs.OrderLaws.{moment_total}
-use Rattle.itip_message.specs.KeyParts.{uid_of, rank_of, instance_of, attendee_of}
-use Rattle.itip_message.specs.declared.item.Item.{Item}
-use Rattle.itip_message.specs.declared.key.Key.{Key}
+use Rattle.itip_items.specs.KeyParts.{uid_of, rank_of, instance_of, attendee_of}
+use Rattle.itip_items.specs.declared.item.Item.{Item}
+use Rattle.itip_items.specs.declared.key.Key.{Key}
 use Rattle.itip_state.specs.Kept.{AscendKeys}
 use Rattle.itip_state.specs.Slots.{key_cmp, key_total, key_exact, then_equal}
 use Rattle.itip_state.proofs.Members.{no_pairs, cons_first, cons_later}

@@ -1,6 +1,6 @@
 -- What is sent again of the part of a UID is what is sent of all.
 use Rattle.std.proofs.Common.{ℕ, List, Option, Some, None}
-use Rattle.itip_message.specs.declared.item.Item.{Item}
+use Rattle.itip_items.specs.declared.item.Item.{Item}
 use Rattle.itip_report.specs.Organizing.{IsResendOf}
 use Rattle.itip_report.proofs.SameOf.{SaySame, say_back, standing_there, live_there}
 

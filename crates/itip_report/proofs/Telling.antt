@@ -7,10 +7,10 @@ use Rattle.std.specs.declared.cmp.Ordering.{Ordering}
 use Rattle.std.specs.declared.cmp.Ordering.TheVariants.{Less, Equal, Greater}
 use Rattle.itip_moment.specs.Order.{stamp_cmp}
 use Rattle.itip_moment.specs.declared.moment.Moment.{Moment}
-use Rattle.itip_message.specs.KeyParts.{uid_of, instance_of}
-use Rattle.itip_message.specs.declared.item.Item.{Item}
-use Rattle.itip_message.specs.declared.key.Key.{Key}
-use Rattle.itip_message.specs.declared.key.Key.TheVariants.{Series, Instance, Range}
+use Rattle.itip_items.specs.KeyParts.{uid_of, instance_of}
+use Rattle.itip_items.specs.declared.item.Item.{Item}
+use Rattle.itip_items.specs.declared.key.Key.{Key}
+use Rattle.itip_items.specs.declared.key.Key.TheVariants.{Series, Instance, Range}
 use Rattle.itip_state.specs.Kept.{IsBest, AreOf, AscendKeys}
 use Rattle.itip_state.specs.Order.{IsState}
 use Rattle.itip_view.specs.OfUid.{IsSeriesItem, StandsBesideOf}

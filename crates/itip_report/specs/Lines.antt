@@ -7,9 +7,9 @@ use Rattle.std.specs.Cmp.Lexicographic.{slice_cmp}
 use Rattle.std.specs.declared.cmp.Ordering.{Ordering}
 use Rattle.std.specs.declared.cmp.Ordering.TheVariants.{Less}
 use Rattle.itip_moment.specs.Order.{moment_cmp}
-use Rattle.itip_message.specs.KeyParts.{uid_of, rank_of, instance_of, attendee_of}
-use Rattle.itip_message.specs.declared.item.Item.{Item}
-use Rattle.itip_message.specs.declared.key.Key.{Key}
+use Rattle.itip_items.specs.KeyParts.{uid_of, rank_of, instance_of, attendee_of}
+use Rattle.itip_items.specs.declared.item.Item.{Item}
+use Rattle.itip_items.specs.declared.key.Key.{Key}
 
 -- by UID, then the to-do as a whole before its instances by moment, then by attendee, an instance before a range and an answer before a refresh request
 abbrev pub place_cmp : Key → Key → Ordering

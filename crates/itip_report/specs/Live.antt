@@ -1,7 +1,7 @@
 -- What is known of the items of one UID by its series item (our own form).
 use Rattle.std.specs.Prelude.{Option, Some, None, if◌then◌else◌}
 use Rattle.std.specs.List.{Contains}
-use Rattle.itip_message.specs.declared.item.Item.{Item}
+use Rattle.itip_items.specs.declared.item.Item.{Item}
 use Rattle.itip_state.specs.OfUid.{UidPart, IsUidPart}
 use Rattle.itip_view.specs.Standing.{is_live}
 

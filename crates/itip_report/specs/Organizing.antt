@@ -1,7 +1,7 @@
 -- The messages that an organizer sends again, and the next sequence to use (our own rules; SEQUENCE: RFC 5545 3.8.7.4).
 use Rattle.std.specs.Prelude.{◌≡◌, ◌<◌, ℕ, zero, suc, List, ◌∷◌, Option, Some, None}
 use Rattle.std.specs.List.{flat_map}
-use Rattle.itip_message.specs.declared.item.Item.{Item}
+use Rattle.itip_items.specs.declared.item.Item.{Item}
 use Rattle.itip_state.specs.Organizers.{IsLastUsed}
 use Rattle.itip_view.specs.Standing.{IsLiveSeries}
 use Rattle.itip_report.specs.Lines.{AreReported}

@@ -1,6 +1,6 @@
 -- What is looked for among the kept items of one UID (our own form).
 use Rattle.std.specs.Prelude.{◌≡◌}
-use Rattle.itip_message.specs.declared.item.Item.{Item}
+use Rattle.itip_items.specs.declared.item.Item.{Item}
 use Rattle.itip_state.specs.OfUid.{UidPart}
 use Rattle.itip_report.specs.Reports.{IsStanding, IsCancellation, IsOrphan, IsWanted}
 use Rattle.itip_report.specs.declared.report.Report.{Report}

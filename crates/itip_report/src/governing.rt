@@ -1,12 +1,12 @@
 //! What is known of a UID by its kept items.
 ghost use Rattle.std.specs.Prelude.{◌≡◌, ◌↔◌, IsTrue, MatchOption};
 ghost use Rattle.std.specs.Option.{option_copied};
-ghost use Rattle.itip_message.specs.declared.item.Item.{Item};
+ghost use Rattle.itip_items.specs.declared.item.Item.{Item};
 ghost use Rattle.itip_view.specs.Standing.{Governs, GovernsBetween};
 ghost use Rattle.itip_report.specs.Reports.{IsStanding, NoneAtInstance};
 ghost use Rattle.itip_report.specs.Live.{IsAmong, if_live};
 
-use itip_message::{Item, Key};
+use itip_items::{Item, Key};
 use itip_moment::Moment;
 use itip_state::ItemsOfUid;
 use itip_view::{Ranges, is_live, standing_item, stands_beside};

@@ -1,7 +1,7 @@
 //! The laws of reports, of every finite set of items. They hold with no code: each function is empty.
 ghost use Rattle.std.specs.Prelude.{◌≡◌, ◌∷◌, [], ℕ, List, Option};
 ghost use Rattle.itip_message.specs.Message.{ReadsMessage};
-ghost use Rattle.itip_message.specs.declared.item.Item.{Item};
+ghost use Rattle.itip_items.specs.declared.item.Item.{Item};
 ghost use Rattle.itip_state.specs.Kept.{AreKept};
 ghost use Rattle.itip_report.specs.Reports.{AreReportLines};
 ghost use Rattle.itip_report.specs.Organizing.{IsResend, IsResendOf, IsNext};

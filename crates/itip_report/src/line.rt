@@ -3,14 +3,14 @@ ghost use Rattle.std.specs.Prelude.{◌≡◌, ◌++◌, IfOk, OnOk};
 ghost use Rattle.std.specs.Option.{option_copied};
 ghost use Rattle.std.specs.String.{string_bytes};
 ghost use Rattle.itip_moment.specs.Written.{moment_text};
-ghost use Rattle.itip_message.specs.KeyParts.{attendee_of};
+ghost use Rattle.itip_items.specs.KeyParts.{attendee_of};
 ghost use Rattle.itip_moment.specs.Shown.{shown_moment};
 ghost use Rattle.itip_view.specs.ListText.{shown};
 ghost use Rattle.itip_report.specs.Reports.{named, word_of, mark_of, line_of};
 
 use crate::NoMemory;
 use crate::report::Report;
-use itip_message::{Item, Key};
+use itip_items::{Item, Key};
 use itip_moment::{Moment, write_moment};
 use std::alloc::Global;
 

@@ -7,7 +7,7 @@ ghost use Rattle.itip_report.specs.Organizing.{IsResendOf, IsNext};
 use crate::NoMemory;
 use crate::governing::if_live;
 use crate::sought::{Sought, sought_items};
-use itip_message::Item;
+use itip_items::Item;
 use itip_state::{ItemsOfUid, State};
 use itip_todo::Uid;
 use std::alloc::Global;

@@ -4,7 +4,7 @@ ghost use Rattle.itip_state.specs.Kept.{AscendKeys, SameItems};
 ghost use Rattle.itip_report.specs.Lines.{place_cmp, AscendPlaces};
 
 use crate::NoMemory;
-use itip_message::{Item, Key};
+use itip_items::{Item, Key};
 use std::cmp::Ordering;
 
 /// By UID, then the to-do as a whole before its instances, then by attendee, an answer before a refresh request.

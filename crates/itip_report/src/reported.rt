@@ -6,7 +6,7 @@ ghost use Rattle.itip_report.specs.Reports.{IsReported};
 use crate::NoMemory;
 use crate::report::Report;
 use crate::sought::{Sought, sought_items};
-use itip_message::Item;
+use itip_items::Item;
 use itip_state::{ItemsOfUid, State};
 use std::alloc::Global;
 

@@ -1,8 +1,8 @@
 //! What is looked for among the kept items of one UID.
 ghost use Rattle.std.specs.Prelude.{◌≡◌, ◌↔◌, IfOk, IsTrue, MatchOption, Option, map};
 ghost use Rattle.std.specs.Option.{option_copied};
-ghost use Rattle.itip_message.specs.KeyParts.{instance_of};
-ghost use Rattle.itip_message.specs.declared.item.Item.{Item};
+ghost use Rattle.itip_items.specs.KeyParts.{instance_of};
+ghost use Rattle.itip_items.specs.declared.item.Item.{Item};
 ghost use Rattle.itip_moment.specs.declared.moment.Moment.{Moment};
 ghost use Rattle.itip_report.specs.Lines.{AreReported};
 ghost use Rattle.itip_report.specs.Live.{IsAmong};
@@ -13,7 +13,7 @@ use crate::NoMemory;
 use crate::governing::{governing, is_standing, none_at_instance};
 use crate::places::by_place;
 use crate::report::Report;
-use itip_message::{Item, Key};
+use itip_items::{Item, Key};
 use itip_moment::Moment;
 use itip_state::ItemsOfUid;
 use itip_view::{Ranges, is_live};

@@ -7,11 +7,11 @@ use Rattle.std.specs.declared.cmp.Ordering.TheVariants.{Less, Equal, Greater}
 use Rattle.std.proofs.lemmas.Cmp.{ranked, tied_itself}
 use Rattle.std.proofs.lemmas.List.Elements.{Contains-append_cases, Contains-append_left, Contains-append_right, Contains-push, Contains-push_cases}
 use Rattle.itip_moment.specs.Order.{stamp_cmp}
-use Rattle.itip_message.specs.Later.{revision_cmp, IsLater}
-use Rattle.itip_message.specs.declared.item.Item.{Item}
-use Rattle.itip_message.specs.declared.key.Key.{Key}
-use Rattle.itip_message.proofs.Keys.{told_keys}
-use Rattle.itip_message.specs.Revisions.{revisions_total}
+use Rattle.itip_items.specs.Later.{revision_cmp, IsLater}
+use Rattle.itip_items.specs.declared.item.Item.{Item}
+use Rattle.itip_items.specs.declared.key.Key.{Key}
+use Rattle.itip_items.proofs.Keys.{told_keys}
+use Rattle.itip_items.specs.Revisions.{revisions_total}
 use Rattle.itip_state.specs.Kept.{IsBest}
 
 -- the first of a list, or one of the others

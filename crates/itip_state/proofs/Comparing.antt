@@ -9,11 +9,11 @@ use Rattle.itip_join.specs.KeyByKey.{value_at}
 use Rattle.itip_join.specs.Optional.{IsBelowUnder}
 use Rattle.itip_join.specs.Lifted.{IsLiftedBelow}
 use Rattle.itip_join.specs.Ranked.{IsUpTo}
-use Rattle.itip_message.specs.KeyParts.{uid_of}
-use Rattle.itip_message.specs.Later.{IsLater, revision_cmp}
-use Rattle.itip_message.specs.declared.item.Item.{Item}
-use Rattle.itip_message.specs.declared.key.Key.{Key}
-use Rattle.itip_message.specs.declared.key.Key.TheVariants.{Series}
+use Rattle.itip_items.specs.KeyParts.{uid_of}
+use Rattle.itip_items.specs.Later.{IsLater, revision_cmp}
+use Rattle.itip_items.specs.declared.item.Item.{Item}
+use Rattle.itip_items.specs.declared.key.Key.{Key}
+use Rattle.itip_items.specs.declared.key.Key.TheVariants.{Series}
 use Rattle.itip_state.specs.Kept.{IsBest, IsDead, IsKept, AreKept}
 use Rattle.itip_state.specs.Slots.{slot_cmp}
 use Rattle.itip_state.specs.Held.{Best, Shape, best, is_series, can_die, is_killed, kills, shape_items, IsSound}

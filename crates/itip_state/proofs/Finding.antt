@@ -12,9 +12,9 @@ use Rattle.std.proofs.lemmas.Bool.{cases_lt}
 use Rattle.std.proofs.lemmas.List.{length-map}
 use Rattle.std.proofs.Math.ListN.{get_or-map}
 use Rattle.itip_moment.specs.Order.{moment_cmp}
-use Rattle.itip_message.specs.KeyParts.{uid_of, rank_of, instance_of, attendee_of}
-use Rattle.itip_message.specs.declared.item.Item.{Item}
-use Rattle.itip_message.specs.declared.key.Key.{Key}
+use Rattle.itip_items.specs.KeyParts.{uid_of, rank_of, instance_of, attendee_of}
+use Rattle.itip_items.specs.declared.item.Item.{Item}
+use Rattle.itip_items.specs.declared.key.Key.{Key}
 use Rattle.itip_state.specs.declared.parts.KeyParts.{KeyParts}
 use Rattle.itip_state.specs.Kept.{AscendKeys}
 use Rattle.itip_state.specs.Parts.{HasParts, parts_cmp}

@@ -13,11 +13,11 @@ use Rattle.itip_join.specs.Optional.{IsBelowAt, IsBelowUnder, alive_part}
 use Rattle.itip_join.specs.Lifted.{IsLiftedBelow, IsLiftedBelow-refl, IsLiftedBelow-antisym, IsLiftedBelow-comparable}
 use Rattle.itip_join.specs.Ranked.{IsUpTo-refl, IsUpTo-trans, IsUpTo-tie, IsUpTo-comparable}
 use Rattle.itip_join.proofs.Under.{all_alive-kept, value_at-kept}
-use Rattle.itip_message.specs.declared.item.Item.{Item}
-use Rattle.itip_message.specs.declared.key.Key.{Key}
+use Rattle.itip_items.specs.declared.item.Item.{Item}
+use Rattle.itip_items.specs.declared.key.Key.{Key}
 use Rattle.itip_state.specs.Slots.{slot_cmp, slot_total, slot_exact}
-use Rattle.itip_message.specs.Revisions.{revisions_total}
-use Rattle.itip_message.proofs.Revisions.{revision_exact}
+use Rattle.itip_items.specs.Revisions.{revisions_total}
+use Rattle.itip_items.proofs.Revisions.{revision_exact}
 use Rattle.itip_state.specs.Held.{Best, Shape, best, shape_items, is_killed, IsSeriesAt, IsEntryAt, IsPlaced, IsWhole, IsSound}
 use Rattle.itip_state.specs.Joined.{IsShapeBelow, HoldsOfTwo}
 use Rattle.itip_state.specs.Dying.{IsNoLater, kills_below, kills_more}

@@ -5,11 +5,11 @@ use Rattle.std.specs.Ordering.{nat_cmp, MatchOrdering}
 use Rattle.std.specs.declared.cmp.Ordering.TheVariants.{Less, Equal, Greater}
 use Rattle.std.proofs.lemmas.Cmp.{ranked}
 use Rattle.std.proofs.lemmas.List.Elements.{Contains-append_cases, Contains-append_left, Contains-append_right}
-use Rattle.itip_message.specs.Later.{IsLater}
-use Rattle.itip_message.specs.KeyParts.{uid_of}
-use Rattle.itip_message.specs.declared.item.Item.{Item}
-use Rattle.itip_message.specs.declared.key.Key.{Key}
-use Rattle.itip_message.specs.declared.key.Key.TheVariants.{Series}
+use Rattle.itip_items.specs.Later.{IsLater}
+use Rattle.itip_items.specs.KeyParts.{uid_of}
+use Rattle.itip_items.specs.declared.item.Item.{Item}
+use Rattle.itip_items.specs.declared.key.Key.{Key}
+use Rattle.itip_items.specs.declared.key.Key.TheVariants.{Series}
 use Rattle.itip_state.specs.Kept.{IsBest, IsDead, IsKept, CanDie, AreKept, ArePart, SameItems}
 use Rattle.itip_state.specs.Order.{IsState, IsBelow, IsLeastUpperBound}
 use Rattle.itip_state.proofs.Best.{best_above, not_later_transitive, later_transitive, not_later_itself, greater_eff}

@@ -4,15 +4,15 @@ use Rattle.std.specs.List.{Contains, AllPairs, list_any}
 use Rattle.std.specs.Ordering.{is_eq, is_gt, eq_by_cmp}
 use Rattle.std.proofs.lemmas.Map.Lookups.{exact_bytes, CmpEqualImpliesEq}
 use Rattle.std.proofs.lemmas.Map.Views.{tells_apart}
-use Rattle.itip_message.specs.OctetOrder.{octets_cmp, octets_total}
-use Rattle.itip_message.proofs.SameItem.{same_item}
+use Rattle.itip_items.specs.OctetOrder.{octets_cmp, octets_total}
+use Rattle.itip_items.proofs.SameItem.{same_item}
 use Rattle.std.specs.Cmp.{Equal-is, tied_itself}
 use Rattle.std.specs.declared.cmp.Ordering.{Ordering}
 use Rattle.std.specs.declared.cmp.Ordering.TheVariants.{Less, Equal, Greater}
 use Rattle.std.proofs.lemmas.List.Elements.{Contains-append_left, Contains-push, Contains-push_cases, Contains-get_or}
 use Rattle.std.proofs.lemmas.List.Quantifiers.{all_pairs_push}
-use Rattle.itip_message.specs.Later.{revision_cmp, IsLater}
-use Rattle.itip_message.specs.declared.item.Item.{Item}
+use Rattle.itip_items.specs.Later.{revision_cmp, IsLater}
+use Rattle.itip_items.specs.declared.item.Item.{Item}
 use Rattle.itip_state.specs.Kept.{IsKept, AreKept}
 use Rattle.itip_state.specs.Slots.{key_cmp, key_total, key_exact}
 use Rattle.itip_state.specs.Held.{is_series, is_below}

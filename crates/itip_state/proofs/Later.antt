@@ -4,10 +4,10 @@ use Rattle.std.specs.Ordering.{is_gt}
 use Rattle.std.specs.declared.cmp.Ordering.{Ordering}
 use Rattle.std.specs.declared.cmp.Ordering.TheVariants.{Less, Equal, Greater}
 use Rattle.itip_join.specs.Ranked.{IsUpTo, IsUpTo-tie}
-use Rattle.itip_message.specs.Later.{revision_cmp, IsLater}
-use Rattle.itip_message.specs.declared.item.Item.{Item}
-use Rattle.itip_message.specs.Revisions.{revisions_total}
-use Rattle.itip_message.proofs.Revisions.{revision_exact}
+use Rattle.itip_items.specs.Later.{revision_cmp, IsLater}
+use Rattle.itip_items.specs.declared.item.Item.{Item}
+use Rattle.itip_items.specs.Revisions.{revisions_total}
+use Rattle.itip_items.proofs.Revisions.{revision_exact}
 
 not_greater : (r : Ordering) → (r ≡ Greater → ⊥) → is_gt r ≡ false
 not_greater Less n = refl

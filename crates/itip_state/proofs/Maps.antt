@@ -10,8 +10,8 @@ use Rattle.std.proofs.lemmas.List.Elements.{Contains-append_cases, Contains-appe
 use Rattle.std.proofs.lemmas.Map.Keys.{sorted_tail}
 use Rattle.std.proofs.lemmas.Map.Lookups.{exact_bytes}
 use Rattle.itip_join.specs.Optional.{IsBelowAt}
-use Rattle.itip_message.specs.KeyParts.{uid_of}
-use Rattle.itip_message.specs.declared.item.Item.{Item}
+use Rattle.itip_items.specs.KeyParts.{uid_of}
+use Rattle.itip_items.specs.declared.item.Item.{Item}
 use Rattle.itip_state.specs.Kept.{IsBest, AreKept, ArePart, SameItems}
 use Rattle.itip_state.specs.Order.{IsState, IsBelow}
 use Rattle.itip_state.specs.Held.{Shape, shape_items, items_of, at, IsSound, AreOrdered, AreSound, AreHeld, HoldKept}

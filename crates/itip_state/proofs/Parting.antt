@@ -6,7 +6,7 @@ use Rattle.std.specs.Ordering.{is_eq}
 use Rattle.std.proofs.lemmas.Cmp.{nat_list_cmp_total}
 use Rattle.std.proofs.lemmas.List.Folds.{list_any-append}
 use Rattle.std.proofs.lemmas.Map.Lookups.{exact_bytes}
-use Rattle.itip_message.specs.KeyParts.{uid_of}
+use Rattle.itip_items.specs.KeyParts.{uid_of}
 use Rattle.itip_state.specs.Kept.{ArePartOf}
 use Rattle.itip_state.specs.Held.{Shape, items_of, at, AreOrdered, AreHeld}
 use Rattle.itip_state.proofs.Members.{by_bool, none_in, cons_cases, cons_first, cons_later}

@@ -4,11 +4,11 @@ use Rattle.std.proofs.Math.ListN.{length-append}
 use Rattle.std.specs.List.{Contains}
 use Rattle.itip_join.specs.declared.lift.Lift.{Lift}
 use Rattle.itip_join.specs.declared.lift.Lift.TheVariants.{Nothing, Known}
-use Rattle.itip_message.specs.declared.item.Item.{Item}
+use Rattle.itip_items.specs.declared.item.Item.{Item}
 use Rattle.itip_state.specs.Kept.{ArePart, AscendKeys}
 use Rattle.itip_state.specs.Held.{Best, Shape, series_items, entry_items, shape_items, items_of, at, IsSound, AreHeld}
-use Rattle.itip_message.specs.KeyParts.{uid_of}
-use Rattle.itip_message.specs.declared.key.Key.{Key}
+use Rattle.itip_items.specs.KeyParts.{uid_of}
+use Rattle.itip_items.specs.declared.key.Key.{Key}
 use Rattle.itip_state.proofs.Members.{cons_first}
 use Rattle.itip_state.proofs.Ordered.{shape_ascends}
 use Rattle.itip_state.proofs.Maps.{items_at, IsSoundAt, sound_at, part_at}

@@ -11,11 +11,11 @@ use Rattle.itip_join.specs.declared.lift.Lift.{Lift}
 use Rattle.itip_join.specs.declared.lift.Lift.TheVariants.{Nothing, Known}
 use Rattle.itip_join.specs.KeyByKey.{value_at}
 use Rattle.itip_join.specs.Killed.{found_alive}
-use Rattle.itip_message.specs.KeyParts.{uid_of}
-use Rattle.itip_message.specs.Later.{IsLater}
-use Rattle.itip_message.specs.declared.item.Item.{Item}
-use Rattle.itip_message.specs.declared.key.Key.{Key}
-use Rattle.itip_message.specs.declared.key.Key.TheVariants.{Series}
+use Rattle.itip_items.specs.KeyParts.{uid_of}
+use Rattle.itip_items.specs.Later.{IsLater}
+use Rattle.itip_items.specs.declared.item.Item.{Item}
+use Rattle.itip_items.specs.declared.key.Key.{Key}
+use Rattle.itip_items.specs.declared.key.Key.TheVariants.{Series}
 use Rattle.itip_state.specs.Kept.{IsDead, CanDie}
 use Rattle.itip_state.specs.Order.{IsState}
 use Rattle.itip_state.specs.Slots.{slot_cmp, slot_total, slot_exact}

@@ -1,6 +1,6 @@
 -- What a state keeps of one UID.
 use Rattle.std.proofs.Common.{ℕ, List}
-use Rattle.itip_message.specs.declared.item.Item.{Item}
+use Rattle.itip_items.specs.declared.item.Item.{Item}
 use Rattle.itip_state.specs.Kept.{ArePart, AscendKeys}
 use Rattle.itip_state.specs.OfUid.{IsUidPart}
 use Rattle.itip_state.specs.Order.{IsState}

@@ -1,8 +1,8 @@
 -- The UIDs that items are about.
 use Rattle.std.proofs.Common.{◌≡◌, ℕ, List, [], ◌∷◌, subst, map, inl, inr}
 use Rattle.std.specs.List.{Contains}
-use Rattle.itip_message.specs.KeyParts.{uid_of}
-use Rattle.itip_message.specs.declared.item.Item.{Item}
+use Rattle.itip_items.specs.KeyParts.{uid_of}
+use Rattle.itip_items.specs.declared.item.Item.{Item}
 use Rattle.itip_state.proofs.Members.{none_in, cons_cases, cons_first, cons_later}
 
 module _ {X : Type 0} (f : X → Item) where

@@ -14,9 +14,9 @@ use Rattle.itip_join.specs.KeyByKey.{value_at, entries_from_values}
 use Rattle.itip_join.specs.Killed.{found_alive}
 use Rattle.itip_join.specs.Lifted.{IsLiftedBelow}
 use Rattle.itip_join.specs.Optional.{IsBelowUnder}
-use Rattle.itip_message.specs.KeyParts.{uid_of}
-use Rattle.itip_message.specs.declared.item.Item.{Item}
-use Rattle.itip_message.specs.declared.key.Key.{Key}
+use Rattle.itip_items.specs.KeyParts.{uid_of}
+use Rattle.itip_items.specs.declared.item.Item.{Item}
+use Rattle.itip_items.specs.declared.key.Key.{Key}
 use Rattle.itip_state.specs.Changes.{IsBackAt, in_place_of}
 use Rattle.itip_state.specs.Joined.{IsShapeBelow, HoldsOfTwo, IsJoinedAt}
 use Rattle.itip_state.specs.Undone.{IsNoted, LeadsBack, IsUndone, AreUndone, IsOfAll, NotesAll}

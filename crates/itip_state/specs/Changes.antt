@@ -2,7 +2,7 @@
 use Rattle.std.specs.Prelude.{◌≡◌, true, cond, Option, Some, None, is_some}
 use Rattle.std.specs.Ordering.{is_eq}
 use Rattle.itip_join.specs.KeyByKey.{value_at}
-use Rattle.itip_message.specs.declared.key.Key.{Key}
+use Rattle.itip_items.specs.declared.key.Key.{Key}
 use Rattle.itip_state.specs.Slots.{slot_cmp}
 use Rattle.itip_state.specs.Held.{Best, Shape, IsWhole}
 

@@ -2,7 +2,7 @@
 use Rattle.std.specs.Prelude.{◌≡◌, ◌⊎◌, List, ℕ, Option, Some, None}
 use Rattle.std.specs.Ordering.{nat_cmp}
 use Rattle.std.specs.Cmp.Lexicographic.{slice_cmp}
-use Rattle.itip_message.specs.declared.key.Key.{Key}
+use Rattle.itip_items.specs.declared.key.Key.{Key}
 use Rattle.itip_join.specs.KeyByKey.{value_at, IsMapBelow, IsMapBelowUnder}
 use Rattle.itip_join.specs.Lifted.{IsLiftedBelow}
 use Rattle.itip_state.specs.Slots.{slot_cmp}

@@ -4,11 +4,11 @@ use Rattle.std.specs.List.{Contains, AllPairs}
 use Rattle.std.specs.Ordering.{nat_cmp}
 use Rattle.std.specs.Cmp.Lexicographic.{slice_cmp}
 use Rattle.std.specs.declared.cmp.Ordering.TheVariants.{Less}
-use Rattle.itip_message.specs.Later.{IsLater}
-use Rattle.itip_message.specs.KeyParts.{uid_of}
-use Rattle.itip_message.specs.declared.item.Item.{Item}
-use Rattle.itip_message.specs.declared.key.Key.{Key}
-use Rattle.itip_message.specs.declared.key.Key.TheVariants.{Series, Instance, Range, Answer, Refresh}
+use Rattle.itip_items.specs.Later.{IsLater}
+use Rattle.itip_items.specs.KeyParts.{uid_of}
+use Rattle.itip_items.specs.declared.item.Item.{Item}
+use Rattle.itip_items.specs.declared.key.Key.{Key}
+use Rattle.itip_items.specs.declared.key.Key.TheVariants.{Series, Instance, Range, Answer, Refresh}
 use Rattle.itip_state.specs.Slots.{key_cmp}
 
 -- the item of a key that no item of that key is later than

@@ -1,8 +1,8 @@
 -- What a state keeps of one UID (our own rule).
 use Rattle.std.specs.Prelude.{ℕ, List, refl}
 use Rattle.std.specs.Coded.{Coded, code_by, coded×, coded_ℕ, coded_list}
-use Rattle.itip_message.specs.contracts.item.Item as item
-use Rattle.itip_message.specs.declared.item.Item.{Item}
+use Rattle.itip_items.specs.contracts.item.Item as item
+use Rattle.itip_items.specs.declared.item.Item.{Item}
 use Rattle.itip_state.specs.Kept.{AreOf, AscendKeys}
 use Rattle.itip_state.specs.Order.{IsState}
 

@@ -1,6 +1,6 @@
 -- The order of states (our own rule): one is below another where hearing its items adds nothing to the other.
 use Rattle.std.specs.Prelude.{List, ◌++◌}
-use Rattle.itip_message.specs.declared.item.Item.{Item}
+use Rattle.itip_items.specs.declared.item.Item.{Item}
 use Rattle.itip_state.specs.Kept.{AreKept}
 
 -- a set that keeps each of its items

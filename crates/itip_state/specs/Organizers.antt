@@ -1,9 +1,9 @@
 -- The sequences that organizers have used (our own rule): those of REQUEST, ADD and CANCEL, also where it takes out an attendee.
 use Rattle.std.specs.Prelude.{◌≡◌, ◌≤◌, ℕ, max, List, [], ◌∷◌, Option, Some, None, Bool, true, false, if◌then◌else◌}
-use Rattle.itip_message.specs.KeyParts.{uid_of}
-use Rattle.itip_message.specs.declared.item.Item.{Item}
-use Rattle.itip_message.specs.declared.kind.Kind.{Kind}
-use Rattle.itip_message.specs.declared.kind.Kind.TheVariants as kind
+use Rattle.itip_items.specs.KeyParts.{uid_of}
+use Rattle.itip_items.specs.declared.item.Item.{Item}
+use Rattle.itip_items.specs.declared.kind.Kind.{Kind}
+use Rattle.itip_items.specs.declared.kind.Kind.TheVariants as kind
 use Rattle.itip_state.specs.Kept.{IsKept}
 
 abbrev pub is_organizers : Kind → Bool

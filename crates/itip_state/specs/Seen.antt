@@ -3,7 +3,7 @@ use Rattle.std.specs.Prelude.{ℕ, List, [], ◌∷◌}
 use Rattle.std.specs.declared.cmp.Ord as ord
 use Rattle.std.specs.declared.cmp.PartialEq as eq
 use Rattle.std.specs.declared.cmp.PartialOrd as partial
-use Rattle.itip_message.specs.declared.key.Key.{Key}
+use Rattle.itip_items.specs.declared.key.Key.{Key}
 use Rattle.itip_join.specs.declared.guarded.Guarded.{Guarded}
 use Rattle.itip_join.specs.declared.join.Join as join
 use Rattle.itip_join.specs.declared.keyed.Keyed.{Keyed}

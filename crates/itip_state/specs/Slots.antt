@@ -12,9 +12,9 @@ use Rattle.std.proofs.lemmas.Map.Lookups.{CmpEqualImpliesEq, exact_unsigned, exa
 use Rattle.itip_moment.specs.Order.{moment_cmp}
 use Rattle.itip_moment.specs.OrderLaws.{moment_total}
 use Rattle.itip_moment.proofs.Same.{moment_equal}
-use Rattle.itip_message.specs.KeyParts.{uid_of, rank_of, instance_of, attendee_of}
-use Rattle.itip_message.specs.declared.key.Key.{Key}
-use Rattle.itip_message.proofs.Keys.{from_parts}
+use Rattle.itip_items.specs.KeyParts.{uid_of, rank_of, instance_of, attendee_of}
+use Rattle.itip_items.specs.declared.key.Key.{Key}
+use Rattle.itip_items.proofs.Keys.{from_parts}
 use Rattle.itip_join.specs.Ranked.{exact_option}
 
 -- by kind of key, instance and attendee

@@ -1,8 +1,8 @@
 -- What adds nothing (our own form): an item no later than one of its key in the set, and an item that is dead beside the set. All else is news.
 use Rattle.std.specs.Prelude.{◌≡◌, List, Some, ◌⊎◌, true, false}
 use Rattle.std.specs.List.{Contains}
-use Rattle.itip_message.specs.Later.{IsLater}
-use Rattle.itip_message.specs.declared.item.Item.{Item}
+use Rattle.itip_items.specs.Later.{IsLater}
+use Rattle.itip_items.specs.declared.item.Item.{Item}
 use Rattle.itip_join.specs.declared.lift.Lift.TheVariants.{Known}
 use Rattle.itip_join.specs.KeyByKey.{value_at}
 use Rattle.itip_state.specs.Slots.{slot_cmp}

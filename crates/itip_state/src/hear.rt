@@ -2,8 +2,8 @@
 ghost use Rattle.std.specs.Prelude.{◌≡◌, ◌↔◌, ◌++◌, ◌∷◌, [], ℕ, List, Some, false, map, IsTrue, IfOk, OnOk, OnErr};
 ghost use Rattle.std.specs.Ordering.{nat_cmp, is_eq};
 ghost use Rattle.std.specs.Cmp.Lexicographic.{slice_cmp};
-ghost use Rattle.itip_message.specs.KeyParts.{uid_of};
-ghost use Rattle.itip_message.specs.declared.item.Item.{Item};
+ghost use Rattle.itip_items.specs.KeyParts.{uid_of};
+ghost use Rattle.itip_items.specs.declared.item.Item.{Item};
 ghost use Rattle.itip_state.specs.Held.{Shape, at, alone, AreOrdered, HoldKept};
 ghost use Rattle.itip_state.specs.Joined.{IsJoinedAt};
 ghost use Rattle.itip_state.specs.Undone.{IsNoted, IsUndone, AreUndone, NotesAll};

@@ -12,8 +12,8 @@ ghost use Rattle.itip_state.specs.Joined.{IsJoinedAt, AreBelow};
 use crate::NoMemory;
 use crate::series::{SeriesState, share};
 use crate::shared::SharedItem;
+use itip_items::Item;
 use itip_join::{Join, Keyed, Lift};
-use itip_message::Item;
 use itip_todo::Uid;
 use std::alloc::Global;
 use std::marker::Model;
@@ -32,8 +32,8 @@ impl Model for Held {
     ghost Value = { List (List ℕ × Shape) };
 
     ghost use Rattle.std.specs.Coded.{codes};
-    ghost use Rattle.itip_message.specs.contracts.item.Item as item;
-    ghost use Rattle.itip_message.specs.contracts.key.Key as key;
+    ghost use Rattle.itip_items.specs.contracts.item.Item as item;
+    ghost use Rattle.itip_items.specs.contracts.key.Key as key;
 
     ghost coded = { Prim.hlevel (codes, item.the_row.coded, key.the_row.coded) };
 

@@ -1,6 +1,6 @@
 //! The laws of what is kept, of every finite set of items. They hold with no code: each function is empty.
 ghost use Rattle.std.specs.Prelude.{◌≡◌, List, ◌++◌, ℕ, ◌↔◌};
-ghost use Rattle.itip_message.specs.declared.item.Item.{Item};
+ghost use Rattle.itip_items.specs.declared.item.Item.{Item};
 ghost use Rattle.itip_state.specs.Kept.{AreKept, ArePart, SameItems, IsKept};
 ghost use Rattle.itip_state.specs.Order.{IsState, IsBelow, IsLeastUpperBound};
 

@@ -1,14 +1,14 @@
 //! What a state keeps of one UID.
 ghost use Rattle.std.specs.Prelude.{◌≡◌, map};
 ghost use Rattle.std.specs.Option.{option_copied};
-ghost use Rattle.itip_message.specs.declared.key.Key.TheVariants as key;
-ghost use Rattle.itip_message.specs.declared.key.Key.{Key};
+ghost use Rattle.itip_items.specs.declared.key.Key.TheVariants as key;
+ghost use Rattle.itip_items.specs.declared.key.Key.{Key};
 ghost use Rattle.itip_state.specs.Kept.{IsBestOf};
 ghost use Rattle.itip_state.specs.OfUid.{UidPart, IsUidPart};
 ghost use Rattle.itip_state.specs.Parts.{HasParts};
 
 use crate::parts::{KeyParts, compare};
-use itip_message::{Item, Key};
+use itip_items::{Item, Key};
 use itip_moment::Moment;
 use itip_todo::Uid;
 use std::marker::Model;

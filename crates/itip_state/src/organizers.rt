@@ -5,8 +5,8 @@ ghost use Rattle.itip_state.specs.Seen.{shape};
 ghost use Rattle.itip_state.specs.Organizers.{used_by, greater, greatest};
 
 use crate::series::SeriesState;
+use itip_items::{Item, Kind};
 use itip_join::Lift;
-use itip_message::{Item, Kind};
 
 /// The effective sequence of an item that an organizer has sent.
 fn used_by(item: &Item) -> Option<u32>

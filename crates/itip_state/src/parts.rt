@@ -1,10 +1,10 @@
 //! The parts of a key, by which an item is looked up with no key made for it.
 ghost use Rattle.std.specs.Prelude.{◌≡◌};
 ghost use Rattle.std.specs.Option.{option_copied};
-ghost use Rattle.itip_message.specs.declared.key.Key.TheVariants as key;
+ghost use Rattle.itip_items.specs.declared.key.Key.TheVariants as key;
 ghost use Rattle.itip_state.specs.Parts.{HasParts, within_beside, rest_beside, parts_cmp};
 
-use itip_message::Key;
+use itip_items::Key;
 use itip_moment::Moment;
 use itip_todo::Uid;
 use std::cmp::Ordering;

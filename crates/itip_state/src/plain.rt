@@ -1,14 +1,14 @@
 //! The kept items, item by item as they are defined: each is compared with each. It is slow, and what a state is tested against.
 ghost use Rattle.std.specs.Prelude.{◌≡◌, ◌↔◌, ◌≢◌, IsTrue, IfOk};
 ghost use Rattle.std.specs.List.{Contains, AllPairs, list_any};
-ghost use Rattle.itip_message.specs.declared.item.Item.{Item};
+ghost use Rattle.itip_items.specs.declared.item.Item.{Item};
 ghost use Rattle.itip_state.specs.Kept.{AreKept};
 ghost use Rattle.itip_state.specs.Plain.{outdates as item_outdates, kills as item_kills, keeps};
 
 use crate::NoMemory;
 use crate::series::is_below;
 use crate::slot::compare;
-use itip_message::{Item, Key};
+use itip_items::{Item, Key};
 use std::alloc::Global;
 
 /// Whether `later` is a later revision of the same key.

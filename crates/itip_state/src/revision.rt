@@ -2,11 +2,11 @@
 ghost use Rattle.std.specs.Prelude.{◌≡◌, IfOk, refl};
 ghost use Rattle.std.specs.Cmp.{partial_order_from_total, partial_equiv_from_equiv, eq_by_cmp_equiv};
 ghost use Rattle.std.specs.Ordering.{as_partial_cmp, eq_by_cmp};
-ghost use Rattle.itip_message.specs.Later.{revision_cmp};
-ghost use Rattle.itip_message.specs.Revisions.{revisions_total};
+ghost use Rattle.itip_items.specs.Later.{revision_cmp};
+ghost use Rattle.itip_items.specs.Revisions.{revisions_total};
 
+use itip_items::Item;
 use itip_join::{Exact, Greatest, NoMemory};
-use itip_message::Item;
 use std::alloc::Global;
 use std::cmp::Ordering;
 use std::marker::Model;
@@ -19,11 +19,11 @@ pub(crate) struct Revision {
 }
 
 impl Model for Revision {
-    ghost use Rattle.itip_message.specs.declared.item.Item.{Item};
+    ghost use Rattle.itip_items.specs.declared.item.Item.{Item};
 
     ghost Value = { Item };
 
-    ghost use Rattle.itip_message.specs.contracts.item.Item as item;
+    ghost use Rattle.itip_items.specs.contracts.item.Item as item;
 
     ghost coded = { item.the_row.coded };
 
@@ -92,7 +92,7 @@ impl Ord for Revision {
 }
 
 impl Exact for Revision {
-    ghost use Rattle.itip_message.proofs.Revisions.{revision_exact};
+    ghost use Rattle.itip_items.proofs.Revisions.{revision_exact};
 
     ghost exact = { revision_exact };
 

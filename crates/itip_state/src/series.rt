@@ -5,7 +5,7 @@ ghost use Rattle.itip_state.specs.Held.{can_die as key_can_die, is_below as item
 ghost use Rattle.itip_state.specs.Seen.{shape};
 ghost use Rattle.std.specs.Ordering.{is_eq};
 ghost use Rattle.itip_join.specs.KeyByKey.{value_at};
-ghost use Rattle.itip_message.specs.declared.key.Key.{Key};
+ghost use Rattle.itip_items.specs.declared.key.Key.{Key};
 ghost use Rattle.itip_state.specs.Slots.{slot_cmp};
 ghost use Rattle.itip_state.specs.Changes.{IsBackAt, in_place_of};
 ghost use Rattle.itip_state.specs.Dying.{kills_below, kills_more};
@@ -14,8 +14,8 @@ use crate::NoMemory;
 use crate::revision::Best;
 use crate::shared::SharedItem;
 use crate::slot::Slot;
+use itip_items::{Item, Key};
 use itip_join::{Exact, Greatest, Guard, Guarded, Keyed, Lift};
-use itip_message::{Item, Key};
 use std::alloc::Global;
 
 /// The kept items of one UID: the best series item, or none, and under it the best items of the other keys. It makes those dead that are below it.

@@ -3,16 +3,16 @@ ghost use Rattle.std.specs.Prelude.{◌≡◌, IfOk, map, refl};
 ghost use Rattle.std.specs.Option.{option_copied};
 ghost use Rattle.std.specs.Cmp.{partial_order_from_total, partial_equiv_from_equiv, eq_by_cmp_equiv};
 ghost use Rattle.std.specs.Ordering.{as_partial_cmp, eq_by_cmp};
-ghost use Rattle.itip_message.specs.KeyParts.{uid_of};
-ghost use Rattle.itip_message.specs.OctetOrder.{octets_cmp, octets_total};
+ghost use Rattle.itip_items.specs.KeyParts.{uid_of};
+ghost use Rattle.itip_items.specs.OctetOrder.{octets_cmp, octets_total};
 ghost use Rattle.itip_state.specs.Held.{IsPlaceOf};
 ghost use Rattle.itip_state.specs.Kept.{IsItemsOf, AreUidsOf};
 
 use crate::NoMemory;
 use crate::revision::Revision;
 use crate::slot::Slot;
+use itip_items::{Item, Key};
 use itip_join::Exact;
-use itip_message::{Item, Key};
 use itip_todo::Uid;
 use std::alloc::Global;
 use std::cmp::Ordering;
@@ -28,12 +28,12 @@ pub struct SharedItem {
 }
 
 impl Model for SharedItem {
-    ghost use Rattle.itip_message.specs.declared.item.Item.{Item};
+    ghost use Rattle.itip_items.specs.declared.item.Item.{Item};
     ghost use Rattle.itip_state.specs.Held.{IsPlaceOf};
 
     ghost Value = { Item };
 
-    ghost use Rattle.itip_message.specs.contracts.item.Item as item;
+    ghost use Rattle.itip_items.specs.contracts.item.Item as item;
 
     ghost coded = { item.the_row.coded };
 

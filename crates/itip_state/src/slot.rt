@@ -5,8 +5,8 @@ ghost use Rattle.std.specs.Ordering.{as_partial_cmp, eq_by_cmp};
 ghost use Rattle.itip_state.specs.Slots.{rest_cmp, key_cmp, slot_cmp, slot_total};
 
 use crate::parts::{self, KeyParts};
+use itip_items::Key;
 use itip_join::{Exact, NoMemory};
-use itip_message::Key;
 use std::alloc::Global;
 use std::cmp::Ordering;
 use std::marker::Model;
@@ -19,11 +19,11 @@ pub(crate) struct Slot {
 }
 
 impl Model for Slot {
-    ghost use Rattle.itip_message.specs.declared.key.Key.{Key};
+    ghost use Rattle.itip_items.specs.declared.key.Key.{Key};
 
     ghost Value = { Key };
 
-    ghost use Rattle.itip_message.specs.contracts.key.Key as key;
+    ghost use Rattle.itip_items.specs.contracts.key.Key as key;
 
     ghost coded = { key.the_row.coded };
 

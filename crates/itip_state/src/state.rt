@@ -2,9 +2,9 @@
 ghost use Rattle.std.specs.Prelude.{◌≡◌, ◌↔◌, [], ◌++◌, IsTrue, IfOk, OnOk, OnErr, IsOk, MatchBool, length, min, map};
 ghost use Rattle.std.specs.List.{Contains};
 ghost use Rattle.std.specs.Option.{option_copied};
-ghost use Rattle.itip_message.specs.KeyParts.{uid_of};
-ghost use Rattle.itip_message.specs.Later.{IsLater};
-ghost use Rattle.itip_message.specs.declared.item.Item.{Item};
+ghost use Rattle.itip_items.specs.KeyParts.{uid_of};
+ghost use Rattle.itip_items.specs.Later.{IsLater};
+ghost use Rattle.itip_items.specs.declared.item.Item.{Item};
 ghost use Rattle.itip_state.specs.Held.{items_of, shape_items, AreHeld};
 ghost use Rattle.itip_state.specs.Seen.{shape};
 ghost use Rattle.itip_state.specs.Told.{IsOutdone, HoldsNoEarlier};
@@ -17,8 +17,8 @@ use crate::organizers::greatest;
 use crate::revision::Best;
 use crate::series::{SeriesState, is_dead_below, share};
 use crate::shared::{SharedItem, by_octets};
+use itip_items::Item;
 use itip_join::Lift;
-use itip_message::Item;
 use itip_todo::Uid;
 use std::alloc::Global;
 use std::marker::Model;
@@ -79,12 +79,12 @@ pub struct State {
 
 impl Model for State {
     ghost use Rattle.std.specs.Prelude.{List};
-    ghost use Rattle.itip_message.specs.declared.item.Item.{Item};
+    ghost use Rattle.itip_items.specs.declared.item.Item.{Item};
 
     ghost Value = { List Item };
 
     ghost use Rattle.std.specs.Coded.{coded_list};
-    ghost use Rattle.itip_message.specs.contracts.item.Item as item;
+    ghost use Rattle.itip_items.specs.contracts.item.Item as item;
 
     ghost coded = { coded_list item.the_row.coded };
 

@@ -7,4 +7,4 @@ mod output;
 
 pub use fault::StreamFault;
 pub use input::{MAX_READS, read_some, read_within};
-pub use output::write_output;
+pub use output::{write_if_many, write_output};

@@ -1,10 +1,13 @@
 //! Writing octets.
 ghost use Rattle.std.specs.Prelude.{◌≡◌, ◌≤◌, length, OnOk, OnErr, IfOk, IfErr};
 ghost use Rattle.std.specs.Io.KnownBytes.{Appends, WriteAppends};
-ghost use Rattle.itip_streams.specs.Written.{AppendsFront};
+ghost use Rattle.itip_streams.specs.Written.{AppendsFront, MovesOut};
 
 use crate::fault::StreamFault;
 use std::io::Write;
+
+// How many octets are kept before they are written.
+const CHUNK: usize = 65_536;
 
 /// Writes all octets. A failed write is [`StreamFault::Write`] at once, and so is one that accepts no octet;
 /// what was written is then a front of them.
@@ -20,6 +23,19 @@ pub fn write_output<W: Write>(writer: &mut W, bytes: &[u8]) -> Result<(), Stream
             return Err(StreamFault::Write);
         }
         rest = &rest[count..];
+    }
+    Ok(())
+}
+
+/// Writes the octets that are kept, and keeps none, once they are 65,536 or more. A fault is that of [`write_output`]; they are kept then.
+pub fn write_if_many<W: Write>(writer: &mut W, kept: &mut Vec<u8>) -> Result<(), StreamFault>
+    ensures moved { OnOk result (MovesOut (W.contents writer.old) (W.contents writer.new) kept.old.items kept.new.items) }
+    ensures front { OnErr result (AppendsFront (W.contents writer.old) (W.contents writer.new) kept.old.items) }
+    ensures fault { IfErr result (λ fault. fault ≡ StreamFault.Write) }
+{
+    if kept.len() >= CHUNK {
+        write_output(writer, kept.as_slice())?;
+        kept.clear();
     }
     Ok(())
 }

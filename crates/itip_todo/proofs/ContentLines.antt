@@ -9,7 +9,7 @@ use Rattle.std.proofs.lemmas.Str.Ascii.{IsAscii-cons, IsAscii-nil}
 use Rattle.itip_lines.specs.Lawful.{line_text}
 use Rattle.itip_lines.specs.Octets.{is_upper_name_octet, is_value_octet}
 use Rattle.itip_lines.specs.Writing.{written, unfolded_text, all_written}
-use Rattle.itip_lines.specs.Reading.{Reads}
+use Rattle.itip_lines.specs.Reading.{ReadsLines}
 use Rattle.itip_lines.specs.declared.line.Line.{Line}
 use Rattle.itip_lines.proofs.Roundtrip.{reads_written}
 use Rattle.itip_todo.specs.Lawful.{IsLawfulContent}
@@ -33,9 +33,9 @@ unfolding written unfolded_text
 octets_from [] h = refl
 octets_from (c ∷ cs) h = ap (λ (bytes : List ℕ). written (record { name = c.name; params = c.params; value = c.value; lawful = h.0 }) ++ bytes) (octets_from cs h.1)
 
-pub reads_from : (cs : List Content) (h : AllByRecursion IsLawfulContent cs) → length cs ≤ 20000 → length (contents_octets cs) ≤ 1048576 → Reads (contents_octets cs) (lines_from cs h)
+pub reads_from : (cs : List Content) (h : AllByRecursion IsLawfulContent cs) → length cs ≤ 20000 → length (contents_octets cs) ≤ 1048576 → ReadsLines (contents_octets cs) (lines_from cs h)
 reads_from cs h few short =
-    subst (λ (bytes : List ℕ). Reads bytes (lines_from cs h)) (octets_from cs h)
+    subst (λ (bytes : List ℕ). ReadsLines bytes (lines_from cs h)) (octets_from cs h)
     (reads_written (lines_from cs h) (omega (arith, length_from cs h)) (omega (arith, ap length (octets_from cs h))))
 
 ascii : (bs : List ℕ) → IsTrue (list_all (λ b. nat_lt b 128) bs) → IsAscii bs

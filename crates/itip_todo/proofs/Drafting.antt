@@ -4,12 +4,12 @@ use Rattle.std.specs.Option.{is_some}
 use Rattle.itip_lines.specs.declared.line.Line.{Line}
 use Rattle.itip_moment.specs.declared.moment.Moment.{Moment}
 use Rattle.itip_moment.specs.declared.stamp.Stamp.{Stamp}
-use Rattle.itip_todo.specs.Reading.{IsOptional, IsUidOf, IsStampOf, IsSequenceOf, IsMomentOf, IsStatusOf, IsPercentOf, IsPriorityOf, IsPropertyOf, IsOrganizerOf, HasFaultAs, is_twice, has_range, has_bad_range, range_of, first_of}
+use Rattle.itip_todo.specs.Reading.{IsOptional, IsUidOf, IsStampOf, IsSequenceOf, IsMomentOf, IsStatusOf, IsPercentOf, IsPriorityOf, IsPropertyOf, IsOrganizerOf, HasCauseAs, is_twice, has_range, has_bad_range, range_of, first_of}
 use Rattle.itip_todo.specs.Drafts.{IsDraftOf, Holds, Takes, more}
 use Rattle.itip_todo.specs.declared.draft.Draft.{Draft}
 use Rattle.itip_todo.specs.Values.{IsGoodValue}
-use Rattle.itip_todo.specs.declared.error.Fault.{Fault}
-use Rattle.itip_todo.specs.declared.error.Fault.TheVariants as fault
+use Rattle.itip_todo.specs.declared.error.TodoCause.{TodoCause}
+use Rattle.itip_todo.specs.declared.error.TodoCause.TheVariants as cause
 use Rattle.itip_todo.specs.declared.property.Property.{Property}
 use Rattle.itip_todo.specs.declared.property_name.PropertyName.{PropertyName}
 use Rattle.itip_todo.specs.declared.property_name.PropertyName.TheVariants as name
@@ -33,8 +33,8 @@ put P (l ∷ lines) line None a h e here = absurd h
 put P (l ∷ lines) line (Some b) a h e here = absurd cc
 
 -- the value of a line of which no property stood above is bad
-pub bad : (above : PropertyName → List Line) (p : PropertyName) (line : Line) (f : Fault) → f ≡ fault.BadValue p → is_twice above p ≡ false → has_bad_range p line ≡ false → (IsGoodValue p line → ⊥) → HasFaultAs above p line f
-bad above p line f e once range none = subst (λ (g : Fault). HasFaultAs above p line g) (sym e) (refl, once, range, none)
+pub bad : (above : PropertyName → List Line) (p : PropertyName) (line : Line) (f : TodoCause) → f ≡ cause.BadValue p → is_twice above p ≡ false → has_bad_range p line ≡ false → (IsGoodValue p line → ⊥) → HasCauseAs above p line f
+bad above p line f e once range none = subst (λ (g : TodoCause). HasCauseAs above p line g) (sym e) (refl, once, range, none)
 
 pub takes_uid : (line : Line) (d : Draft) (a : List ℕ) → d.uid ≡ None → IsUidOf line a → Takes name.Uid line d (record d { uid = Some a })
 takes_uid line d a none here = record {

@@ -18,13 +18,12 @@ use Rattle.itip_todo.specs.Parts.{Parts}
 use Rattle.itip_todo.specs.Drafts.{IsDraftOf, IsLawfulDraft, IsSetOf, draft_parts}
 use Rattle.itip_todo.specs.Lawful.{IsLawful, IsLawfulContent, HasValue, keys_of}
 use Rattle.itip_todo.specs.Participation.{same_text}
-use Rattle.itip_todo.specs.Reading.{IsOptional, IsOrNought, IfFault, AreGood, RefusesTodo, IsUidOf, IsStampOf, IsSequenceOf, IsPercentOf, IsPriorityOf, IsMomentOf, IsStatusOf, IsPropertyOf, IsOrganizerOf, AreMomentsOf, ListMoments, lines_of, first_of, first_named, range_of, whole_property, value_of, key_of}
+use Rattle.itip_todo.specs.Reading.{IsOptional, IsOrNought, IfRefused, AreGood, LacksProperty, missing, IsUidOf, IsStampOf, IsSequenceOf, IsPercentOf, IsPriorityOf, IsMomentOf, IsStatusOf, IsPropertyOf, IsOrganizerOf, AreMomentsOf, ListMoments, lines_of, first_of, first_named, range_of, whole_property, value_of, key_of}
 use Rattle.itip_todo.specs.StatusText.{status_text}
 use Rattle.itip_todo.specs.Table.{name_text, place_of, is_same, property_of, is_other, sequence_limit, percent_limit, priority_limit, attendee_limit}
 use Rattle.itip_todo.specs.Values.{IsNumberUpTo, AreMoments}
 use Rattle.itip_todo.specs.Written.{Content, content_of, plain, moment_line, rid_line, property_line, parts_contents}
 use Rattle.itip_todo.specs.declared.draft.Draft.{Draft}
-use Rattle.itip_todo.specs.declared.error.Fault.TheVariants as fault
 use Rattle.itip_todo.specs.declared.error.TodoError.{TodoError}
 use Rattle.itip_todo.specs.declared.error.TodoError.TheVariants as error
 use Rattle.itip_todo.specs.declared.property.Property.{Property}
@@ -267,12 +266,12 @@ is_absent P None read = refl
 is_absent P (Some line) read = absurd read
 
 -- a draft with a UID and no DTSTAMP is refused for want of DTSTAMP
-pub stampless : (e : TodoError) (draft : Draft) (uid : List ℕ) → draft.uid ≡ Some uid → IfFault e (λ f. (f ≡ fault.Missing name.DtStamp) × (draft.stamp ≡ None))
-    → IfFault e (λ f. (lines : List Line) → AreGood [] lines → IsDraftOf (lines_of lines) draft → RefusesTodo lines f)
+pub stampless : (e : TodoError) (draft : Draft) (uid : List ℕ) → draft.uid ≡ Some uid → IfRefused e (λ r. (r ≡ missing name.DtStamp) × (draft.stamp ≡ None))
+    → IfRefused e (λ r. (lines : List Line) → AreGood [] lines → IsDraftOf (lines_of lines) draft → LacksProperty lines r)
 stampless error.NoMemory draft uid there missing = tt
-stampless (error.Fault f) draft uid there (same, none) = λ lines good is. inr (inr (
+stampless (error.Refused r) draft uid there (same, none) = λ lines good is. inr (
   good,
   is_there IsUidOf (first_named name.Uid lines) uid (subst (λ (v : Option (List ℕ)). IsOptional IsUidOf (first_named name.Uid lines) v) there (is name.Uid)),
   is_absent IsStampOf (first_named name.DtStamp lines) (subst (λ (v : Option Stamp). IsOptional IsStampOf (first_named name.DtStamp lines) v) none (is name.DtStamp)),
   same,
-))
+)

@@ -1,4 +1,4 @@
--- Lines have no fault, where each property that may stand once does, each value is good, and no two attendees are one.
+-- Nothing is wrong with lines where each property that may stand once does, each value is good, and no two attendees are one.
 use Rattle.std.proofs.Common.{◌≡◌, ◌∙◌, ap, refl, sym, subst, ℕ, ◌<◌, ◌≤◌, Bool, true, false, cond, ◌&&◌, ◌||◌, List, [], ◌∷◌, ◌++◌, length, append_assoc, length-append, arith, map}
 use Rattle.std.specs.Prelude.{nat_le}
 use Rattle.std.specs.Option.{is_some}

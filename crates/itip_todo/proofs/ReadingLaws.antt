@@ -1,12 +1,14 @@
--- Lines are read as one to-do, or refused for one fault, and not both.
+-- Lines are read as one to-do, or refused for one cause in one place, and not both.
 use Rattle.std.proofs.Common.{◌≡◌, ◌∙◌, sym, ap, refl, ℕ, Bool, true, false, List, [], ◌∷◌, ◌++◌, subst, inl, inr, arith, Option, Some, None}
 use Rattle.std.proofs.lemmas.Map.Lookups.{btree_set_from_contains}
 use Rattle.std.specs.BTreeMap.{is_at}
 use Rattle.std.specs.BTreeSet.{BTreeSet}
 use Rattle.std.specs.List.{Contains, list_any}
-use Rattle.std.specs.Prelude.{codes}
+use Rattle.std.specs.Prelude.{codes, ◌↔◌}
 use Rattle.std.specs.Str.Parse.{without_leading_plus, IsNumeral}
+use Rattle.itip_lines.specs.Reading.{plain_lines}
 use Rattle.itip_lines.specs.declared.line.Line.{Line}
+use Rattle.itip_lines.specs.declared.line.NumberedLine.{NumberedLine}
 use Rattle.itip_lines.specs.declared.line.Param.{Param}
 use Rattle.itip_moment.specs.Order.{moment_cmp}
 use Rattle.itip_moment.specs.OrderLaws.{moment_total}
@@ -14,11 +16,12 @@ use Rattle.itip_moment.specs.declared.moment.Moment.{Moment}
 use Rattle.itip_moment.proofs.Same.{moment_equal}
 use Rattle.itip_moment.proofs.ValueLaws.{stamp_text-one, moment_text-one}
 use Rattle.itip_todo.specs.Participation.{param_value}
-use Rattle.itip_todo.specs.Reading.{AreGood, FirstFault, IsGoodAs, HasFaultAs, IsOptional, IsOrNought, IsUidOf, IsStampOf, IsSequenceOf, IsPercentOf, IsPriorityOf, IsMomentOf, IsStatusOf, IsPropertyOf, IsOrganizerOf, ListMoments, AreMomentsOf, ReadsTodo, RefusesTodo, first_named, lines_of}
+use Rattle.itip_todo.specs.Reading.{AreGood, HasCause, FirstRefusal, IsGoodAs, HasCauseAs, IsOptional, IsOrNought, IsUidOf, IsStampOf, IsSequenceOf, IsPercentOf, IsPriorityOf, IsMomentOf, IsStatusOf, IsPropertyOf, IsOrganizerOf, ListMoments, AreMomentsOf, ReadsTodo, RefusesTodo, first_named, lines_of}
 use Rattle.itip_todo.specs.Table.{property_of, sequence_limit, percent_limit, priority_limit}
 use Rattle.itip_todo.specs.Values.{IsNumberUpTo, AreMoments}
-use Rattle.itip_todo.specs.declared.error.Fault.{Fault}
-use Rattle.itip_todo.specs.declared.error.Fault.TheVariants as fault
+use Rattle.itip_todo.specs.declared.error.TodoCause.{TodoCause}
+use Rattle.itip_todo.specs.declared.error.TodoCause.TheVariants as cause
+use Rattle.itip_todo.specs.declared.error.TodoRefusal.{TodoRefusal}
 use Rattle.itip_todo.specs.declared.property_name.PropertyName.{PropertyName}
 use Rattle.itip_todo.specs.declared.property_name.PropertyName.TheVariants as name
 use Rattle.itip_todo.specs.declared.status.Status.{Status}
@@ -123,80 +126,101 @@ one_todo lines a b h k = same_todo a b (λ i. record {
   others = (h.others ∙ sym k.others) i;
 })
 
--- a line has no fault, or one
+-- nothing is wrong with a line, or one thing
 
 never : {b : Bool} → b ≡ false → b ≡ true → ⊥
 never h k = let e : false ≡ true = sym h ∙ k in absurd cc
 
-good_fault : (above : PropertyName → List Line) (p : PropertyName) (line : Line) (f : Fault) → IsGoodAs above p line → HasFaultAs above p line f → ⊥
-good_fault above p line (fault.Missing q) h k = k
-good_fault above p line (fault.Twice q) h k = never h.once k.1
-good_fault above p line fault.Range h k = never h.range k.1
-good_fault above p line (fault.BadValue q) h k = k.3 h.value
-good_fault above p line fault.TooMany h k = never h.few k.3
-good_fault above p line fault.SameAttendee h k = never h.new k.4
+good_cause : (above : PropertyName → List Line) (p : PropertyName) (line : Line) (f : TodoCause) → IsGoodAs above p line → HasCauseAs above p line f → ⊥
+good_cause above p line (cause.Missing q) h k = k
+good_cause above p line (cause.Twice q) h k = never h.once k.1
+good_cause above p line cause.Range h k = never h.range k.1
+good_cause above p line (cause.BadValue q) h k = k.3 h.value
+good_cause above p line cause.TooMany h k = never h.few k.3
+good_cause above p line cause.SameAttendee h k = never h.new k.4
 
-one_here : (above : PropertyName → List Line) (p : PropertyName) (line : Line) (f g : Fault) → HasFaultAs above p line f → HasFaultAs above p line g → f ≡ g
-one_here above p line (fault.Missing q) g h k = absurd h
-one_here above p line (fault.Twice q) (fault.Missing r) h k = absurd k
-one_here above p line (fault.Twice q) (fault.Twice r) h k = ap (λ s. fault.Twice s) (h.0 ∙ sym k.0)
-one_here above p line (fault.Twice q) fault.Range h k = absurd (never k.0 h.1)
-one_here above p line (fault.Twice q) (fault.BadValue r) h k = absurd (never k.1 h.1)
-one_here above p line (fault.Twice q) fault.TooMany h k = absurd (never k.0 h.1)
-one_here above p line (fault.Twice q) fault.SameAttendee h k = absurd (never k.0 h.1)
-one_here above p line fault.Range (fault.Missing r) h k = absurd k
-one_here above p line fault.Range (fault.Twice r) h k = absurd (never h.0 k.1)
-one_here above p line fault.Range fault.Range h k = refl
-one_here above p line fault.Range (fault.BadValue r) h k = absurd (never k.2 h.1)
-one_here above p line fault.Range fault.TooMany h k = absurd (never k.1 h.1)
-one_here above p line fault.Range fault.SameAttendee h k = absurd (never k.1 h.1)
-one_here above p line (fault.BadValue q) (fault.Missing r) h k = absurd k
-one_here above p line (fault.BadValue q) (fault.Twice r) h k = absurd (never h.1 k.1)
-one_here above p line (fault.BadValue q) fault.Range h k = absurd (never h.2 k.1)
-one_here above p line (fault.BadValue q) (fault.BadValue r) h k = ap (λ s. fault.BadValue s) (h.0 ∙ sym k.0)
-one_here above p line (fault.BadValue q) fault.TooMany h k = absurd (h.3 k.2)
-one_here above p line (fault.BadValue q) fault.SameAttendee h k = absurd (h.3 k.2)
-one_here above p line fault.TooMany (fault.Missing r) h k = absurd k
-one_here above p line fault.TooMany (fault.Twice r) h k = absurd (never h.0 k.1)
-one_here above p line fault.TooMany fault.Range h k = absurd (never h.1 k.1)
-one_here above p line fault.TooMany (fault.BadValue r) h k = absurd (k.3 h.2)
-one_here above p line fault.TooMany fault.TooMany h k = refl
-one_here above p line fault.TooMany fault.SameAttendee h k = absurd (never k.3 h.3)
-one_here above p line fault.SameAttendee (fault.Missing r) h k = absurd k
-one_here above p line fault.SameAttendee (fault.Twice r) h k = absurd (never h.0 k.1)
-one_here above p line fault.SameAttendee fault.Range h k = absurd (never h.1 k.1)
-one_here above p line fault.SameAttendee (fault.BadValue r) h k = absurd (k.3 h.2)
-one_here above p line fault.SameAttendee fault.TooMany h k = absurd (never h.3 k.3)
-one_here above p line fault.SameAttendee fault.SameAttendee h k = refl
+one_here : (above : PropertyName → List Line) (p : PropertyName) (line : Line) (f g : TodoCause) → HasCauseAs above p line f → HasCauseAs above p line g → f ≡ g
+one_here above p line (cause.Missing q) g h k = absurd h
+one_here above p line (cause.Twice q) (cause.Missing r) h k = absurd k
+one_here above p line (cause.Twice q) (cause.Twice r) h k = ap (λ s. cause.Twice s) (h.0 ∙ sym k.0)
+one_here above p line (cause.Twice q) cause.Range h k = absurd (never k.0 h.1)
+one_here above p line (cause.Twice q) (cause.BadValue r) h k = absurd (never k.1 h.1)
+one_here above p line (cause.Twice q) cause.TooMany h k = absurd (never k.0 h.1)
+one_here above p line (cause.Twice q) cause.SameAttendee h k = absurd (never k.0 h.1)
+one_here above p line cause.Range (cause.Missing r) h k = absurd k
+one_here above p line cause.Range (cause.Twice r) h k = absurd (never h.0 k.1)
+one_here above p line cause.Range cause.Range h k = refl
+one_here above p line cause.Range (cause.BadValue r) h k = absurd (never k.2 h.1)
+one_here above p line cause.Range cause.TooMany h k = absurd (never k.1 h.1)
+one_here above p line cause.Range cause.SameAttendee h k = absurd (never k.1 h.1)
+one_here above p line (cause.BadValue q) (cause.Missing r) h k = absurd k
+one_here above p line (cause.BadValue q) (cause.Twice r) h k = absurd (never h.1 k.1)
+one_here above p line (cause.BadValue q) cause.Range h k = absurd (never h.2 k.1)
+one_here above p line (cause.BadValue q) (cause.BadValue r) h k = ap (λ s. cause.BadValue s) (h.0 ∙ sym k.0)
+one_here above p line (cause.BadValue q) cause.TooMany h k = absurd (h.3 k.2)
+one_here above p line (cause.BadValue q) cause.SameAttendee h k = absurd (h.3 k.2)
+one_here above p line cause.TooMany (cause.Missing r) h k = absurd k
+one_here above p line cause.TooMany (cause.Twice r) h k = absurd (never h.0 k.1)
+one_here above p line cause.TooMany cause.Range h k = absurd (never h.1 k.1)
+one_here above p line cause.TooMany (cause.BadValue r) h k = absurd (k.3 h.2)
+one_here above p line cause.TooMany cause.TooMany h k = refl
+one_here above p line cause.TooMany cause.SameAttendee h k = absurd (never k.3 h.3)
+one_here above p line cause.SameAttendee (cause.Missing r) h k = absurd k
+one_here above p line cause.SameAttendee (cause.Twice r) h k = absurd (never h.0 k.1)
+one_here above p line cause.SameAttendee cause.Range h k = absurd (never h.1 k.1)
+one_here above p line cause.SameAttendee (cause.BadValue r) h k = absurd (k.3 h.2)
+one_here above p line cause.SameAttendee cause.TooMany h k = absurd (never h.3 k.3)
+one_here above p line cause.SameAttendee cause.SameAttendee h k = refl
 
-good_first : (above lines : List Line) (f : Fault) → AreGood above lines → FirstFault above lines f → ⊥
-good_first above [] f h k = k
-good_first above (line ∷ lines) f h (inl k) = good_fault (lines_of above) (property_of line) line f h.0 k
-good_first above (line ∷ lines) f h (inr k) = good_first (above ++ line ∷ []) lines f h.1 k.1
+good_first : (above : List Line) (lines : List NumberedLine) (r : TodoRefusal) → AreGood above (plain_lines lines) → FirstRefusal above lines r → ⊥
+good_first above [] r h k = k
+good_first above (l ∷ lines) r h (inl k) = good_cause (lines_of above) (property_of l.line) l.line r.cause h.0 k.1
+good_first above (l ∷ lines) r h (inr k) = good_first (above ++ l.line ∷ []) lines r h.1 k.1
 
-one_first : (above lines : List Line) (f g : Fault) → FirstFault above lines f → FirstFault above lines g → f ≡ g
-one_first above [] f g h k = absurd h
-one_first above (line ∷ lines) f g (inl h) (inl k) = one_here (lines_of above) (property_of line) line f g h k
-one_first above (line ∷ lines) f g (inl h) (inr k) = absurd (good_fault (lines_of above) (property_of line) line f k.0 h)
-one_first above (line ∷ lines) f g (inr h) (inl k) = absurd (good_fault (lines_of above) (property_of line) line g h.0 k)
-one_first above (line ∷ lines) f g (inr h) (inr k) = one_first (above ++ line ∷ []) lines f g h.1 k.1
+same_refusal : (r s : TodoRefusal) → r.cause ≡ s.cause → r.line ≡ s.line → r ≡ s
+same_refusal r s p q = λ i. record { cause = p i; line = q i }
 
-pub one_fault : (lines : List Line) (f g : Fault) → RefusesTodo lines f → RefusesTodo lines g → f ≡ g
-one_fault lines f g (inl h) (inl k) = one_first [] lines f g h k
-one_fault lines f g (inl h) (inr (inl k)) = absurd (good_first [] lines f k.0 h)
-one_fault lines f g (inl h) (inr (inr k)) = absurd (good_first [] lines f k.0 h)
-one_fault lines f g (inr (inl h)) (inl k) = absurd (good_first [] lines g h.0 k)
-one_fault lines f g (inr (inr h)) (inl k) = absurd (good_first [] lines g h.0 k)
-one_fault lines f g (inr (inl h)) (inr (inl k)) = h.2 ∙ sym k.2
-one_fault lines f g (inr (inl h)) (inr (inr k)) = absurd (k.1 h.1)
-one_fault lines f g (inr (inr h)) (inr (inl k)) = absurd (h.1 k.1)
-one_fault lines f g (inr (inr h)) (inr (inr k)) = h.3 ∙ sym k.3
+one_first : (above : List Line) (lines : List NumberedLine) (r s : TodoRefusal) → FirstRefusal above lines r → FirstRefusal above lines s → r ≡ s
+one_first above [] r s h k = absurd h
+one_first above (l ∷ lines) r s (inl h) (inl k) = same_refusal r s (one_here (lines_of above) (property_of l.line) l.line r.cause s.cause h.1 k.1) (h.0 ∙ sym k.0)
+one_first above (l ∷ lines) r s (inl h) (inr k) = absurd (good_cause (lines_of above) (property_of l.line) l.line r.cause k.0 h.1)
+one_first above (l ∷ lines) r s (inr h) (inl k) = absurd (good_cause (lines_of above) (property_of l.line) l.line s.cause h.0 k.1)
+one_first above (l ∷ lines) r s (inr h) (inr k) = one_first (above ++ l.line ∷ []) lines r s h.1 k.1
+
+pub one_refusal : (lines : List NumberedLine) (r s : TodoRefusal) → RefusesTodo lines r → RefusesTodo lines s → r ≡ s
+one_refusal lines r s (inl h) (inl k) = one_first [] lines r s h k
+one_refusal lines r s (inl h) (inr (inl k)) = absurd (good_first [] lines r k.0 h)
+one_refusal lines r s (inl h) (inr (inr k)) = absurd (good_first [] lines r k.0 h)
+one_refusal lines r s (inr (inl h)) (inl k) = absurd (good_first [] lines s h.0 k)
+one_refusal lines r s (inr (inr h)) (inl k) = absurd (good_first [] lines s h.0 k)
+one_refusal lines r s (inr (inl h)) (inr (inl k)) = h.2 ∙ sym k.2
+one_refusal lines r s (inr (inl h)) (inr (inr k)) = absurd (k.1 h.1)
+one_refusal lines r s (inr (inr h)) (inr (inl k)) = absurd (h.1 k.1)
+one_refusal lines r s (inr (inr h)) (inr (inr k)) = h.3 ∙ sym k.3
 
 has_line : {A : Type 0} (P : Line → A → Type 0) (o : Option Line) (a : A) → IsOptional P o (Some a) → o ≡ None → ⊥
 has_line P None a h e = h
 has_line P (Some line) a h e = cc
 
-pub read_or_refused : (lines : List Line) (todo : Todo) (f : Fault) → ReadsTodo lines todo → RefusesTodo lines f → ⊥
-read_or_refused lines todo f h (inl k) = good_first [] lines f h.good k
-read_or_refused lines todo f h (inr (inl k)) = has_line IsUidOf (first_named name.Uid lines) todo.uid h.uid k.1
-read_or_refused lines todo f h (inr (inr k)) = has_line IsStampOf (first_named name.DtStamp lines) todo.stamp h.stamp k.2
+pub read_or_refused : (lines : List NumberedLine) (todo : Todo) (r : TodoRefusal) → ReadsTodo (plain_lines lines) todo → RefusesTodo lines r → ⊥
+read_or_refused lines todo r h (inl k) = good_first [] lines r h.good k
+read_or_refused lines todo r h (inr (inl k)) = has_line IsUidOf (first_named name.Uid (plain_lines lines)) todo.uid h.uid k.1
+read_or_refused lines todo r h (inr (inr k)) = has_line IsStampOf (first_named name.DtStamp (plain_lines lines)) todo.stamp h.stamp k.2
+
+-- a line is named unless a property is missing
+
+some_is_not_none : (n : ℕ) (line : Option ℕ) → line ≡ Some n → line ≡ None → ⊥
+some_is_not_none n line p q = let e : Some n ≡ None = sym p ∙ q in cc
+
+abbrev LacksPlace : TodoRefusal → Type 0
+LacksPlace r = (r.line ≡ None) ↔ ((p : PropertyName) × (r.cause ≡ cause.Missing p))
+
+first_placed : (above : List Line) (lines : List NumberedLine) (r : TodoRefusal) → FirstRefusal above lines r → LacksPlace r
+first_placed above [] r h = absurd h
+first_placed above (l ∷ lines) r (inl h) = (λ e. absurd (some_is_not_none l.number r.line h.0 e), λ (p, e). absurd (subst (λ (x : TodoCause). HasCause above l.line x) e h.1))
+first_placed above (l ∷ lines) r (inr h) = first_placed (above ++ l.line ∷ []) lines r h.1
+
+pub refusal_place : (lines : List NumberedLine) (r : TodoRefusal) → RefusesTodo lines r → LacksPlace r
+refusal_place lines r (inl h) = first_placed [] lines r h
+refusal_place lines r (inr (inl h)) = (λ e. (name.Uid, ap (λ (x : TodoRefusal). x.cause) h.2), λ e. ap (λ (x : TodoRefusal). x.line) h.2)
+refusal_place lines r (inr (inr h)) = (λ e. (name.DtStamp, ap (λ (x : TodoRefusal). x.cause) h.3), λ e. ap (λ (x : TodoRefusal). x.line) h.3)

@@ -1,4 +1,4 @@
--- Lines are a to-do, or they have a fault.
+-- Lines are a to-do, or they are refused.
 use Rattle.std.proofs.Common.{◌≡◌, ◌∙◌, sym, ap, refl, ℕ, ◌<◌, ◌≤◌, Bool, true, false, cond, List, [], ◌∷◌, ◌++◌, length, map, arith, subst, inl, inr, ◌⊎◌, Option, Some, None, append-nil, append_assoc, length-append}
 use Rattle.std.specs.Prelude.{◌&&◌, nat_le}
 use Rattle.std.specs.List.{AllByRecursion, IsDistinct, list_any}
@@ -6,7 +6,9 @@ use Rattle.std.proofs.lemmas.Bool.Decides.{leb_tells}
 use Rattle.std.proofs.lemmas.Cmp.{nat_list_eq_equiv}
 use Rattle.std.proofs.lemmas.List.{map-append}
 use Rattle.std.proofs.lemmas.Map.Keys.{IsDistinct-push}
+use Rattle.itip_lines.specs.Reading.{plain_lines}
 use Rattle.itip_lines.specs.declared.line.Line.{Line}
+use Rattle.itip_lines.specs.declared.line.NumberedLine.{NumberedLine}
 use Rattle.itip_moment.specs.Order.{moment_cmp}
 use Rattle.itip_moment.specs.OrderLaws.{moment_total}
 use Rattle.itip_moment.specs.declared.moment.Moment.{Moment}
@@ -15,11 +17,12 @@ use Rattle.itip_moment.proofs.Same.{moment_equal}
 use Rattle.itip_todo.specs.Lawful.{HasValue}
 use Rattle.itip_todo.specs.Participation.{same_text}
 use Rattle.itip_todo.specs.Parts.{Parts}
-use Rattle.itip_todo.specs.Reading.{IsGoodAs, IsGood, HasFaultAs, AreGood, FirstFault, IsOptional, IsOrNought, IsUidOf, IsStampOf, IsSequenceOf, IsPercentOf, IsPriorityOf, IsMomentOf, IsStatusOf, IsPropertyOf, IsOrganizerOf, ListMoments, AreMomentsOf, ReadsTodo, RefusesTodo, is_twice, has_bad_range, range_of, is_too_many, is_same_attendee, first_of, first_named, lines_of, whole_property, value_of, key_of}
+use Rattle.itip_todo.specs.Reading.{IsGoodAs, IsGood, HasCauseAs, AreGood, FirstRefusal, IsOptional, IsOrNought, IsUidOf, IsStampOf, IsSequenceOf, IsPercentOf, IsPriorityOf, IsMomentOf, IsStatusOf, IsPropertyOf, IsOrganizerOf, ListMoments, AreMomentsOf, ReadsTodo, LacksProperty, RefusesTodo, missing, is_twice, has_bad_range, range_of, is_too_many, is_same_attendee, first_of, first_named, lines_of, whole_property, value_of, key_of}
 use Rattle.itip_todo.specs.Table.{property_of, is_same, attendee_limit}
 use Rattle.itip_todo.specs.Values.{IsGoodValue, AreMoments}
-use Rattle.itip_todo.specs.declared.error.Fault.{Fault}
-use Rattle.itip_todo.specs.declared.error.Fault.TheVariants as fault
+use Rattle.itip_todo.specs.declared.error.TodoCause.{TodoCause}
+use Rattle.itip_todo.specs.declared.error.TodoCause.TheVariants as cause
+use Rattle.itip_todo.specs.declared.error.TodoRefusal.{TodoRefusal}
 use Rattle.itip_todo.specs.declared.property.Property.{Property}
 use Rattle.itip_todo.specs.declared.property_name.PropertyName.{PropertyName}
 use Rattle.itip_todo.specs.declared.property_name.PropertyName.TheVariants as name
@@ -32,20 +35,20 @@ use Rattle.itip_todo.proofs.Names.{same_is}
 use Rattle.itip_todo.proofs.SameTodo.{todo_of}
 use Rattle.itip_todo.proofs.Segments.{all_append}
 
--- ---- a line is good, or has a fault
+-- ---- a line is good, or something is wrong with it
 
-decide_line : (above : PropertyName → List Line) (p : PropertyName) (line : Line) → IsGoodAs above p line ⊎ ((f : Fault) × HasFaultAs above p line f)
+decide_line : (above : PropertyName → List Line) (p : PropertyName) (line : Line) → IsGoodAs above p line ⊎ ((f : TodoCause) × HasCauseAs above p line f)
 decide_line above p line =
-    elim (is_twice above p) as (λ b. is_twice above p ≡ b → IsGoodAs above p line ⊎ ((f : Fault) × HasFaultAs above p line f)) [
-      | true ↦ λ e. inr (fault.Twice p, (refl, e))
-      | false ↦ λ once. elim (has_bad_range p line) as (λ b. has_bad_range p line ≡ b → IsGoodAs above p line ⊎ ((f : Fault) × HasFaultAs above p line f)) [
-        | true ↦ λ e. inr (fault.Range, (once, e))
+    elim (is_twice above p) as (λ b. is_twice above p ≡ b → IsGoodAs above p line ⊎ ((f : TodoCause) × HasCauseAs above p line f)) [
+      | true ↦ λ e. inr (cause.Twice p, (refl, e))
+      | false ↦ λ once. elim (has_bad_range p line) as (λ b. has_bad_range p line ≡ b → IsGoodAs above p line ⊎ ((f : TodoCause) × HasCauseAs above p line f)) [
+        | true ↦ λ e. inr (cause.Range, (once, e))
         | false ↦ λ range. elim (decide_value p line) [
-          | inr bad ↦ inr (fault.BadValue p, (refl, once, range, bad))
-          | inl value ↦ elim (is_too_many above p) as (λ b. is_too_many above p ≡ b → IsGoodAs above p line ⊎ ((f : Fault) × HasFaultAs above p line f)) [
-            | true ↦ λ e. inr (fault.TooMany, (once, range, value, e))
-            | false ↦ λ few. elim (is_same_attendee above p line) as (λ b. is_same_attendee above p line ≡ b → IsGoodAs above p line ⊎ ((f : Fault) × HasFaultAs above p line f)) [
-              | true ↦ λ e. inr (fault.SameAttendee, (once, range, value, few, e))
+          | inr bad ↦ inr (cause.BadValue p, (refl, once, range, bad))
+          | inl value ↦ elim (is_too_many above p) as (λ b. is_too_many above p ≡ b → IsGoodAs above p line ⊎ ((f : TodoCause) × HasCauseAs above p line f)) [
+            | true ↦ λ e. inr (cause.TooMany, (once, range, value, e))
+            | false ↦ λ few. elim (is_same_attendee above p line) as (λ b. is_same_attendee above p line ≡ b → IsGoodAs above p line ⊎ ((f : TodoCause) × HasCauseAs above p line f)) [
+              | true ↦ λ e. inr (cause.SameAttendee, (once, range, value, few, e))
               | false ↦ λ new. inl (record { once = once; range = range; value = value; few = few; new = new })
             ] refl
           ] refl
@@ -53,12 +56,12 @@ decide_line above p line =
       ] refl
     ] refl
 
-decide_lines : (above lines : List Line) → AreGood above lines ⊎ ((f : Fault) × FirstFault above lines f)
+decide_lines : (above : List Line) (lines : List NumberedLine) → AreGood above (plain_lines lines) ⊎ ((r : TodoRefusal) × FirstRefusal above lines r)
 decide_lines above [] = inl tt
-decide_lines above (line ∷ lines) =
-    elim (decide_line (lines_of above) (property_of line) line) [
-      | inr bad ↦ inr (bad.0, inl bad.1)
-      | inl good ↦ elim (decide_lines (above ++ line ∷ []) lines) [
+decide_lines above (l ∷ lines) =
+    elim (decide_line (lines_of above) (property_of l.line) l.line) [
+      | inr bad ↦ inr (record { cause = bad.0; line = Some l.number }, inl (refl, bad.1))
+      | inl good ↦ elim (decide_lines (above ++ l.line ∷ []) lines) [
         | inr bad ↦ inr (bad.0, inr (good, bad.1))
         | inl more ↦ inl (good, more)
       ]
@@ -228,25 +231,28 @@ module _ (lines : List Line) (good : AreGood [] lines) where
         },
       )
 
-  with_stamp : (uid : List ℕ) → IsOptional IsUidOf (first_named name.Uid lines) (Some uid) → (v : Option Stamp) → IsOptional IsStampOf (first_named name.DtStamp lines) v → ((todo : Todo) × ReadsTodo lines todo) ⊎ ((f : Fault) × RefusesTodo lines f)
-  with_stamp uid has_uid None none = inr (fault.Missing name.DtStamp, inr (inr (good, is_there IsUidOf (first_named name.Uid lines) uid has_uid, is_absent IsStampOf (first_named name.DtStamp lines) none, refl)))
+  with_stamp : (uid : List ℕ) → IsOptional IsUidOf (first_named name.Uid lines) (Some uid) → (v : Option Stamp) → IsOptional IsStampOf (first_named name.DtStamp lines) v → ((todo : Todo) × ReadsTodo lines todo) ⊎ ((r : TodoRefusal) × LacksProperty lines r)
+  with_stamp uid has_uid None none = inr (missing name.DtStamp, inr (good, is_there IsUidOf (first_named name.Uid lines) uid has_uid, is_absent IsStampOf (first_named name.DtStamp lines) none, refl))
   with_stamp uid has_uid (Some stamp) has_stamp = let parts = whole_parts uid stamp has_uid has_stamp in inl (reads lines parts.0 good parts.1)
 
-  with_uid : (v : Option (List ℕ)) → IsOptional IsUidOf (first_named name.Uid lines) v → ((todo : Todo) × ReadsTodo lines todo) ⊎ ((f : Fault) × RefusesTodo lines f)
-  with_uid None none = inr (fault.Missing name.Uid, inr (inl (good, is_absent IsUidOf (first_named name.Uid lines) none, refl)))
+  with_uid : (v : Option (List ℕ)) → IsOptional IsUidOf (first_named name.Uid lines) v → ((todo : Todo) × ReadsTodo lines todo) ⊎ ((r : TodoRefusal) × LacksProperty lines r)
+  with_uid None none = inr (missing name.Uid, inl (good, is_absent IsUidOf (first_named name.Uid lines) none, refl))
   with_uid (Some uid) has_uid =
       let stamp = optional_value (IsGoodValue name.DtStamp) IsStampOf (λ l h. h) (lines_of lines name.DtStamp) (each name.DtStamp) in
       with_stamp uid has_uid stamp.0 stamp.1
 
-  of_good : ((todo : Todo) × ReadsTodo lines todo) ⊎ ((f : Fault) × RefusesTodo lines f)
+  of_good : ((todo : Todo) × ReadsTodo lines todo) ⊎ ((r : TodoRefusal) × LacksProperty lines r)
   of_good =
       let uid = optional_value (IsGoodValue name.Uid) IsUidOf (λ l h. (l.value, (refl, h))) (lines_of lines name.Uid) (each name.Uid) in
       with_uid uid.0 uid.1
 
 -- lines are read as a to-do, or they are refused
-pub some_todo : (lines : List Line) → ((todo : Todo) × ReadsTodo lines todo) ⊎ ((f : Fault) × RefusesTodo lines f)
+pub some_todo : (lines : List NumberedLine) → ((todo : Todo) × ReadsTodo (plain_lines lines) todo) ⊎ ((r : TodoRefusal) × RefusesTodo lines r)
 some_todo lines =
     elim (decide_lines [] lines) [
       | inr bad ↦ inr (bad.0, inl bad.1)
-      | inl good ↦ of_good lines good
+      | inl good ↦ elim (of_good (plain_lines lines) good) [
+        | inl read ↦ inl read
+        | inr lacks ↦ inr (lacks.0, inr lacks.1)
+      ]
     ]

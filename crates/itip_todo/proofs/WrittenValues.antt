@@ -97,7 +97,7 @@ good_range (Utc at) false = refl
 good_range (Zoned zone at) true = refl
 good_range (Zoned zone at) false = refl
 
--- a line with this content has no fault by itself
+-- nothing is wrong with a line of this content by itself
 abbrev IsGoodContent : Content → Type 0
 IsGoodContent c = (h : IsLawfulContent c) → IsGoodAlone (record { name = c.name; params = c.params; value = c.value; lawful = h })
 
@@ -149,6 +149,6 @@ lines_good : (lines : List Line) → AllByRecursion IsGoodContent (map content_o
 lines_good [] h = tt
 lines_good (l ∷ lines) h = (h.0 l.lawful, lines_good lines h.1)
 
--- lines with the contents that a lawful to-do is written as have no fault by themselves
+-- nor with the lines of the contents that a lawful to-do is written as
 pub good_alone : (lines : List Line) (parts : Parts) → IsLawful parts → map content_of lines ≡ parts_contents parts → AllByRecursion IsGoodAlone lines
 good_alone lines parts lawful e = lines_good lines (subst (λ (cs : List Content). AllByRecursion IsGoodContent cs) (sym e) (all_parts IsGoodContent parts (parts_good parts lawful)))

@@ -13,11 +13,11 @@ use Rattle.itip_moment.specs.declared.stamp.Stamp.{Stamp}
 use Rattle.itip_todo.specs.Lawful.{IsLawful, HasValue}
 use Rattle.itip_todo.specs.Participation.{same_text}
 use Rattle.itip_todo.specs.Parts.{Parts}
-use Rattle.itip_todo.specs.Reading.{IsGoodAs, HasFaultAs, IsOptional, IsUidOf, IsStampOf, IsSequenceOf, IsPercentOf, IsPriorityOf, IsMomentOf, IsStatusOf, IsPropertyOf, IsOrganizerOf, whole_property, value_of, ListMoments, first_of, range_of, key_of}
+use Rattle.itip_todo.specs.Reading.{IsGoodAs, HasCauseAs, IsOptional, IsUidOf, IsStampOf, IsSequenceOf, IsPercentOf, IsPriorityOf, IsMomentOf, IsStatusOf, IsPropertyOf, IsOrganizerOf, whole_property, value_of, ListMoments, first_of, range_of, key_of}
 use Rattle.itip_todo.specs.Table.{is_same, attendee_limit}
 use Rattle.itip_todo.specs.Values.{AreMoments}
 use Rattle.itip_todo.specs.declared.draft.Draft.{Draft}
-use Rattle.itip_todo.specs.declared.error.Fault.{Fault}
+use Rattle.itip_todo.specs.declared.error.TodoCause.{TodoCause}
 use Rattle.itip_todo.specs.declared.property.Property.{Property}
 use Rattle.itip_todo.specs.declared.property_name.PropertyName.{PropertyName}
 use Rattle.itip_todo.specs.declared.property_name.PropertyName.TheVariants as name
@@ -89,9 +89,9 @@ pub record Takes (p : PropertyName) (line : Line) (old new : Draft) : Type 0 whe
   pub good : (above : PropertyName → List Line) → IsDraftOf above old → IsGoodAs above p line
   pub draft : (above : PropertyName → List Line) → IsDraftOf above old → IsDraftOf (more above p line) new
 
--- a line that is read as p has this fault
-abbrev pub Refuses : PropertyName → Line → Draft → Fault → Type 0
-Refuses p line old f = (above : PropertyName → List Line) → IsDraftOf above old → HasFaultAs above p line f
+-- this is wrong with a line that is read as p
+abbrev pub Refuses : PropertyName → Line → Draft → TodoCause → Type 0
+Refuses p line old c = (above : PropertyName → List Line) → IsDraftOf above old → HasCauseAs above p line c
 
 -- the parts of a draft with this UID and DTSTAMP
 abbrev pub draft_parts : List ℕ → Stamp → Draft → Parts

@@ -7,6 +7,7 @@ pub mod PartsOf
 pub mod Values
 pub mod Reading
 pub mod Octets
+pub mod Causes
 pub mod Drafts
 pub mod Participation
 pub mod Heads

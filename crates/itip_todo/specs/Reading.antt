@@ -1,10 +1,12 @@
--- What the lines between BEGIN:VTODO and END:VTODO read as: a to-do, or its first fault (RFC 5545 3.6.2; the order of faults is our own).
+-- What the lines between BEGIN:VTODO and END:VTODO read as: a to-do, or why and where they are refused (RFC 5545 3.6.2; the order of causes is our own).
 use Rattle.std.specs.Prelude.{◌≡◌, ◌≢◌, ◌<◌, ◌↔◌, ℕ, ◌⊎◌, Bool, false, not, ◌&&◌, nat_le, IsTrue, List, [], ◌∷◌, ◌++◌, length, map, codes, Option, Some, None}
 use Rattle.std.specs.Option.{is_some}
 use Rattle.std.specs.List.{list_any, filter, Contains}
 use Rattle.std.specs.List.Sorted.{IsStrictlySortedBy}
 use Rattle.std.specs.Str.{str_eq_ignore_ascii_case}
+use Rattle.itip_lines.specs.Reading.{plain_lines}
 use Rattle.itip_lines.specs.declared.line.Line.{Line}
+use Rattle.itip_lines.specs.declared.line.NumberedLine.{NumberedLine}
 use Rattle.itip_lines.specs.declared.line.Param.{Param}
 use Rattle.itip_moment.specs.Order.{moment_cmp}
 use Rattle.itip_moment.specs.Spelling.{IsStampText}
@@ -19,8 +21,9 @@ use Rattle.itip_todo.specs.declared.property_name.PropertyName.{PropertyName}
 use Rattle.itip_todo.specs.declared.property_name.PropertyName.TheVariants as name
 use Rattle.itip_todo.specs.declared.status.Status.{Status}
 use Rattle.itip_todo.specs.declared.todo.Todo.{Todo}
-use Rattle.itip_todo.specs.declared.error.Fault.{Fault}
-use Rattle.itip_todo.specs.declared.error.Fault.TheVariants as fault
+use Rattle.itip_todo.specs.declared.error.TodoCause.{TodoCause}
+use Rattle.itip_todo.specs.declared.error.TodoCause.TheVariants as cause
+use Rattle.itip_todo.specs.declared.error.TodoRefusal.{TodoRefusal}
 use Rattle.itip_todo.specs.declared.error.TodoError.{TodoError}
 use Rattle.itip_todo.specs.declared.error.TodoError.TheVariants as error
 
@@ -64,7 +67,7 @@ key_of line = attendee_key line.value
 abbrev pub is_same_attendee : (PropertyName → List Line) → PropertyName → Line → Bool
 is_same_attendee above p line = is_same p name.Attendee && list_any (same_text (key_of line)) (map key_of (above name.Attendee))
 
--- a line that is read as p has no fault, where these lines of each property stand above it
+-- nothing is wrong with a line that is read as p, where these lines of each property stand above it
 pub record IsGoodAs (above : PropertyName → List Line) (p : PropertyName) (line : Line) : Type 0 where
   pub once : is_twice above p ≡ false
   pub range : has_bad_range p line ≡ false
@@ -72,33 +75,37 @@ pub record IsGoodAs (above : PropertyName → List Line) (p : PropertyName) (lin
   pub few : is_too_many above p ≡ false
   pub new : is_same_attendee above p line ≡ false
 
--- the fault of a line that is read as p: the first of twice, another RANGE, a bad value, too many, and one attendee twice
-abbrev pub HasFaultAs : (PropertyName → List Line) → PropertyName → Line → Fault → Type 0
-HasFaultAs above p line (fault.Missing q) = ⊥
-HasFaultAs above p line (fault.Twice q) = (q ≡ p) × IsTrue (is_twice above p)
-HasFaultAs above p line fault.Range = (is_twice above p ≡ false) × IsTrue (has_bad_range p line)
-HasFaultAs above p line (fault.BadValue q) = (q ≡ p) × (is_twice above p ≡ false) × (has_bad_range p line ≡ false) × (¬ IsGoodValue p line)
-HasFaultAs above p line fault.TooMany = (is_twice above p ≡ false) × (has_bad_range p line ≡ false) × IsGoodValue p line × IsTrue (is_too_many above p)
-HasFaultAs above p line fault.SameAttendee =
+-- what is wrong with a line that is read as p: the first of twice, another RANGE, a bad value, too many, and one attendee twice
+abbrev pub HasCauseAs : (PropertyName → List Line) → PropertyName → Line → TodoCause → Type 0
+HasCauseAs above p line (cause.Missing q) = ⊥
+HasCauseAs above p line (cause.Twice q) = (q ≡ p) × IsTrue (is_twice above p)
+HasCauseAs above p line cause.Range = (is_twice above p ≡ false) × IsTrue (has_bad_range p line)
+HasCauseAs above p line (cause.BadValue q) = (q ≡ p) × (is_twice above p ≡ false) × (has_bad_range p line ≡ false) × (¬ IsGoodValue p line)
+HasCauseAs above p line cause.TooMany = (is_twice above p ≡ false) × (has_bad_range p line ≡ false) × IsGoodValue p line × IsTrue (is_too_many above p)
+HasCauseAs above p line cause.SameAttendee =
     (is_twice above p ≡ false) × (has_bad_range p line ≡ false) × IsGoodValue p line × (is_too_many above p ≡ false) × IsTrue (is_same_attendee above p line)
 
--- a line has no fault, where these stand above it
+-- nothing is wrong with a line, where these stand above it
 abbrev pub IsGood : List Line → Line → Type 0
 IsGood above line = IsGoodAs (lines_of above) (property_of line) line
 
--- the fault of a line, where these stand above it
-abbrev pub HasFault : List Line → Line → Fault → Type 0
-HasFault above line f = HasFaultAs (lines_of above) (property_of line) line f
+-- this is wrong with a line, where these stand above it
+abbrev pub HasCause : List Line → Line → TodoCause → Type 0
+HasCause above line c = HasCauseAs (lines_of above) (property_of line) line c
 
--- no line has a fault
+-- nothing is wrong with any line
 abbrev pub AreGood : List Line → List Line → Type 0
 AreGood above [] = Unit {0}
 AreGood above (line ∷ lines) = IsGood above line × AreGood (above ++ line ∷ []) lines
 
--- the fault of the first line that has one
-abbrev pub FirstFault : List Line → List Line → Fault → Type 0
-FirstFault above [] f = ⊥
-FirstFault above (line ∷ lines) f = HasFault above line f ⊎ (IsGood above line × FirstFault (above ++ line ∷ []) lines f)
+-- the refusal names this line as the place, and what is wrong with it
+abbrev pub HasRefusal : List Line → NumberedLine → TodoRefusal → Type 0
+HasRefusal above l refusal = (refusal.line ≡ Some l.number) × HasCause above l.line refusal.cause
+
+-- the refusal is that of the first line with which anything is wrong
+abbrev pub FirstRefusal : List Line → List NumberedLine → TodoRefusal → Type 0
+FirstRefusal above [] refusal = ⊥
+FirstRefusal above (l ∷ ls) refusal = HasRefusal above l refusal ⊎ (IsGood above l.line × FirstRefusal (above ++ l.line ∷ []) ls refusal)
 
 -- a value that may be absent: none, or one that stands so to the first line of the property
 abbrev pub IsOptional : {A : Type 0} → (Line → A → Type 0) → Option Line → Option A → Type 0
@@ -179,14 +186,21 @@ pub record ReadsTodo (lines : List Line) (todo : Todo) : Type 0 where
   pub exdates : AreMomentsOf (lines_of lines name.ExDate) todo.exdates
   pub others : todo.others ≡ lines_of lines name.Others
 
--- the lines are no to-do, for this fault: that of the first faulty line, and then what is missing
-abbrev pub RefusesTodo : List Line → Fault → Type 0
-RefusesTodo lines f =
-    FirstFault [] lines f
-    ⊎ (AreGood [] lines × (first_named name.Uid lines ≡ None) × (f ≡ fault.Missing name.Uid))
-    ⊎ (AreGood [] lines × (first_named name.Uid lines ≢ None) × (first_named name.DtStamp lines ≡ None) × (f ≡ fault.Missing name.DtStamp))
+-- a property is missing, which is the fault of no line
+abbrev pub missing : PropertyName → TodoRefusal
+missing p = record { cause = cause.Missing p; line = None }
 
--- of an error: nothing where memory was refused, and otherwise P of the fault
-abbrev pub IfFault : TodoError → (Fault → Type 0) → Type 0
-IfFault error.NoMemory P = Unit {0}
-IfFault (error.Fault f) P = P f
+-- nothing is wrong with the lines, but there is no UID, or else no DTSTAMP
+abbrev pub LacksProperty : List Line → TodoRefusal → Type 0
+LacksProperty lines refusal =
+    (AreGood [] lines × (first_named name.Uid lines ≡ None) × (refusal ≡ missing name.Uid))
+    ⊎ (AreGood [] lines × (first_named name.Uid lines ≢ None) × (first_named name.DtStamp lines ≡ None) × (refusal ≡ missing name.DtStamp))
+
+-- the lines are no to-do, for this cause and in this place: that of the first faulty line, and then what is missing
+abbrev pub RefusesTodo : List NumberedLine → TodoRefusal → Type 0
+RefusesTodo lines refusal = FirstRefusal [] lines refusal ⊎ LacksProperty (plain_lines lines) refusal
+
+-- of an error: nothing where memory was refused, and otherwise P of the refusal
+abbrev pub IfRefused : TodoError → (TodoRefusal → Type 0) → Type 0
+IfRefused error.NoMemory P = Unit {0}
+IfRefused (error.Refused refusal) P = P refusal

@@ -1,11 +1,11 @@
 //! One more line of a to-do.
 ghost use Rattle.std.specs.Prelude.{OnOk, IfErr};
 ghost use Rattle.itip_todo.specs.Drafts.{Takes, Refuses};
-ghost use Rattle.itip_todo.specs.Reading.{IfFault};
+ghost use Rattle.itip_todo.specs.Causes.{IfCause};
 ghost use Rattle.itip_todo.specs.Table.{property_of};
 
 use crate::draft::Draft;
-use crate::error::TodoError;
+use crate::error::CauseError;
 use crate::list::{add_attendee, add_exdate, add_other, add_rdate, add_rule};
 use crate::property_name::PropertyName;
 use crate::single::{
@@ -16,9 +16,9 @@ use itip_lines::Line;
 use std::alloc::Global;
 
 /// Takes one more line.
-pub(crate) fn add_line(alloc: Global, draft: &mut Draft, line: &Line) -> Result<(), TodoError>
+pub(crate) fn add_line(alloc: Global, draft: &mut Draft, line: &Line) -> Result<(), CauseError>
     ensures taken { OnOk result (Takes (property_of line.now) line.now draft.old draft.new) }
-    ensures fault { IfErr result (λ e. IfFault e (Refuses (property_of line.now) line.now draft.old)) }
+    ensures cause { IfErr result (λ e. IfCause e (Refuses (property_of line.now) line.now draft.old)) }
 {
     match PropertyName::of_line(line) {
         PropertyName::Uid => add_uid(draft, line),

@@ -1,14 +1,17 @@
-//! Why lines are no to-do.
+//! Why lines are no to-do, and where.
 ghost use Rattle.std.specs.Prelude.{◌≡◌};
+ghost use Rattle.itip_todo.specs.Causes.{error_at};
 ghost use Rattle.itip_todo.specs.declared.error.TodoError.TheVariants.{NoMemory};
+ghost use Rattle.itip_todo.specs.declared.error.CauseError.TheVariants as cause_error;
 
 use crate::property_name::PropertyName;
 use std::alloc::{AllocError, AllocFailed};
+use std::fmt;
 use thiserror::Error;
 
-/// What is wrong with the lines of a to-do: the first faulty line decides, and then what is missing.
+/// What is wrong with the lines of a to-do.
 #[derive(Clone, Copy, PartialEq, Eq, Debug, Drop, Error)]
-pub enum Fault {
+pub enum TodoCause {
     /// The property has to be there, and is not.
     #[error("{0} is missing")]
     Missing(PropertyName),
@@ -29,6 +32,23 @@ pub enum Fault {
     SameAttendee,
 }
 
+/// Why lines are refused: what is wrong, and where. The first faulty line decides, and then what is missing.
+#[derive(Clone, Copy, PartialEq, Eq, Debug)]
+pub struct TodoRefusal {
+    pub cause: TodoCause,
+    /// The number of the first faulty line. `None` exactly for `Missing`.
+    pub line: Option<usize>,
+}
+
+/// The cause alone.
+impl fmt::Display for TodoRefusal {
+    fn fmt<W: fmt::Write>(&self, f: &mut fmt::Formatter<W>) -> fmt::Result {
+        fmt::Display::fmt(&self.cause, f)
+    }
+}
+
+impl std::error::Error for TodoRefusal {}
+
 /// Why no to-do was given.
 #[derive(Debug, Drop, Error)]
 pub enum TodoError {
@@ -37,7 +57,29 @@ pub enum TodoError {
     NoMemory,
     /// The lines are not those of a to-do.
     #[error("{0}")]
-    Fault(Fault),
+    Refused(TodoRefusal),
+}
+
+/// Why a line was not taken. Its reader knows its place.
+#[derive(Drop)]
+pub(crate) enum CauseError {
+    NoMemory,
+    Cause(TodoCause),
+}
+
+impl CauseError {
+    /// The error of the line of this number.
+    pub(crate) fn at(self, line: usize) -> TodoError
+        ensures { result ≡ error_at line self }
+    {
+        match self {
+            CauseError::NoMemory => TodoError::NoMemory,
+            CauseError::Cause(cause) => TodoError::Refused(TodoRefusal {
+                cause,
+                line: Some(line),
+            }),
+        }
+    }
 }
 
 impl From<AllocError> for TodoError {
@@ -53,5 +95,21 @@ impl<T: Drop> From<AllocFailed<T>> for TodoError {
 
     fn from(_e: AllocFailed<T>) -> TodoError {
         TodoError::NoMemory
+    }
+}
+
+impl From<AllocError> for CauseError {
+    ghost from_gives = { λ _ e. e ≡ cause_error.NoMemory };
+
+    fn from(_e: AllocError) -> CauseError {
+        CauseError::NoMemory
+    }
+}
+
+impl<T: Drop> From<AllocFailed<T>> for CauseError {
+    ghost from_gives = { λ _ e. e ≡ cause_error.NoMemory };
+
+    fn from(_e: AllocFailed<T>) -> CauseError {
+        CauseError::NoMemory
     }
 }

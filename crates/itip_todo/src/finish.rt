@@ -1,15 +1,14 @@
 //! The to-do of all lines.
 ghost use Rattle.std.specs.Prelude.{◌≡◌, [], ℕ, List, None, Some, IfOk, OnOk, IfErr};
-ghost use Rattle.itip_todo.specs.declared.error.Fault.TheVariants as fault;
 ghost use Rattle.itip_todo.specs.declared.property_name.PropertyName.TheVariants as name;
 ghost use Rattle.std.specs.BTreeSet.{IsOrdered};
 ghost use Rattle.itip_lines.specs.declared.line.Line.{Line};
 ghost use Rattle.itip_moment.specs.Order.{moment_cmp};
 ghost use Rattle.itip_todo.specs.Drafts.{IsDraftOf, IsLawfulDraft};
-ghost use Rattle.itip_todo.specs.Reading.{IfFault, AreGood, ReadsTodo, RefusesTodo, lines_of};
+ghost use Rattle.itip_todo.specs.Reading.{IfRefused, AreGood, ReadsTodo, LacksProperty, lines_of, missing};
 
 use crate::draft::Draft;
-use crate::error::{Fault, TodoError};
+use crate::error::{TodoCause, TodoError, TodoRefusal};
 use crate::property_name::PropertyName;
 use crate::todo::Todo;
 use crate::uid::Uid;
@@ -22,7 +21,8 @@ use std::collections::BTreeSet;
 pub(crate) fn finish(alloc: Global, draft: Draft) -> Result<Todo, TodoError>
     requires { IsLawfulDraft draft }
     ensures found { IfOk result (λ todo. (lines : List Line) → AreGood [] lines → IsDraftOf (lines_of lines) draft → ReadsTodo lines todo) }
-    ensures fault { IfErr result (λ e. IfFault e (λ f. (lines : List Line) → AreGood [] lines → IsDraftOf (lines_of lines) draft → RefusesTodo lines f)) }
+    ensures refused { IfErr result (λ e. IfRefused e (λ refusal. (lines : List Line)
+        → AreGood [] lines → IsDraftOf (lines_of lines) draft → LacksProperty lines refusal)) }
 {
     let needed = values_of(alloc, draft.uid, draft.stamp, draft.rdates, draft.exdates)?;
     Ok(Todo {
@@ -68,8 +68,9 @@ fn values_of(
     ensures rdates { IfOk result (λ needed. needed.rdates ≡ rdates.keys) }
     ensures exdates { IfOk result (λ needed. needed.exdates ≡ exdates.keys) }
     ensures ordered { OnOk result (IsOrdered moment_cmp rdates × IsOrdered moment_cmp exdates) }
-    ensures no_uid { IfErr result (λ e. uid ≡ None → IfFault e (λ f. f ≡ fault.Missing name.Uid)) }
-    ensures no_stamp { IfErr result (λ e. (text : List ℕ) → uid ≡ Some text → IfFault e (λ f. (f ≡ fault.Missing name.DtStamp) × (stamp ≡ None))) }
+    ensures no_uid { IfErr result (λ e. uid ≡ None → IfRefused e (λ refusal. refusal ≡ missing name.Uid)) }
+    ensures no_stamp { IfErr result (λ e. (text : List ℕ) → uid ≡ Some text
+        → IfRefused e (λ refusal. (refusal ≡ missing name.DtStamp) × (stamp ≡ None))) }
 {
     let uid = present(uid, PropertyName::Uid)?;
     let stamp = present(stamp, PropertyName::DtStamp)?;
@@ -93,7 +94,10 @@ fn in_order(alloc: Global, set: BTreeSet<Moment>) -> Result<ListOf<Moment>, NoMe
 
 fn present<T>(field: Option<T>, property: PropertyName) -> Result<T, TodoError>
     ensures some { IfOk result (λ value. field ≡ Some value) }
-    ensures fault { IfErr result (λ e. IfFault e (λ f. (f ≡ fault.Missing property) × (field ≡ None))) }
+    ensures refused { IfErr result (λ e. IfRefused e (λ refusal. (refusal ≡ missing property) × (field ≡ None))) }
 {
-    field.ok_or(TodoError::Fault(Fault::Missing(property)))
+    field.ok_or(TodoError::Refused(TodoRefusal {
+        cause: TodoCause::Missing(property),
+        line: None,
+    }))
 }

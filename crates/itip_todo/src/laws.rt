@@ -1,19 +1,27 @@
 //! What holds of reading and writing. The functions do nothing: their contracts are the laws.
-ghost use Rattle.std.specs.Prelude.{◌≡◌, ◌⊎◌, List, map};
+ghost use Rattle.std.specs.Prelude.{◌≡◌, ◌⊎◌, ◌↔◌, List, map, None};
+ghost use Rattle.itip_lines.specs.Reading.{plain_lines};
 ghost use Rattle.itip_lines.specs.declared.line.Line.{Line};
+ghost use Rattle.itip_lines.specs.declared.line.NumberedLine.{NumberedLine};
 ghost use Rattle.itip_todo.specs.PartsOf.{parts_of};
 ghost use Rattle.itip_todo.specs.Reading.{ReadsTodo, RefusesTodo};
 ghost use Rattle.itip_todo.specs.Written.{content_of, parts_contents};
-ghost use Rattle.itip_todo.specs.declared.error.Fault.{Fault};
+ghost use Rattle.itip_todo.specs.declared.error.TodoCause.TheVariants as cause;
+ghost use Rattle.itip_todo.specs.declared.error.TodoRefusal.{TodoRefusal};
+ghost use Rattle.itip_todo.specs.declared.property_name.PropertyName.{PropertyName};
 ghost use Rattle.itip_todo.specs.declared.todo.Todo.{Todo};
 
-/// Lines are read as one to-do, or they are refused for one fault, and not both.
+/// Lines are read as one to-do, or they are refused for one cause in one place, and not both.
 pub fn reading_laws()
-    ensures some { (lines : List Line)
-        → ((todo : Todo) × ReadsTodo lines todo) ⊎ ((f : Fault) × RefusesTodo lines f) }
+    ensures some { (lines : List NumberedLine)
+        → ((todo : Todo) × ReadsTodo (plain_lines lines) todo) ⊎ ((refusal : TodoRefusal) × RefusesTodo lines refusal) }
     ensures one_todo { (lines : List Line) (a b : Todo) → ReadsTodo lines a → ReadsTodo lines b → a ≡ b }
-    ensures read_or_refused { (lines : List Line) (todo : Todo) (f : Fault) → ReadsTodo lines todo → RefusesTodo lines f → ⊥ }
-    ensures one_fault { (lines : List Line) (f g : Fault) → RefusesTodo lines f → RefusesTodo lines g → f ≡ g }
+    ensures read_or_refused { (lines : List NumberedLine) (todo : Todo) (refusal : TodoRefusal)
+        → ReadsTodo (plain_lines lines) todo → RefusesTodo lines refusal → ⊥ }
+    ensures one_refusal { (lines : List NumberedLine) (refusal other : TodoRefusal)
+        → RefusesTodo lines refusal → RefusesTodo lines other → refusal ≡ other }
+    ensures place { (lines : List NumberedLine) (refusal : TodoRefusal) → RefusesTodo lines refusal
+        → (refusal.line ≡ None) ↔ ((p : PropertyName) × (refusal.cause ≡ cause.Missing p)) }
 {}
 
 /// The lines that a to-do is written as, between BEGIN and END, are read as this to-do.

@@ -27,7 +27,7 @@ mod write;
 mod write_moment;
 
 pub use attendee::{PartStat, attendee_key, participation};
-pub use error::{Fault, TodoError};
+pub use error::{TodoCause, TodoError, TodoRefusal};
 pub use laws::{reading_laws, writing_laws};
 pub use property::Property;
 pub use property_name::{PropertyName, has_period};

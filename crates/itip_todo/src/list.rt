@@ -3,14 +3,14 @@ ghost use Rattle.std.specs.Prelude.{◌≡◌, ◌≢◌, ◌++◌, ◌∷◌, L
 ghost use Rattle.itip_moment.specs.declared.moment.Moment.{Moment};
 ghost use Rattle.itip_moment.specs.Spelling.{MomentText};
 ghost use Rattle.itip_todo.specs.Drafts.{Takes, Refuses, HasNoComma, PutsMoment, PutsMoments};
-ghost use Rattle.itip_todo.specs.Reading.{IfFault};
+ghost use Rattle.itip_todo.specs.Causes.{IfCause};
 ghost use Rattle.itip_todo.specs.Values.{AreMoments};
-ghost use Rattle.itip_todo.specs.declared.error.Fault.TheVariants as fault;
+ghost use Rattle.itip_todo.specs.declared.error.TodoCause.TheVariants as cause;
 ghost use Rattle.itip_todo.specs.declared.property_name.PropertyName.TheVariants as name;
 
 use crate::attendee::{attendee_key, first_value};
 use crate::draft::Draft;
-use crate::error::{Fault, TodoError};
+use crate::error::{CauseError, TodoCause};
 use crate::property_name::PropertyName;
 use crate::values::{bad_value, property_of};
 use itip_lines::Line;
@@ -20,51 +20,51 @@ use std::collections::BTreeSet;
 
 const ATTENDEE_LIMIT: usize = 2_000;
 
-pub(crate) fn add_attendee(alloc: Global, draft: &mut Draft, line: &Line) -> Result<(), TodoError>
+pub(crate) fn add_attendee(alloc: Global, draft: &mut Draft, line: &Line) -> Result<(), CauseError>
     ensures taken { OnOk result (Takes name.Attendee line.now draft.old draft.new) }
-    ensures fault { IfErr result (λ e. IfFault e (Refuses name.Attendee line.now draft.old)) }
+    ensures cause { IfErr result (λ e. IfCause e (Refuses name.Attendee line.now draft.old)) }
 {
     if line.value.as_str().is_empty() {
         return Err(bad_value(PropertyName::Attendee));
     }
     if draft.attendees.len() >= ATTENDEE_LIMIT {
-        return Err(TodoError::Fault(Fault::TooMany));
+        return Err(CauseError::Cause(TodoCause::TooMany));
     }
     let key = attendee_key(alloc, line.value.as_str())?;
     if !draft.keys.insert(key)? {
-        return Err(TodoError::Fault(Fault::SameAttendee));
+        return Err(CauseError::Cause(TodoCause::SameAttendee));
     }
     let property = property_of(line)?;
     draft.attendees.push(property)?;
     Ok(())
 }
 
-pub(crate) fn add_rule(draft: &mut Draft, line: &Line) -> Result<(), TodoError>
+pub(crate) fn add_rule(draft: &mut Draft, line: &Line) -> Result<(), CauseError>
     ensures taken { OnOk result (Takes name.RRule line.now draft.old draft.new) }
-    ensures fault { IfErr result (λ e. IfFault e (Refuses name.RRule line.now draft.old)) }
+    ensures cause { IfErr result (λ e. IfCause e (Refuses name.RRule line.now draft.old)) }
 {
     let value = line.value.clone()?;
     draft.rule.push(value)?;
     Ok(())
 }
 
-pub(crate) fn add_rdate(alloc: Global, draft: &mut Draft, line: &Line) -> Result<(), TodoError>
+pub(crate) fn add_rdate(alloc: Global, draft: &mut Draft, line: &Line) -> Result<(), CauseError>
     ensures taken { OnOk result (Takes name.RDate line.now draft.old draft.new) }
-    ensures fault { IfErr result (λ e. IfFault e (Refuses name.RDate line.now draft.old)) }
+    ensures cause { IfErr result (λ e. IfCause e (Refuses name.RDate line.now draft.old)) }
 {
     put_moments(alloc, PropertyName::RDate, line, &mut draft.rdates)
 }
 
-pub(crate) fn add_exdate(alloc: Global, draft: &mut Draft, line: &Line) -> Result<(), TodoError>
+pub(crate) fn add_exdate(alloc: Global, draft: &mut Draft, line: &Line) -> Result<(), CauseError>
     ensures taken { OnOk result (Takes name.ExDate line.now draft.old draft.new) }
-    ensures fault { IfErr result (λ e. IfFault e (Refuses name.ExDate line.now draft.old)) }
+    ensures cause { IfErr result (λ e. IfCause e (Refuses name.ExDate line.now draft.old)) }
 {
     put_moments(alloc, PropertyName::ExDate, line, &mut draft.exdates)
 }
 
-pub(crate) fn add_other(draft: &mut Draft, line: &Line) -> Result<(), TodoError>
+pub(crate) fn add_other(draft: &mut Draft, line: &Line) -> Result<(), CauseError>
     ensures taken { OnOk result (Takes name.Others line.now draft.old draft.new) }
-    ensures fault { IfErr result (λ e. IfFault e (Refuses name.Others line.now draft.old)) }
+    ensures cause { IfErr result (λ e. IfCause e (Refuses name.Others line.now draft.old)) }
 {
     let line = line.clone()?;
     draft.others.push(line)?;
@@ -77,9 +77,10 @@ fn put_moments(
     property: PropertyName,
     line: &Line,
     set: &mut BTreeSet<Moment>,
-) -> Result<(), TodoError>
+) -> Result<(), CauseError>
     ensures put { OnOk result (PutsMoments line.now.params line.now.value set.old set.new) }
-    ensures fault { IfErr result (λ e. IfFault e (λ f. (f ≡ fault.BadValue property) × ((ms : List Moment) → AreMoments line.now.params line.now.value ms → ⊥))) }
+    ensures cause { IfErr result (λ e. IfCause e (λ c.
+        (c ≡ cause.BadValue property) × ((ms : List Moment) → AreMoments line.now.params line.now.value ms → ⊥))) }
 {
     let zone = first_value("TZID", line.params.as_slice());
     let mut rest = line.value.as_str();
@@ -104,9 +105,10 @@ fn put_moment(
     text: &str,
     zone: &str,
     set: &mut BTreeSet<Moment>,
-) -> Result<(), TodoError>
+) -> Result<(), CauseError>
     ensures put { OnOk result (PutsMoment text.now zone.now set.old set.new) }
-    ensures fault { IfErr result (λ e. IfFault e (λ f. (f ≡ fault.BadValue property) × ((m : Moment) → MomentText text.now (Some zone.now) m → ⊥))) }
+    ensures cause { IfErr result (λ e. IfCause e (λ c.
+        (c ≡ cause.BadValue property) × ((m : Moment) → MomentText text.now (Some zone.now) m → ⊥))) }
 {
     let Some(moment) = read_moment(alloc, text, Some(zone))? else {
         return Err(bad_value(property));

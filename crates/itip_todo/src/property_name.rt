@@ -34,7 +34,7 @@ impl PropertyName {
 
     /// The property that a line is read as. RDATE with a `/` in its value is one of the others (our own rule).
     #[tactic(auto, unfolding(crate::specs::Table::property_of))]
-    pub(crate) fn of_line(line: &Line) -> PropertyName
+    pub fn of_line(line: &Line) -> PropertyName
         ensures { result ≡ property_of line.now }
     {
         let property = PropertyName::named(line.name.as_str());

@@ -4,10 +4,10 @@ use Rattle.std.specs.Prelude.{true, false}
 use Rattle.std.specs.List.{AllByRecursion}
 use Rattle.itip_moment.specs.declared.moment.Moment.{Moment}
 use Rattle.itip_todo.specs.declared.property.Property.{Property}
-use Rattle.itip_message.specs.KeyParts.{uid_of}
-use Rattle.itip_message.specs.declared.item.Item.{Item}
-use Rattle.itip_message.specs.declared.key.Key.{Key}
-use Rattle.itip_message.specs.declared.key.Key.TheVariants.{Series, Instance, Range, Answer}
+use Rattle.itip_items.specs.KeyParts.{uid_of}
+use Rattle.itip_items.specs.declared.item.Item.{Item}
+use Rattle.itip_items.specs.declared.key.Key.{Key}
+use Rattle.itip_items.specs.declared.key.Key.TheVariants.{Series, Instance, Range, Answer}
 use Rattle.itip_state.specs.Kept.{IsBest, IsDead, IsKept, CanDie}
 use Rattle.itip_state.proofs.Keeping.{series_kept, eff_up}
 use Rattle.itip_view.specs.Standing.{is_live, StandsBeside, StandsUnder, Stands, NoneStands, StandsFrom, Rules, NoneRules, IsLiveSeries, IsLiveInstance, GovernsBetween, Governs}

@@ -1,9 +1,9 @@
 -- What stands beside the series item, and which answers count.
 use Rattle.std.proofs.Common.{◌≡◌, ◌≤◌, ◌<◌, ℕ, List, subst, arith, Option, Some, None}
 use Rattle.std.specs.List.{Contains}
-use Rattle.itip_message.specs.declared.item.Item.{Item}
-use Rattle.itip_message.specs.declared.key.Key.{Key}
-use Rattle.itip_message.specs.declared.key.Key.TheVariants.{Series}
+use Rattle.itip_items.specs.declared.item.Item.{Item}
+use Rattle.itip_items.specs.declared.key.Key.{Key}
+use Rattle.itip_items.specs.declared.key.Key.TheVariants.{Series}
 use Rattle.itip_state.specs.Kept.{IsBest}
 use Rattle.itip_view.specs.Answers.{Asked, NoneCounts}
 use Rattle.itip_view.specs.OfUid.{IsSeriesItem, StandsBesideOf}

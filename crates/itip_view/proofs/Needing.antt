@@ -10,12 +10,12 @@ use Rattle.itip_todo.specs.declared.todo.Todo.{Todo}
 use Rattle.itip_recur.specs.Given.{are_given}
 use Rattle.itip_recur.specs.ToDoShape.{Recurs}
 use Rattle.itip_recur.proofs.RuleTexts.{given_is}
-use Rattle.itip_message.specs.KeyParts.{uid_of}
-use Rattle.itip_message.specs.declared.item.Item.{Item}
-use Rattle.itip_message.specs.declared.key.Key.{Key}
-use Rattle.itip_message.specs.declared.key.Key.TheVariants as key
-use Rattle.itip_message.specs.declared.kind.Kind.{Kind}
-use Rattle.itip_message.specs.declared.kind.Kind.TheVariants as kind
+use Rattle.itip_items.specs.KeyParts.{uid_of}
+use Rattle.itip_items.specs.declared.item.Item.{Item}
+use Rattle.itip_items.specs.declared.key.Key.{Key}
+use Rattle.itip_items.specs.declared.key.Key.TheVariants as key
+use Rattle.itip_items.specs.declared.kind.Kind.{Kind}
+use Rattle.itip_items.specs.declared.kind.Kind.TheVariants as kind
 use Rattle.itip_state.specs.Kept.{IsBest}
 use Rattle.itip_state.proofs.Members.{none_in, cons_cases, cons_first, cons_later}
 use Rattle.itip_view.specs.Answers.{Asked, AreShown, in_front, shown_line, unless_removed}

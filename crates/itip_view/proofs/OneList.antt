@@ -5,7 +5,7 @@ use Rattle.std.specs.Cmp.Lexicographic.{options_total}
 use Rattle.std.specs.declared.cmp.Ordering.TheVariants.{Less}
 use Rattle.std.proofs.lemmas.Cmp.{on_total, then_total, nat_list_cmp_total}
 use Rattle.itip_moment.specs.OrderLaws.{moment_total}
-use Rattle.itip_message.specs.declared.item.Item.{Item}
+use Rattle.itip_items.specs.declared.item.Item.{Item}
 use Rattle.itip_state.proofs.OneOrder.{less_one_way, same_ascending, not_longer}
 use Rattle.itip_view.specs.Rows.{AreRows, AreTooMany, row_limit, row_cmp, moment_of}
 use Rattle.itip_view.specs.ListText.{IsListText, list_text}

@@ -12,12 +12,12 @@ use Rattle.itip_moment.proofs.Same.{moment_equal}
 use Rattle.itip_moment.proofs.ValueLaws.{shifted-one}
 use Rattle.itip_todo.specs.declared.property.Property.{Property}
 use Rattle.itip_recur.specs.ToDoShape.{Recurs}
-use Rattle.itip_message.specs.Later.{revision_cmp}
-use Rattle.itip_message.specs.declared.item.Item.{Item}
-use Rattle.itip_message.specs.declared.key.Key.{Key}
-use Rattle.itip_message.specs.declared.key.Key.TheVariants.{Series, Instance, Range}
+use Rattle.itip_items.specs.Later.{revision_cmp}
+use Rattle.itip_items.specs.declared.item.Item.{Item}
+use Rattle.itip_items.specs.declared.key.Key.{Key}
+use Rattle.itip_items.specs.declared.key.Key.TheVariants.{Series, Instance, Range}
 use Rattle.itip_state.specs.Kept.{IsBest}
-use Rattle.itip_message.proofs.Revisions.{revision_exact}
+use Rattle.itip_items.proofs.Revisions.{revision_exact}
 use Rattle.itip_state.specs.Slots.{then_equal}
 use Rattle.itip_state.proofs.Best.{later_than_less}
 use Rattle.itip_view.specs.Standing.{Stands, NoneStands, StandsFrom, Rules, NoneRules, IsLiveSeries}

@@ -4,8 +4,8 @@ use Rattle.itip_moment.specs.declared.moment.Moment.{Moment}
 use Rattle.itip_recur.specs.ToDoShape.{Recurs, IsShape, IsSeriesOf}
 use Rattle.itip_recur.specs.declared.series.Series.{Series}
 use Rattle.itip_recur.specs.declared.series.Shape.TheVariants as shape
-use Rattle.itip_message.specs.declared.item.Item.{Item}
-use Rattle.itip_message.specs.declared.key.Key.TheVariants as key
+use Rattle.itip_items.specs.declared.item.Item.{Item}
+use Rattle.itip_items.specs.declared.key.Key.TheVariants as key
 use Rattle.itip_view.specs.Answers.{AreShown}
 use Rattle.itip_view.specs.OfUid.{IsRowOf, IsRowAt, IsOccurrence}
 use Rattle.itip_view.specs.Rows.{

@@ -10,9 +10,9 @@ use Rattle.std.proofs.lemmas.Bool.{cases_lt}
 use Rattle.std.proofs.lemmas.List.{get_or_default}
 use Rattle.std.proofs.lemmas.List.Elements.{Contains-append_left, Contains-push, Contains-push_cases, Contains-get_or}
 use Rattle.itip_moment.specs.declared.moment.Moment.{Moment}
-use Rattle.itip_message.specs.KeyParts.{uid_of}
-use Rattle.itip_message.specs.declared.item.Item.{Item}
-use Rattle.itip_message.specs.declared.key.Key.TheVariants as key
+use Rattle.itip_items.specs.KeyParts.{uid_of}
+use Rattle.itip_items.specs.declared.item.Item.{Item}
+use Rattle.itip_items.specs.declared.key.Key.TheVariants as key
 use Rattle.itip_state.specs.OfUid.{UidPart, IsUidPart}
 use Rattle.itip_state.proofs.Members.{none_in}
 use Rattle.itip_state.proofs.OfKey.{best_in}

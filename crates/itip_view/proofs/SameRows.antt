@@ -1,6 +1,6 @@
 -- Sets with the same rows in a window have the same list there.
 use Rattle.std.proofs.Common.{ℕ, List, ◌↔◌}
-use Rattle.itip_message.specs.declared.item.Item.{Item}
+use Rattle.itip_items.specs.declared.item.Item.{Item}
 use Rattle.itip_view.specs.ListText.{IsListText}
 use Rattle.itip_view.specs.Rows.{IsRow, AreTooMany}
 use Rattle.itip_view.specs.Showing.{Shows, AreTooManyWhere, IsListTextFor}

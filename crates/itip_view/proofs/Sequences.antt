@@ -7,13 +7,13 @@ use Rattle.itip_moment.specs.declared.moment.Moment.{Moment}
 use Rattle.itip_todo.specs.Parts.{Parts}
 use Rattle.itip_todo.specs.PartsOf.{parts_of}
 use Rattle.itip_todo.specs.declared.property.Property.{Property}
-use Rattle.itip_message.specs.Items.{Draft, drafts_of, task_draft, add_drafts, attendee_draft, draft_of, instance_key, instance_sequence, kind_of, method_of}
-use Rattle.itip_message.specs.declared.item.Item.{Item}
-use Rattle.itip_message.specs.declared.key.Key.{Key}
-use Rattle.itip_message.specs.declared.key.Key.TheVariants.{Series, Instance, Range, Answer, Refresh}
-use Rattle.itip_message.specs.declared.kind.Kind.{Kind}
-use Rattle.itip_message.specs.declared.kind.Kind.TheVariants as kind
-use Rattle.itip_message.proofs.SameItem.{Is, stable, told_numbers}
+use Rattle.itip_items.specs.Items.{Draft, drafts_of, task_draft, add_drafts, attendee_draft, draft_of, instance_key, instance_sequence, kind_of, method_of}
+use Rattle.itip_items.specs.declared.item.Item.{Item}
+use Rattle.itip_items.specs.declared.key.Key.{Key}
+use Rattle.itip_items.specs.declared.key.Key.TheVariants.{Series, Instance, Range, Answer, Refresh}
+use Rattle.itip_items.specs.declared.kind.Kind.{Kind}
+use Rattle.itip_items.specs.declared.kind.Kind.TheVariants as kind
+use Rattle.itip_items.proofs.SameItem.{Is, stable, told_numbers}
 
 -- of an instance, or of it and all after it
 abbrev is_instance : Key → Bool

@@ -4,7 +4,7 @@ use Rattle.std.specs.List.{Contains, list_any, filter}
 use Rattle.std.specs.Cmp.Lexicographic.{bytes_decides}
 use Rattle.std.proofs.lemmas.List.Kept.{AllPairs-filter}
 use Rattle.itip_todo.specs.Table.{attendee_key}
-use Rattle.itip_message.specs.declared.item.Item.{Item}
+use Rattle.itip_items.specs.declared.item.Item.{Item}
 use Rattle.itip_state.specs.Kept.{ArePart}
 use Rattle.itip_state.proofs.Members.{by_bool, none_in, cons_cases, cons_first, cons_later}
 use Rattle.std.specs.declared.cmp.Ordering.TheVariants.{Less}

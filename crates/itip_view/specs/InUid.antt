@@ -1,7 +1,7 @@
 -- The rows of one UID, by what is known of it (our own form).
 use Rattle.std.specs.Prelude.{List, Option}
 use Rattle.itip_moment.specs.declared.moment.Moment.{Moment}
-use Rattle.itip_message.specs.declared.item.Item.{Item}
+use Rattle.itip_items.specs.declared.item.Item.{Item}
 use Rattle.itip_view.specs.OfUid.{IsWhole, IsBetween, IsAnswerAt, IsOccurrence, AreOccurrencesOf, IsRowOf, ArePlaces, AreRowsOf, asked_by}
 use Rattle.itip_view.specs.Rows.{NoneStandsAtStart}
 use Rattle.itip_view.specs.Standing.{Stands, NoneStands, Rules, NoneRules, IsLiveSeries}

@@ -5,7 +5,7 @@ use Rattle.std.specs.List.{flat_map}
 use Rattle.itip_moment.specs.Shown.{shown_moment}
 use Rattle.itip_todo.specs.Participation.{partstat_text}
 use Rattle.itip_todo.specs.StatusText.{status_text}
-use Rattle.itip_message.specs.declared.item.Item.{Item}
+use Rattle.itip_items.specs.declared.item.Item.{Item}
 use Rattle.itip_view.specs.Rows.{AreRows, row_limit}
 use Rattle.itip_view.specs.declared.row.Row.{Row}
 use Rattle.itip_view.specs.declared.row.RowId.{RowId}

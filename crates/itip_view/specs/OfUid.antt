@@ -10,8 +10,8 @@ use Rattle.itip_todo.specs.declared.property.Property.{Property}
 use Rattle.itip_recur.specs.Occurrences.{OccursIn}
 use Rattle.itip_recur.specs.ToDoShape.{IsShape, IsSeriesOf}
 use Rattle.itip_recur.specs.declared.series.Series.{Series}
-use Rattle.itip_message.specs.declared.item.Item.{Item}
-use Rattle.itip_message.specs.declared.key.Key.TheVariants as key
+use Rattle.itip_items.specs.declared.item.Item.{Item}
+use Rattle.itip_items.specs.declared.key.Key.TheVariants as key
 use Rattle.itip_state.specs.Kept.{IsBestOf}
 use Rattle.itip_state.specs.OfUid.{UidPart}
 use Rattle.itip_view.specs.Answers.{Asked, AreShown}

@@ -16,7 +16,7 @@ use Rattle.itip_recur.specs.Occurrences.{OccursIn}
 use Rattle.itip_recur.specs.ToDoShape.{IsShape, IsSeriesOf}
 use Rattle.itip_recur.specs.declared.series.Series.{Series}
 use Rattle.itip_recur.specs.declared.series.Shape.TheVariants as shape
-use Rattle.itip_message.specs.declared.item.Item.{Item}
+use Rattle.itip_items.specs.declared.item.Item.{Item}
 use Rattle.itip_view.specs.Answers.{Asked, AreShown, answer_key}
 use Rattle.itip_view.specs.Progress.{progress_of}
 use Rattle.itip_view.specs.Standing.{IsLive, HaveOneForm, NoneStands, Rules, NoneRules, IsLiveSeries, IsLiveInstance}

@@ -2,7 +2,7 @@
 use Rattle.std.specs.Prelude.{◌≡◌, ◌≤◌, ◌<◌, length, ℕ, List, Option, Some, None}
 use Rattle.std.specs.List.{Contains}
 use Rattle.itip_todo.specs.Table.{attendee_key}
-use Rattle.itip_message.specs.declared.item.Item.{Item}
+use Rattle.itip_items.specs.declared.item.Item.{Item}
 use Rattle.itip_view.specs.ListText.{list_text}
 use Rattle.itip_view.specs.Rows.{IsRow, AscendRows, row_limit}
 use Rattle.itip_view.specs.declared.row.Row.{Row}

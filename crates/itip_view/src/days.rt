@@ -4,7 +4,7 @@ ghost use Rattle.itip_view.specs.RowDays.{days_from, has_rows, row_days, whole_d
 
 use crate::dates::{day_of, instance_day};
 use crate::standing::is_live;
-use itip_message::{Item, Key};
+use itip_items::{Item, Key};
 use itip_recur::recurs;
 use itip_todo::Todo;
 

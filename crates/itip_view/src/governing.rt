@@ -3,8 +3,8 @@ ghost use Rattle.std.specs.Prelude.{◌≡◌, IfOk, map};
 ghost use Rattle.itip_todo.specs.Table.{attendee_key};
 
 use crate::NoMemory;
+use itip_items::Item;
 use itip_lines::Text;
-use itip_message::Item;
 use itip_todo::{Property, attendee_key};
 use std::alloc::Global;
 

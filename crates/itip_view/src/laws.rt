@@ -1,11 +1,11 @@
 //! The laws of views, of every finite set of items. They hold with no code: each function is empty.
 ghost use Rattle.std.specs.Prelude.{List, ℕ, Option, Some, None, ◌↔◌, ◌≡◌, ◌≤◌};
 ghost use Rattle.std.specs.List.{Contains};
-ghost use Rattle.itip_message.specs.declared.item.Item.{Item};
+ghost use Rattle.itip_items.specs.declared.item.Item.{Item};
 ghost use Rattle.itip_state.specs.Kept.{AreKept, ArePartOf};
 ghost use Rattle.std.specs.declared.cmp.Ordering.TheVariants.{Equal};
 ghost use Rattle.itip_moment.specs.declared.moment.Moment.{Moment};
-ghost use Rattle.itip_message.specs.declared.key.Key.TheVariants.{Answer};
+ghost use Rattle.itip_items.specs.declared.key.Key.TheVariants.{Answer};
 ghost use Rattle.itip_view.specs.Standing.{Stands, StandsFrom, Rules, NoneRules, Governs, IsLiveSeries};
 ghost use Rattle.itip_view.specs.Answers.{Counts};
 ghost use Rattle.itip_view.specs.Rows.{IsRow, AreRows, AreTooMany, row_cmp};

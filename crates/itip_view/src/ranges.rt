@@ -11,7 +11,7 @@ use crate::NoMemory;
 use crate::dates::have_one_form;
 use crate::governing::Governing;
 use crate::standing::stands_beside;
-use itip_message::{Item, Key};
+use itip_items::{Item, Key};
 use itip_moment::Moment;
 use itip_state::ItemsOfUid;
 use std::alloc::Global;

@@ -4,7 +4,7 @@ ghost use Rattle.std.specs.Option.{option_copied};
 ghost use Rattle.itip_view.specs.OfUid.{StandsBesideOf};
 ghost use Rattle.itip_view.specs.Standing.{is_live, Stands, NoneStands};
 
-use itip_message::{Item, Kind};
+use itip_items::{Item, Kind};
 use itip_moment::Moment;
 use itip_state::ItemsOfUid;
 

@@ -2,7 +2,7 @@
 ghost use Rattle.std.specs.Prelude.{◌↔◌, ℕ, List, IfOk};
 ghost use Rattle.std.specs.List.{Contains};
 ghost use Rattle.std.specs.List.Sorted.{IsStrictlySortedBy};
-ghost use Rattle.itip_message.specs.declared.item.Item.{Item};
+ghost use Rattle.itip_items.specs.declared.item.Item.{Item};
 ghost use Rattle.itip_moment.specs.declared.moment.Moment.{Moment};
 ghost use Rattle.itip_moment.specs.Order.{moment_cmp};
 ghost use Rattle.itip_view.specs.OfUid.{IsWhole, AreOccurrencesOf};
@@ -10,7 +10,7 @@ ghost use Rattle.itip_view.specs.OfUid.{IsWhole, AreOccurrencesOf};
 use crate::NoMemory;
 use crate::standing::is_live;
 use crate::window::Window;
-use itip_message::Item;
+use itip_items::Item;
 use itip_moment::Moment;
 use itip_recur::{Shape, all_occurrences, shape};
 use itip_state::ItemsOfUid;

@@ -1,7 +1,8 @@
 //! Batches of items about a few to-dos, made from a seed: few names, so that items meet, die and tie.
 
 use crate::error::CallError;
-use itip_message::{Item, read_message};
+use itip_items::Item;
+use itip_message::read_message;
 use std::alloc::Global;
 
 /// Numbers that look random, and are the same for the same seed (the generator of Knuth's MMIX).

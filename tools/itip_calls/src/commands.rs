@@ -1,7 +1,7 @@
 //! The commands of a script, each as one word for each part.
 
 use crate::error::CallError;
-use itip_office::{Command, Commands};
+use itip_script::{Command, Commands};
 use std::alloc::Global;
 use std::str;
 

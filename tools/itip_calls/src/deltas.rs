@@ -2,7 +2,7 @@
 
 use crate::error::CallError;
 use crate::texts::{batch, truth};
-use itip_delta::{read_delta, write_delta};
+use itip_desk::{read_delta, write_delta};
 use std::alloc::Global;
 
 pub(crate) fn answer(

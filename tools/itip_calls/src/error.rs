@@ -1,16 +1,17 @@
 //! Why a call gives no value.
 
 use hex::FromHexError;
-use itip_delta::Cause;
 use itip_desk::DeskError;
-use itip_lines::LineError;
-use itip_message::ReadError;
+use itip_lines::{LineCause, LineError, LineRefusal};
+use itip_message::{MessageCause, MessageRefusal, ReadError};
 use itip_notation::NotationError;
 use itip_recur::RecurError;
 use itip_streams::StreamFault;
-use itip_todo::TodoError;
+use itip_todo::{TodoCause, TodoError};
 use itip_view::{BadWindow, ViewError};
+use itip_world::Cause;
 use std::alloc::{AllocError, AllocFailed, Global};
+use std::fmt;
 use std::io;
 use thiserror::Error;
 
@@ -35,12 +36,12 @@ pub(crate) enum CallError {
     /// More occurrences than are listed, by the number of the refusal.
     #[error("31")]
     TooMany,
+    #[error("{0}")]
+    Lines(ShownLines),
     #[error("{0:?}")]
-    Lines(itip_lines::Fault),
-    #[error("{0:?}")]
-    Todo(itip_todo::Fault),
-    #[error("{0:?}")]
-    Message(itip_message::Fault),
+    Todo(TodoCause),
+    #[error("{0}")]
+    Message(ShownMessage),
     #[error("{0:?}")]
     Desk(DeskError),
     #[error("{0:?}")]
@@ -51,6 +52,42 @@ pub(crate) enum CallError {
     View(ViewError),
     #[error("{0:?}")]
     Script(StreamFault),
+}
+
+/// The cause, and the line that is no content line or not UTF-8.
+#[derive(Clone, Copy, Debug)]
+pub(crate) struct ShownLines(pub(crate) LineRefusal);
+
+impl fmt::Display for ShownLines {
+    fn fmt<W: fmt::Write>(&self, f: &mut fmt::Formatter<W>) -> fmt::Result {
+        let LineRefusal { cause, line } = self.0;
+        match (cause, line) {
+            (LineCause::BadLine | LineCause::NotUtf8, Some(line)) => write!(f, "{cause:?}({line})"),
+            _ => write!(f, "{cause:?}"),
+        }
+    }
+}
+
+/// The cause that the reader of lines, of to-dos or of messages gives.
+#[derive(Clone, Copy, Debug)]
+pub(crate) struct ShownMessage(pub(crate) MessageRefusal);
+
+impl fmt::Display for ShownMessage {
+    fn fmt<W: fmt::Write>(&self, f: &mut fmt::Formatter<W>) -> fmt::Result {
+        match self.0.cause {
+            MessageCause::Lines(cause) => {
+                let shown = ShownLines(LineRefusal {
+                    cause,
+                    line: self.0.line,
+                });
+                write!(f, "{shown}")
+            }
+            MessageCause::Todo(cause) => write!(f, "{cause:?}"),
+            MessageCause::Misfit(cause) => write!(f, "{cause:?}"),
+            MessageCause::ManyTodos | MessageCause::LargeForm => f.write_str("TooMany"),
+            cause => write!(f, "{cause:?}"),
+        }
+    }
 }
 
 impl CallError {
@@ -106,7 +143,7 @@ impl From<LineError> for CallError {
     fn from(error: LineError) -> CallError {
         match error {
             LineError::NoMemory => CallError::NoMemory,
-            LineError::Fault(fault) => CallError::Lines(fault),
+            LineError::Refused(refusal) => CallError::Lines(ShownLines(refusal)),
         }
     }
 }
@@ -115,7 +152,7 @@ impl From<TodoError> for CallError {
     fn from(error: TodoError) -> CallError {
         match error {
             TodoError::NoMemory => CallError::NoMemory,
-            TodoError::Fault(fault) => CallError::Todo(fault),
+            TodoError::Refused(refusal) => CallError::Todo(refusal.cause),
         }
     }
 }
@@ -133,7 +170,7 @@ impl From<ReadError> for CallError {
     fn from(error: ReadError) -> CallError {
         match error {
             ReadError::NoMemory => CallError::NoMemory,
-            ReadError::Fault(fault) => CallError::Message(fault),
+            ReadError::Refused(refusal) => CallError::Message(ShownMessage(refusal)),
         }
     }
 }

@@ -2,7 +2,7 @@
 
 use crate::error::CallError;
 use crate::texts::{count, number, text};
-use itip_delta::Event;
+use itip_world::Event;
 use itip_lines::Bytes;
 use std::alloc::Global;
 

@@ -4,7 +4,7 @@ use crate::desks::desk_after;
 use crate::error::CallError;
 use crate::texts::{text, year};
 use itip_lines::Text;
-use itip_message::{Item, Key};
+use itip_items::{Item, Key};
 use itip_moment::{Moment, read_moment};
 use itip_state::ItemsOfUid;
 use itip_todo::{Uid, attendee_key};

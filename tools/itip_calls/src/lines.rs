@@ -7,7 +7,7 @@
 
 use crate::error::CallError;
 use crate::texts::count;
-use itip_lines::{Fault, Line, LineError, read_lines, write_line};
+use itip_lines::{Line, LineCause, LineError, LineRefusal, read_lines, write_line};
 use std::alloc::{AllocError, Global};
 
 pub(crate) fn answer(
@@ -20,7 +20,7 @@ pub(crate) fn answer(
         ("count_lines", [text]) => counted(alloc, text),
         ("write_lines", [before, text]) => written(alloc, before, text),
         ("show_bad_line", [number]) => {
-            error(alloc, &LineError::Fault(Fault::BadLine(count(number)?)))
+            bad_line(alloc, count(number)?)
         }
         ("show_no_memory_for_lines", []) => error(alloc, &LineError::NoMemory),
         _ => Err(CallError::NoSuchCall),
@@ -30,7 +30,7 @@ pub(crate) fn answer(
 fn read(alloc: Global, text: &[u8]) -> Result<Vec<u8>, CallError> {
     let mut out = String::new(alloc);
     for line in &read_lines(alloc, text)? {
-        show(line, &mut out)?;
+        show(&line.line, &mut out)?;
     }
     Ok(out.into_bytes())
 }
@@ -58,9 +58,17 @@ fn counted(alloc: Global, text: &[u8]) -> Result<Vec<u8>, CallError> {
 fn written(alloc: Global, before: &[u8], text: &[u8]) -> Result<Vec<u8>, CallError> {
     let mut out = Vec::from_slice(alloc, before)?;
     for line in &read_lines(alloc, text)? {
-        write_line(line, &mut out)?;
+        write_line(&line.line, &mut out)?;
     }
     Ok(out)
+}
+
+fn bad_line(alloc: Global, number: usize) -> Result<Vec<u8>, CallError> {
+    let refusal = LineRefusal {
+        cause: LineCause::BadLine,
+        line: Some(number),
+    };
+    error(alloc, &LineError::Refused(refusal))
 }
 
 fn error(alloc: Global, error: &LineError) -> Result<Vec<u8>, CallError> {

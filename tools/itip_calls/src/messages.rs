@@ -5,8 +5,9 @@
 //!   it has, with a semicolon after it
 //! - `read_all TEXT ..`: of each text how many items it has, or its fault, with blanks between, from many threads
 
-use crate::error::CallError;
-use itip_message::{Item, ReadError, read_all, read_message, write_item};
+use crate::error::{CallError, ShownMessage};
+use itip_items::{Item, write_item};
+use itip_message::{ReadError, read_all, read_message};
 use std::alloc::{AllocError, Global};
 use std::thread::Threads;
 
@@ -65,7 +66,10 @@ fn counted(alloc: Global, answer: &Result<Vec<Item>, ReadError>) -> Result<Strin
             let count = items.len();
             Ok(format!(in alloc; "{count}")?)
         }
-        Err(ReadError::Fault(fault)) => Ok(format!(in alloc; "{fault:?}")?),
+        Err(ReadError::Refused(refusal)) => {
+            let shown = ShownMessage(*refusal);
+            Ok(format!(in alloc; "{shown}")?)
+        },
         Err(ReadError::NoMemory) => Err(CallError::NoMemory),
     }
 }

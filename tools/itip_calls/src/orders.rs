@@ -2,7 +2,7 @@
 
 use crate::error::CallError;
 use itip_desk::{Batch, Desk};
-use itip_message::Item;
+use itip_items::Item;
 use itip_state::{State, kept};
 use std::alloc::Global;
 

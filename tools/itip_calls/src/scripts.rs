@@ -5,7 +5,8 @@ use crate::error::CallError;
 use crate::narrow::Narrow;
 use crate::pieces::Pieces;
 use crate::texts::{count, text, year};
-use itip_office::{read_script, run_script};
+use itip_script::read_script;
+use itip_world::run_script;
 use itip_streams::{StreamFault, write_output};
 use std::alloc::{AllocError, Global};
 

@@ -2,7 +2,8 @@
 
 use crate::error::CallError;
 use itip_desk::Batch;
-use itip_message::{Item, read_message};
+use itip_items::Item;
+use itip_message::read_message;
 use itip_state::State;
 use itip_view::Window;
 use std::alloc::Global;

@@ -3,7 +3,8 @@
 use crate::error::CallError;
 use crate::events::events;
 use crate::texts::{count, number};
-use itip_delta::{Cause, Packet, Reply, Stopped, World, run_world};
+use itip_desk::Refusal;
+use itip_world::{Cause, Outcome, Packet, Ran, Stopped, World, run_world};
 use std::alloc::Global;
 
 pub(crate) fn answer(
@@ -12,7 +13,7 @@ pub(crate) fn answer(
     arguments: &[Vec<u8>],
 ) -> Result<Vec<u8>, CallError> {
     match (word, arguments) {
-        ("replies", [desks, rest @ ..]) => replies(alloc, run(alloc, count(desks)?, rest)?),
+        ("replies", [desks, rest @ ..]) => outcomes(alloc, run(alloc, count(desks)?, rest)?),
         ("desks", [desks, rest @ ..]) => {
             shown_desks(alloc, &world(run(alloc, count(desks)?, rest)?))
         }
@@ -33,7 +34,7 @@ fn run(
     alloc: Global,
     desks: usize,
     arguments: &[Vec<u8>],
-) -> Result<Result<World, Stopped>, CallError> {
+) -> Result<Result<Ran, Stopped>, CallError> {
     let events = events(alloc, arguments)?;
     if desks < 1 || desks > 16 {
         return Err(CallError::NoSuchCall);
@@ -42,43 +43,56 @@ fn run(
 }
 
 /// The world after the events that were done.
-fn world(ran: Result<World, Stopped>) -> World {
+fn world(ran: Result<Ran, Stopped>) -> World {
     match ran {
-        Ok(world) => world,
+        Ok(ran) => ran.world,
         Err(stopped) => stopped.world,
     }
 }
 
-/// The replies, and where the run stopped and why.
-fn replies(alloc: Global, ran: Result<World, Stopped>) -> Result<Vec<u8>, CallError> {
+/// What came of the events, and where the run stopped and why.
+fn outcomes(alloc: Global, ran: Result<Ran, Stopped>) -> Result<Vec<u8>, CallError> {
     match ran {
-        Ok(world) => Ok(lines(alloc, world.replies())?.into_bytes()),
+        Ok(ran) => Ok(lines(alloc, &ran.outcomes)?.into_bytes()),
         Err(stopped) => {
-            let told = lines(alloc, stopped.world.replies())?;
+            let told = lines(alloc, &stopped.outcomes)?;
             let done = stopped.done;
-            let cause = stopped.cause;
-            Ok(format!(in alloc; "{told}stopped after {done}: {cause:?}\n")?.into_bytes())
+            let cause = cause_name(stopped.cause);
+            Ok(format!(in alloc; "{told}stopped after {done}: {cause}\n")?.into_bytes())
         }
     }
 }
 
-fn lines(alloc: Global, replies: &[Reply]) -> Result<String, CallError> {
+fn lines(alloc: Global, outcomes: &[Outcome]) -> Result<String, CallError> {
     let mut told = String::new(alloc);
-    for reply in replies {
-        told.push_str(line(alloc, *reply)?.as_str())?;
+    for outcome in outcomes {
+        told.push_str(line(alloc, *outcome)?.as_str())?;
     }
     Ok(told)
 }
 
-fn line(alloc: Global, reply: Reply) -> Result<String, CallError> {
-    match reply {
-        Reply::Taken { tick, changed } => {
+fn line(alloc: Global, outcome: Outcome) -> Result<String, CallError> {
+    match outcome {
+        Outcome::Heard { tick, changed } => {
             Ok(format!(in alloc; "taken at {tick}, {changed} moved\n")?)
         }
-        Reply::Posted { packet, items } => {
+        Outcome::Posted { packet, items } => {
             Ok(format!(in alloc; "posted as {packet}, {items} items\n")?)
         }
-        Reply::Refused(number) => Ok(format!(in alloc; "refused {number}\n")?),
+        Outcome::Refused(refusal) => {
+            let number = refusal.number();
+            Ok(format!(in alloc; "refused {number}\n")?)
+        }
+    }
+}
+
+fn cause_name(cause: Cause) -> &'static str {
+    match cause {
+        Cause::NoMemory => "NoMemory",
+        Cause::Refused(Refusal::NoDesk(_)) => "NoDesk",
+        Cause::Refused(Refusal::NoPacket(_)) => "NoPacket",
+        Cause::Refused(Refusal::TicksSpent { .. }) => "TicksSpent",
+        Cause::Refused(_) => "another refusal",
     }
 }
 
@@ -123,22 +137,25 @@ fn packet(alloc: Global, packets: &[Packet], place: usize) -> Result<Vec<u8>, Ca
     Ok(packet.octets(alloc)?)
 }
 
-/// What comes of each event at one desk that has heard nothing, at this tick; the replies, and the desk.
+/// What comes of each event at one desk that has heard nothing, at this tick; the outcomes, and the desk.
 fn steps(alloc: Global, tick: u64, arguments: &[Vec<u8>]) -> Result<Vec<u8>, CallError> {
     let mut world = World::start_at(alloc, 1, tick)?;
     let mut told = String::new(alloc);
+    let mut outcomes = Vec::new(alloc);
     for event in &events(alloc, arguments)? {
-        told.push_str(outcome(alloc, world.step(event))?.as_str())?;
+        match world.step(event) {
+            Ok(outcome) => {
+                outcomes.push(outcome)?;
+                told.push_str("done\n")?;
+            }
+            Err(cause) => {
+                told.push_str(cause_name(cause))?;
+                told.push_str("\n")?;
+            }
+        }
     }
-    told.push_str(lines(alloc, world.replies())?.as_str())?;
+    told.push_str(lines(alloc, &outcomes)?.as_str())?;
     let mut told = told.into_bytes();
     told.append(&mut shown_desks(alloc, &world)?)?;
     Ok(told)
-}
-
-fn outcome(alloc: Global, done: Result<(), Cause>) -> Result<String, CallError> {
-    match done {
-        Ok(()) => Ok(String::from_str(alloc, "done\n")?),
-        Err(cause) => Ok(format!(in alloc; "{cause:?}\n")?),
-    }
 }

@@ -1,5 +1,5 @@
 use Rattle.std.proofs.Common.{ℕ, List, map, subst}
-use Rattle.itip_message.specs.declared.item.Item.{Item}
+use Rattle.itip_items.specs.declared.item.Item.{Item}
 use Rattle.itip_state.specs.Kept.{ArePartOf}
 use Rattle.itip_desk.specs.Index.{HaveEntries}
 use Rattle.itip_desk.proofs.Touching.{old_entries, new_entries, in_touched}

@@ -1,6 +1,6 @@
 use Rattle.std.proofs.Common.{◌≡◌, ◌+◌, ◌++◌, ◌∷◌, [], ◌∙◌, ◌↔◌, ◌⊎◌, IsTrue, ℕ, List, map, take, take_all, subst, sym, ap}
 use Rattle.std.proofs.lemmas.List.{map_more}
-use Rattle.itip_message.specs.declared.item.Item.{Item}
+use Rattle.itip_items.specs.declared.item.Item.{Item}
 use Rattle.itip_desk.specs.declared.entry.Entry.{Entry}
 use Rattle.itip_desk.specs.Entries.{IsNoted}
 use Rattle.itip_desk.specs.Index.{has, HaveEntries}

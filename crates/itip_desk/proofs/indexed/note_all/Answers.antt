@@ -1,5 +1,5 @@
 use Rattle.std.proofs.Common.{◌↔◌, ◌⊎◌, IsTrue, List, map, take, subst, sym}
-use Rattle.itip_message.specs.declared.item.Item.{Item}
+use Rattle.itip_items.specs.declared.item.Item.{Item}
 use Rattle.itip_desk.specs.Entries.{IsNoted}
 use Rattle.itip_desk.specs.Index.{has}
 use Rattle.itip_desk.proofs.Touching.{seen_more, seen_all, note_more}

@@ -1,6 +1,6 @@
 use Rattle.std.proofs.Common.{◌≡◌, ◌++◌, ◌∷◌, [], ◌∙◌, List, map, take, subst, sym, ap}
 use Rattle.std.proofs.lemmas.List.{map-append}
-use Rattle.itip_message.specs.declared.item.Item.{Item}
+use Rattle.itip_items.specs.declared.item.Item.{Item}
 use Rattle.itip_view.specs.RowDays.{is_of_rows}
 use Rattle.itip_desk.specs.Index.{AreOfRows}
 use Rattle.itip_desk.proofs.Touching.{seen_more, seen_all, rows_more, rows_pass}

@@ -1,5 +1,5 @@
 use Rattle.std.proofs.Common.{◌≡◌, ◌++◌, length, map}
-use Rattle.itip_delta.specs.Scanned.{messages_of}
+use Rattle.itip_message.specs.Scanned.{messages_of}
 use Rattle.itip_inbox.proofs.cut.all_messages.Given as goal
 
 abbrev pub invariant-loop-message : goal.invariant-loop-message

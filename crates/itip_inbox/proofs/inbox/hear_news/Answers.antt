@@ -1,6 +1,6 @@
 use Rattle.std.proofs.Common.{◌≡◌, ◌∙◌, ◌+◌, sym, ap, subst, List, [], ◌∷◌, ◌++◌, append-nil, take}
 use Rattle.std.proofs.lemmas.List.{take_more, take_all}
-use Rattle.itip_message.specs.declared.item.Item.{Item}
+use Rattle.itip_items.specs.declared.item.Item.{Item}
 use Rattle.itip_state.specs.Kept.{AreKept}
 use Rattle.itip_inbox.proofs.Keeping.{keeps_one}
 use Rattle.itip_inbox.proofs.inbox.hear_news.Goals as goal

@@ -1,7 +1,7 @@
 use Rattle.std.proofs.Common.{ap, ◌∙◌, subst, List}
 use Rattle.std.specs.Io.KnownBytes.{Appends}
-use Rattle.itip_message.specs.declared.item.Item.{Item}
-use Rattle.itip_delta.specs.Delta.{delta_octets}
+use Rattle.itip_items.specs.declared.item.Item.{Item}
+use Rattle.itip_desk.specs.Delta.{delta_octets}
 use Rattle.itip_streams.specs.Written.{AppendsFront}
 use Rattle.itip_inbox.specs.Inbox.{is_some_refused}
 use Rattle.itip_inbox.proofs.Outputs.{on_err, compaction_written, compaction_front, compaction_unread}

@@ -1,7 +1,7 @@
 use Rattle.std.proofs.Common.{◌+◌, ◌≤◌, ℕ, List, length, take, ap, subst, ◌∙◌, arith}
 use Rattle.std.proofs.lemmas.Result.{on_ok_weaker, on_err_weaker}
 use Rattle.std.specs.Io.KnownBytes.{Appends}
-use Rattle.itip_message.specs.declared.item.Item.{Item}
+use Rattle.itip_items.specs.declared.item.Item.{Item}
 use Rattle.itip_streams.specs.Written.{AppendsFront}
 use Rattle.itip_inbox.specs.Compaction.{WritesSoFar}
 use Rattle.itip_inbox.proofs.Outputs.{on_err, front_none, items_none, items_more, items_moved, items_front, items_end}

@@ -1,5 +1,5 @@
 use Rattle.std.proofs.Common.{ap, refl}
-use Rattle.itip_delta.specs.Scanned.{messages_of}
+use Rattle.itip_message.specs.Scanned.{messages_of}
 use Rattle.itip_inbox.proofs.Streams.{reads_share, reads_last, shared}
 use Rattle.itip_inbox.proofs.read.read_inbox.Goals as goal
 

@@ -3,7 +3,7 @@ use Rattle.std.specs.List.{AllZip}
 use Rattle.rayon.proofs.ListFacts.{IfOk-then}
 use Rattle.rayon.proofs.ToStd.{slice-AllZip}
 use Rattle.rayon.specs.Lists.{iter_slice, min_len_base, map_f}
-use Rattle.itip_message.specs.declared.item.Item.{Item}
+use Rattle.itip_items.specs.declared.item.Item.{Item}
 use Rattle.itip_inbox.specs.Streaming.{MayTell}
 use Rattle.itip_inbox.proofs.Hearing.{answers_of}
 use Rattle.itip_inbox.proofs.texts.read_texts.Goals as goal

@@ -1,5 +1,5 @@
 use Rattle.itip_lines.proofs.Decided.{reads_or_refused}
-use Rattle.itip_lines.proofs.OneReading.{one_reading, one_fault, reading_apart}
+use Rattle.itip_lines.proofs.OneReading.{one_reading, one_refusal, reading_apart, refusal_place}
 use Rattle.itip_lines.proofs.laws.reading_laws.Goals as goal
 
 pub returns-clause-some : goal.returns-clause-some
@@ -8,8 +8,11 @@ returns-clause-some c = reads_or_refused
 pub returns-clause-one_reading : goal.returns-clause-one_reading
 returns-clause-one_reading c = one_reading
 
-pub returns-clause-one_fault : goal.returns-clause-one_fault
-returns-clause-one_fault c = one_fault
+pub returns-clause-one_refusal : goal.returns-clause-one_refusal
+returns-clause-one_refusal c = one_refusal
 
 pub returns-clause-apart : goal.returns-clause-apart
 returns-clause-apart c = reading_apart
+
+pub returns-clause-place : goal.returns-clause-place
+returns-clause-place c = refusal_place

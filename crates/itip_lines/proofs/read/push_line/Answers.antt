@@ -1,4 +1,5 @@
-use Rattle.std.proofs.Common.{sym, inr, arith}
+use Rattle.std.proofs.Common.{sym, refl, inr, arith}
+use Rattle.itip_lines.specs.Reading.{line_at}
 use Rattle.itip_lines.proofs.Runs.{some_from_test}
 use Rattle.itip_lines.proofs.read.push_line.Goals as goal
 
@@ -7,8 +8,9 @@ returns-clause-pushed c =
     inr (
       some_from_test _ (sym c.if-is_empty.ensures),
       (
-        c.in-Some.line,
+        line_at c.args.number c.in-Some.line,
         c.in_ok-push.ensures.items,
+        refl,
         record {
           within = record { few = omega arith; short = omega arith };
           utf8 = c.in-Ok.ensures.cases.1;

@@ -1,9 +1,10 @@
+use Rattle.std.proofs.Common.{◌≤◌}
 use Rattle.itip_lines.specs.Scan.{HasRead}
-use Rattle.itip_lines.specs.Scanned.{left_behind}
+use Rattle.itip_lines.specs.Scanned.{left_behind, last_behind, number_limit}
 use Rattle.itip_lines.proofs.read.read_lines.Given as goal
 
 abbrev pub invariant-loop-rest : goal.invariant-loop-rest
-invariant-loop-rest l = HasRead l.fn.text l.lines.items l.rest
+invariant-loop-rest l = HasRead l.fn.text l.lines.items l.rest × (last_behind l.rest ≤ number_limit)
 
 abbrev pub decreases-loop-rest : goal.decreases-loop-rest
 decreases-loop-rest l = left_behind l.rest

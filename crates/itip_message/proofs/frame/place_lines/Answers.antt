@@ -1,9 +1,11 @@
-use Rattle.std.proofs.Common.{◌≡◌, ◌∙◌, sym, ap, arith, length, List, [], ◌∷◌, Option, None, subst, append-nil}
+use Rattle.std.proofs.Common.{◌≡◌, ◌∙◌, sym, ap, arith, length, List, [], ◌∷◌, Option, None, Err, subst, append-nil}
 use Rattle.std.proofs.lemmas.Result.{err_from_is_err_and}
 use Rattle.std.specs.Vec.{vec_len}
 use Rattle.std.specs.Vec.Iter.{into_iter_items}
 use Rattle.std.specs.Option.{option_to_list}
 use Rattle.itip_message.specs.Frame.{place, with_front, innermost_first}
+use Rattle.itip_message.specs.Refusals.{IfRefused}
+use Rattle.itip_message.specs.declared.error.ReadError.{ReadError}
 use Rattle.itip_message.specs.declared.frame.Placed.{Placed}
 use Rattle.itip_message.proofs.Frames.{one_more, fails_so, not_closed, not_zero, not_some}
 use Rattle.itip_message.proofs.frame.place_lines.Goals as goal
@@ -49,4 +51,5 @@ returns-then-not-is_empty-clause-fault c =
     let was = c.loop-line.invariant.length_is in
     let none = c.in-None.ensures.steps.0 in
     let items = not_zero (vec_len c.loop-line.inside) (sym c.is_empty.ensures ∙ c.if-not-is_empty.true) in
-    not_closed c.loop-line.placed.items c.loop-line.inside.items (into_iter_items c.loop-line.line-iterator) (place (c.args.name ∷ []) (into_iter_items c.args.lines)) (c.loop-line.invariant.completes ∙ ap (place (c.args.name ∷ [])) same) (omega arith) (omega arith)
+    subst (λ (e : ReadError). IfRefused e (λ f. place (c.args.name ∷ []) (into_iter_items c.args.lines) ≡ Err f)) (sym c.nested.ensures)
+    (not_closed c.loop-line.placed.items c.loop-line.inside.items (into_iter_items c.loop-line.line-iterator) (place (c.args.name ∷ []) (into_iter_items c.args.lines)) (c.loop-line.invariant.completes ∙ ap (place (c.args.name ∷ [])) same) (omega arith) (omega arith))

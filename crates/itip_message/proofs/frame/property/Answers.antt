@@ -1,6 +1,6 @@
 use Rattle.std.proofs.Common.{◌≡◌, ◌∙◌, sym, ap, List, ℕ, Bool, cond, [], ◌∷◌, false}
 use Rattle.std.specs.Prelude.{codes}
-use Rattle.itip_message.specs.Frame.{same_text}
+use Rattle.itip_todo.specs.Participation.{same_text}
 use Rattle.itip_message.specs.declared.frame.Placed.TheVariants.{TodoLine}
 use Rattle.itip_message.proofs.Frames.{property_one, property_two, property_more}
 use Rattle.itip_message.proofs.frame.property.Goals as goal

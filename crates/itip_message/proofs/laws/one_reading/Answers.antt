@@ -8,8 +8,8 @@ returns-clause-some c = some_message
 pub returns-clause-items : goal.returns-clause-items
 returns-clause-items c = one_message
 
-pub returns-clause-fault : goal.returns-clause-fault
-returns-clause-fault c = one_cause
+pub returns-clause-refusal : goal.returns-clause-refusal
+returns-clause-refusal c = one_cause
 
 pub returns-clause-apart : goal.returns-clause-apart
 returns-clause-apart c = message_apart

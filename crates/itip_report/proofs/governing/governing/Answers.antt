@@ -2,7 +2,7 @@ use Rattle.std.proofs.Common.{sym, subst, List, ℕ, Option, Some, None}
 use Rattle.std.specs.Prelude.{MatchOption}
 use Rattle.std.specs.Option.{option_copied}
 use Rattle.itip_moment.specs.declared.moment.Moment.{Moment}
-use Rattle.itip_message.specs.declared.item.Item.{Item}
+use Rattle.itip_items.specs.declared.item.Item.{Item}
 use Rattle.itip_view.specs.Standing.{Governs}
 use Rattle.itip_report.proofs.Telling.{live_series, governs_standing, governs_between}
 use Rattle.itip_report.proofs.governing.governing.Goals as goal

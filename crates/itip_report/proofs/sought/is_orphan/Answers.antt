@@ -1,5 +1,5 @@
 use Rattle.std.proofs.Common.{List}
-use Rattle.itip_message.specs.declared.item.Item.{Item}
+use Rattle.itip_items.specs.declared.item.Item.{Item}
 use Rattle.itip_report.proofs.Telling.{not_orphan, orphan_where}
 use Rattle.itip_report.proofs.sought.is_orphan.Goals as goal
 

@@ -1,6 +1,6 @@
 use Rattle.std.proofs.Common.{List, ap, ◌∙◌}
 use Rattle.std.specs.Ordering.{is_lt}
-use Rattle.itip_message.specs.declared.item.Item.{Item}
+use Rattle.itip_items.specs.declared.item.Item.{Item}
 use Rattle.itip_report.proofs.Telling.{wanted_where, not_wanted}
 use Rattle.itip_report.proofs.sought.is_wanted.Goals as goal
 

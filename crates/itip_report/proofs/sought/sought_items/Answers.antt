@@ -1,7 +1,7 @@
 use Rattle.std.proofs.Common.{◌≡◌, ◌+◌, ◌++◌, ◌∷◌, [], ◌∙◌, List, take_all, map, take, sym, ap, subst, true, false}
 use Rattle.std.specs.List.{Contains}
 use Rattle.std.proofs.lemmas.List.{length-map}
-use Rattle.itip_message.specs.declared.item.Item.{Item}
+use Rattle.itip_items.specs.declared.item.Item.{Item}
 use Rattle.itip_state.specs.Kept.{AscendKeys, SameItems}
 use Rattle.itip_state.proofs.Finding.{mapped_in}
 use Rattle.itip_report.specs.Lines.{AscendPlaces, AreReported}

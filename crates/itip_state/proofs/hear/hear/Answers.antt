@@ -1,7 +1,7 @@
 use Rattle.std.proofs.Common.{◌∙◌, ◌≡◌, List, ℕ, Some, ap, subst, false}
 use Rattle.std.specs.Ordering.{is_eq, nat_cmp}
 use Rattle.std.specs.Cmp.Lexicographic.{slice_cmp}
-use Rattle.itip_message.specs.KeyParts.{uid_of}
+use Rattle.itip_items.specs.KeyParts.{uid_of}
 use Rattle.itip_state.specs.Held.{Shape, alone, at}
 use Rattle.itip_state.specs.Seen.{shape}
 use Rattle.itip_state.specs.Joined.{IsJoinedAt}

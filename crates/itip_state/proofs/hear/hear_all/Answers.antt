@@ -1,6 +1,6 @@
 use Rattle.std.proofs.Common.{◌≡◌, List, [], ◌∷◌, ◌++◌, ◌+◌, ◌∙◌, ap, sym, subst, map, take, append_assoc}
 use Rattle.std.proofs.lemmas.List.{take_more, take_all, map-append}
-use Rattle.itip_message.specs.declared.item.Item.{Item}
+use Rattle.itip_items.specs.declared.item.Item.{Item}
 use Rattle.itip_state.specs.Held.{HoldKept}
 use Rattle.itip_state.proofs.Members.{on_ok_then, single_is}
 use Rattle.itip_state.proofs.hear.hear_all.Goals as goal

@@ -1,5 +1,5 @@
 use Rattle.std.proofs.Common.{List, ◌++◌, map, take}
-use Rattle.itip_message.specs.declared.item.Item.{Item}
+use Rattle.itip_items.specs.declared.item.Item.{Item}
 use Rattle.itip_state.specs.Held.{HoldKept}
 use Rattle.itip_state.specs.Undone.{AreUndone}
 use Rattle.itip_state.proofs.hear.hear_all.Given as goal

@@ -1,6 +1,6 @@
 use Rattle.std.proofs.Common.{◌≡◌, List, ℕ, sym, subst, true}
 use Rattle.std.specs.Prelude.{is_some}
-use Rattle.itip_message.specs.KeyParts.{uid_of}
+use Rattle.itip_items.specs.KeyParts.{uid_of}
 use Rattle.itip_state.specs.Held.{Shape, alone, at}
 use Rattle.itip_state.specs.Undone.{LeadsBack, AreUndone}
 use Rattle.itip_state.proofs.Members.{on_both}

@@ -1,7 +1,7 @@
 use Rattle.std.proofs.Common.{◌≡◌, ◌∙◌, List, ℕ, ap, sym, subst, Some, None, true}
 use Rattle.std.specs.Prelude.{is_some}
 use Rattle.itip_join.specs.Changes.{replaced}
-use Rattle.itip_message.specs.KeyParts.{uid_of}
+use Rattle.itip_items.specs.KeyParts.{uid_of}
 use Rattle.itip_state.specs.Held.{Shape, at}
 use Rattle.itip_state.specs.Seen.{shape}
 use Rattle.itip_state.specs.Undone.{LeadsBack}

@@ -1,7 +1,7 @@
 use Rattle.std.specs.List.{Contains}
 use Rattle.std.proofs.Common.{◌≡◌, ◌+◌, ◌∙◌, sym, ap, subst, List, take, [], ◌∷◌, ◌++◌, true, false}
 use Rattle.std.proofs.lemmas.List.{take_more, take_all}
-use Rattle.itip_message.specs.declared.item.Item.{Item}
+use Rattle.itip_items.specs.declared.item.Item.{Item}
 use Rattle.itip_state.proofs.KeptOnes.{Collects, collected, collect_one, collect_other}
 use Rattle.itip_state.proofs.plain.kept.Goals as goal
 

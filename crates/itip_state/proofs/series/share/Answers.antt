@@ -1,6 +1,6 @@
 use Rattle.std.proofs.Common.{◌≡◌, List, [], ◌∷◌, ◌++◌, append_assoc, rules, sym, ap, ◌∙◌, subst}
 use Rattle.std.specs.List.{AllByRecursion}
-use Rattle.itip_message.specs.declared.item.Item.{Item}
+use Rattle.itip_items.specs.declared.item.Item.{Item}
 use Rattle.itip_state.specs.Held.{IsEntryAt, series_items, entry_items}
 use Rattle.itip_state.specs.Seen.{shape}
 use Rattle.itip_state.proofs.Sharing.{placed_rest, no_series_items}

@@ -5,8 +5,8 @@ use Rattle.std.proofs.lemmas.List.Kept.{IsStrictlySortedBy-dedup, Contains-dedup
 use Rattle.std.proofs.lemmas.List.Sorted.{Contains-permutation, IsPermutation-sym}
 use Rattle.std.proofs.lemmas.Map.Lookups.{exact_bytes, CmpEqualImpliesEq}
 use Rattle.std.proofs.lemmas.Map.Views.{tells_apart}
-use Rattle.itip_message.specs.OctetOrder.{octets_cmp, octets_total}
-use Rattle.itip_message.proofs.SameItem.{same_item}
+use Rattle.itip_items.specs.OctetOrder.{octets_cmp, octets_total}
+use Rattle.itip_items.proofs.SameItem.{same_item}
 use Rattle.itip_state.proofs.Ascending.{pairs_ascend}
 use Rattle.itip_state.proofs.shared.by_octets.Goals as goal
 

@@ -9,7 +9,7 @@ use Rattle.std.proofs.lemmas.List.Kept.{IsStrictlySortedBy-dedup, Contains-dedup
 use Rattle.std.proofs.lemmas.List.Sorted.{Contains-permutation, IsPermutation-sym, IsPermutation-map}
 use Rattle.std.proofs.lemmas.Map.Lookups.{exact_bytes}
 use Rattle.std.proofs.lemmas.Map.Views.{tells_apart}
-use Rattle.itip_message.specs.KeyParts.{uid_of}
+use Rattle.itip_items.specs.KeyParts.{uid_of}
 use Rattle.itip_state.proofs.Ascending.{pairs_ascend}
 use Rattle.itip_state.proofs.Once.{dedup_map, sorted_map}
 use Rattle.itip_state.proofs.UidSets.{uid_from, uid_among}

@@ -1,7 +1,7 @@
 use Rattle.std.proofs.Common.{◌≡◌, ◌↔◌, ap, sym, subst, ◌∙◌, IsTrue, Some}
 use Rattle.itip_join.specs.KeyByKey.{value_at}
-use Rattle.itip_message.specs.Later.{IsLater}
-use Rattle.itip_message.specs.declared.item.Item.{Item}
+use Rattle.itip_items.specs.Later.{IsLater}
+use Rattle.itip_items.specs.declared.item.Item.{Item}
 use Rattle.itip_state.specs.Slots.{slot_cmp}
 use Rattle.itip_state.specs.Seen.{shape}
 use Rattle.itip_state.proofs.News.{known_holds, entry_holds}

@@ -1,14 +1,13 @@
-use Rattle.std.proofs.Common.{◌≡◌, ℕ, List, [], refl, inl, inr, sym, subst, ◌∙◌, Option, Some, None}
+use Rattle.std.proofs.Common.{◌≡◌, ℕ, List, [], refl, inl, sym, subst, ◌∙◌, Option, Some, None}
 use Rattle.std.proofs.lemmas.Result.{err_from_is_err_and}
 use Rattle.itip_moment.specs.declared.stamp.Stamp.{Stamp}
 use Rattle.itip_lines.specs.declared.line.Line.{Line}
 use Rattle.itip_todo.specs.Drafts.{draft_parts, IsDraftOf}
 use Rattle.itip_todo.specs.Lawful.{IsLawful}
 use Rattle.itip_todo.specs.Parts.{Parts}
-use Rattle.itip_todo.specs.Reading.{IsOptional, IsOrNought, IsUidOf, IsStampOf, IsSequenceOf, IfFault, AreGood, RefusesTodo, first_named, lines_of}
+use Rattle.itip_todo.specs.Reading.{IsOptional, IsOrNought, IsUidOf, IsStampOf, IsSequenceOf, IfRefused, AreGood, LacksProperty, missing, first_named, lines_of}
 use Rattle.itip_todo.specs.declared.draft.Draft.{Draft}
-use Rattle.itip_todo.specs.declared.error.Fault.{Fault}
-use Rattle.itip_todo.specs.declared.error.Fault.TheVariants as fault
+use Rattle.itip_todo.specs.declared.error.TodoRefusal.{TodoRefusal}
 use Rattle.itip_todo.specs.declared.error.TodoError.{TodoError}
 use Rattle.itip_todo.specs.declared.error.TodoError.TheVariants as error
 use Rattle.itip_todo.specs.declared.property_name.PropertyName.TheVariants as name
@@ -82,27 +81,27 @@ returns-clause-found c = λ lines good is. record {
   others = c.from_vec-3.ensures ∙ is name.Others;
 }
 
-abbrev Refuses : Draft → Fault → Type 0
-Refuses draft f = (lines : List Line) → AreGood [] lines → IsDraftOf (lines_of lines) draft → RefusesTodo lines f
+abbrev Lacks : Draft → TodoRefusal → Type 0
+Lacks draft r = (lines : List Line) → AreGood [] lines → IsDraftOf (lines_of lines) draft → LacksProperty lines r
 
 -- a draft without a UID is refused for want of UID
-uidless : (e : TodoError) (draft : Draft) → draft.uid ≡ None → IfFault e (λ f. f ≡ fault.Missing name.Uid) → IfFault e (Refuses draft)
+uidless : (e : TodoError) (draft : Draft) → draft.uid ≡ None → IfRefused e (λ r. r ≡ missing name.Uid) → IfRefused e (Lacks draft)
 uidless error.NoMemory draft none missing = tt
-uidless (error.Fault f) draft none same = λ lines good is. inr (inl (
+uidless (error.Refused r) draft none same = λ lines good is. inl (
   good,
   is_absent IsUidOf (first_named name.Uid lines) (subst (λ (v : Option (List ℕ)). IsOptional IsUidOf (first_named name.Uid lines) v) none (is name.Uid)),
   same,
-))
+)
 
-lacking : (e : TodoError) (draft : Draft) → (draft.uid ≡ None → IfFault e (λ f. f ≡ fault.Missing name.Uid))
-    → ((text : List ℕ) → draft.uid ≡ Some text → IfFault e (λ f. (f ≡ fault.Missing name.DtStamp) × (draft.stamp ≡ None))) → IfFault e (Refuses draft)
+lacking : (e : TodoError) (draft : Draft) → (draft.uid ≡ None → IfRefused e (λ r. r ≡ missing name.Uid))
+    → ((text : List ℕ) → draft.uid ≡ Some text → IfRefused e (λ r. (r ≡ missing name.DtStamp) × (draft.stamp ≡ None))) → IfRefused e (Lacks draft)
 lacking e draft no_uid no_stamp =
-    elim draft.uid as (λ (uid : Option (List ℕ)). draft.uid ≡ uid → IfFault e (Refuses draft)) [
+    elim draft.uid as (λ (uid : Option (List ℕ)). draft.uid ≡ uid → IfRefused e (Lacks draft)) [
       | None ↦ λ none. uidless e draft none (no_uid none)
       | Some text ↦ λ some. stampless e draft text some (no_stamp text some)
     ] refl
 
-pub returns-in_err-needed-clause-fault : goal.returns-in_err-needed-clause-fault
-returns-in_err-needed-clause-fault c =
+pub returns-in_err-needed-clause-refused : goal.returns-in_err-needed-clause-refused
+returns-in_err-needed-clause-refused c =
     let p = err_from_is_err_and c.from_residual.result c.from_residual.ensures.1 in
     rw (p.1, p.2) (lacking c.in_err-needed.field-0.0 c.args.draft c.in_err-needed.ensures.no_uid c.in_err-needed.ensures.no_stamp)

@@ -8,25 +8,25 @@ use Rattle.itip_moment.specs.Spelling.{MomentText}
 use Rattle.itip_moment.specs.declared.moment.Moment.{Moment}
 use Rattle.itip_todo.specs.Drafts.{PutsMoment}
 use Rattle.itip_todo.specs.Participation.{param_value}
-use Rattle.itip_todo.specs.Reading.{IfFault}
+use Rattle.itip_todo.specs.Causes.{IfCause}
 use Rattle.itip_todo.specs.Values.{AreMoments}
-use Rattle.itip_todo.specs.declared.error.Fault.TheVariants as fault
-use Rattle.itip_todo.specs.declared.error.TodoError.{TodoError}
-use Rattle.itip_todo.proofs.GoodLines.{IfFault-weaker}
+use Rattle.itip_todo.specs.declared.error.TodoCause.TheVariants as cause
+use Rattle.itip_todo.specs.declared.error.CauseError.{CauseError}
+use Rattle.itip_todo.proofs.GoodLines.{IfCause-weaker}
 use Rattle.itip_todo.proofs.Putting.{put_more, put_last, bad_front, bad_last}
 use Rattle.itip_todo.proofs.list.put_moments.Goals as goal
 
-pub returns-in_err-put_moment-clause-fault : goal.returns-in_err-put_moment-clause-fault
-returns-in_err-put_moment-clause-fault c =
+pub returns-in_err-put_moment-clause-cause : goal.returns-in_err-put_moment-clause-cause
+returns-in_err-put_moment-clause-cause c =
     let params : List Param = c.args.line.now.params in
     let text : List ℕ = c.args.line.now.value in
     let front : List ℕ = c.in-Some.front.now in
     let zone : c.first_value-zone.result.now ≡ param_value (codes "TZID") params = c.first_value-zone.ensures ∙ ap (λ (ps : List Param). param_value (codes "TZID") ps) c.as_slice.ensures in
     let p = err_from_is_err_and c.from_residual.result c.from_residual.ensures.1 in
-    rw (p.1, p.2) (IfFault-weaker c.in_err-put_moment.field-0.0 (λ f. (f ≡ fault.BadValue c.args.property) × ((m : Moment) → MomentText front (Some c.first_value-zone.result.now) m → ⊥))
-    (λ f. (f ≡ fault.BadValue c.args.property) × ((ms : List Moment) → AreMoments params text ms → ⊥))
+    rw (p.1, p.2) (IfCause-weaker c.in_err-put_moment.field-0.0 (λ f. (f ≡ cause.BadValue c.args.property) × ((m : Moment) → MomentText front (Some c.first_value-zone.result.now) m → ⊥))
+    (λ f. (f ≡ cause.BadValue c.args.property) × ((ms : List Moment) → AreMoments params text ms → ⊥))
     (λ f h. (h.0, bad_front params text c.loop-front.rest.now front c.in-Some.after.now c.args.set.now c.loop-front.set c.loop-front.invariant.1 c.in-Some.ensures.0 c.in-Some.ensures.1 (subst (λ (z : List ℕ). (m : Moment) → MomentText front (Some z) m → ⊥) zone h.1)))
-    c.in_err-put_moment.ensures.fault)
+    c.in_err-put_moment.ensures.cause)
 
 pub loop-front-preserved : goal.loop-front-preserved
 loop-front-preserved c =
@@ -49,14 +49,14 @@ returns-clause-put c =
     put_last params c.args.line.now.value rest puts.moment c.args.set.now c.loop-front.set c.put_moment-2.new.set c.loop-front.invariant.1 (subst (λ (z : List ℕ). MomentText rest (Some z) puts.moment) zone puts.is) puts.each)
     c.put_moment-2.ensures.put
 
-pub returns-clause-fault : goal.returns-clause-fault
-returns-clause-fault c =
+pub returns-clause-cause : goal.returns-clause-cause
+returns-clause-cause c =
     let params : List Param = c.args.line.now.params in
     let text : List ℕ = c.args.line.now.value in
     let rest : List ℕ = c.loop-front.rest.now in
     let zone : c.first_value-zone.result.now ≡ param_value (codes "TZID") params = c.first_value-zone.ensures ∙ ap (λ (ps : List Param). param_value (codes "TZID") ps) c.as_slice.ensures in
-    IfErr-weaker c.put_moment-2.result (λ (e : TodoError). IfFault e (λ f. (f ≡ fault.BadValue c.args.property) × ((m : Moment) → MomentText rest (Some c.first_value-zone.result.now) m → ⊥)))
-    (λ (e : TodoError). IfFault e (λ f. (f ≡ fault.BadValue c.args.property) × ((ms : List Moment) → AreMoments params text ms → ⊥)))
-    (λ e. IfFault-weaker e (λ f. (f ≡ fault.BadValue c.args.property) × ((m : Moment) → MomentText rest (Some c.first_value-zone.result.now) m → ⊥)) (λ f. (f ≡ fault.BadValue c.args.property) × ((ms : List Moment) → AreMoments params text ms → ⊥))
+    IfErr-weaker c.put_moment-2.result (λ (e : CauseError). IfCause e (λ f. (f ≡ cause.BadValue c.args.property) × ((m : Moment) → MomentText rest (Some c.first_value-zone.result.now) m → ⊥)))
+    (λ (e : CauseError). IfCause e (λ f. (f ≡ cause.BadValue c.args.property) × ((ms : List Moment) → AreMoments params text ms → ⊥)))
+    (λ e. IfCause-weaker e (λ f. (f ≡ cause.BadValue c.args.property) × ((m : Moment) → MomentText rest (Some c.first_value-zone.result.now) m → ⊥)) (λ f. (f ≡ cause.BadValue c.args.property) × ((ms : List Moment) → AreMoments params text ms → ⊥))
     (λ f h. (h.0, bad_last params text rest c.args.set.now c.loop-front.set c.loop-front.invariant.1 c.in_default.ensures (subst (λ (z : List ℕ). (m : Moment) → MomentText rest (Some z) m → ⊥) zone h.1))))
-    c.put_moment-2.ensures.fault
+    c.put_moment-2.ensures.cause

@@ -4,17 +4,17 @@ use Rattle.itip_todo.specs.Drafts.{Refuses}
 use Rattle.itip_todo.specs.Reading.{IsPriorityOf, first_of}
 use Rattle.itip_todo.specs.Table.{priority_limit}
 use Rattle.itip_todo.specs.Values.{IsNumberUpTo}
-use Rattle.itip_todo.specs.declared.error.Fault.TheVariants as fault
+use Rattle.itip_todo.specs.declared.error.TodoCause.TheVariants as cause
 use Rattle.itip_todo.specs.declared.property_name.PropertyName.TheVariants as name
 use Rattle.itip_todo.proofs.Drafting.{takes_priority, bad, free}
-use Rattle.itip_todo.proofs.GoodLines.{IfFault-weaker}
+use Rattle.itip_todo.proofs.GoodLines.{IfCause-weaker}
 use Rattle.itip_todo.proofs.single.add_priority.Goals as goal
 
 pub returns-clause-taken : goal.returns-clause-taken
 returns-clause-taken c = takes_priority c.args.line.now c.args.draft.now c.in_ok-number.number c.in_ok-check_free.ensures.free c.in_ok-number.ensures.value
 
-pub returns-in_err-number-clause-fault : goal.returns-in_err-number-clause-fault
-returns-in_err-number-clause-fault c =
+pub returns-in_err-number-clause-cause : goal.returns-in_err-number-clause-cause
+returns-in_err-number-clause-cause c =
     let p = err_from_is_err_and c.from_residual-in_err-number.result c.from_residual-in_err-number.ensures.1 in
-    rw (p.1, p.2) (IfFault-weaker c.in_err-number.field-0.0 (λ f. (f ≡ fault.BadValue name.Priority) × ((n : ℕ) → IsNumberUpTo priority_limit c.args.line.now.value n → ⊥)) (Refuses name.Priority c.args.line.now c.args.draft.now)
-    (λ f has above is. bad above name.Priority c.args.line.now f has.0 (free IsPriorityOf (first_of (above name.Priority)) c.args.draft.now.priority (is name.Priority) c.in_ok-check_free.ensures.free) refl (λ g. has.1 g.0 g.1)) c.in_err-number.ensures.fault)
+    rw (p.1, p.2) (IfCause-weaker c.in_err-number.field-0.0 (λ f. (f ≡ cause.BadValue name.Priority) × ((n : ℕ) → IsNumberUpTo priority_limit c.args.line.now.value n → ⊥)) (Refuses name.Priority c.args.line.now c.args.draft.now)
+    (λ f has above is. bad above name.Priority c.args.line.now f has.0 (free IsPriorityOf (first_of (above name.Priority)) c.args.draft.now.priority (is name.Priority) c.in_ok-check_free.ensures.free) refl (λ g. has.1 g.0 g.1)) c.in_err-number.ensures.cause)

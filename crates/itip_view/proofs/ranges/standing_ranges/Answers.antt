@@ -2,7 +2,7 @@ use Rattle.std.proofs.Common.{◌≡◌, ◌+◌, ◌<◌, ◌∙◌, ◌∷◌,
 use Rattle.std.specs.Option.{option_copied}
 use Rattle.std.proofs.lemmas.List.{length-map, take_more}
 use Rattle.std.proofs.Math.ListN.{get_or-map}
-use Rattle.itip_message.specs.declared.item.Item.{Item}
+use Rattle.itip_items.specs.declared.item.Item.{Item}
 use Rattle.itip_view.specs.declared.ranges.RangeFrom.{RangeFrom}
 use Rattle.itip_view.proofs.Ranging.{FoundIn, IsRangeBy, found_pass, found_more, found_all}
 use Rattle.itip_view.proofs.ranges.standing_ranges.Goals as goal

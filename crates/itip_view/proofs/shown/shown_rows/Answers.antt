@@ -1,6 +1,6 @@
 use Rattle.std.proofs.Common.{◌≡◌, List, ℕ, Some, None, Option, ap, subst, sym, ◌∙◌, option_map}
 use Rattle.std.specs.List.{filter}
-use Rattle.itip_message.specs.declared.item.Item.{Item}
+use Rattle.itip_items.specs.declared.item.Item.{Item}
 use Rattle.itip_state.proofs.Members.{if_ok_then}
 use Rattle.itip_view.specs.OfUid.{AreRowsOf}
 use Rattle.itip_view.specs.Showing.{AreRowsWhere, IsOf}

@@ -1,6 +1,6 @@
 use Rattle.std.proofs.Common.{◌≡◌, ◌∙◌, sym, true, false}
 use Rattle.std.specs.Option.{option_copied}
-use Rattle.itip_message.specs.declared.key.Key.TheVariants.{Instance}
+use Rattle.itip_items.specs.declared.key.Key.TheVariants.{Instance}
 use Rattle.itip_view.proofs.Beside.{stands_from, none_found, none_beside}
 use Rattle.itip_view.proofs.standing.standing_item.Goals as goal
 

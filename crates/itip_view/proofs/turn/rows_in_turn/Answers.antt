@@ -5,7 +5,7 @@ use Rattle.std.specs.Cmp.Lexicographic.{slice_cmp}
 use Rattle.std.specs.declared.cmp.Ordering.TheVariants.{Less}
 use Rattle.std.proofs.lemmas.List.{length-map, take_more}
 use Rattle.std.proofs.Math.ListN.{get_or-map, take-append-drop}
-use Rattle.itip_message.specs.declared.item.Item.{Item}
+use Rattle.itip_items.specs.declared.item.Item.{Item}
 use Rattle.itip_view.specs.Rows.{row_limit}
 use Rattle.itip_view.specs.Showing.{AreRowsWhere, AreTooManyWhere, IsOf, IsAmong}
 use Rattle.itip_view.specs.declared.row.Row.{Row}

@@ -1,6 +1,6 @@
 use Rattle.std.proofs.Common.{◌≡◌, ◌∙◌, sym, ap, true, false}
-use Rattle.itip_message.specs.declared.item.Item.{Item}
-use Rattle.itip_message.specs.declared.key.Key.TheVariants.{Series}
+use Rattle.itip_items.specs.declared.item.Item.{Item}
+use Rattle.itip_items.specs.declared.key.Key.TheVariants.{Series}
 use Rattle.itip_view.specs.Standing.{is_live}
 use Rattle.itip_view.proofs.OneRow.{one_best}
 use Rattle.itip_view.proofs.whole.whole_of.Goals as goal

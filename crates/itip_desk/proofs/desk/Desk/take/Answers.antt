@@ -1,5 +1,5 @@
 use Rattle.std.proofs.Common.{◌≡◌, ◌+◌, ◌++◌, List, inl, inr, refl, ap, subst, sym, ◌∙◌, length, map, arith}
-use Rattle.itip_message.specs.declared.item.Item.{Item}
+use Rattle.itip_items.specs.declared.item.Item.{Item}
 use Rattle.itip_state.specs.Kept.{AreKept, AreMoved, AreUidsOf}
 use Rattle.itip_state.specs.Order.{IsState}
 use Rattle.itip_state.specs.Told.{AreNews}

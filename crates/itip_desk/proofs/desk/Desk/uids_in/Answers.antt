@@ -1,6 +1,6 @@
 use Rattle.std.proofs.Common.{◌≡◌, ℕ, List, map, subst, ap}
 use Rattle.std.specs.List.{Contains}
-use Rattle.itip_message.specs.declared.item.Item.{Item}
+use Rattle.itip_items.specs.declared.item.Item.{Item}
 use Rattle.itip_view.specs.RowDays.{HasRowsIn}
 use Rattle.itip_desk.specs.Desk.{Shown}
 use Rattle.itip_desk.proofs.Outside.{row_in}

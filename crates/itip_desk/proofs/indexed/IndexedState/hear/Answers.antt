@@ -1,6 +1,6 @@
 use Rattle.std.proofs.Common.{◌≡◌, ◌∙◌, List, length, map, sym, subst, arith}
 use Rattle.std.proofs.lemmas.Bool.{eqb-true}
-use Rattle.itip_message.specs.declared.item.Item.{Item}
+use Rattle.itip_items.specs.declared.item.Item.{Item}
 use Rattle.itip_desk.specs.Index.{AreOfRows}
 use Rattle.itip_desk.proofs.Touching.{nothing_in}
 use Rattle.itip_desk.proofs.indexed.IndexedState.hear.Goals as goal

@@ -1,5 +1,5 @@
 use Rattle.std.proofs.Common.{[], ◌++◌, List, map, refl, sym, subst, OnOk}
-use Rattle.itip_message.specs.declared.item.Item.{Item}
+use Rattle.itip_items.specs.declared.item.Item.{Item}
 use Rattle.itip_state.specs.Kept.{AreKept}
 use Rattle.itip_desk.specs.Index.{IsIndexOf}
 use Rattle.itip_desk.proofs.Touching.{index_stays, either_way}

@@ -1,5 +1,5 @@
 use Rattle.std.proofs.Common.{◌++◌, ◌∙◌, ◌&&◌, not, List, map, subst, sym, ap}
-use Rattle.itip_message.specs.declared.item.Item.{Item}
+use Rattle.itip_items.specs.declared.item.Item.{Item}
 use Rattle.itip_state.specs.Kept.{AreKept}
 use Rattle.itip_desk.specs.Index.{has, AreOfRows, IsIndexOf}
 use Rattle.itip_desk.proofs.Touching.{fresh, index_same, index_back, index_after}

@@ -1,6 +1,6 @@
 use Rattle.std.proofs.Common.{◌≡◌, ◌≤ℤ◌, ◌<ℤ◌, ℕ, ℤ, List, map, true, subst, sym}
 use Rattle.std.specs.List.{Contains}
-use Rattle.itip_message.specs.declared.item.Item.{Item}
+use Rattle.itip_items.specs.declared.item.Item.{Item}
 use Rattle.itip_view.specs.RowDays.{HasRowsIn}
 use Rattle.itip_desk.specs.Entries.{entry_at}
 use Rattle.itip_desk.specs.Index.{has}

@@ -1,6 +1,6 @@
 use Rattle.std.proofs.Common.{ℕ, List}
 use Rattle.std.specs.Vec.Iter.{into_iter_items}
-use Rattle.itip_message.specs.declared.item.Item.{Item}
+use Rattle.itip_items.specs.declared.item.Item.{Item}
 use Rattle.itip_inbox.specs.Streaming.{TakesSoFar}
 use Rattle.itip_inbox.proofs.inbox.Inbox.take.Given as goal
 

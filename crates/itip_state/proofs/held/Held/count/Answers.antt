@@ -1,5 +1,5 @@
 use Rattle.std.proofs.Common.{◌≡◌, ◌+◌, List, length, ap, ◌∙◌, arith}
-use Rattle.itip_message.specs.declared.item.Item.{Item}
+use Rattle.itip_items.specs.declared.item.Item.{Item}
 use Rattle.itip_state.specs.Held.{Shape, items_of}
 use Rattle.itip_state.specs.Seen.{shape, shapes}
 use Rattle.itip_state.proofs.Reading.{one_more, none_more}

@@ -1,7 +1,7 @@
 use Rattle.std.proofs.Common.{◌≡◌, ◌∙◌, List, map, sym, ap, subst, rules}
 use Rattle.std.specs.List.{Contains}
 use Rattle.std.proofs.lemmas.Fn.{always_returns_same}
-use Rattle.itip_message.specs.declared.item.Item.{Item}
+use Rattle.itip_items.specs.declared.item.Item.{Item}
 use Rattle.itip_state.specs.Kept.{IsBest, AscendKeys}
 use Rattle.itip_state.specs.Parts.{parts_cmp}
 use Rattle.itip_state.specs.Slots.{key_exact}

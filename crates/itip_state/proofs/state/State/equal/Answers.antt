@@ -1,5 +1,5 @@
 use Rattle.std.proofs.Common.{◌≡◌, List, sym, ◌∙◌, subst, true, false}
-use Rattle.itip_message.specs.declared.item.Item.{Item}
+use Rattle.itip_items.specs.declared.item.Item.{Item}
 use Rattle.itip_state.specs.Kept.{SameItems}
 use Rattle.itip_state.specs.Held.{items_of}
 use Rattle.itip_state.proofs.Maps.{same_held, below_same}

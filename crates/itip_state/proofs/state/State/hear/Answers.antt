@@ -1,6 +1,6 @@
 use Rattle.std.proofs.Common.{List, ◌++◌, ◌∙◌, sym, ap, subst, map}
 use Rattle.itip_join.proofs.Equal.{on_err_then}
-use Rattle.itip_message.specs.declared.item.Item.{Item}
+use Rattle.itip_items.specs.declared.item.Item.{Item}
 use Rattle.itip_state.specs.Kept.{AreKept}
 use Rattle.itip_state.specs.Held.{AreHeld, items_of}
 use Rattle.itip_state.proofs.Members.{on_both, on_ok_then}

@@ -1,5 +1,5 @@
 use Rattle.std.proofs.Common.{List, [], None, sym, subst}
-use Rattle.itip_message.specs.declared.item.Item.{Item}
+use Rattle.itip_items.specs.declared.item.Item.{Item}
 use Rattle.itip_state.specs.Held.{shape_items}
 use Rattle.itip_state.specs.Seen.{shape}
 use Rattle.itip_state.specs.Organizers.{IsLastUsed}

@@ -1,6 +1,6 @@
 use Rattle.std.proofs.Common.{◌≡◌, ◌+◌, ◌∙◌, ◌↔◌, sym, ap, subst, List, take, map, [], ◌∷◌, ◌++◌, true, false, IsTrue}
 use Rattle.std.proofs.lemmas.List.{take_more, map-append}
-use Rattle.itip_message.specs.declared.item.Item.{Item}
+use Rattle.itip_items.specs.declared.item.Item.{Item}
 use Rattle.itip_state.specs.Order.{IsState}
 use Rattle.itip_state.specs.Told.{IsOutdone, AreNews}
 use Rattle.itip_state.proofs.News.{one_more_news, nothing_new}

@@ -1,5 +1,5 @@
 use Rattle.std.proofs.Common.{◌≡◌, List, sym, subst, map}
-use Rattle.itip_message.specs.declared.item.Item.{Item}
+use Rattle.itip_items.specs.declared.item.Item.{Item}
 use Rattle.itip_state.specs.Kept.{AreSeriesOf}
 use Rattle.itip_state.specs.Held.{series_list}
 use Rattle.itip_state.proofs.Members.{if_ok_then}

@@ -1,6 +1,6 @@
 use Rattle.std.proofs.Common.{◌≡◌, ℕ, List, sym, subst, map}
 use Rattle.std.specs.Map.{keys_of}
-use Rattle.itip_message.specs.declared.item.Item.{Item}
+use Rattle.itip_items.specs.declared.item.Item.{Item}
 use Rattle.itip_state.specs.Kept.{AreUidsOf}
 use Rattle.itip_state.specs.Order.{IsState}
 use Rattle.itip_state.proofs.Members.{if_ok_then, on_ok_always}

@@ -1,5 +1,5 @@
 use Rattle.std.proofs.Common.{List}
-use Rattle.itip_message.specs.declared.item.Item.{Item}
+use Rattle.itip_items.specs.declared.item.Item.{Item}
 use Rattle.itip_view.specs.Answers.{Asked}
 use Rattle.itip_view.specs.OfUid.{to_question}
 use Rattle.itip_view.proofs.Beside.{none_counts, too_early}

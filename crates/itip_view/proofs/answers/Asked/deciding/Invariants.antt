@@ -1,5 +1,5 @@
 use Rattle.std.proofs.Common.{Option, drop}
-use Rattle.itip_message.specs.declared.item.Item.{Item}
+use Rattle.itip_items.specs.declared.item.Item.{Item}
 use Rattle.itip_view.specs.Answers.{Decides}
 use Rattle.itip_view.specs.OfUid.{asked_of}
 use Rattle.itip_view.proofs.answers.Asked.deciding.Given as goal

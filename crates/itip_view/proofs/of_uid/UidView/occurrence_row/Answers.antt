@@ -2,8 +2,8 @@ use Rattle.std.proofs.Common.{◌≡◌, List, ℕ, subst, inl, inr, Option, Som
 use Rattle.itip_moment.specs.declared.moment.Moment.{Moment}
 use Rattle.itip_recur.specs.ToDoShape.{IsShape}
 use Rattle.itip_recur.specs.declared.series.Shape.TheVariants as shape
-use Rattle.itip_message.specs.declared.item.Item.{Item}
-use Rattle.itip_message.specs.declared.key.Key.TheVariants as key
+use Rattle.itip_items.specs.declared.item.Item.{Item}
+use Rattle.itip_items.specs.declared.key.Key.TheVariants as key
 use Rattle.itip_view.specs.OfUid.{IsRowOf, IsWhole, asked_by}
 use Rattle.itip_view.specs.Rows.{occurrence_answers}
 use Rattle.itip_view.specs.declared.answers.Question.{Question}

@@ -8,7 +8,7 @@ use Rattle.itip_view.specs.OfUid.{ArePlaces}
 use Rattle.std.proofs.lemmas.List.{length-map, take_more}
 use Rattle.std.proofs.Math.ListN.{get_or-map}
 use Rattle.itip_moment.specs.declared.moment.Moment.{Moment}
-use Rattle.itip_message.specs.declared.item.Item.{Item}
+use Rattle.itip_items.specs.declared.item.Item.{Item}
 use Rattle.itip_view.proofs.Placing.{Places, IsPlacedBy, places_pass, places_more, places_are}
 use Rattle.itip_view.proofs.of_uid.UidView.places.Goals as goal
 use Rattle.itip_view.proofs.of_uid.UidView.places.Goals.{in-Instance+then-stands_beside+in_ok-clone+in_ok-push, in-Instance+else-stands_beside, in_default}

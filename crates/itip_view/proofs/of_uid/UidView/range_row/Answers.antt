@@ -1,7 +1,7 @@
 use Rattle.std.proofs.Common.{◌≡◌, ◌∙◌, sym, ap, subst, List, ℕ, max, true, false, rules}
 use Rattle.itip_moment.specs.declared.moment.Moment.{Moment}
-use Rattle.itip_message.specs.declared.item.Item.{Item}
-use Rattle.itip_message.specs.declared.key.Key.TheVariants as key
+use Rattle.itip_items.specs.declared.item.Item.{Item}
+use Rattle.itip_items.specs.declared.key.Key.TheVariants as key
 use Rattle.itip_view.specs.OfUid.{IsRowOf, asked_by}
 use Rattle.itip_view.specs.Rows.{IsStartFrom, IsDueFrom}
 use Rattle.itip_view.specs.declared.answers.Question.{Question}

@@ -6,7 +6,7 @@ use Rattle.std.proofs.lemmas.List.{take_more}
 use Rattle.itip_moment.specs.Order.{moment_cmp}
 use Rattle.itip_state.proofs.Ascending.{pairs_ascend}
 use Rattle.itip_moment.specs.declared.moment.Moment.{Moment}
-use Rattle.itip_message.specs.declared.item.Item.{Item}
+use Rattle.itip_items.specs.declared.item.Item.{Item}
 use Rattle.itip_view.specs.OfUid.{ArePlaces}
 use Rattle.itip_view.specs.declared.row.Row.{Row}
 use Rattle.itip_view.proofs.Collecting.{RowsUpTo, rows_begin, rows_next, rows_of_places, earlier_before}

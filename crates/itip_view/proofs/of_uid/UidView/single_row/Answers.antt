@@ -1,6 +1,6 @@
 use Rattle.std.proofs.Common.{◌≡◌, ◌∙◌, sym, ap, subst, List, true, false, rules}
 use Rattle.std.specs.Bool.{MatchBool}
-use Rattle.itip_message.specs.declared.item.Item.{Item}
+use Rattle.itip_items.specs.declared.item.Item.{Item}
 use Rattle.itip_view.specs.InWindow.{is_in_window}
 use Rattle.itip_view.specs.Rows.{NoneStandsAtStart, day_of}
 use Rattle.itip_view.proofs.InDays.{in_window_is, in_window_from}

@@ -2,7 +2,7 @@ use Rattle.std.proofs.Common.{◌≡◌, ◌<◌, ◌∙◌, ℕ, List, length, 
 use Rattle.std.proofs.Math.ListN.{get_or-map}
 use Rattle.std.proofs.lemmas.List.{get_or_default, length-map}
 use Rattle.itip_moment.specs.declared.moment.Moment.{Moment}
-use Rattle.itip_message.specs.declared.item.Item.{Item}
+use Rattle.itip_items.specs.declared.item.Item.{Item}
 use Rattle.itip_state.specs.OfUid.{UidPart}
 use Rattle.itip_view.specs.Ruling.{AreRangesInOrder, RulesAt}
 use Rattle.itip_view.specs.Standing.{Rules}

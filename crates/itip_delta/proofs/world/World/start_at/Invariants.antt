@@ -1,5 +1,0 @@
-use Rattle.itip_delta.specs.Worlds.{histories_from, AreDesksOf}
-use Rattle.itip_delta.proofs.world.World.start_at.Given as goal
-
-abbrev pub invariant-loop : goal.invariant-loop
-invariant-loop l = AreDesksOf (histories_from l.counter l.tick) l.all.items

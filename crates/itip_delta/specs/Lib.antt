@@ -1,9 +1,0 @@
-pub use Rattle.itip_state.specs.Kept
-pub use Rattle.itip_desk.specs.Heard
-pub use Rattle.itip_desk.specs.Desk
-pub mod Cutting
-pub mod Delta
-pub mod Scanned
-pub mod Passing
-pub mod Worlds
-pub mod WorldCode

@@ -1,0 +1,56 @@
+-- Deltas: the canonical octets of items in a row, and the batch that octets tell (our own format).
+use Rattle.std.specs.Prelude.{◌≡◌, ℕ, ◌⊎◌, List, [], ◌∷◌, ◌++◌}
+use Rattle.itip_message.specs.Message.{ReadsMessage, RefusesMessage}
+use Rattle.itip_message.specs.declared.error.MessageRefusal.{MessageRefusal}
+use Rattle.itip_items.specs.declared.item.Item.{Item}
+use Rattle.itip_state.specs.Kept.{IsItemsOf}
+use Rattle.itip_desk.specs.Octets.{AscendOctets}
+use Rattle.itip_message.specs.Cutting.{IsCutInto}
+use Rattle.itip_message.specs.Scanned.{messages_of}
+
+-- the canonical octets of items, in their order
+unfoldable pub delta_octets : List Item → List ℕ
+delta_octets [] = []
+delta_octets (item ∷ items) = item.bytes ++ delta_octets items
+
+-- each of these texts is a message, and gives the items beside it
+abbrev pub AreMessages : List (List ℕ) → List (List Item) → Type 0
+AreMessages [] [] = Unit {0}
+AreMessages [] (items ∷ given) = ⊥
+AreMessages (text ∷ texts) [] = ⊥
+AreMessages (text ∷ texts) (items ∷ given) = ReadsMessage text items × AreMessages texts given
+
+-- the first of these texts that is no message is refused for this cause
+abbrev pub FirstRefused : List (List ℕ) → MessageRefusal → Type 0
+FirstRefused [] fault = ⊥
+FirstRefused (text ∷ texts) fault = RefusesMessage text fault ⊎ (((items : List Item) × ReadsMessage text items) × FirstRefused texts fault)
+
+abbrev pub all_of : List (List Item) → List Item
+all_of [] = []
+all_of (items ∷ given) = items ++ all_of given
+
+-- the items of all messages of these octets make this batch
+pub record ReadsDelta (bytes : List ℕ) (batch : List Item) : Type 0 where
+  pub messages : List (List ℕ)
+  pub given : List (List Item)
+  pub cut : IsCutInto bytes messages
+  pub read : AreMessages messages given
+  pub batch_is : IsItemsOf batch (all_of given)
+
+-- the first message of these octets that is refused, is for this cause
+pub record RefusesDelta (bytes : List ℕ) (fault : MessageRefusal) : Type 0 where
+  pub messages : List (List ℕ)
+  pub cut : IsCutInto bytes messages
+  pub first : FirstRefused messages fault
+
+-- the octets of a batch
+pub record IsDelta (bytes : List ℕ) : Type 0 where
+  pub batch : List Item
+  pub ascend : AscendOctets batch
+  pub octets : bytes ≡ delta_octets batch
+
+-- What the rest of some octets gives stands after the items of what was read before it.
+pub record Continues (bytes rest : List ℕ) (items : List Item) : Type 0 where
+  pub read : (given : List (List Item)) → AreMessages (messages_of rest) given
+      → (all : List (List Item)) × AreMessages (messages_of bytes) all × (all_of all ≡ items ++ all_of given)
+  pub refused : (refusal : MessageRefusal) → FirstRefused (messages_of rest) refusal → FirstRefused (messages_of bytes) refusal

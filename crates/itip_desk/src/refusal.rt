@@ -1,0 +1,67 @@
+//! Why the program refuses what it was asked for.
+ghost use Rattle.std.specs.Prelude.{◌≡◌, ◌++◌, OnOk};
+ghost use Rattle.itip_desk.specs.Refusals.{number_of, refused_text};
+
+use itip_message::MessageRefusal;
+use std::alloc::AllocError;
+use std::fmt;
+
+/// Why a message, a command, a job or a list is refused. Nothing has changed then. Desks and packets are numbered from 0.
+#[derive(Clone, Copy, PartialEq, Eq, Debug)]
+pub enum Refusal {
+    /// The text is no message that is read (1 to 15).
+    Message(MessageRefusal),
+    /// A UID would move at the last tick of this desk (21).
+    TicksSpent { desk: u64 },
+    /// There are more than 100,000 rows (31).
+    TooManyRows,
+    /// There is no desk of this number (50).
+    NoDesk(u64),
+    /// There is no packet of this number (51).
+    NoPacket(u64),
+    /// The line is no command, or lines belong to none (60).
+    NoCommand,
+    /// The script has more than 16,777,216 octets (61).
+    LongScript,
+}
+
+impl Refusal {
+    /// The number under which it is shown.
+    pub fn number(self) -> u32
+        ensures { result ≡ number_of self }
+    {
+        match self {
+            Refusal::Message(refusal) => refusal.number(),
+            Refusal::TicksSpent { .. } => 21,
+            Refusal::TooManyRows => 31,
+            Refusal::NoDesk(_) => 50,
+            Refusal::NoPacket(_) => 51,
+            Refusal::NoCommand => 60,
+            Refusal::LongScript => 61,
+        }
+    }
+
+    /// Appends the line `refused N`. If an allocation fails a part of it may be there.
+    pub fn append(self, output: &mut Vec<u8>) -> Result<(), AllocError>
+        ensures { OnOk result (output.new.items ≡ output.old.items ++ refused_text (number_of self)) }
+    {
+        let number = self.number();
+        let line = format!(in *output.allocator(); "refused {number}\n")?;
+        output.extend_from_slice(line.as_bytes())
+    }
+}
+
+/// What is wrong, and where: `DUE has a bad value in to-do 2, line 14`.
+impl fmt::Display for Refusal {
+    fn fmt<W: fmt::Write>(&self, f: &mut fmt::Formatter<W>) -> fmt::Result {
+        match self {
+            Refusal::Message(refusal) => write!(f, "{refusal}"),
+            Refusal::TicksSpent { desk } => write!(f, "desk {desk} has no tick left"),
+            Refusal::TooManyRows => f.write_str("there are more than 100,000 rows"),
+            Refusal::NoDesk(desk) => write!(f, "desk {desk} does not exist"),
+            Refusal::NoPacket(packet) => write!(f, "packet {packet} does not exist"),
+            Refusal::NoCommand => f.write_str("there is no such command"),
+            Refusal::LongScript => f.write_str("the script has more than 16,777,216 octets"),
+        }
+    }
+}

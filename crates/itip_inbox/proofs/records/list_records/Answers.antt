@@ -1,0 +1,20 @@
+use Rattle.std.proofs.Common.{◌≡◌, ◌∙◌, sym, ap, subst, Bool, ◌||◌, List, ℕ, Bor}
+use Rattle.std.specs.Option.{option_map}
+use Rattle.std.specs.Io.KnownBytes.{Appends}
+use Rattle.itip_inbox.specs.Inbox.{is_some_refused}
+use Rattle.itip_inbox.proofs.Recording.{records_written}
+use Rattle.itip_inbox.proofs.records.list_records.Goals as goal
+use Rattle.itip_inbox.proofs.records.list_records.Goals.{then-is_refused, else-is_refused}
+
+pub returns-clause-output : goal.returns-clause-output
+returns-clause-output g c =
+    let refused : c.tell-is_refused.result ≡ is_some_refused c.in_ok-inbox.inbox.refusals.items = c.tell-is_refused.ensures ∙ ap is_some_refused c.as_slice.ensures.value in
+    let one : c.if-is_refused.result ≡ (c.tell-is_refused.result || c.in_ok-recorded.recorded.is_refusal) =
+    elim c.if-is_refused.branch [
+      | then-is_refused w ↦ w.result-is ∙ w.if-is_refused.true ∙ ap (λ (b : Bool). b || c.in_ok-recorded.recorded.is_refusal) (sym w.if-is_refused.true)
+      | else-is_refused w ↦ w.result-is ∙ ap (λ (b : Bool). b || c.in_ok-recorded.recorded.is_refusal) (sym w.if-is_refused.false)
+    ] in
+    records_written (g.W.Write.contents c.args.writer.now) (g.W.Write.contents c.write_output.new.writer) (g.R.Read.remaining c.args.reader.now) c.in_ok-inbox.inbox.state c.in_ok-inbox.inbox.refusals.items c.in_ok-inbox.inbox.messages
+    c.args.window (option_map (λ (a : Bor (List ℕ)). a.now) c.args.attendee) c.in_ok-recorded.recorded.text.items c.in_ok-recorded.recorded.is_refusal c.if-is_refused.result c.in_ok-inbox.ensures.holds c.in_ok-recorded.ensures.recorded
+    (subst (λ (t : List ℕ). Appends (g.W.Write.contents c.args.writer.now) (g.W.Write.contents c.write_output.new.writer) t) c.as_slice-2.ensures.value c.in_ok-write_output.ensures.all)
+    (one ∙ ap (λ (b : Bool). b || c.in_ok-recorded.recorded.is_refusal) refused)

@@ -1,0 +1,48 @@
+-- What is shown of a text: its items, or the number of its refusal (our own format). Each line of ours ends with LF.
+use Rattle.std.specs.Prelude.{◌≡◌, ◌⊎◌, ℕ, Bool, true, false, List, ◌∷◌, ◌++◌, length, Option, Some, None, codes}
+use Rattle.std.specs.Fmt.{decimal}
+use Rattle.std.specs.Io.KnownBytes.{Appends}
+use Rattle.itip_items.specs.declared.item.Item.{Item}
+use Rattle.itip_message.specs.Message.{ReadsMessage, RefusesMessage}
+use Rattle.itip_message.specs.Numbers.{number_of}
+use Rattle.itip_message.specs.declared.error.MessageRefusal.{MessageRefusal}
+use Rattle.itip_state.specs.Kept.{IsItemsOf}
+use Rattle.itip_desk.specs.Delta.{delta_octets}
+use Rattle.itip_desk.specs.Refusals.{refused_text}
+
+-- how many items there are, and their octets
+abbrev pub items_text : List Item → List ℕ
+items_text batch = codes "items " ++ decimal (length batch) ++ 10 ∷ delta_octets batch
+
+-- the text of these items, by canonical octets and each once
+pub record IsItemsText (items : List Item) (shown : List ℕ) : Type 0 where
+  pub batch : List Item
+  pub batch_is : IsItemsOf batch items
+  pub shown_is : shown ≡ items_text batch
+
+-- the items that a text is read as
+pub record ShowsItems (text shown : List ℕ) : Type 0 where
+  pub items : List Item
+  pub reads : ReadsMessage text items
+  pub shows : IsItemsText items shown
+
+-- the number of the refusal of a text
+pub record ShowsRefusal (text : List ℕ) (refusal : MessageRefusal) (shown : List ℕ) : Type 0 where
+  pub refuses : RefusesMessage text refusal
+  pub shown_is : shown ≡ refused_text (number_of refusal)
+
+-- What is shown of a text: its items, or its refusal where there is one.
+abbrev pub IsShownAs : List ℕ → Option MessageRefusal → List ℕ → Type 0
+IsShownAs text None shown = ShowsItems text shown
+IsShownAs text (Some refusal) shown = ShowsRefusal text refusal shown
+
+-- What is shown of a text, and whether the text is refused.
+abbrev pub IsShown : List ℕ → List ℕ → Bool → Type 0
+IsShown text shown refused =
+    (ShowsItems text shown × (refused ≡ false)) ⊎ (((refusal : MessageRefusal) × ShowsRefusal text refusal shown) × (refused ≡ true))
+
+-- What is shown of a text was written.
+pub record WritesShown (old new : Option (List ℕ)) (text : List ℕ) (refused : Bool) : Type 0 where
+  pub shown : List ℕ
+  pub is_shown : IsShown text shown refused
+  pub appended : Appends old new shown

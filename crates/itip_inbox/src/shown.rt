@@ -1,0 +1,102 @@
+//! A message, shown as its items.
+ghost use Rattle.std.specs.Prelude.{◌≡◌, ◌≢◌, ℕ, Bool, List, Some, IfOk, IfErr, OnErr, IsErrOf, IfSome};
+ghost use Rattle.std.specs.Io.KnownBytes.{Keeps};
+ghost use Rattle.itip_message.specs.Numbers.{number_of};
+ghost use Rattle.itip_desk.specs.Refusals.{refused_text};
+ghost use Rattle.itip_streams.specs.Written.{AppendsFront};
+ghost use Rattle.itip_inbox.specs.Shown.{IsItemsText, IsShown, IsShownAs, WritesShown};
+
+use crate::refused::refusal_text;
+use crate::watch::Watch;
+use itip_desk::{Batch, Refusal, write_delta};
+use itip_items::Item;
+use itip_lines::{LineCause, LineRefusal};
+use itip_message::{MessageRefusal, ReadError, read_message};
+use itip_streams::{StreamFault, read_within, write_output};
+use std::alloc::{AllocError, Global};
+use std::io::{Read, Write};
+
+// The most octets of a message. A text of one more is refused for its length.
+const MAX_OCTETS: usize = 1_048_576;
+
+const TOO_LONG: LineRefusal = LineRefusal {
+    cause: LineCause::TooLong,
+    line: None,
+};
+
+/// Reads one message and writes `items N` and the canonical octets of its N items, by these octets and each once, or
+/// `refused N` where the text is no message; one of more than 1,048,576 octets is `refused 1`. Says whether it was refused.
+///
+/// A refusal is told to `watch`, as that of message 1. After a fault of reading nothing was written, after another fault a
+/// front of the output. One read more than [`MAX_READS`](itip_streams::MAX_READS) is a fault of reading.
+pub fn check<R: Read, W: Write, S: Watch>(
+    alloc: Global,
+    reader: &mut R,
+    writer: &mut W,
+    watch: &mut S,
+) -> Result<bool, StreamFault>
+    ensures output { IfOk result (λ refused. IfSome (R.remaining reader.old) (λ text. WritesShown (W.contents writer.old) (W.contents writer.new) text refused)) }
+    ensures front { OnErr result (IfSome (R.remaining reader.old) (λ text. (shown : List ℕ) (refused : Bool) → IsShown text shown refused →
+        AppendsFront (W.contents writer.old) (W.contents writer.new) shown)) }
+    ensures unread { IsErrOf result StreamFault.Read → Keeps (W.contents writer.old) (W.contents writer.new) }
+{
+    let shown = read_shown(alloc, reader)?;
+    write_output(writer, shown.text.as_slice())?;
+    if let Some(refusal) = shown.refusal {
+        watch.refused(1, refusal);
+    }
+    Ok(shown.refusal.is_some())
+}
+
+/// What is shown of a text.
+#[derive(Drop)]
+struct Shown {
+    text: Vec<u8>,
+    refusal: Option<MessageRefusal>,
+}
+
+fn read_shown<R: Read>(alloc: Global, reader: &mut R) -> Result<Shown, StreamFault>
+    ensures shown { IfOk result (λ shown. IfSome (R.remaining reader.old) (λ text. IsShownAs text shown.refusal shown.text.items)) }
+    ensures fault { IfErr result (λ fault. fault ≢ StreamFault.Write) }
+{
+    match read_within(alloc, reader, MAX_OCTETS)? {
+        Some(text) => shown_of(alloc, text.as_slice()),
+        None => shown_refusal(alloc, MessageRefusal::from(TOO_LONG)),
+    }
+}
+
+fn shown_of(alloc: Global, text: &[u8]) -> Result<Shown, StreamFault>
+    ensures shown { IfOk result (λ shown. IsShownAs text.now shown.refusal shown.text.items) }
+    ensures fault { IfErr result (λ fault. fault ≡ StreamFault.Memory) }
+{
+    match read_message(alloc, text) {
+        Ok(items) => Ok(Shown {
+            text: items_text(alloc, items)?,
+            refusal: None,
+        }),
+        Err(ReadError::Refused(refusal)) => shown_refusal(alloc, refusal),
+        Err(ReadError::NoMemory) => Err(StreamFault::Memory),
+    }
+}
+
+fn shown_refusal(alloc: Global, refusal: MessageRefusal) -> Result<Shown, StreamFault>
+    ensures refusal { IfOk result (λ shown. shown.refusal ≡ Some refusal) }
+    ensures text { IfOk result (λ shown. shown.text.items ≡ refused_text (number_of refusal)) }
+    ensures fault { IfErr result (λ fault. fault ≡ StreamFault.Memory) }
+{
+    Ok(Shown {
+        text: refusal_text(alloc, Refusal::Message(refusal))?,
+        refusal: Some(refusal),
+    })
+}
+
+fn items_text(alloc: Global, items: Vec<Item>) -> Result<Vec<u8>, AllocError>
+    ensures { IfOk result (λ text. IsItemsText items.items text.items) }
+{
+    let batch = Batch::of_items(items)?;
+    let count = batch.as_slice().len();
+    let mut text = format!(in alloc; "items {count}\n")?.into_bytes();
+    let octets = write_delta(alloc, &batch)?;
+    text.extend_from_slice(octets.as_slice())?;
+    Ok(text)
+}

@@ -1,0 +1,12 @@
+pub mod Adding
+pub mod Composing
+pub mod Contents
+pub mod Counting
+pub mod Drafting
+pub mod Keys
+pub mod Lawfulness
+pub mod Pieces
+pub mod Revisions
+pub mod SameItem
+pub mod SeriesSequences
+pub mod Uids

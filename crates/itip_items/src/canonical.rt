@@ -1,0 +1,150 @@
+//! The canonical octets of an item, and its limits.
+ghost use Rattle.std.specs.Prelude.{◌≡◌, ◌≤◌, ◌+◌, ◌^◌, ◌-◌, ◌∷◌, [], ℕ, cond, codes, length, min, IfOk, IfErr};
+ghost use Rattle.std.specs.Option.{is_some};
+ghost use Rattle.itip_todo.specs.PartsOf.{parts_of};
+ghost use Rattle.itip_todo.specs.Written.{content_octets};
+ghost use Rattle.itip_items.specs.Items.{Draft, draft_of, canonical_octets, canonical_contents, bare, method_of, method_text, IsCanonical, IsItem, IsWithinLimits, one_if};
+ghost use Rattle.itip_items.specs.Given.{IsItemOf, IsOver, IfLarge, Gives};
+ghost use Rattle.itip_items.specs.declared.key.Key.{Key};
+ghost use Rattle.itip_items.specs.declared.kind.Kind.{Kind};
+
+use crate::error::ItemError;
+use crate::item::Item;
+use crate::key::Key;
+use crate::kind::Kind;
+use itip_lines::{Bytes, NoMemory};
+use itip_todo::{Todo, write_todo};
+use std::alloc::Global;
+
+/// The most octets of an item's canonical form (our own limit).
+const OCTETS_LIMIT: usize = 262_144;
+
+/// The most lines of an item's canonical form (our own limit).
+const LINES_LIMIT: usize = 20_000;
+
+/// More octets than most items have.
+const USUAL: usize = 512;
+
+/// The lines around a to-do in canonical form.
+const FRAME_LINES: usize = 7;
+
+/// The item of a to-do in canonical form, where it is within the limits.
+pub(crate) fn finish_item(
+    alloc: Global,
+    kind: Kind,
+    key: Key,
+    eff: u32,
+    todo: Todo,
+) -> Result<Item, ItemError>
+    requires { IsCanonical (draft_of key eff todo kind) }
+    ensures found { IfOk result (Gives (draft_of key eff todo kind)) }
+    ensures large { IfErr result (λ e. IfLarge e (IsOver (draft_of key eff todo kind ∷ []))) }
+{
+    match bytes_within(alloc, kind, &todo) {
+        Ok(bytes) => Ok(item_of(kind, key, eff, todo, bytes)),
+        Err(error) => {
+            // By calls: what is dropped in place is proved anew, field by field and case by case.
+            drop(key);
+            drop(todo);
+            Err(error)
+        }
+    }
+}
+
+/// The item of a to-do in canonical form, whose bytes these are.
+fn item_of(kind: Kind, key: Key, eff: u32, todo: Todo, bytes: Bytes) -> Item
+    requires { IsItem key todo.seq eff todo.stamp bytes todo kind }
+    ensures { IsItemOf (draft_of key eff todo kind) result }
+{
+    Item {
+        key,
+        own: todo.seq,
+        eff,
+        stamp: todo.stamp,
+        bytes,
+        todo,
+        kind,
+    }
+}
+
+/// The canonical bytes of a to-do, where the form is within the limits.
+fn bytes_within(alloc: Global, kind: Kind, todo: &Todo) -> Result<Bytes, ItemError>
+    ensures bytes { IfOk result (λ bytes. bytes ≡ canonical_octets kind (parts_of todo.now)) }
+    ensures within { IfOk result (λ _. (key : Key) (eff : ℕ) → IsWithinLimits (draft_of key eff todo.now kind)) }
+    ensures large { IfErr result (λ e. (key : Key) (eff : ℕ) → IfLarge e (IsOver (draft_of key eff todo.now kind ∷ []))) }
+{
+    let octets = write_canonical(alloc, kind, todo)?;
+    if octets.len() > OCTETS_LIMIT || line_count(todo) > LINES_LIMIT {
+        return Err(ItemError::TooLarge);
+    }
+    Ok(Bytes::new(octets))
+}
+
+/// How many lines the canonical form has, or a number that is too great.
+fn line_count(todo: &Todo) -> usize
+    ensures { (kind : Kind) → result ≡ min (length (canonical_contents kind (parts_of todo.now))) (2 ^ 64 - 1) }
+{
+    FRAME_LINES
+        .saturating_add(single_count(todo))
+        .saturating_add(todo.attendees.len())
+        .saturating_add(todo.rule.len())
+        .saturating_add(todo.rdates.len())
+        .saturating_add(todo.exdates.len())
+        .saturating_add(todo.others.len())
+}
+
+/// How many lines the properties have that stand once.
+fn single_count(todo: &Todo) -> usize
+    ensures count { result ≡ 3 + one_if (is_some todo.now.base) + one_if (is_some todo.now.rid) + one_if (is_some todo.now.start) + one_if (is_some todo.now.due) + one_if (is_some todo.now.status)
+        + one_if (is_some todo.now.percent) + one_if (is_some todo.now.priority) + one_if (is_some todo.now.summary) + one_if (is_some todo.now.organizer) }
+{
+    3 + one_if(todo.base.is_some())
+        + one_if(todo.rid.is_some())
+        + one_if(todo.start.is_some())
+        + one_if(todo.due.is_some())
+        + one_if(todo.status.is_some())
+        + one_if(todo.percent.is_some())
+        + one_if(todo.priority.is_some())
+        + one_if(todo.summary.is_some())
+        + one_if(todo.organizer.is_some())
+}
+
+fn one_if(present: bool) -> usize
+    ensures count { result ≡ one_if present }
+    ensures small { result ≤ 1 }
+{
+    usize::from(present)
+}
+
+/// The canonical octets of an item: a message of this to-do alone.
+pub fn write_item(alloc: Global, item: &Item) -> Result<Vec<u8>, NoMemory>
+    ensures { IfOk result (λ octets. octets.items ≡ item.now.bytes) }
+{
+    Vec::from_slice(alloc, item.bytes.as_slice())
+}
+
+/// The canonical octets of a to-do under the method of a kind.
+fn write_canonical(alloc: Global, kind: Kind, todo: &Todo) -> Result<Vec<u8>, NoMemory>
+    ensures { IfOk result (λ octets. octets.items ≡ canonical_octets kind (parts_of todo.now)) }
+{
+    let mut octets = Vec::with_capacity(alloc, USUAL)?;
+    octets.extend_from_slice(b"BEGIN:VCALENDAR\r\nPRODID:-//itipdesk//1//EN\r\nVERSION:2.0\r\n")?;
+    octets.extend_from_slice(method_line(kind))?;
+    write_todo(todo, &mut octets)?;
+    octets.extend_from_slice(b"END:VCALENDAR\r\n")?;
+    octets.shrink_to_fit();
+    Ok(octets)
+}
+
+/// The METHOD line of the items of a kind.
+fn method_line(kind: Kind) -> &'static [u8]
+    ensures { result.now ≡ content_octets (bare (codes "METHOD") (method_text (method_of kind))) }
+{
+    match kind {
+        Kind::Request => b"METHOD:REQUEST\r\n",
+        Kind::Add => b"METHOD:ADD\r\n",
+        Kind::Remove | Kind::Cancel => b"METHOD:CANCEL\r\n",
+        Kind::Reply => b"METHOD:REPLY\r\n",
+        Kind::Refresh => b"METHOD:REFRESH\r\n",
+    }
+}

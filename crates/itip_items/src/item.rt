@@ -1,0 +1,73 @@
+//! An item.
+ghost use Rattle.itip_items.specs.Items.{IsItem};
+
+use crate::key::Key;
+use crate::kind::Kind;
+use itip_lines::{Bytes, NoMemory};
+use itip_moment::Stamp;
+use itip_todo::Todo;
+use std::cmp::Ordering;
+
+/// What one to-do of a message says to a desk.
+///
+/// An item is one that a message gives: its key, kind, sequences and stamp are those of its to-do, and its
+/// octets are the canonical ones of that to-do under the method of its kind, within the limits.
+#[derive(Debug, Drop)]
+pub struct Item {
+    /// What the item speaks of.
+    pub key: Key,
+    /// SEQUENCE as it stands.
+    pub own: u32,
+    /// The effective sequence (our own rule).
+    pub eff: u32,
+    /// DTSTAMP.
+    pub stamp: Stamp,
+    /// The canonical octets, at most 262,144.
+    pub bytes: Bytes,
+    /// The to-do in canonical form.
+    pub todo: Todo,
+    pub kind: Kind,
+    pub ghost canonical: { ∥ IsItem key own eff stamp bytes todo kind ∥₁ },
+}
+
+impl Item {
+    ghost use Rattle.std.specs.Prelude.{◌≡◌};
+    ghost use Rattle.itip_items.specs.Later.{revision_cmp};
+
+    /// The order of revisions: effective sequence, DTSTAMP, canonical octets (RFC 5546 2.1.5; the first and the last are our own rule).
+    pub fn cmp_rev(&self, other: &Item) -> Ordering
+        ensures { result ≡ revision_cmp self.now other.now }
+    {
+        self.eff
+            .cmp(&other.eff)
+            .then_with(|| self.stamp.cmp(&other.stamp))
+            .then_with(|| self.bytes.cmp(&other.bytes))
+    }
+}
+
+impl Clone for Item {
+    ghost use Rattle.std.specs.Prelude.{◌≡◌};
+
+    ghost is_clone = { λ item copy. copy ≡ item };
+
+    fn clone(&self) -> Result<Item, NoMemory> {
+        let bytes = self.bytes.clone()?;
+        let key = self.key.clone()?;
+        match self.todo.clone() {
+            Ok(todo) => Ok(Item {
+                key,
+                own: self.own,
+                eff: self.eff,
+                stamp: self.stamp,
+                bytes,
+                todo,
+                kind: self.kind,
+            }),
+            Err(refused) => {
+                // By a call: what is dropped in place is proved anew, field by field and case by case.
+                drop(key);
+                Err(refused)
+            }
+        }
+    }
+}

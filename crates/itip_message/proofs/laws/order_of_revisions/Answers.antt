@@ -1,9 +1,0 @@
-use Rattle.itip_message.specs.Revisions.{revisions_total}
-use Rattle.itip_message.proofs.Revisions.{revision_exact}
-use Rattle.itip_message.proofs.laws.order_of_revisions.Goals as goal
-
-pub returns-clause-total : goal.returns-clause-total
-returns-clause-total c = revisions_total
-
-pub returns-clause-exact : goal.returns-clause-exact
-returns-clause-exact c = revision_exact

@@ -1,5 +1,0 @@
-use Rattle.itip_office.proofs.Spellings.{spelled_gives, gives_spelled}
-use Rattle.itip_office.proofs.laws.one_spelling.Goals as goal
-
-pub returns : goal.returns
-returns c = record { found = gives_spelled; all = spelled_gives }

@@ -1,0 +1,58 @@
+-- The outcome of a job in an office of so many desks (our own rule).
+use Rattle.std.specs.Prelude.{◌≡◌, ◌≤◌, ◌<◌, ◌⊎◌, ℕ, List, length, Option, Some, None}
+use Rattle.itip_message.specs.Message.{RefusesMessage}
+use Rattle.itip_message.specs.declared.error.MessageRefusal.{MessageRefusal}
+use Rattle.itip_items.specs.declared.item.Item.{Item}
+use Rattle.itip_desk.specs.declared.refusal.Refusal.{Refusal}
+use Rattle.itip_desk.specs.declared.refusal.Refusal.TheVariants.{Message, TooManyRows, NoDesk}
+use Rattle.itip_office.specs.declared.job.Job.{Job}
+use Rattle.itip_office.specs.declared.job.Work.{Work}
+use Rattle.itip_office.specs.declared.job.Work.TheVariants.{Text, Carry, Look}
+use Rattle.itip_office.specs.declared.outcome.Outcome.{Outcome}
+use Rattle.itip_office.specs.declared.outcome.Outcome.TheVariants.{Took, Carried, Looked, Refused}
+use Rattle.itip_office.specs.Texts.{IsBatchOf, desk_of, AreThere}
+
+-- a job with its outcome
+abbrev pub Answer : Type 0
+Answer = Job × Outcome
+
+abbrev pub IsListed : Outcome → Type 0
+IsListed (Took desk items) = ⊥
+IsListed (Carried from to items) = ⊥
+IsListed (Looked text) = Unit {0}
+IsListed (Refused refusal) = ⊥
+
+-- why a job was refused, if it was
+abbrev pub refusal_of : Outcome → Option Refusal
+refusal_of (Took desk items) = None
+refusal_of (Carried from to items) = None
+refusal_of (Looked text) = None
+refusal_of (Refused refusal) = Some refusal
+
+abbrev pub IsTook : Outcome → Type 0
+IsTook (Took desk items) = Unit {0}
+IsTook (Carried from to items) = ⊥
+IsTook (Looked text) = ⊥
+IsTook (Refused refusal) = ⊥
+
+-- The outcome of a job that nothing is merged for. It names the first desk that isn't there; a text for a desk that is there is refused for
+-- the first cause why its octets are no message.
+abbrev pub AnswersAlone : ℕ → Work → Outcome → Type 0
+AnswersAlone desks (Text desk bytes) outcome =
+    ((desks ≤ desk) × (outcome ≡ Refused (NoDesk desk)))
+    ⊎ ((desk < desks) × ((refusal : MessageRefusal) × RefusesMessage bytes refusal × (outcome ≡ Refused (Message refusal))))
+AnswersAlone desks (Carry from to) outcome =
+    ((desks ≤ from) × (outcome ≡ Refused (NoDesk from))) ⊎ ((from < desks) × (desks ≤ to) × (outcome ≡ Refused (NoDesk to)))
+AnswersAlone desks (Look desk window) outcome =
+    ((desks ≤ desk) × (outcome ≡ Refused (NoDesk desk))) ⊎ ((desk < desks) × ((outcome ≡ Refused TooManyRows) ⊎ IsListed outcome))
+
+-- The outcome of a job whose batch a desk merged: it has as many items as the batch.
+abbrev pub AnswersMerged : ℕ → List Item → Work → Outcome → Type 0
+AnswersMerged desk batch (Text at bytes) outcome = IsBatchOf bytes batch × (outcome ≡ Took desk (length batch))
+AnswersMerged desk batch (Carry from to) outcome = outcome ≡ Carried from desk (length batch)
+AnswersMerged desk batch (Look at window) outcome = ⊥
+
+-- The outcome of a job in an office: it was answered alone, or merged by its own desk, and then the desks that it names are there.
+abbrev pub IsOutcome : ℕ → Work → Outcome → Type 0
+IsOutcome desks work outcome =
+    AnswersAlone desks work outcome ⊎ (AreThere desks work × ((batch : List Item) × AnswersMerged (desk_of work) batch work outcome))

@@ -1,7 +1,0 @@
--- The commands that an iterator over a script for an office has not given yet (our own form).
-use Rattle.std.specs.Prelude.{List}
-use Rattle.itip_office.specs.declared.job.JobCommands.{JobCommands}
-use Rattle.itip_office.specs.Jobs.{Errand, errands_of}
-
-abbrev pub errands_left : JobCommands → List Errand
-errands_left left = errands_of left.rest.now

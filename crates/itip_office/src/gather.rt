@@ -1,0 +1,53 @@
+//! Gathering what the threads answered.
+ghost use Rattle.std.specs.Prelude.{◌≡◌, ◌≤◌, length, map, All, IfOk, IsTrue};
+ghost use Rattle.itip_running.specs.Ends.{published};
+ghost use Rattle.itip_office.specs.Texts.{desk_of, AreThere};
+ghost use Rattle.itip_office.specs.Answers.{AnswersAlone};
+ghost use Rattle.itip_office.specs.Team.{AreOfDesks};
+ghost use Rattle.itip_office.specs.Ended.{Tells, all_heard};
+
+use crate::error::OfficeError;
+use crate::held::Held;
+use crate::job::Job;
+use crate::outcome::Outcome;
+use crate::team::{Done, Merged};
+use std::sync::Wait;
+
+/// All answers in one list, and the keepers in the order of desks. 44 where a keeper answered a job that is for another desk, or that names
+/// a desk that isn't there.
+pub(crate) fn gather<R: AllocGlobal + Wait + Copy>(
+    rt: &R,
+    desks: usize,
+    done: Done<R>,
+) -> Result<(Vec<(Job, Outcome)>, Vec<Held<R>>), OfficeError>
+    requires alone { All (λ a. AnswersAlone desks a.0.work a.1) done.alone.items }
+    requires kept { AreOfDesks 0 (map (λ k. (k.answers.items, published k.held.keeper)) done.kept.items) }
+    requires count { length done.kept.items ≡ desks }
+    ensures tells { IfOk result (λ r. Tells desks r.0.items (all_heard (map (λ h. published h.keeper) r.1.items))) }
+    ensures count { IfOk result (λ r. length r.1.items ≡ desks) }
+{
+    let Done { alone, kept } = done;
+    let mut answers = alone;
+    let mut keepers = Vec::new(rt.alloc());
+    let mut desk: u64 = 0;
+    for one in kept {
+        let Merged {
+            held,
+            answers: mut merged,
+        } = one;
+        if !are_for(desk, desks as u64, &merged) {
+            return Err(OfficeError::StrangeDone);
+        }
+        answers.append(&mut merged)?;
+        keepers.push(held)?;
+        desk += 1;
+    }
+    Ok((answers, keepers))
+}
+
+// Whether these are jobs for this desk, of so many desks.
+fn are_for(desk: u64, desks: u64, answers: &[(Job, Outcome)]) -> bool
+    ensures { IsTrue result → All (λ a. (desk_of a.0.work ≡ desk) × AreThere desks a.0.work) answers.now }
+{
+    answers.iter().all(|answer| answer.0.desk() == desk && answer.0.is_within(desks))
+}

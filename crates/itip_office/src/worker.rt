@@ -1,0 +1,164 @@
+//! The loop of a worker.
+ghost use Rattle.std.specs.Prelude.{◌≡◌, ◌<◌, ◌≢◌, length, All, IfOk, IfSome};
+ghost use Rattle.itip_office.specs.declared.job.Work.TheVariants.{Text, Carry, Look};
+ghost use Rattle.itip_office.specs.Answers.{AnswersAlone};
+ghost use Rattle.itip_office.specs.Steps.{IsStepOf};
+
+use crate::error::OfficeError;
+use crate::gate::Gate;
+use crate::job::{Job, Work};
+use crate::merge::Merge;
+use crate::outcome::Outcome;
+use crossbeam_channel::{Receiver, Sender};
+use itip_desk::{Batch, Refusal};
+use itip_message::{ReadError, read_message};
+use itip_running::{Pass, PassError};
+use itip_view::Window;
+use std::alloc::Global;
+use std::sync::Wait;
+
+/// What a worker does with a job.
+#[derive(Drop)]
+pub(crate) enum Step {
+    /// It has the outcome.
+    Answers(Outcome),
+    /// The batch goes to the keeper of the desk.
+    HandsOn { desk: usize, batch: Batch },
+}
+
+/// Takes jobs until their channel is closed, and gives those that it answered itself, with their outcomes: a desk that isn't there (50), a
+/// text that is refused, and a look. What else there is to merge goes to the keeper of the desk. There are as many passes as keepers, one
+/// for each desk, in the order of desks.
+///
+/// Ends early if an allocation failed (40), if the gate is closed (42), if a keeper takes nothing more (43), or if a pass is refused the
+/// entry (45). The passes are dropped in the end.
+pub fn worker_loop<R: AllocGlobal + Wait, G: Gate>(
+    rt: &R,
+    passes: Vec<Pass>,
+    jobs: Receiver<Job>,
+    keepers: Vec<Sender<Merge>>,
+    gate: &G,
+) -> Result<Vec<(Job, Outcome)>, OfficeError>
+    requires desks { length passes.items ≡ length keepers.items }
+    ensures alone { IfOk result (λ answers. All (λ a. AnswersAlone (length keepers.items) a.0.work a.1) answers.items) }
+{
+    let mut passes = passes;
+    let mut answers = Vec::new(rt.alloc());
+    for _ in rt.forever() {
+        let Ok(job) = jobs.recv(rt) else {
+            return Ok(answers);
+        };
+        let number = job.number;
+        if !gate.worker(number) {
+            return Err(OfficeError::GateClosed);
+        }
+        let done = do_job(rt, passes.as_mut_slice(), keepers.as_slice(), job)?;
+        if let Some(answer) = done {
+            answers.push(answer)?;
+            if !gate.done(number) {
+                return Err(OfficeError::GateClosed);
+            }
+        }
+    }
+    unreachable!()
+}
+
+// The job with its outcome, or nothing where it was handed on.
+fn do_job<R: AllocGlobal + Wait>(
+    rt: &R,
+    passes: &mut [Pass],
+    keepers: &[Sender<Merge>],
+    job: Job,
+) -> Result<Option<(Job, Outcome)>, OfficeError>
+    requires desks { length passes.old ≡ length keepers.now }
+    ensures passes { length passes.new ≡ length passes.old }
+    ensures alone { IfOk result (λ done. IfSome done (λ a. AnswersAlone (length keepers.now) a.0.work a.1)) }
+{
+    match step_of(rt.alloc(), passes, &job.work)? {
+        Step::Answers(outcome) => Ok(Some((job, outcome))),
+        Step::HandsOn { desk, batch } => {
+            match keepers[desk].send(rt, Merge::new(job, batch)) {
+                Ok(()) => Ok(None),
+                Err(_) => Err(OfficeError::ChannelClosed),
+            }
+        }
+    }
+}
+
+fn step_of(alloc: Global, passes: &mut [Pass], work: &Work) -> Result<Step, OfficeError>
+    ensures passes { length passes.new ≡ length passes.old }
+    ensures step { IfOk result (IsStepOf (length passes.old) work.now) }
+{
+    match work {
+        Work::Text { desk, bytes } => read_text(alloc, passes.len(), *desk, bytes.as_slice()),
+        Work::Carry { from, to } => carry(passes, *from, *to),
+        Work::Look { desk, window } => look(passes, *desk, *window),
+    }
+}
+
+fn read_text(alloc: Global, desks: usize, at: u64, bytes: &[u8]) -> Result<Step, OfficeError>
+    ensures { IfOk result (IsStepOf desks (Text at bytes.now)) }
+{
+    let desk = at as usize;
+    if desk >= desks {
+        return Ok(refused(Refusal::NoDesk(at)));
+    }
+    match read_message(alloc, bytes) {
+        Ok(items) => {
+            let batch = Batch::of_items(items)?;
+            Ok(Step::HandsOn { desk, batch })
+        }
+        Err(ReadError::Refused(refusal)) => Ok(refused(Refusal::Message(refusal))),
+        Err(ReadError::NoMemory) => Err(OfficeError::NoMemory),
+    }
+}
+
+// A desk that all comes from is looked for before the one that it comes to.
+fn carry(passes: &mut [Pass], from: u64, to: u64) -> Result<Step, OfficeError>
+    ensures passes { length passes.new ≡ length passes.old }
+    ensures step { IfOk result (IsStepOf (length passes.old) (Carry from to)) }
+{
+    let count = passes.len();
+    let desk = to as usize;
+    let Some(pass) = passes.get_mut(from as usize) else {
+        return Ok(refused(Refusal::NoDesk(from)));
+    };
+    if desk >= count {
+        return Ok(refused(Refusal::NoDesk(to)));
+    }
+    match pass.delta_since(0) {
+        Ok(batch) => Ok(Step::HandsOn { desk, batch }),
+        Err(error) => Err(error_of(error)),
+    }
+}
+
+fn look(passes: &mut [Pass], desk: u64, window: Window) -> Result<Step, OfficeError>
+    ensures passes { length passes.new ≡ length passes.old }
+    ensures step { IfOk result (IsStepOf (length passes.old) (Look desk window)) }
+{
+    let Some(pass) = passes.get_mut(desk as usize) else {
+        return Ok(refused(Refusal::NoDesk(desk)));
+    };
+    match pass.list(window) {
+        Ok(text) => Ok(Step::Answers(Outcome::Looked { text })),
+        Err(PassError::TooManyRows) => Ok(refused(Refusal::TooManyRows)),
+        Err(error) => Err(error_of(error)),
+    }
+}
+
+fn refused(refusal: Refusal) -> Step
+    ensures { result ≡ Step.Answers (Outcome.Refused refusal) }
+{
+    Step::Answers(Outcome::Refused(refusal))
+}
+
+// Why a worker ends, where a pass has neither an answer nor too many rows.
+fn error_of(error: PassError) -> OfficeError
+    requires { error ≢ PassError.TooManyRows }
+{
+    match error {
+        PassError::NoMemory | PassError::NoListMemory => OfficeError::NoMemory,
+        PassError::NoEntry => OfficeError::NoEntry,
+        PassError::TooManyRows => unreachable!(),
+    }
+}

@@ -1,0 +1,12 @@
+use Rattle.itip_running.proofs.Ties.{admits}
+use Rattle.itip_running.proofs.Telling.{forks, merges}
+use Rattle.itip_running.proofs.start.seat.Goals as goal
+
+pub reader-requires : goal.reader-requires
+reader-requires c = admits
+
+pub tell-requires : goal.tell-requires
+tell-requires c = forks _ _
+
+pub learn-requires-clause-rule : goal.learn-requires-clause-rule
+learn-requires-clause-rule c = merges _ _ _ _

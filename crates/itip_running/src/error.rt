@@ -1,0 +1,68 @@
+//! Why a keeper, a pass or a pair refused.
+ghost use Rattle.std.specs.Prelude.{◌≡◌};
+ghost use Rattle.itip_running.specs.declared.error.LiveError.TheVariants as live;
+ghost use Rattle.itip_running.specs.declared.error.PassError.TheVariants as pass;
+
+use itip_view::ViewError;
+use std::alloc::AllocError;
+use thiserror::Error;
+
+/// Why a keeper published nothing, or a pair was not made or not taken apart.
+#[derive(Clone, Copy, PartialEq, Eq, Debug, Drop, Error)]
+pub enum LiveError {
+    /// Memory was refused (40).
+    #[error("no memory for a running desk")]
+    NoMemory,
+    /// The pair gave no place to a reader, or a pass or the history is ahead of its keeper, which no run of one pair meets (41).
+    #[error("no place at a running desk")]
+    NoPlace,
+    /// The number of published batches would pass `u64::MAX` (21).
+    #[error("no further batch can be counted")]
+    BatchesSpent,
+}
+
+/// Why a pass has no answer.
+#[derive(Clone, Copy, PartialEq, Eq, Debug, Drop, Error)]
+pub enum PassError {
+    /// More than 100,000 rows stand in the window (31).
+    #[error("there are too many rows")]
+    TooManyRows,
+    /// Memory was refused to a list (32).
+    #[error("no memory to list")]
+    NoListMemory,
+    /// Memory was refused to a delta (40).
+    #[error("no memory for a delta")]
+    NoMemory,
+    /// The pair refused the entry, as it does once it is taken apart, or showed less than the pass has seen, which no run of one pair meets (45).
+    #[error("no entry to a running desk")]
+    NoEntry,
+}
+
+impl From<AllocError> for LiveError {
+    ghost from_gives = { λ _ e. e ≡ live.NoMemory };
+
+    fn from(_e: AllocError) -> LiveError {
+        LiveError::NoMemory
+    }
+}
+
+impl From<AllocError> for PassError {
+    ghost from_gives = { λ _ e. e ≡ pass.NoMemory };
+
+    fn from(_e: AllocError) -> PassError {
+        PassError::NoMemory
+    }
+}
+
+impl From<ViewError> for PassError {
+    ghost use Rattle.itip_running.specs.Refusals.{of_view};
+
+    ghost from_gives = { λ fault e. e ≡ of_view fault };
+
+    fn from(fault: ViewError) -> PassError {
+        match fault {
+            ViewError::TooManyRows => PassError::TooManyRows,
+            ViewError::NoMemory => PassError::NoListMemory,
+        }
+    }
+}

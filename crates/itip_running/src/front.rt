@@ -1,0 +1,86 @@
+//! Beginnings of the history.
+ghost use Rattle.std.specs.Prelude.{◌≡◌, ◌<◌, [], ◌∷◌, ◌++◌, length, MatchBool, IfSome};
+ghost use mathlib.Core.List.{IsPrefix};
+ghost use Rattle.itip_running.specs.History.{head_of};
+
+use crate::law::{Add, Law, Nothing};
+use itip_desk::Batch;
+use logbook::{Offer, Seen, Start, Word};
+use std::snapshot::Snapshot;
+
+/// A beginning of the history. What runs has its length alone.
+#[derive(Drop)]
+pub(crate) struct Front {
+    pub(crate) count: u64,
+    pub(crate) seen: Seen<Batch, u64, Law>,
+    ghost counted: { count ≡ length seen.log },
+}
+
+/// The one word by which a history grows.
+pub(crate) type Head = Word<Batch, u64, Law>;
+
+/// A new history, with nothing in it.
+pub(crate) fn open() -> (Head, Front)
+    ensures head { result.0 ≡ head_of result.1.seen.book }
+    ensures empty { result.1.seen.log ≡ [] }
+{
+    let (seen, mut first, _second) = Seen::open(Start::alone(), 0, 0);
+    (Word::tracked(0, &mut first), Front { count: 0, seen })
+}
+
+impl Front {
+    /// The same beginning once more.
+    pub(crate) fn again(&self) -> Front
+        ensures { result.seen ≡ self.now.seen }
+    {
+        Front {
+            count: self.count,
+            seen: self.seen.again(),
+        }
+    }
+
+    /// Whether the other begins with all of this. Of two beginnings of one history the shorter begins the longer, so their lengths tell.
+    pub(crate) fn begins(&self, other: &Front) -> bool
+        requires book { other.now.seen.book ≡ self.now.seen.book }
+        ensures { MatchBool result (IsPrefix self.now.seen.log other.now.seen.log) (IsPrefix other.now.seen.log self.now.seen.log × (length other.now.seen.log < length self.now.seen.log)) }
+    {
+        let mut both = self.seen.again();
+        both.learn(&other.seen);
+        if self.count <= other.count {
+            return true;
+        }
+        false
+    }
+
+    /// The history with one batch more. Nothing where it can't be counted, or where another has added to the history, as nobody else can.
+    pub(crate) fn followed_by(&self, head: &Head, batch: &Snapshot<Batch>) -> Option<Front>
+        requires head { head.now ≡ head_of self.now.seen.book }
+        ensures { IfSome result (λ front. (front.seen.book ≡ self.now.seen.book) × (front.seen.log ≡ self.now.seen.log ++ batch.now.value ∷ [])) }
+    {
+        let count = self.count;
+        if count == u64::MAX {
+            return None;
+        }
+        let mut seen = self.seen.again();
+        let mut offer: Offer<Batch, u64, Law, Nothing> = seen.plain::<
+            Nothing,
+            Snapshot<Batch>,
+            Add,
+        >(batch);
+        let mut pen = seen.no_pen();
+        let found = head.compare_exchange::<Add, Nothing>(
+            count,
+            count + 1,
+            &mut seen,
+            &mut offer,
+            &mut pen,
+        );
+        if found != count {
+            return None;
+        }
+        Some(Front {
+            count: count + 1,
+            seen,
+        })
+    }
+}

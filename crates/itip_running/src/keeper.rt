@@ -1,0 +1,65 @@
+//! The keeper of a desk.
+ghost use Rattle.std.specs.Prelude.{◌≡◌, ◌↔◌, ◌+◌, ◌<◌, [], ◌∷◌, ◌++◌, length, IsSome, MatchResult, OnErr, OnOk, IfOk, IsErrOf};
+
+use crate::error::LiveError;
+use crate::receipt::Receipt;
+use crate::write_end::WriteEnd;
+use itip_desk::Batch;
+use std::mem;
+use std::sync::Wait;
+
+/// The one that merges batches into a running desk. Contracts see two lists of batches: those that are published, and those that are pending.
+///
+/// It is not `Drop`, since its end waits for readers: hand it to `meet`.
+pub struct Keeper {
+    pub(crate) end: Option<WriteEnd>,
+    ghost there: { IsSome end },
+}
+
+impl Keeper {
+    ghost use Rattle.itip_running.specs.Ends.{published, pending, keeper_pair, told, receipt_pair};
+
+    /// Puts a batch behind those that are pending. It comes back where memory is refused, or where `usize::MAX` batches are pending, and nothing has changed then.
+    pub fn submit(&mut self, batch: Batch) -> Result<(), Batch>
+        ensures published { published self.new ≡ published self.old }
+        ensures pending { MatchResult result (λ _. pending self.new ≡ pending self.old ++ batch ∷ []) (λ back. (back ≡ batch) × (pending self.new ≡ pending self.old)) }
+        ensures pair { keeper_pair self.new ≡ keeper_pair self.old }
+    {
+        match &mut self.end {
+            Some(end) => end.submit(batch),
+            None => Err(batch),
+        }
+    }
+
+    /// How many batches are pending.
+    pub fn pending(&self) -> usize
+        ensures { result ≡ length (pending self.now) }
+    {
+        match &self.end {
+            Some(end) => end.pending,
+            None => 0,
+        }
+    }
+
+    /// Publishes all that is pending, at once, and gives a receipt of all that is published then. It waits for passes that read.
+    ///
+    /// Refused where memory was refused (40), and exactly where the number of published batches would pass `u64::MAX` (21). A refusal publishes nothing and leaves
+    /// what is pending. 41 where the history has more batches than the keeper submitted, which no run meets.
+    pub fn publish<R: Wait>(&mut self, rt: &R) -> Result<Receipt, LiveError>
+        ensures whole { OnOk result ((published self.new ≡ published self.old ++ pending self.old) × (pending self.new ≡ [])) }
+        ensures receipt { IfOk result (λ r. (told r ≡ published self.new) × (receipt_pair r ≡ keeper_pair self.old)) }
+        ensures err { OnErr result ((published self.new ≡ published self.old) × (pending self.new ≡ pending self.old)) }
+        ensures spent { IsErrOf result LiveError.BatchesSpent ↔ (u64.MAX < length (published self.old) + length (pending self.old)) }
+        ensures pair { keeper_pair self.new ≡ keeper_pair self.old }
+    {
+        let end = self.end.take().unwrap();
+        let (end, done) = end.publish(rt);
+        match mem::replace(&mut self.end, Some(end)) {
+            None => {}
+            Some(old) => {
+                let _ = old.close(rt);
+            }
+        }
+        done
+    }
+}

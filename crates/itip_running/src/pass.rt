@@ -1,0 +1,114 @@
+//! A pass, which reads beside the keeper.
+ghost use Rattle.std.specs.Prelude.{◌≡◌, ◌⊎◌, length, Some, IsSome, IfOk, IfErr, IsTrue, IsErrOf};
+ghost use mathlib.Core.List.{IsPrefix};
+
+use crate::error::PassError;
+use crate::front::Front;
+use crate::read_end::ReadEnd;
+use crate::receipt::Receipt;
+use itip_desk::Batch;
+use itip_view::Window;
+
+/// The right to read a running desk, on any thread. It waits for nobody. Contracts see the list of the published batches that it has seen, which only grows.
+#[derive(Drop)]
+pub struct Pass {
+    pub(crate) end: Option<ReadEnd>,
+    ghost there: { IsSome end },
+}
+
+impl Pass {
+    ghost use Rattle.itip_desk.specs.Heard.{heard};
+    ghost use Rattle.itip_view.specs.ListText.{IsListText};
+    ghost use Rattle.itip_view.specs.Rows.{AreTooMany};
+    ghost use Rattle.itip_view.specs.Showing.{Shows, AreTooManyWhere, IsListTextFor};
+    ghost use Rattle.itip_running.specs.Deltas.{IsDeltaAfter};
+    ghost use Rattle.itip_running.specs.Ends.{seen, pass_pair, told, receipt_pair};
+
+    /// The text of the task list in a window, of a list of published batches that begins with all that this pass had seen; it has seen these then.
+    ///
+    /// Refused where more than 100,000 rows stand there (31), or where memory was refused (32); it has seen the batches all the same. Refused too where the pair
+    /// lets nobody in or shows less than was seen (45): then nothing more is seen.
+    pub fn list(&mut self, window: Window) -> Result<Vec<u8>, PassError>
+        ensures text { IfOk result (λ text. IsListText (heard (seen self.new)) window text.items) }
+        ensures many { IsErrOf result PassError.TooManyRows → AreTooMany (heard (seen self.new)) window }
+        ensures causes { IsErrOf result PassError.NoMemory → ⊥ }
+        ensures grows { IsPrefix (seen self.old) (seen self.new) }
+        ensures no_entry { IsErrOf result PassError.NoEntry → seen self.new ≡ seen self.old }
+        ensures pair { pass_pair self.new ≡ pass_pair self.old }
+    {
+        let end = self.end.take().unwrap();
+        let (end, text) = end.list(window);
+        self.end = Some(end);
+        text
+    }
+
+    /// The text of the rows in a window that show the attendee of an address, of a list of published batches as in `list`.
+    ///
+    /// Refused where more than 100,000 rows there show the attendee (31), or where memory was refused (32); it has seen the batches all the same. Refused too where
+    /// the pair lets nobody in or shows less than was seen (45): then nothing more is seen.
+    pub fn list_for(&mut self, window: Window, address: &str) -> Result<Vec<u8>, PassError>
+        ensures text { IfOk result (λ text. IsListTextFor address.now (heard (seen self.new)) window text.items) }
+        ensures many { IsErrOf result PassError.TooManyRows → AreTooManyWhere (Shows address.now) (heard (seen self.new)) window }
+        ensures causes { IsErrOf result PassError.NoMemory → ⊥ }
+        ensures grows { IsPrefix (seen self.old) (seen self.new) }
+        ensures no_entry { IsErrOf result PassError.NoEntry → seen self.new ≡ seen self.old }
+        ensures pair { pass_pair self.new ≡ pass_pair self.old }
+    {
+        let end = self.end.take().unwrap();
+        let (end, text) = end.list_for(window, address);
+        self.end = Some(end);
+        text
+    }
+
+    /// The kept items of the UIDs that moved after this tick of the desk, of a list of published batches as in `list`; the desk began at tick 0.
+    ///
+    /// Refused where memory was refused (40); it has seen the batches all the same. Refused too where the pair lets nobody in or shows less than was seen (45): then
+    /// nothing more is seen.
+    pub fn delta_since(&mut self, tick: u64) -> Result<Batch, PassError>
+        ensures delta { IfOk result (λ batch. IsDeltaAfter (seen self.new) tick batch) }
+        ensures causes { IfErr result (λ e. (e ≡ PassError.NoMemory) ⊎ (e ≡ PassError.NoEntry)) }
+        ensures grows { IsPrefix (seen self.old) (seen self.new) }
+        ensures no_entry { IsErrOf result PassError.NoEntry → seen self.new ≡ seen self.old }
+        ensures pair { pass_pair self.new ≡ pass_pair self.old }
+    {
+        let end = self.end.take().unwrap();
+        let (end, delta) = end.delta_since(tick);
+        self.end = Some(end);
+        delta
+    }
+
+    /// Takes in what was published when the receipt was given: what is listed from now on begins with it. The receipt, of the pass's own desk, stays as it is.
+    pub fn learn(&mut self, receipt: &mut Receipt)
+        requires pair { receipt_pair receipt.old ≡ pass_pair self.old }
+        ensures receipt { receipt.new ≡ receipt.old }
+        ensures longer { (seen self.new ≡ seen self.old) ⊎ (seen self.new ≡ told receipt.old) }
+        ensures own { IsPrefix (seen self.old) (seen self.new) }
+        ensures told { IsPrefix (told receipt.old) (seen self.new) }
+        ensures pair { pass_pair self.new ≡ pass_pair self.old }
+    {
+        if let Some(end) = &mut self.end {
+            end.learn(receipt);
+        }
+    }
+
+    /// How many published batches it has seen.
+    pub fn seen(&self) -> u64
+        ensures { result ≡ length (seen self.now) }
+    {
+        match &self.end {
+            Some(end) => end.front.count,
+            None => 0,
+        }
+    }
+
+    /// Whether the front begins with all that it has seen.
+    pub(crate) fn is_within(&self, front: &Front) -> bool
+        requires pair { pass_pair self.now ≡ Some front.now.seen.book }
+        ensures { IsTrue result → IsPrefix (seen self.now) front.now.seen.log }
+    {
+        match &self.end {
+            Some(end) => end.front.begins(front),
+            None => false,
+        }
+    }
+}

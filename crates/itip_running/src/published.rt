@@ -1,0 +1,73 @@
+//! What readers take.
+ghost use Rattle.std.specs.Prelude.{◌≡◌, []};
+ghost use Rattle.itip_desk.specs.Desk.{IsDeskOf};
+
+use crate::front::Front;
+use crate::history::History;
+use itip_desk::{Batch, Desk};
+use left_right::Absorb;
+use std::alloc::{AllocError, Global};
+
+/// A desk, the history whose desk it is, and how long that is.
+#[derive(Drop)]
+pub(crate) struct Published {
+    pub(crate) desk: Desk,
+    pub(crate) history: History,
+    pub(crate) front: Front,
+    ghost is: { ∥ IsDeskOf history 0 desk ∥₁ },
+}
+
+impl Published {
+    /// A desk that has heard nothing, at tick 0.
+    pub(crate) fn empty(alloc: Global, front: &Front) -> Published
+        ensures { (result.history ≡ []) × (result.front.seen ≡ front.now.seen) }
+    {
+        Published {
+            desk: Desk::empty_at(alloc, 0),
+            history: History::empty(),
+            front: front.again(),
+        }
+    }
+}
+
+/// What a seat of the pair knows: which history it is. No value of it is made.
+pub(crate) struct View {
+    pub known: bool,
+    pub number: u64,
+    pub log_name: u64,
+    pub cells_name: u64,
+}
+
+/// What the keeper hands to both copies: a batch, or how long the history is with all before it.
+#[derive(Drop)]
+pub(crate) enum Op {
+    Take(Batch),
+    Mark(Front),
+}
+
+impl Absorb<Op> for Published {
+    ghost use Rattle.itip_running.specs.Pair.{state_of, applied_to};
+
+    type State = ([Batch; 0], View, [Batch; 0]);
+
+    ghost state = { λ s. state_of s };
+
+    ghost applied = { λ s op. applied_to s op };
+
+    fn absorb_first(&mut self, operation: &Op, _other: &Self) -> Result<(), AllocError> {
+        match operation {
+            // The ticks are never spent here: a batch raises the tick by at most one, and no more than u64::MAX batches are published.
+            Op::Take(batch) => match self.desk.take(batch) {
+                Ok(_) => {
+                    self.history = self.history.followed_by(batch);
+                    Ok(())
+                }
+                Err(_) => Err(AllocError),
+            },
+            Op::Mark(front) => {
+                self.front = front.again();
+                Ok(())
+            }
+        }
+    }
+}

@@ -1,0 +1,232 @@
+//! A reader's end of the pair, by value.
+ghost use Rattle.std.specs.Prelude.{◌≡◌, ◌⊎◌, MatchResult, IfOk, IfErr, IsErrOf};
+ghost use mathlib.Core.List.{IsPrefix};
+ghost use Rattle.left_right.specs.Sides.{view};
+ghost use Rattle.itip_desk.specs.Heard.{heard};
+ghost use Rattle.itip_desk.specs.Desk.{IsDeskOf};
+ghost use Rattle.itip_view.specs.ListText.{IsListText, list_text};
+ghost use Rattle.itip_view.specs.Rows.{AreTooMany};
+ghost use Rattle.itip_view.specs.Showing.{Shows, AreTooManyWhere, IsListTextFor};
+ghost use Rattle.itip_running.specs.Deltas.{IsDeltaAfter};
+ghost use Rattle.itip_running.specs.Pair.{name_of};
+ghost use base.Stored.{Coded-set};
+ghost use Rattle.std.specs.Coded.{coded_list};
+ghost use Rattle.itip_items.specs.contracts.item.Item as item;
+
+use crate::error::PassError;
+use crate::front::Front;
+use crate::receipt::Receipt;
+use crate::rule::{PublishedReader, PublishedReading, Sees};
+use itip_desk::{Batch, Desk};
+use itip_state::State;
+use itip_view::{Row, Window, list_text, rows, rows_for};
+use std::alloc::Global;
+
+/// A reader, and what it has seen.
+#[derive(Drop)]
+pub(crate) struct ReadEnd {
+    pub(crate) alloc: Global,
+    pub(crate) reader: PublishedReader,
+    pub(crate) front: Front,
+    ghost tied: { view reader.place ≡ name_of front.seen.book },
+}
+
+/// An open read of what is published. It is not `Drop`: end it by `close`.
+pub(crate) struct Look {
+    alloc: Global,
+    reading: PublishedReading,
+    front: Front,
+    ghost tied: { view reading.place ≡ name_of front.seen.book },
+    ghost whole: { reading.part.value.history ≡ front.seen.log } by { Coded-set (coded_list (coded_list item.the_row.coded)) _ _ },
+}
+
+impl ReadEnd {
+    /// Looks at what is published, which begins with all that was seen.
+    fn look(self) -> Result<Look, ReadEnd>
+        ensures seen { MatchResult result (λ look. IsPrefix self.front.seen.log look.front.seen.log) (λ end. end.front.seen ≡ self.front.seen) }
+        ensures book { IfOk result (λ look. look.front.seen.book ≡ self.front.seen.book) }
+    {
+        let ReadEnd {
+            alloc,
+            reader,
+            front,
+        } = self;
+        match reader.enter_as::<Sees>() {
+            Ok(reading) => {
+                let shown = reading.get().front.again();
+                if !front.begins(&shown) {
+                    let reader = reading.leave();
+                    return Err(ReadEnd {
+                        alloc,
+                        reader,
+                        front,
+                    });
+                }
+                Ok(Look {
+                    alloc,
+                    reading,
+                    front: shown,
+                })
+            }
+            Err(reader) => Err(ReadEnd {
+                alloc,
+                reader,
+                front,
+            }),
+        }
+    }
+
+    /// The text of the task list in a window. During the read only what it is made of is taken, each item shared, so that the keeper waits for no row.
+    pub(crate) fn list(self, window: Window) -> (ReadEnd, Result<Vec<u8>, PassError>)
+        ensures text { IfOk result.1 (λ text. IsListText (heard result.0.front.seen.log) window text.items) }
+        ensures many { IsErrOf result.1 PassError.TooManyRows → AreTooMany (heard result.0.front.seen.log) window }
+        ensures causes { IsErrOf result.1 PassError.NoMemory → ⊥ }
+        ensures grows { IsPrefix self.front.seen.log result.0.front.seen.log }
+        ensures no_entry { IsErrOf result.1 PassError.NoEntry → result.0.front.seen.log ≡ self.front.seen.log }
+        ensures book { result.0.front.seen.book ≡ self.front.seen.book }
+    {
+        match self.look() {
+            Ok(look) => {
+                let part = look.desk().part_in(window);
+                let end = look.close();
+                match part {
+                    Ok(part) => {
+                        let text = text_in(end.alloc, &part, window);
+                        (end, text)
+                    }
+                    Err(_) => (end, Err(PassError::NoListMemory)),
+                }
+            }
+            Err(end) => (end, Err(PassError::NoEntry)),
+        }
+    }
+
+    /// The text of the rows in a window that show the attendee of an address. It is made once the read is over, as that of the task list is.
+    pub(crate) fn list_for(
+        self,
+        window: Window,
+        address: &str,
+    ) -> (ReadEnd, Result<Vec<u8>, PassError>)
+        ensures text { IfOk result.1 (λ text. IsListTextFor address.now (heard result.0.front.seen.log) window text.items) }
+        ensures many { IsErrOf result.1 PassError.TooManyRows → AreTooManyWhere (Shows address.now) (heard result.0.front.seen.log) window }
+        ensures causes { IsErrOf result.1 PassError.NoMemory → ⊥ }
+        ensures grows { IsPrefix self.front.seen.log result.0.front.seen.log }
+        ensures no_entry { IsErrOf result.1 PassError.NoEntry → result.0.front.seen.log ≡ self.front.seen.log }
+        ensures book { result.0.front.seen.book ≡ self.front.seen.book }
+    {
+        match self.look() {
+            Ok(look) => {
+                let part = look.desk().part_naming(address);
+                let end = look.close();
+                match part {
+                    Ok(part) => {
+                        let text = text_for(end.alloc, &part, window, address);
+                        (end, text)
+                    }
+                    Err(_) => (end, Err(PassError::NoListMemory)),
+                }
+            }
+            Err(end) => (end, Err(PassError::NoEntry)),
+        }
+    }
+
+    /// The kept items of the UIDs that moved after this tick.
+    pub(crate) fn delta_since(self, tick: u64) -> (ReadEnd, Result<Batch, PassError>)
+        ensures delta { IfOk result.1 (λ batch. IsDeltaAfter result.0.front.seen.log tick batch) }
+        ensures causes { IfErr result.1 (λ e. (e ≡ PassError.NoMemory) ⊎ (e ≡ PassError.NoEntry)) }
+        ensures grows { IsPrefix self.front.seen.log result.0.front.seen.log }
+        ensures no_entry { IsErrOf result.1 PassError.NoEntry → result.0.front.seen.log ≡ self.front.seen.log }
+        ensures book { result.0.front.seen.book ≡ self.front.seen.book }
+    {
+        match self.look() {
+            Ok(look) => {
+                let delta = look.desk().delta_since(tick);
+                let end = look.close();
+                match delta {
+                    Ok(delta) => (end, Ok(delta)),
+                    Err(_) => (end, Err(PassError::NoMemory)),
+                }
+            }
+            Err(end) => (end, Err(PassError::NoEntry)),
+        }
+    }
+
+    /// Takes in what was published when the receipt was given.
+    pub(crate) fn learn(&mut self, receipt: &Receipt)
+        requires book { receipt.now.front.seen.book ≡ self.old.front.seen.book }
+        ensures longer { (self.new.front.seen.log ≡ self.old.front.seen.log) ⊎ (self.new.front.seen.log ≡ receipt.now.front.seen.log) }
+        ensures own { IsPrefix self.old.front.seen.log self.new.front.seen.log }
+        ensures told { IsPrefix receipt.now.front.seen.log self.new.front.seen.log }
+        ensures book { self.new.front.seen.book ≡ self.old.front.seen.book }
+    {
+        if !receipt.front.begins(&self.front) {
+            self.front = receipt.front.again();
+        }
+    }
+}
+
+/// The text of the rows of a state in a window.
+fn text_in(alloc: Global, state: &State, window: Window) -> Result<Vec<u8>, PassError>
+    ensures text { IfOk result (λ text. IsListText state.now window text.items) }
+    ensures many { IsErrOf result PassError.TooManyRows → AreTooMany state.now window }
+    ensures causes { IfErr result (λ e. (e ≡ PassError.TooManyRows) ⊎ (e ≡ PassError.NoListMemory)) }
+{
+    match rows(alloc, state, window) {
+        Ok(rows) => text_of(&rows),
+        Err(fault) => Err(fault.into()),
+    }
+}
+
+/// The text of the rows of a state in a window that show the attendee of an address.
+fn text_for(
+    alloc: Global,
+    state: &State,
+    window: Window,
+    address: &str,
+) -> Result<Vec<u8>, PassError>
+    ensures text { IfOk result (λ text. IsListTextFor address.now state.now window text.items) }
+    ensures many { IsErrOf result PassError.TooManyRows → AreTooManyWhere (Shows address.now) state.now window }
+    ensures causes { IfErr result (λ e. (e ≡ PassError.TooManyRows) ⊎ (e ≡ PassError.NoListMemory)) }
+{
+    match rows_for(alloc, state, window, address) {
+        Ok(rows) => text_of(&rows),
+        Err(fault) => Err(fault.into()),
+    }
+}
+
+/// The text of rows.
+fn text_of(rows: &Vec<Row>) -> Result<Vec<u8>, PassError>
+    ensures text { IfOk result (λ text. text.items ≡ list_text rows.now.items) }
+    ensures fault { IfErr result (λ e. e ≡ PassError.NoListMemory) }
+{
+    match list_text(*rows.allocator(), rows) {
+        Ok(text) => Ok(text),
+        Err(_) => Err(PassError::NoListMemory),
+    }
+}
+
+impl Look {
+    /// The published desk.
+    fn desk(&self) -> &Desk
+        ensures { IsDeskOf self.now.front.seen.log 0 result.now }
+    {
+        &self.reading.get().desk
+    }
+
+    /// Leaves, with all of it seen.
+    fn close(self) -> ReadEnd
+        ensures { result.front.seen ≡ self.front.seen }
+    {
+        let Look {
+            alloc,
+            reading,
+            front,
+        } = self;
+        let reader = reading.leave();
+        ReadEnd {
+            alloc,
+            reader,
+            front,
+        }
+    }
+}

@@ -1,0 +1,54 @@
+//! The rule of the pair.
+
+use crate::published::{Op, Published, View};
+use atomic_table::{Join, Split};
+use crossbeam_utils::rule::{Outcome, Protocol};
+use left_right::reader::{Reader, Reading};
+use left_right::writer::Writer;
+
+/// The value is the desk of its history, and all seats speak of one history.
+pub(crate) struct Ties;
+
+impl Protocol<Published, View> for Ties {
+    ghost use Rattle.std.specs.Prelude.{false};
+    ghost use Rattle.itip_running.specs.Pair.{Tied};
+
+    ghost holds = { Tied };
+
+    ghost first = { record { known = false; number = 0; log_name = 0; cells_name = 0 } };
+}
+
+/// A look at the value, or its exchange.
+pub(crate) struct Sees;
+
+impl Outcome<Published, View> for Sees {
+    ghost use Rattle.itip_running.specs.Pair.{Sights};
+
+    ghost then = { Sights };
+}
+
+/// A reader of the pair.
+pub(crate) type PublishedReader = Reader<Published, View, Ties>;
+
+/// A read that is open.
+pub(crate) type PublishedReading = Reading<Published, View, Ties>;
+
+/// The writer of the pair.
+pub(crate) type PublishedWriter = Writer<Published, Op, View, Ties>;
+
+/// What the keeper knows is told to a reader.
+pub(crate) struct Tells;
+
+impl Split<View> for Tells {
+    ghost left = { λ v. v };
+
+    ghost right = { λ v. v };
+}
+
+impl Join<View> for Tells {
+    ghost use Rattle.std.specs.Prelude.{false};
+
+    ghost both = { λ v w. w };
+
+    ghost spent = { record { known = false; number = 0; log_name = 0; cells_name = 0 } };
+}

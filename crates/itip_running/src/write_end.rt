@@ -1,0 +1,154 @@
+//! The keeper's end of the pair, by value.
+ghost use Rattle.std.specs.Prelude.{◌≡◌, ◌↔◌, ◌+◌, ◌<◌, true, [], ◌∷◌, ◌++◌, length, drop, MatchResult, OnOk, OnErr, IfOk, IsErrOf, IsTrue};
+ghost use Rattle.itip_running.specs.History.{head_of};
+ghost use Rattle.itip_running.specs.Pair.{takes};
+
+use crate::error::LiveError;
+use crate::front::{Front, Head};
+use crate::published::{Op, Published};
+use crate::receipt::Receipt;
+use crate::rule::{PublishedWriter, Sees};
+use itip_desk::Batch;
+use std::alloc::{AllocError, Global};
+use std::snapshot::Snapshot;
+use std::sync::Wait;
+
+/// The writer of a pair, and what is pending. It is not `Drop`: end it by `close`.
+pub(crate) struct WriteEnd {
+    pub(crate) writer: PublishedWriter,
+    pub(crate) head: Head,
+    /// The history with all that was submitted, as long as `is_whole`.
+    pub(crate) last: Front,
+    pub(crate) pending: usize,
+    /// Whether the history could be added to, each time.
+    pub(crate) is_whole: bool,
+    ghost whole: { is_whole ≡ true → last.seen.log ≡ writer.desk.shown.value.front.seen.log ++ takes (drop writer.behind writer.log.items) },
+    ghost book: { last.seen.book ≡ writer.desk.shown.value.front.seen.book },
+    ghost head_is: { head ≡ head_of last.seen.book },
+    ghost kept_is: { writer.desk.shown.value.history ≡ writer.desk.shown.value.front.seen.log },
+    ghost counted: { pending ≡ length (takes (drop writer.behind writer.log.items)) },
+}
+
+impl WriteEnd {
+    /// Puts a batch behind those that are pending. It comes back where memory is refused.
+    pub(crate) fn submit(&mut self, batch: Batch) -> Result<(), Batch>
+        ensures published { self.new.writer.desk ≡ self.old.writer.desk }
+        ensures pending { MatchResult result (λ _. takes (drop self.new.writer.behind self.new.writer.log.items) ≡ takes (drop self.old.writer.behind self.old.writer.log.items) ++ batch ∷ []) (λ b. (b ≡ batch) × (takes (drop self.new.writer.behind self.new.writer.log.items) ≡ takes (drop self.old.writer.behind self.old.writer.log.items))) }
+        ensures book { self.new.last.seen.book ≡ self.old.last.seen.book }
+    {
+        if self.pending == usize::MAX {
+            return Err(batch);
+        }
+        let told = Snapshot::of(&batch);
+        match self.writer.append(Op::Take(batch)) {
+            Ok(()) => {}
+            Err(Op::Take(batch)) => return Err(batch),
+            Err(Op::Mark(_)) => unreachable!(),
+        }
+        self.pending += 1;
+        // Only now that the batch is pending: a history that had it before would be ahead of the queue after a refusal.
+        match self.last.followed_by(&self.head, &told) {
+            Some(front) => self.last = front,
+            None => self.is_whole = false,
+        }
+        Ok(())
+    }
+
+    /// Whether the published batches and the pending ones together can't be counted.
+    fn is_spent(&self) -> bool
+        ensures { IsTrue result ↔ (u64.MAX < length self.now.writer.desk.shown.value.front.seen.log + length (takes (drop self.now.writer.behind self.now.writer.log.items))) }
+    {
+        let published = self.writer.published().front.count;
+        published.checked_add(self.pending as u64).is_none()
+    }
+
+    /// Publishes what is pending, all at once.
+    pub(crate) fn publish<R: Wait>(self, rt: &R) -> (WriteEnd, Result<Receipt, LiveError>)
+        ensures ok { OnOk result.1 ((result.0.writer.desk.shown.value.front.seen.log ≡ self.writer.desk.shown.value.front.seen.log ++ takes (drop self.writer.behind self.writer.log.items)) × (takes (drop result.0.writer.behind result.0.writer.log.items) ≡ [])) }
+        ensures receipt { IfOk result.1 (λ r. (r.front.seen.log ≡ result.0.writer.desk.shown.value.front.seen.log) × (r.front.seen.book ≡ self.last.seen.book)) }
+        ensures err { OnErr result.1 ((result.0.writer.desk.shown.value ≡ self.writer.desk.shown.value) × (takes (drop result.0.writer.behind result.0.writer.log.items) ≡ takes (drop self.writer.behind self.writer.log.items))) }
+        ensures spent { IsErrOf result.1 LiveError.BatchesSpent ↔ (u64.MAX < length self.writer.desk.shown.value.front.seen.log + length (takes (drop self.writer.behind self.writer.log.items))) }
+        ensures book { result.0.last.seen.book ≡ self.last.seen.book }
+    {
+        if self.is_spent() {
+            return (self, Err(LiveError::BatchesSpent));
+        }
+        if !self.is_whole {
+            return (self, Err(LiveError::NoPlace));
+        }
+        match self.exchange(rt) {
+            (end, Ok(receipt)) => (end, Ok(receipt)),
+            (end, Err(_)) => (end, Err(LiveError::NoMemory)),
+        }
+    }
+
+    /// Marks how long the history is, and exchanges the two copies.
+    fn exchange<R: Wait>(self, rt: &R) -> (WriteEnd, Result<Receipt, AllocError>)
+        requires whole { self.is_whole ≡ true }
+        ensures ok { OnOk result.1 ((result.0.writer.desk.shown.value.front.seen.log ≡ self.writer.desk.shown.value.front.seen.log ++ takes (drop self.writer.behind self.writer.log.items)) × (takes (drop result.0.writer.behind result.0.writer.log.items) ≡ [])) }
+        ensures receipt { IfOk result.1 (λ r. (r.front.seen.log ≡ result.0.writer.desk.shown.value.front.seen.log) × (r.front.seen.book ≡ self.last.seen.book)) }
+        ensures err { OnErr result.1 ((result.0.writer.desk.shown.value ≡ self.writer.desk.shown.value) × (takes (drop result.0.writer.behind result.0.writer.log.items) ≡ takes (drop self.writer.behind self.writer.log.items))) }
+        ensures book { result.0.last.seen.book ≡ self.last.seen.book }
+    {
+        let WriteEnd {
+            mut writer,
+            head,
+            last,
+            pending,
+            is_whole,
+        } = self;
+        match writer.append(Op::Mark(last.again())) {
+            Ok(()) => {}
+            Err(_) => {
+                let end = WriteEnd {
+                    writer,
+                    head,
+                    last,
+                    pending,
+                    is_whole,
+                };
+                return (end, Err(AllocError));
+            }
+        }
+        let (writer, done) = writer.publish_as::<Sees, R>(rt);
+        match done {
+            Ok(()) => {
+                let receipt = Receipt {
+                    front: last.again(),
+                };
+                let end = WriteEnd {
+                    writer,
+                    head,
+                    last,
+                    pending: 0,
+                    is_whole,
+                };
+                (end, Ok(receipt))
+            }
+            Err(_) => {
+                let end = WriteEnd {
+                    writer,
+                    head,
+                    last,
+                    pending,
+                    is_whole,
+                };
+                (end, Err(AllocError))
+            }
+        }
+    }
+
+    /// The published value. What is still pending is dropped.
+    pub(crate) fn close<R: Wait>(self, rt: &R) -> Box<Published, Global>
+        ensures { result.value ≡ self.writer.desk.shown.value }
+    {
+        let WriteEnd {
+            writer,
+            head: _,
+            last: _,
+            pending: _,
+            is_whole: _,
+        } = self;
+        writer.take(rt)
+    }
+}

@@ -1,0 +1,7 @@
+-- The commands that an iterator over a script for an office has not given yet (our own form).
+use Rattle.std.specs.Prelude.{List}
+use Rattle.itip_script.specs.declared.job.JobCommands.{JobCommands}
+use Rattle.itip_script.specs.Jobs.{Errand, errands_of}
+
+abbrev pub errands_left : JobCommands → List Errand
+errands_left left = errands_of left.rest.now

@@ -1,0 +1,8 @@
+pub mod Lines
+pub mod Orders
+pub mod Script
+pub mod Left
+pub mod Cutting
+pub mod Spelling
+pub mod Jobs
+pub mod LeftJobs

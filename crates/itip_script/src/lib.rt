@@ -1,0 +1,21 @@
+//! Scripts: reading one whole, and cutting it into commands or jobs.
+//!
+//! A script is a run of physical lines. A line that begins with `!` is a command; the lines after a `!take` are the message that it takes, byte for byte; other
+//! lines than empty ones are out of place. The format is our own.
+#![tactic(auto)]
+
+mod command;
+mod cut;
+mod input;
+mod job;
+mod laws;
+mod line;
+mod word;
+
+pub use command::{Command, ReportName};
+pub use cut::Commands;
+pub use input::{MAX_OCTETS, read_script};
+pub use itip_streams::StreamFault as ScriptFault;
+pub use job::{JobCommand, JobCommands};
+pub use laws::{one_cutting, one_spelling};
+pub use word::read_number;

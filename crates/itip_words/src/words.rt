@@ -1,0 +1,149 @@
+//! What a call of the program asks for.
+ghost use Rattle.std.specs.Prelude.{◌≡◌, ℕ, IfOk, IfSome, IfNone};
+ghost use Rattle.itip_words.specs.Words.{AreDesks, desks_of, workers_of, IsWindowOf, IsScriptedOf};
+ghost use Rattle.itip_words.specs.Calls.{IfRun, IfOffice, IfFilter, AreOffice, CanFilter};
+ghost use Rattle.itip_words.specs.declared.words.NoCall.TheVariants.{NoMemory};
+ghost use Rattle.itip_view.specs.declared.window.Window.{Window};
+
+use crate::commands::command;
+use crate::filter::{Filter, filter_of};
+use clap::error::ErrorKind;
+use clap::{ArgMatches, Error};
+use itip_moment::read_date;
+use itip_script::read_number;
+use itip_view::Window;
+use std::alloc::{AllocError, Global};
+
+/// The most desks of a run.
+const MAX_DESKS: u64 = 16;
+
+/// The most workers of an office.
+const MAX_WORKERS: u64 = 8;
+
+/// What a call of the program asks for.
+#[derive(Drop)]
+pub enum Call {
+    /// A script is run.
+    Run(Scripted),
+    /// The jobs of a script are run, by so many workers.
+    Office { scripted: Scripted, workers: u64 },
+    /// A message is read, and its items are shown.
+    Check { why: bool },
+    /// Messages are read, and what counts is written.
+    Filter(Filter),
+}
+
+/// How a script is run: with so many desks, and lists of the days of a window.
+#[derive(Clone, Copy)]
+pub struct Scripted {
+    pub desks: u64,
+    pub window: Window,
+    /// Whether standard error says where and why something was refused.
+    pub why: bool,
+}
+
+/// Why nothing is run.
+#[derive(Drop)]
+pub enum NoCall {
+    /// Help was asked for; the error prints it.
+    Help(Error),
+    BadWords,
+    NoMemory,
+}
+
+impl From<AllocError> for NoCall {
+    ghost from_gives = { λ _ e. e ≡ NoMemory };
+
+    fn from(_: AllocError) -> NoCall {
+        NoCall::NoMemory
+    }
+}
+
+impl From<Error> for NoCall {
+    fn from(error: Error) -> NoCall {
+        match error.kind() {
+            ErrorKind::DisplayHelp => NoCall::Help(error),
+            ErrorKind::OutOfMemory => NoCall::NoMemory,
+            _ => NoCall::BadWords,
+        }
+    }
+}
+
+/// Reads the words, the first of which is the program's name.
+pub fn read_words(alloc: Global, words: &[String]) -> Result<Call, NoCall>
+    ensures run { IfOk result (IfRun (λ scripted. AreDesks scripted.desks)) }
+    ensures office { IfOk result (IfOffice AreOffice) }
+    ensures filter { IfOk result (IfFilter CanFilter) }
+{
+    let matches = command(alloc)?.try_get_matches_from(words)?;
+    if let Some(words) = matches.subcommand_matches("check") {
+        let why = words.get_flag("why");
+        return Ok(Call::Check { why });
+    }
+    if let Some(words) = matches.subcommand_matches("office") {
+        return office_of(words).ok_or(NoCall::BadWords);
+    }
+    if let Some(filter) = filter_of(alloc, &matches)? {
+        return Ok(Call::Filter(filter));
+    }
+    match matches.subcommand_matches("run").and_then(scripted_of) {
+        Some(scripted) => Ok(Call::Run(scripted)),
+        None => Err(NoCall::BadWords),
+    }
+}
+
+fn scripted_of(matches: &ArgMatches<'_>) -> Option<Scripted>
+    ensures { IfSome result (λ scripted. AreDesks scripted.desks) }
+{
+    scripted_of_texts(
+        matches.get_str("desks")?,
+        matches.get_str("from")?,
+        matches.get_str("to")?,
+        matches.get_flag("why"),
+    )
+}
+
+fn office_of(matches: &ArgMatches<'_>) -> Option<Call>
+    ensures run { IfSome result (IfRun (λ scripted. AreDesks scripted.desks)) }
+    ensures office { IfSome result (IfOffice AreOffice) }
+    ensures filter { IfSome result (IfFilter CanFilter) }
+{
+    let scripted = scripted_of(matches)?;
+    let workers = workers_of(matches.get_str("workers")?)?;
+    Some(Call::Office { scripted, workers })
+}
+
+/// What the values of the words ask for, where they are what they have to be.
+fn scripted_of_texts(desks: &str, from: &str, to: &str, why: bool) -> Option<Scripted>
+    ensures found { IfSome result (λ scripted. IsScriptedOf desks.now from.now to.now scripted.desks scripted.window) }
+    ensures none { IfNone result ((count : ℕ) (window : Window) → IsScriptedOf desks.now from.now to.now count window → ⊥) }
+    ensures desks { IfSome result (λ scripted. AreDesks scripted.desks) }
+{
+    let desks = desks_of(desks)?;
+    let window = window_of(from, to)?;
+    Some(Scripted { desks, window, why })
+}
+
+/// The window from one date up to another, each spelled `YYYYMMDD`.
+pub(crate) fn window_of(from: &str, to: &str) -> Option<Window>
+    ensures found { IfSome result (IsWindowOf from.now to.now) }
+    ensures none { IfNone result ((window : Window) → IsWindowOf from.now to.now window → ⊥) }
+{
+    let from = read_date(from)?;
+    let to = read_date(to)?;
+    Window::new(from.number, to.number).ok()
+}
+
+/// A decimal number from 1 to 16.
+fn desks_of(text: &str) -> Option<u64>
+    ensures { result ≡ desks_of text.now }
+{
+    read_number(text.as_bytes()).filter(|desks| (1..=MAX_DESKS).contains(desks))
+}
+
+/// A decimal number from 1 to 8.
+fn workers_of(text: &str) -> Option<u64>
+    ensures { result ≡ workers_of text.now }
+{
+    read_number(text.as_bytes()).filter(|workers| (1..=MAX_WORKERS).contains(workers))
+}

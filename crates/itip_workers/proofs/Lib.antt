@@ -1,8 +1,0 @@
-pub mod Windows
-pub mod Texts
-pub mod Merging
-pub mod Reports
-pub mod Replying
-pub mod Whole
-pub mod Sharing
-pub mod Ending

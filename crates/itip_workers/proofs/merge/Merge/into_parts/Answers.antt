@@ -1,6 +1,0 @@
-use Rattle.std.proofs.Common.{rules}
-use Rattle.itip_workers.proofs.Texts.{merges_of}
-use Rattle.itip_workers.proofs.merge.Merge.into_parts.Goals as goal
-
-pub returns : goal.returns
-returns c = merges_of c.args.self.job.task c.args.self.batch c.lawful.ensures c.args.self.is

@@ -1,9 +1,0 @@
-pub use Rattle.itip_desk.specs.Heard
-pub use Rattle.itip_desk.specs.Desk
-pub use Rattle.itip_state.specs.Kept
-pub mod Texts
-pub mod Answers
-pub mod Steps
-pub mod Merged
-pub mod Team
-pub mod Ended

@@ -1,0 +1,12 @@
+pub mod Addresses
+pub mod Answering
+pub mod Ascending
+pub mod Counting
+pub mod Desks
+pub mod Determined
+pub mod Events
+pub mod Packets
+pub mod Runnings
+pub mod Runs
+pub mod Swaps
+pub mod Uids

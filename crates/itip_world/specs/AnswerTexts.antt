@@ -1,0 +1,43 @@
+-- The texts of answers (our own format). Each line ends with LF. Those of refusals and of lists are those of every desk.
+use Rattle.std.specs.Prelude.{ℕ, List, [], ◌∷◌, ◌++◌, length, codes, Option, Some, None}
+use Rattle.std.specs.Fmt.{decimal}
+use Rattle.std.specs.List.{flat_map}
+use Rattle.itip_script.specs.Spelling.{name_text}
+use Rattle.itip_script.specs.declared.command.ReportName.{ReportName}
+
+-- the tick after a message was taken, and how many UIDs it changed
+abbrev pub taken_text : ℕ → ℕ → ℕ → List ℕ
+taken_text desk tick changed = codes "take " ++ decimal desk ++ codes " tick " ++ decimal tick ++ codes " changed " ++ decimal changed ++ 10 ∷ []
+
+-- the number of a packet that was posted, and how many items it has
+abbrev pub posted_text : ℕ → ℕ → List ℕ
+posted_text packet items = codes "post " ++ decimal packet ++ codes " items " ++ decimal items ++ 10 ∷ []
+
+-- the tick after a packet arrived at a desk, and how many UIDs it changed
+abbrev pub arrived_text : ℕ → ℕ → ℕ → ℕ → List ℕ
+arrived_text packet desk tick changed =
+    codes "arrive " ++ decimal packet ++ codes " " ++ decimal desk ++ codes " tick " ++ decimal tick ++ codes " changed " ++ decimal changed ++ 10 ∷ []
+
+-- how many items a desk keeps
+abbrev pub counted_text : ℕ → ℕ → List ℕ
+counted_text desk entries = codes "entries " ++ decimal desk ++ codes " " ++ decimal entries ++ 10 ∷ []
+
+-- the line before those of a report, with how many they are
+abbrev pub report_head : ℕ → ReportName → ℕ → List ℕ
+report_head desk named count = codes "report " ++ decimal desk ++ codes " " ++ name_text named ++ codes " " ++ decimal count ++ 10 ∷ []
+
+abbrev pub ended : List ℕ → List ℕ
+ended line = line ++ 10 ∷ []
+
+abbrev pub reported_text : ℕ → ReportName → List (List ℕ) → List ℕ
+reported_text desk named lines = report_head desk named (length lines) ++ flat_map ended lines
+
+-- the octets of the messages to send again as they are, after a line with their number
+abbrev pub resent_text : ℕ → Option (List ℕ) → List ℕ
+resent_text desk (Some bytes) = codes "resend " ++ decimal desk ++ codes " bytes " ++ decimal (length bytes) ++ 10 ∷ bytes
+resent_text desk None = codes "resend " ++ decimal desk ++ codes " none" ++ 10 ∷ []
+
+-- the next sequence to use, where there is one left
+abbrev pub next_text : ℕ → Option ℕ → List ℕ
+next_text desk (Some sequence) = codes "next " ++ decimal desk ++ codes " " ++ decimal sequence ++ 10 ∷ []
+next_text desk None = codes "next " ++ decimal desk ++ codes " none" ++ 10 ∷ []

@@ -1,0 +1,119 @@
+//! The commands of a script, each done and answered.
+ghost use Rattle.std.specs.Prelude.{◌≡◌, IfOk, IfErr, Some};
+ghost use Rattle.itip_world.specs.Worlds.{no_past, IsWorldOf};
+ghost use Rattle.itip_script.specs.Orders.{Order, order_of};
+ghost use Rattle.itip_view.specs.declared.window.Window.{Window};
+ghost use Rattle.itip_world.specs.Running.{Answers, answer_of, answer_to, heard_at, event_of, HasTick};
+
+use crate::answer::{Answer, Heard};
+use crate::event::{Event, Outcome};
+use crate::stop::Cause;
+use crate::world::World;
+use itip_desk::Refusal;
+use itip_lines::Bytes;
+use itip_script::Command;
+use itip_streams::StreamFault;
+use itip_view::Window;
+use std::alloc::{AllocError, Global};
+
+/// The desks that commands are asked of, and the window of lists.
+#[derive(Drop)]
+pub(crate) struct Desks {
+    pub(crate) alloc: Global,
+    pub(crate) world: World,
+    pub(crate) window: Window,
+}
+
+impl Desks {
+    /// Desks that have heard nothing.
+    pub(crate) fn start(alloc: Global, desks: usize, window: Window) -> Result<Desks, AllocError>
+        ensures world { IfOk result (λ asked. IsWorldOf (no_past desks) asked.world) }
+        ensures window { IfOk result (λ asked. asked.window ≡ window) }
+    {
+        Ok(Desks {
+            alloc,
+            world: World::start(alloc, desks)?,
+            window,
+        })
+    }
+
+    /// Does a command, and answers it. An error means out of memory.
+    pub(crate) fn answer(&mut self, command: &Command<'_>) -> Result<Answer, StreamFault>
+        ensures answers { IfOk result (λ answer. Answers self.old.window (order_of command.now) self.old.world (answer_of answer) self.new.world) }
+        ensures window { self.new.window ≡ self.old.window }
+        ensures fault { IfErr result (λ fault. fault ≡ StreamFault.Memory) }
+    {
+        match command {
+            Command::Take { desk, text } => {
+                let event = delivery(self.alloc, *desk, text)?;
+                self.happen(&event)
+            }
+            Command::Post { desk, since } => self.happen(&Event::Post {
+                desk: *desk as usize,
+                since: *since,
+            }),
+            Command::Arrive { packet, desk } => self.happen(&Event::Arrive {
+                packet: *packet as usize,
+                desk: *desk as usize,
+            }),
+            Command::List { desk } => self.list(*desk),
+            Command::Mine { desk, address } => self.list_for(*desk, address),
+            Command::Entries { desk } => Ok(self.entries(*desk)),
+            Command::Report { desk, name } => self.report(*desk, *name),
+            Command::Resend { desk, uid } => self.resend(*desk, uid),
+            Command::Next { desk, uid } => self.next(*desk, uid),
+            Command::Malformed => Ok(Answer::Refused(Refusal::NoCommand)),
+        }
+    }
+
+    /// Does the event that a command asks for.
+    fn happen(&mut self, event: &Event) -> Result<Answer, StreamFault>
+        ensures answers { IfOk result (λ answer. (window : Window) (order : Order) → event_of order ≡ Some event.now → Answers window order self.old.world (answer_of answer) self.new.world) }
+        ensures window { self.new.window ≡ self.old.window }
+        ensures fault { IfErr result (λ fault. fault ≡ StreamFault.Memory) }
+    {
+        match self.world.step(event) {
+            Ok(outcome) => Ok(answer_to(event, outcome)),
+            Err(Cause::Refused(refusal)) => Ok(Answer::Refused(refusal)),
+            Err(Cause::NoMemory) => Err(StreamFault::Memory),
+        }
+    }
+}
+
+fn delivery(alloc: Global, desk: u64, text: &[u8]) -> Result<Event, AllocError>
+    ensures { IfOk result (λ event. event ≡ Event.Deliver desk text.now) }
+{
+    Ok(Event::Deliver {
+        desk: desk as usize,
+        bytes: Bytes::new(Vec::from_slice(alloc, text)?),
+    })
+}
+
+/// What is answered where this came of an event.
+fn answer_to(event: &Event, outcome: Outcome) -> Answer
+    ensures answer { answer_of result ≡ answer_to event.now outcome }
+    ensures tick { HasTick outcome }
+{
+    match outcome {
+        Outcome::Heard { tick, changed } => heard_at(event, Heard { tick, changed }),
+        Outcome::Posted { packet, items } => Answer::Posted { packet, items },
+        Outcome::Refused(refusal) => Answer::Refused(refusal),
+    }
+}
+
+/// What is answered where a desk has heard a message or a packet.
+fn heard_at(event: &Event, heard: Heard) -> Answer
+    ensures { answer_of result ≡ heard_at event.now heard.tick heard.changed }
+{
+    match event {
+        Event::Deliver { desk, .. } | Event::Post { desk, .. } => Answer::Took {
+            desk: *desk,
+            heard,
+        },
+        Event::Arrive { packet, desk } => Answer::Arrived {
+            packet: *packet,
+            desk: *desk,
+            heard,
+        },
+    }
+}

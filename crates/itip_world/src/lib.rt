@@ -1,0 +1,26 @@
+//! Worlds of desks: messages and packets come to desks, late, twice and in any order, and each desk keeps what the rules keep of all that it has heard. A script is
+//! run over one world, command by command.
+#![tactic(auto)]
+
+mod answer;
+mod asked;
+mod event;
+mod laws;
+mod packet;
+mod reported;
+mod run;
+mod script;
+mod stop;
+mod texts;
+mod watch;
+mod world;
+
+pub use event::{Event, Outcome};
+pub use laws::one_output;
+pub use packet::Packet;
+pub use run::{Ran, run_world};
+pub use script::{run_script, run_script_watched};
+pub use std::alloc::AllocError as NoMemory;
+pub use stop::{Cause, Stopped};
+pub use watch::Watch;
+pub use world::World;

@@ -1,0 +1,57 @@
+//! What a desk posts.
+ghost use Rattle.std.specs.Prelude.{◌≡◌, IfOk};
+
+use crate::NoMemory;
+use itip_desk::{Batch, write_delta};
+use std::alloc::Global;
+use std::marker::Model;
+
+/// The octets of a batch: whoever reads them gets this batch and no refusal. It holds the batch, and its octets are written where they are asked for.
+#[derive(Debug, Drop)]
+pub struct Packet {
+    batch: Batch,
+}
+
+impl Model for Packet {
+    ghost use Rattle.std.specs.Prelude.{List, ℕ};
+
+    ghost Value = { List ℕ };
+
+    ghost use Rattle.itip_desk.specs.Delta.{delta_octets};
+
+    ghost view = { λ p. delta_octets p.batch };
+
+    ghost use Rattle.itip_desk.specs.Octets.{AscendOctets};
+
+    ghost invariant = { λ p. AscendOctets p.batch };
+}
+
+impl Packet {
+    ghost use Rattle.itip_desk.specs.Octets.{AscendOctets};
+    ghost use Rattle.itip_desk.specs.Delta.{delta_octets, IsDelta};
+
+    /// The octets of a batch. It takes no memory.
+    pub(crate) fn of_batch(batch: Batch) -> Packet
+        ensures { result ≡ delta_octets batch }
+    {
+        // No code: it tells the proof that the items ascend.
+        batch.lawful();
+        Packet { batch }
+    }
+
+    /// The octets, written by [`write_delta`](itip_desk::write_delta).
+    pub fn octets(&self, alloc: Global) -> Result<Vec<u8>, NoMemory>
+        ensures octets { IfOk result (λ octets. octets.items ≡ self.now) }
+        ensures delta { IsDelta self.now }
+    {
+        write_delta(alloc, &self.batch)
+    }
+
+    /// The batch, which is what [`read_delta`](itip_desk::read_delta) gives of the octets.
+    pub fn batch(&self) -> &Batch
+        ensures octets { self.now ≡ delta_octets result.now }
+        ensures ascend { AscendOctets result.now }
+    {
+        &self.batch
+    }
+}

@@ -1,0 +1,97 @@
+//! A script from its first command to its last.
+ghost use Rattle.std.specs.Prelude.{ℕ, ◌≡◌, ◌≢◌, ◌≤◌, true, IfOk, IfErr, OnOk, OnErr, IsErrOf, IfSome};
+ghost use Rattle.std.specs.Io.KnownBytes.{Keeps, Appends};
+ghost use Rattle.itip_world.specs.Worlds.{no_past, IsWorldOf};
+ghost use Rattle.itip_world.specs.Running.{WritesAll, WritesFront, WritesCommands, WritesSome};
+ghost use Rattle.itip_desk.specs.Refusals.{refused_text};
+ghost use Rattle.itip_script.specs.Script.{orders_of};
+ghost use Rattle.itip_streams.specs.Written.{AppendsFront};
+
+use crate::asked::Desks;
+use crate::watch::Watch;
+use itip_desk::Refusal;
+use itip_script::{Commands, read_script};
+use itip_streams::{StreamFault, write_if_many, write_output};
+use itip_view::Window;
+use std::alloc::Global;
+use std::io::{Read, Write};
+
+/// Runs a script over desks that have heard nothing, and says whether an answer was a refusal.
+///
+/// The whole script is read before anything is written. A script of more than [`MAX_OCTETS`](itip_script::MAX_OCTETS)
+/// is refused as a whole (61). After a fault of reading nothing was written, after another fault a front of the output.
+pub fn run_script<R: Read, W: Write>(
+    alloc: Global,
+    reader: &mut R,
+    writer: &mut W,
+    desks: usize,
+    window: Window,
+) -> Result<bool, StreamFault>
+    requires some { 1 ≤ desks }
+    requires few { desks ≤ 16 }
+    ensures output { IfOk result (λ refusal. IfSome (R.remaining reader.old) (λ script. WritesAll window desks (W.contents writer.old) (W.contents writer.new) script refusal)) }
+    ensures front { OnErr result (IfSome (R.remaining reader.old) (λ script. WritesFront window desks (W.contents writer.old) (W.contents writer.new) script)) }
+    ensures unread { IsErrOf result StreamFault.Read → Keeps (W.contents writer.old) (W.contents writer.new) }
+{
+    run_script_watched(alloc, reader, writer, desks, window, &mut ())
+}
+
+/// Runs a script as [`run_script`] does. Beside the output `watch` is told of each command that was answered.
+pub fn run_script_watched<R: Read, W: Write, T: Watch>(
+    alloc: Global,
+    reader: &mut R,
+    writer: &mut W,
+    desks: usize,
+    window: Window,
+    watch: &mut T,
+) -> Result<bool, StreamFault>
+    requires some { 1 ≤ desks }
+    requires few { desks ≤ 16 }
+    ensures output { IfOk result (λ refusal. IfSome (R.remaining reader.old) (λ script. WritesAll window desks (W.contents writer.old) (W.contents writer.new) script refusal)) }
+    ensures front { OnErr result (IfSome (R.remaining reader.old) (λ script. WritesFront window desks (W.contents writer.old) (W.contents writer.new) script)) }
+    ensures unread { IsErrOf result StreamFault.Read → Keeps (W.contents writer.old) (W.contents writer.new) }
+{
+    let Some(script) = read_script(alloc, reader)? else {
+        watch.refused_script(Refusal::LongScript);
+        return refuse_whole(alloc, writer);
+    };
+    let mut asked = Desks::start(alloc, desks, window)?;
+    run_commands(&mut asked, script.as_slice(), writer, watch)
+}
+
+fn refuse_whole<W: Write>(alloc: Global, writer: &mut W) -> Result<bool, StreamFault>
+    ensures all { IfOk result (λ refusal. (refusal ≡ true) × Appends (W.contents writer.old) (W.contents writer.new) (refused_text 61)) }
+    ensures front { OnErr result (AppendsFront (W.contents writer.old) (W.contents writer.new) (refused_text 61)) }
+    ensures fault { IfErr result (λ fault. fault ≢ StreamFault.Read) }
+{
+    let mut answer = Vec::new(alloc);
+    Refusal::LongScript.append(&mut answer)?;
+    write_output(writer, answer.as_slice())?;
+    Ok(true)
+}
+
+// Runs the commands of a script over desks that have heard nothing.
+fn run_commands<W: Write, T: Watch>(
+    asked: &mut Desks,
+    script: &[u8],
+    writer: &mut W,
+    watch: &mut T,
+) -> Result<bool, StreamFault>
+    ensures all { IfOk result (λ refusal. (desks : ℕ) → IsWorldOf (no_past desks) asked.old.world →
+        WritesCommands asked.old.window desks (W.contents writer.old) (W.contents writer.new) (orders_of script.now) refusal) }
+    ensures front { OnErr result ((desks : ℕ) → IsWorldOf (no_past desks) asked.old.world →
+        WritesSome asked.old.window desks (W.contents writer.old) (W.contents writer.new) (orders_of script.now)) }
+    ensures fault { IfErr result (λ fault. fault ≢ StreamFault.Read) }
+{
+    let mut answers = Vec::new(asked.alloc);
+    let mut is_refused = false;
+    for command in Commands::new(script) {
+        let answer = asked.answer(&command)?;
+        is_refused |= answer.is_refusal();
+        watch.answered(&command, answer.refusal());
+        answer.append(&mut answers)?;
+        write_if_many(writer, &mut answers)?;
+    }
+    write_output(writer, answers.as_slice())?;
+    Ok(is_refused)
+}
