@@ -107,7 +107,7 @@ fn filter_messages<R: AllocGlobal + Input + Print + Eprint + Threads + Sync>(
     let threads = threads(rt, filter.intake);
     let mut watch = Progress::new(rt, filter.intake.progress || is_terminal);
     match &filter.written {
-        Written::Kept => compact(rt, alloc, &mut reader, &mut writer, threads, &mut watch),
+        Written::Compaction => compact(rt, alloc, &mut reader, &mut writer, threads, &mut watch),
         Written::List(asked) => write_list(
             rt,
             &mut reader,

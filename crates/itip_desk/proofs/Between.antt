@@ -31,7 +31,7 @@ use Rattle.itip_view.specs.declared.window.Window.{Window}
 use Rattle.itip_view.proofs.Needing.{row_needs_days, row_needs_name}
 use Rattle.itip_desk.specs.Entries.{entry_cmp, entry_at, mark_of, day_entries, attendee_entries, entries_of, IsNoted}
 use Rattle.itip_desk.specs.Index.{has, IsIndexOf}
-use Rattle.itip_desk.specs.declared.entry.Entry.{Entry}
+use Rattle.itip_desk.specs.declared.entry.IndexEntry.{IndexEntry}
 use Rattle.itip_desk.specs.declared.entry.Mark.TheVariants.{Day, Always, Attendee}
 use Rattle.itip_desk.proofs.Touching.{in_list}
 
@@ -43,10 +43,10 @@ mapped f (y ∷ ys) x h = elim (cons_cases y ys x h) [
 ]
 
 -- an entry that is there and lies between the bounds is found
-pub found_between : (index : BTreeSet Entry) (low high e : Entry) → has index e ≡ true → range_contains entry_cmp (Included low) (Excluded high) e ≡ true →
-    Contains (map (λ (e : Entry). e.uid) (keys_between entry_cmp (Included low) (Excluded high) index)) e.uid
+pub found_between : (index : BTreeSet IndexEntry) (low high e : IndexEntry) → has index e ≡ true → range_contains entry_cmp (Included low) (Excluded high) e ≡ true →
+    Contains (map (λ (e : IndexEntry). e.uid) (keys_between entry_cmp (Included low) (Excluded high) index)) e.uid
 found_between index low high e there inside =
-    mapped (λ (e : Entry). e.uid) (keys_between entry_cmp (Included low) (Excluded high) index) e
+    mapped (λ (e : IndexEntry). e.uid) (keys_between entry_cmp (Included low) (Excluded high) index) e
     (into_filter (range_contains entry_cmp (Included low) (Excluded high)) index.keys e (in_list index.keys e there) inside)
 
 nothing_before : (uid : List ℕ) → is_le (slice_cmp nat_cmp [] uid) ≡ true
@@ -115,7 +115,7 @@ rows_from_days item days is = by_bool (is_live item.kind) (has_rows item ≡ tru
     (λ dead. absurd (let none : None ≡ Some days = sym (ap (λ b. cond b (days_at item.key item) None) dead) ∙ is in cc))
 
 -- the entries of an item that can have rows
-gives_all : (item : Item) (e : Entry) → has_rows item ≡ true → Contains (day_entries item ++ attendee_entries (uid_of item.key) item.todo.attendees) e → Contains (entries_of item) e
+gives_all : (item : Item) (e : IndexEntry) → has_rows item ≡ true → Contains (day_entries item ++ attendee_entries (uid_of item.key) item.todo.attendees) e → Contains (entries_of item) e
 gives_all item e rows h = subst (λ b. Contains (cond b (day_entries item ++ attendee_entries (uid_of item.key) item.todo.attendees) []) e) (sym rows) h
 
 day_noted : (kept : List Item) (window : Window) (uid : List ℕ) (r : HasRowsIn kept window uid) → IsNoted kept (entry_at uid (mark_of r.days))
@@ -128,7 +128,7 @@ day_noted kept window uid r = record {
       (subst (λ (u : List ℕ). Contains (entry_at (uid_of r.item.key) (mark_of r.days) ∷ []) (entry_at u (mark_of r.days))) r.about (cons_first (entry_at (uid_of r.item.key) (mark_of r.days)) []))));
 }
 
-pub found_in : (kept : List Item) (index : BTreeSet Entry) (window : Window) (found : List (List ℕ)) → IsIndexOf kept index →
+pub found_in : (kept : List Item) (index : BTreeSet IndexEntry) (window : Window) (found : List (List ℕ)) → IsIndexOf kept index →
     ((uid : List ℕ) (day : ℤ) → window.from ≤ℤ day → day <ℤ window.to → has index (entry_at uid (Day day)) ≡ true → Contains found uid) →
     ((uid : List ℕ) → has index (entry_at uid Always) ≡ true → Contains found uid) → (uid : List ℕ) → HasRowsIn kept window uid → Contains found uid
 found_in kept index window found is by_day always uid r = cases r.days r.meets ((is (entry_at uid (mark_of r.days))).1 (day_noted kept window uid r))
@@ -137,7 +137,7 @@ found_in kept index window found is by_day always uid r = cases r.days r.meets (
     cases (One day) meets there = by_day uid day meets.0 meets.1 there
     cases Any meets there = always uid there
 
-pub found_named : (kept : List Item) (index : BTreeSet Entry) (key : List ℕ) (found : List (List ℕ)) → IsIndexOf kept index →
+pub found_named : (kept : List Item) (index : BTreeSet IndexEntry) (key : List ℕ) (found : List (List ℕ)) → IsIndexOf kept index →
     ((uid : List ℕ) → has index (entry_at uid (Attendee key)) ≡ true → Contains found uid) → (uid : List ℕ) → NamesIn kept key uid → Contains found uid
 found_named kept index key found is by_key uid n = by_key uid ((is (entry_at uid (Attendee key))).1 (record {
   item = n.item;

@@ -12,15 +12,15 @@ use Rattle.itip_items.specs.declared.item.Item.{Item}
 use Rattle.itip_view.specs.RowDays.{has_rows}
 use Rattle.itip_desk.specs.Entries.{entry_cmp, entry_total, entry_exact, day_entries, attendee_entries, entries_of}
 use Rattle.itip_desk.specs.Index.{has, is_in}
-use Rattle.itip_desk.specs.declared.entry.Entry.{Entry}
+use Rattle.itip_desk.specs.declared.entry.IndexEntry.{IndexEntry}
 
-pub turned : (k q : Entry) → is_eq (entry_cmp k q) ≡ is_eq (entry_cmp q k)
+pub turned : (k q : IndexEntry) → is_eq (entry_cmp k q) ≡ is_eq (entry_cmp q k)
 turned k q = (eq_by_cmp_equiv entry_total).symm k q
 
-pub same_entry : (k q : Entry) → is_eq (entry_cmp k q) ≡ true → k ≡ q
+pub same_entry : (k q : IndexEntry) → is_eq (entry_cmp k q) ≡ true → k ≡ q
 same_entry k q e = tells_apart entry_exact k q e
 
-pub entry_itself : (k : Entry) → is_eq (entry_cmp k k) ≡ true
+pub entry_itself : (k : IndexEntry) → is_eq (entry_cmp k k) ≡ true
 entry_itself k = (eq_by_cmp_equiv entry_total).refl k
 
 cond_or : (b x : Bool) → cond b true x ≡ (x || b)
@@ -35,14 +35,14 @@ cond_and true false = refl
 cond_and false true = refl
 cond_and false false = refl
 
-pub put_in : (s n : BTreeSet Entry) (k : Entry) → Updates entry_cmp s n k true → (e : Entry) → has n e ≡ (has s e || is_eq (entry_cmp e k))
+pub put_in : (s n : BTreeSet IndexEntry) (k : IndexEntry) → Updates entry_cmp s n k true → (e : IndexEntry) → has n e ≡ (has s e || is_eq (entry_cmp e k))
 put_in s n k updates e = updates.0 e ∙ cond_or (is_eq (entry_cmp k e)) (has s e) ∙ ap (λ b. has s e || b) (turned k e)
 
-pub taken_out : (s n : BTreeSet Entry) (k : Entry) → Updates entry_cmp s n k false → (e : Entry) → has n e ≡ (has s e && not (is_eq (entry_cmp e k)))
+pub taken_out : (s n : BTreeSet IndexEntry) (k : IndexEntry) → Updates entry_cmp s n k false → (e : IndexEntry) → has n e ≡ (has s e && not (is_eq (entry_cmp e k)))
 taken_out s n k updates e = updates.0 e ∙ cond_and (is_eq (entry_cmp k e)) (has s e) ∙ ap (λ b. has s e && not b) (turned k e)
 
 -- what one set has and another lacks
-pub in_difference : (s t : BTreeSet Entry) (e : Entry) → is_in (difference entry_cmp s t) e ≡ (has s e && not (has t e))
+pub in_difference : (s t : BTreeSet IndexEntry) (e : IndexEntry) → is_in (difference entry_cmp s t) e ≡ (has s e && not (has t e))
 in_difference s t e =
     any-filter_same (is_at (entry_cmp e)) (λ k. not (has t k)) (not (has t e)) (λ k same. ap (λ x. not (has t x)) (sym (same_entry e k same))) s.keys
     ∙ flip (not (has t e)) (has s e)
@@ -95,8 +95,8 @@ both_parts true true e = cc
 both_parts false b e = cc
 
 -- the entries of an item that can have rows
-pub noted : (item : Item) (uid : List ℕ) (lines : List Property) (o m n : Entry → Bool) → has_rows item ≡ true → uid ≡ uid_of item.key → lines ≡ item.todo.attendees →
-    ((e : Entry) → m e ≡ (o e || is_in (day_entries item) e)) → ((e : Entry) → n e ≡ (m e || is_in (attendee_entries uid lines) e)) → (e : Entry) → n e ≡ (o e || is_in (entries_of item) e)
+pub noted : (item : Item) (uid : List ℕ) (lines : List Property) (o m n : IndexEntry → Bool) → has_rows item ≡ true → uid ≡ uid_of item.key → lines ≡ item.todo.attendees →
+    ((e : IndexEntry) → m e ≡ (o e || is_in (day_entries item) e)) → ((e : IndexEntry) → n e ≡ (m e || is_in (attendee_entries uid lines) e)) → (e : IndexEntry) → n e ≡ (o e || is_in (entries_of item) e)
 noted item uid lines o m n rows about all first second e =
     second e ∙ ap (λ b. b || is_in (attendee_entries uid lines) e) (first e) ∙ three (o e) (is_in (day_entries item) e) (is_in (attendee_entries uid lines) e)
     ∙ ap (λ b. o e || b) (sym (list_any-append (is_at (entry_cmp e)) (day_entries item) (attendee_entries uid lines)))

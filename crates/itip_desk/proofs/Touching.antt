@@ -24,37 +24,37 @@ use Rattle.itip_view.specs.Standing.{is_live}
 use Rattle.itip_view.specs.declared.days.RowDays.{RowDays}
 use Rattle.itip_desk.specs.Entries.{entry_cmp, entry_at, mark_of, day_entries, attendee_entries, entries_of, IsNoted}
 use Rattle.itip_desk.specs.Index.{has, is_in, IsIndexOf, AreOfRows, IsTouched, AreEntriesOf, HaveEntries}
-use Rattle.itip_desk.specs.declared.entry.Entry.{Entry}
+use Rattle.itip_desk.specs.declared.entry.IndexEntry.{IndexEntry}
 use Rattle.itip_desk.specs.declared.entry.Mark.TheVariants.{Attendee}
 use Rattle.itip_desk.proofs.Noting.{same_entry, entry_itself}
 
 -- a list has what a test finds in it
-pub in_list : (es : List Entry) (e : Entry) → is_in es e ≡ true → Contains es e
+pub in_list : (es : List IndexEntry) (e : IndexEntry) → is_in es e ≡ true → Contains es e
 in_list [] e is = cc
 in_list (x ∷ es) e is = by_bool (is_eq (entry_cmp e x)) (Contains (x ∷ es) e)
     (λ here. subst (Contains (x ∷ es)) (sym (same_entry e x here)) (cons_first x es))
     (λ other. cons_later x es e (in_list es e (subst (λ b. (b || is_in es e) ≡ true) other is)))
 
-pub finds_in : (es : List Entry) (e : Entry) → Contains es e → is_in es e ≡ true
+pub finds_in : (es : List IndexEntry) (e : IndexEntry) → Contains es e → is_in es e ≡ true
 finds_in [] e h = absurd (none_in e h)
 finds_in (x ∷ es) e h = elim (cons_cases x es e h) [
-  | inl same ↦ ap (λ b. b || is_in es e) (subst (λ (k : Entry). is_eq (entry_cmp k x) ≡ true) same (entry_itself x))
+  | inl same ↦ ap (λ b. b || is_in es e) (subst (λ (k : IndexEntry). is_eq (entry_cmp k x) ≡ true) same (entry_itself x))
   | inr rest ↦ by_bool (is_eq (entry_cmp e x)) (is_in (x ∷ es) e ≡ true) (λ here. ap (λ b. b || is_in es e) here) (λ other. ap (λ b. b || is_in es e) other ∙ finds_in es e rest)
 ]
 
 -- an entry has the UID of the item that gives it
-day_uid : (uid : List ℕ) (days : Option RowDays) (e : Entry) → Contains (option_to_list (option_map (λ d. entry_at uid (mark_of d)) days)) e → e.uid ≡ uid
+day_uid : (uid : List ℕ) (days : Option RowDays) (e : IndexEntry) → Contains (option_to_list (option_map (λ d. entry_at uid (mark_of d)) days)) e → e.uid ≡ uid
 day_uid uid None e h = absurd (none_in e h)
-day_uid uid (Some d) e h = elim (cons_cases (entry_at uid (mark_of d)) [] e h) [ inl same ↦ sym (ap (λ (e : Entry). e.uid) same) | inr none ↦ absurd (none_in e none) ]
+day_uid uid (Some d) e h = elim (cons_cases (entry_at uid (mark_of d)) [] e h) [ inl same ↦ sym (ap (λ (e : IndexEntry). e.uid) same) | inr none ↦ absurd (none_in e none) ]
 
-line_uid : (uid : List ℕ) (lines : List Property) (e : Entry) → Contains (attendee_entries uid lines) e → e.uid ≡ uid
+line_uid : (uid : List ℕ) (lines : List Property) (e : IndexEntry) → Contains (attendee_entries uid lines) e → e.uid ≡ uid
 line_uid uid [] e h = absurd (none_in e h)
 line_uid uid (line ∷ lines) e h = elim (cons_cases (entry_at uid (Attendee (attendee_key line.value))) (attendee_entries uid lines) e h) [
-  | inl same ↦ sym (ap (λ (e : Entry). e.uid) same)
+  | inl same ↦ sym (ap (λ (e : IndexEntry). e.uid) same)
   | inr rest ↦ line_uid uid lines e rest
 ]
 
-pub entry_uid : (item : Item) (e : Entry) → Contains (entries_of item) e → e.uid ≡ uid_of item.key
+pub entry_uid : (item : Item) (e : IndexEntry) → Contains (entries_of item) e → e.uid ≡ uid_of item.key
 entry_uid item e h = by_bool (has_rows item) (e.uid ≡ uid_of item.key)
     (λ rows. elim (Contains-append_cases (day_entries item) (attendee_entries (uid_of item.key) item.todo.attendees) e
     (subst (λ b. Contains (cond b (day_entries item ++ attendee_entries (uid_of item.key) item.todo.attendees) []) e) rows h)) [
@@ -63,7 +63,7 @@ entry_uid item e h = by_bool (has_rows item) (e.uid ≡ uid_of item.key)
     ])
     (λ no_rows. absurd (none_in e (subst (λ b. Contains (cond b (day_entries item ++ attendee_entries (uid_of item.key) item.todo.attendees) []) e) no_rows h)))
 
-pub entry_rows : (item : Item) (e : Entry) → Contains (entries_of item) e → is_of_rows item.key ≡ true
+pub entry_rows : (item : Item) (e : IndexEntry) → Contains (entries_of item) e → is_of_rows item.key ≡ true
 entry_rows item e h = by_bool (is_of_rows item.key) (is_of_rows item.key ≡ true) (λ rows. rows)
     (λ others. absurd (none_in e (subst (λ b. Contains (cond (cond b (is_live item.kind) false) (day_entries item ++ attendee_entries (uid_of item.key) item.todo.attendees) []) e) others h)))
 
@@ -101,7 +101,7 @@ same_kept uid x y kept_x kept_y same of_x of_y item about rows = (
   λ h. (of_x item).1 (kept_alike uid y x (swapped uid x y same) item about rows ((of_y item).0 h)),
 )
 
-pub noted_alike : (x y : List Item) (e : Entry) → SameRowItems e.uid x y → IsNoted x e → IsNoted y e
+pub noted_alike : (x y : List Item) (e : IndexEntry) → SameRowItems e.uid x y → IsNoted x e → IsNoted y e
 noted_alike x y e same n = record {
   item = n.item;
   there = (same n.item (sym (entry_uid n.item e n.gives)) (entry_rows n.item e n.gives)).0 n.there;
@@ -147,25 +147,25 @@ put_back true false o apart = refl
 put_back false false o apart = refl
 
 -- what is new was not there
-pub fresh : (old found : List Item) (index o n : BTreeSet Entry) → IsIndexOf old index → AreEntriesOf old found o → ((e : Entry) → IsTrue (has n e) → IsTouched found e.uid) →
-    (e : Entry) → has n e ≡ true → has o e ≡ false → has index e ≡ false
+pub fresh : (old found : List Item) (index o n : BTreeSet IndexEntry) → IsIndexOf old index → AreEntriesOf old found o → ((e : IndexEntry) → IsTrue (has n e) → IsTouched found e.uid) →
+    (e : IndexEntry) → has n e ≡ true → has o e ≡ false → has index e ≡ false
 fresh old found index o n is before touch e new lacks = by_bool (has index e) (has index e ≡ false)
     (λ there. absurd (let yet : has o e ≡ true = (before e).1 ((is e).0 there, touch e new) in cc))
     (λ lacking. lacking)
 
 -- a refusal leaves the index
-pub index_same : (old : List Item) (index changed : BTreeSet Entry) → IsIndexOf old index → ((e : Entry) → has changed e ≡ has index e) → IsIndexOf old changed
+pub index_same : (old : List Item) (index changed : BTreeSet IndexEntry) → IsIndexOf old index → ((e : IndexEntry) → has changed e ≡ has index e) → IsIndexOf old changed
 index_same old index changed is same e = (λ h. (is e).0 (sym (same e) ∙ h), λ h. same e ∙ (is e).1 h)
 
 -- what was put in is taken out again
-pub index_back : (old : List Item) (index o n grown changed : BTreeSet Entry) → IsIndexOf old index → ((e : Entry) → has n e ≡ true → has o e ≡ false → has index e ≡ false) →
-    ((e : Entry) → has grown e ≡ (has index e || (has n e && not (has o e)))) → ((e : Entry) → has changed e ≡ (has grown e && not (has n e && not (has o e)))) → IsIndexOf old changed
+pub index_back : (old : List Item) (index o n grown changed : BTreeSet IndexEntry) → IsIndexOf old index → ((e : IndexEntry) → has n e ≡ true → has o e ≡ false → has index e ≡ false) →
+    ((e : IndexEntry) → has grown e ≡ (has index e || (has n e && not (has o e)))) → ((e : IndexEntry) → has changed e ≡ (has grown e && not (has n e && not (has o e)))) → IsIndexOf old changed
 index_back old index o n grown changed is apart more less = index_same old index changed is
     (λ e. less e ∙ ap (λ b. b && not (has n e && not (has o e))) (more e) ∙ put_back (has index e) (has n e) (has o e) (apart e))
 
 module _ (old news found after : List Item) (state : IsState old) (of : AreOfRows found news) (hears : AreKept after (old ++ news)) where
   -- nothing is changed of UIDs that no such item is about
-  untouched : (e : Entry) → (IsTouched found e.uid → ⊥) → SameRowItems e.uid old after
+  untouched : (e : IndexEntry) → (IsTouched found e.uid → ⊥) → SameRowItems e.uid old after
   untouched e none = same_kept e.uid old (old ++ news) old after
       (λ item about rows. (
         λ h. Contains-append_left old news item h,
@@ -177,13 +177,13 @@ module _ (old news found after : List Item) (state : IsState old) (of : AreOfRow
       state hears
 
   -- what no row can be governed by leaves the index as it is
-  pub index_stays : found ≡ [] → (index : BTreeSet Entry) → IsIndexOf old index → IsIndexOf after index
+  pub index_stays : found ≡ [] → (index : BTreeSet IndexEntry) → IsIndexOf old index → IsIndexOf after index
   index_stays none index is e =
       let same = untouched e (λ t. none_in t.item (subst (λ (items : List Item). Contains items t.item) none t.there)) in
       (λ h. noted_alike old after e same ((is e).0 h), λ h. (is e).1 (noted_alike after old e (swapped e.uid old after same) h))
 
-  pub index_after : (index o n changed : BTreeSet Entry) → IsIndexOf old index → AreEntriesOf old found o → AreEntriesOf after found n →
-      ((e : Entry) → has changed e ≡ ((has index e || (has n e && not (has o e))) && not (has o e && not (has n e)))) → IsIndexOf after changed
+  pub index_after : (index o n changed : BTreeSet IndexEntry) → IsIndexOf old index → AreEntriesOf old found o → AreEntriesOf after found n →
+      ((e : IndexEntry) → has changed e ≡ ((has index e || (has n e && not (has o e))) && not (has o e && not (has n e)))) → IsIndexOf after changed
   index_after index o n changed is before behind are e =
       let iff = after_change (IsNoted old e) (IsNoted after e) (IsTouched found e.uid) (λ none. noted_alike old after e (untouched e none)) (λ none. noted_alike after old e (swapped e.uid old after (untouched e none)))
       (has index e) (has o e) (has n e) (is e) (before e) (behind e) in
@@ -197,7 +197,7 @@ module _ {A B : Type 0} (f : A → B) (xs : List A) (i : ℕ) where
   pub seen_all : length xs ≤ i → take i (map f xs) ≡ map f xs
   seen_all over = take_all i (map f xs) (rw (length-map xs f) over)
 
-pub note_more : (set : List Item) (item : Item) (e : Entry) (o m n : Bool) → (m ≡ true) ↔ ((o ≡ true) ⊎ IsNoted set e) → n ≡ (m || is_in (entries_of item) e) → (n ≡ true) ↔ ((o ≡ true) ⊎ IsNoted (set ++ item ∷ []) e)
+pub note_more : (set : List Item) (item : Item) (e : IndexEntry) (o m n : Bool) → (m ≡ true) ↔ ((o ≡ true) ⊎ IsNoted set e) → n ≡ (m || is_in (entries_of item) e) → (n ≡ true) ↔ ((o ≡ true) ⊎ IsNoted (set ++ item ∷ []) e)
 note_more set item e o m n so is = (
   λ h. by_bool m ((o ≡ true) ⊎ IsNoted (set ++ item ∷ []) e)
       (λ before. elim (so.0 before) [
@@ -220,8 +220,8 @@ note_more set item e o m n so is = (
     or_true true = refl
     or_true false = refl
 
-pub uid_more : (part items : List Item) (done : List (List ℕ)) (uid : List ℕ) (m n : BTreeSet Entry) → ArePart uid items part → HaveEntries part done m →
-    ((e : Entry) → IsTrue (has n e) ↔ (IsTrue (has m e) ⊎ IsNoted items e)) → HaveEntries part (done ++ uid ∷ []) n
+pub uid_more : (part items : List Item) (done : List (List ℕ)) (uid : List ℕ) (m n : BTreeSet IndexEntry) → ArePart uid items part → HaveEntries part done m →
+    ((e : IndexEntry) → IsTrue (has n e) ↔ (IsTrue (has m e) ⊎ IsNoted items e)) → HaveEntries part (done ++ uid ∷ []) n
 uid_more part items done uid m n are so step e = (
   λ h. elim ((step e).0 h) [
     | inl before ↦ let was = (so e).0 before in record { noted = was.noted; about = Contains-append_left done (uid ∷ []) e.uid was.about }
@@ -262,13 +262,13 @@ rows_pass found done item so others other = (
 )
 
 module _ (state found part : List Item) (uids : List (List ℕ)) (of : AreUidsOf uids found) (are : ArePartOf part state uids) where
-  touched_in : (e : Entry) → IsTouched found e.uid → Contains uids e.uid
+  touched_in : (e : IndexEntry) → IsTouched found e.uid → Contains uids e.uid
   touched_in e t = subst (Contains uids) t.about (of.all t.item t.there)
 
-  pub in_touched : (e : Entry) → Contains uids e.uid → IsTouched found e.uid
+  pub in_touched : (e : IndexEntry) → Contains uids e.uid → IsTouched found e.uid
   in_touched e h = let one = of.each e.uid h in record { item = one.0; there = one.1; about = one.2 }
 
-  pub old_entries : (old : BTreeSet Entry) → HaveEntries part uids old → AreEntriesOf state found old
+  pub old_entries : (old : BTreeSet IndexEntry) → HaveEntries part uids old → AreEntriesOf state found old
   old_entries old have e = (
     λ h. let was = (have e).0 h in
         (record { item = was.noted.item; there = ((are was.noted.item).0 was.noted.there).0; gives = was.noted.gives }, in_touched e was.about),
@@ -283,7 +283,7 @@ module _ (state found part : List Item) (uids : List (List ℕ)) (of : AreUidsOf
   )
 
   module _ (then : List Item) (hears : AreKept then (part ++ found)) (news after : List Item) (rows : AreOfRows found news) (kept : AreKept after (state ++ news)) where
-    alike : (e : Entry) → IsTouched found e.uid → SameRowItems e.uid then after
+    alike : (e : IndexEntry) → IsTouched found e.uid → SameRowItems e.uid then after
     alike e t = same_kept e.uid (part ++ found) (state ++ news) then after
         (λ item about of_rows. (
           λ h. elim (Contains-append_cases part found item h) [
@@ -297,7 +297,7 @@ module _ (state found part : List Item) (uids : List (List ℕ)) (of : AreUidsOf
         ))
         hears kept
 
-    pub new_entries : (new : BTreeSet Entry) → HaveEntries then uids new → AreEntriesOf after found new
+    pub new_entries : (new : BTreeSet IndexEntry) → HaveEntries then uids new → AreEntriesOf after found new
     new_entries new have e = (
       λ h. let is = (have e).0 h in let t = in_touched e is.about in (noted_alike then after e (alike e t) is.noted, t),
       λ (noted, t). (have e).1 (record { noted = noted_alike after then e (swapped e.uid then after (alike e t)) noted; about = touched_in e t }),
@@ -351,11 +351,11 @@ module _ (state : List Item) (item : Item) (none : ArePart (uid_of item.key) [] 
     λ h. elim (cons_cases (uid_of item.key) [] (uid_of other.key) h.1) [ inl same ↦ (none other).1 (h.0, sym same) | inr rest ↦ absurd (none_in (uid_of other.key) rest) ],
   )
 
-  pub first_old : (old : BTreeSet Entry) → ((e : Entry) → has old e ≡ false) → AreEntriesOf state (item ∷ []) old
+  pub first_old : (old : BTreeSet IndexEntry) → ((e : IndexEntry) → has old e ≡ false) → AreEntriesOf state (item ∷ []) old
   first_old old empty = old_entries state (item ∷ []) [] uids about_it no_part old
       (λ e. (λ h. let no : true ≡ false = sym h ∙ empty e in absurd (cc), λ h. absurd (none_in h.noted.item h.noted.there)))
 
-  have_its : (new : BTreeSet Entry) → ((e : Entry) → has new e ≡ is_in (entries_of item) e) → HaveEntries (item ∷ []) uids new
+  have_its : (new : BTreeSet IndexEntry) → ((e : IndexEntry) → has new e ≡ is_in (entries_of item) e) → HaveEntries (item ∷ []) uids new
   have_its new is e = (
     λ h. let gives : Contains (entries_of item) e = in_list (entries_of item) e (sym (is e) ∙ h) in
         record { noted = record { item = item; there = cons_first item []; gives = gives }; about = subst (Contains uids) (sym (entry_uid item e gives)) (cons_first (uid_of item.key) []) },
@@ -365,9 +365,9 @@ module _ (state : List Item) (item : Item) (none : ArePart (uid_of item.key) [] 
     ],
   )
 
-  pub first_new : (news after : List Item) → AreOfRows (item ∷ []) news → AreKept after (state ++ news) → (new : BTreeSet Entry) → ((e : Entry) → has new e ≡ is_in (entries_of item) e)
+  pub first_new : (news after : List Item) → AreOfRows (item ∷ []) news → AreKept after (state ++ news) → (new : BTreeSet IndexEntry) → ((e : IndexEntry) → has new e ≡ is_in (entries_of item) e)
       → AreEntriesOf after (item ∷ []) new
   first_new news after rows kept new is = new_entries state (item ∷ []) [] uids about_it no_part (item ∷ []) (one_kept item) news after rows kept new (have_its new is)
 
-  pub first_touched : (new : BTreeSet Entry) → ((e : Entry) → has new e ≡ is_in (entries_of item) e) → (e : Entry) → IsTrue (has new e) → IsTouched (item ∷ []) e.uid
+  pub first_touched : (new : BTreeSet IndexEntry) → ((e : IndexEntry) → has new e ≡ is_in (entries_of item) e) → (e : IndexEntry) → IsTrue (has new e) → IsTouched (item ∷ []) e.uid
   first_touched new is e h = record { item = item; there = cons_first item []; about = sym (entry_uid item e (in_list (entries_of item) e (sym (is e) ∙ h))) }

@@ -18,7 +18,7 @@ use Rattle.itip_items.specs.declared.item.Item.{Item}
 use Rattle.itip_view.specs.RowDays.{has_rows, row_days}
 use Rattle.itip_view.specs.declared.days.RowDays.{RowDays}
 use Rattle.itip_view.specs.declared.days.RowDays.TheVariants as days
-use Rattle.itip_desk.specs.declared.entry.Entry.{Entry}
+use Rattle.itip_desk.specs.declared.entry.IndexEntry.{IndexEntry}
 use Rattle.itip_desk.specs.declared.entry.Mark.{Mark}
 use Rattle.itip_desk.specs.declared.entry.Mark.TheVariants.{Day, Always, Attendee}
 
@@ -42,14 +42,14 @@ abbrev pub mark_cmp : Mark → Mark → Ordering
 mark_cmp a b = ordering_then (nat_cmp (rank_of a) (rank_of b)) (ordering_then (int_cmp (day_of a) (day_of b)) (slice_cmp nat_cmp (key_of a) (key_of b)))
 
 -- by mark, then by UID
-abbrev pub entry_cmp : Entry → Entry → Ordering
+abbrev pub entry_cmp : IndexEntry → IndexEntry → Ordering
 entry_cmp a b = ordering_then (mark_cmp a.mark b.mark) (slice_cmp nat_cmp a.uid b.uid)
 
 mark_total : IsTotalOrder mark_cmp
 mark_total = then_total (on_total rank_of nat_cmp_total) (then_total (on_total day_of int_cmp_total) (on_total key_of nat_list_cmp_total))
 
 pub entry_total : IsTotalOrder entry_cmp
-entry_total = then_total (on_total (λ (e : Entry). e.mark) mark_total) (on_total (λ (e : Entry). e.uid) nat_list_cmp_total)
+entry_total = then_total (on_total (λ (e : IndexEntry). e.mark) mark_total) (on_total (λ (e : IndexEntry). e.uid) nat_list_cmp_total)
 
 -- where one order and then another answer Equal, each does
 then_equal : (r s : Ordering) → ordering_then r s ≡ Equal → (r ≡ Equal) × (s ≡ Equal)
@@ -86,23 +86,23 @@ abbrev pub mark_of : RowDays → Mark
 mark_of (days.One day) = Day day
 mark_of days.Any = Always
 
-abbrev pub entry_at : List ℕ → Mark → Entry
+abbrev pub entry_at : List ℕ → Mark → IndexEntry
 entry_at uid mark = record { mark = mark; uid = uid }
 
 -- the entry of the days on which the rows can stand for which the item is needed
-abbrev pub day_entries : Item → List Entry
+abbrev pub day_entries : Item → List IndexEntry
 day_entries item = option_to_list (option_map (λ days. entry_at (uid_of item.key) (mark_of days)) (row_days item))
 
 -- an entry for each ATTENDEE line
-abbrev pub attendee_entries : List ℕ → List Property → List Entry
+abbrev pub attendee_entries : List ℕ → List Property → List IndexEntry
 attendee_entries uid lines = map (λ (line : Property). entry_at uid (Attendee (attendee_key line.value))) lines
 
 -- the entries of an item that can have rows
-abbrev pub entries_of : Item → List Entry
+abbrev pub entries_of : Item → List IndexEntry
 entries_of item = cond (has_rows item) (day_entries item ++ attendee_entries (uid_of item.key) item.todo.attendees) []
 
 -- an item of the set gives this entry
-pub record IsNoted (set : List Item) (entry : Entry) : Type 0 where
+pub record IsNoted (set : List Item) (entry : IndexEntry) : Type 0 where
   pub item : Item
   pub there : Contains set item
   pub gives : Contains (entries_of item) entry

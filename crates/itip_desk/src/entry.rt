@@ -23,7 +23,7 @@ pub(crate) enum Mark {
 
 /// A UID, and what it is found by.
 #[derive(Debug, Drop)]
-pub(crate) struct Entry {
+pub(crate) struct IndexEntry {
     pub(crate) mark: Mark,
     pub(crate) uid: Uid,
 }
@@ -89,43 +89,43 @@ impl Clone for Mark {
     }
 }
 
-impl Clone for Entry {
+impl Clone for IndexEntry {
     ghost is_clone = { λ entry copy. copy ≡ entry };
 
-    fn clone(&self) -> Result<Entry, AllocError> {
-        Ok(Entry {
+    fn clone(&self) -> Result<IndexEntry, AllocError> {
+        Ok(IndexEntry {
             mark: self.mark.clone()?,
             uid: self.uid.clone()?,
         })
     }
 }
 
-impl PartialEq for Entry {
+impl PartialEq for IndexEntry {
     ghost eq = { eq_by_cmp entry_cmp };
 
     ghost laws = { partial_equiv_from_equiv (eq_by_cmp_equiv entry_total) };
 
-    fn eq(&self, other: &Entry) -> bool {
+    fn eq(&self, other: &IndexEntry) -> bool {
         self.cmp(other) == Ordering::Equal
     }
 }
 
-impl Eq for Entry {
+impl Eq for IndexEntry {
     ghost laws = { eq_by_cmp_equiv entry_total };
 }
 
-impl PartialOrd for Entry {
+impl PartialOrd for IndexEntry {
     ghost partial_cmp = { as_partial_cmp entry_cmp };
 
     ghost laws = { partial_order_from_total entry_total };
 
-    fn partial_cmp(&self, other: &Entry) -> Option<Ordering> {
+    fn partial_cmp(&self, other: &IndexEntry) -> Option<Ordering> {
         Some(self.cmp(other))
     }
 }
 
 /// By mark, then by UID.
-impl Ord for Entry {
+impl Ord for IndexEntry {
     ghost cmp = { entry_cmp };
 
     ghost total = { entry_total };
@@ -134,7 +134,7 @@ impl Ord for Entry {
 
     ghost matches_eq = { λ x y. refl };
 
-    fn cmp(&self, other: &Entry) -> Ordering {
+    fn cmp(&self, other: &IndexEntry) -> Ordering {
         self.mark
             .compare(&other.mark)
             .then_with(|| self.uid.cmp(&other.uid))

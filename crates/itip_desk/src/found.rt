@@ -4,12 +4,12 @@ ghost use Rattle.std.specs.List.{Contains};
 ghost use Rattle.std.specs.BTreeMap.Range.{IsLeBy};
 ghost use Rattle.std.specs.BTreeSet.{keys_between};
 ghost use Rattle.std.specs.declared.ops.Bound.TheVariants.{Included, Excluded};
-ghost use Rattle.itip_desk.specs.declared.entry.Entry.{Entry};
+ghost use Rattle.itip_desk.specs.declared.entry.IndexEntry.{IndexEntry};
 ghost use Rattle.itip_desk.specs.declared.entry.Mark.TheVariants.{Day, Always, Attendee};
 ghost use Rattle.itip_desk.specs.Entries.{entry_cmp, entry_at};
 ghost use Rattle.itip_desk.specs.Index.{has};
 
-use crate::entry::{Entry, Mark};
+use crate::entry::{IndexEntry, Mark};
 use itip_lines::Text;
 use itip_todo::Uid;
 use itip_view::Window;
@@ -19,7 +19,7 @@ use std::collections::BTreeSet;
 /// The UIDs found by a day of the window, or in each window, perhaps more than once. No other entry is looked at.
 pub(crate) fn find_in<'a>(
     alloc: Global,
-    index: &'a BTreeSet<Entry>,
+    index: &'a BTreeSet<IndexEntry>,
     window: Window,
 ) -> Result<Vec<&'a Uid>, AllocError>
     ensures days { IfOk result (λ uids. (uid : List ℕ) (day : ℤ) → window.from ≤ℤ day → day <ℤ window.to → has index.now (entry_at uid (Day day)) ≡ true → Contains (map (λ u. u.now) uids.items) uid) }
@@ -38,7 +38,7 @@ pub(crate) fn find_in<'a>(
 /// The UIDs found by the key of an attendee, each once. No other entry is looked at.
 pub(crate) fn find_named<'a>(
     alloc: Global,
-    index: &'a BTreeSet<Entry>,
+    index: &'a BTreeSet<IndexEntry>,
     key: &Text,
 ) -> Result<Vec<&'a Uid>, AllocError>
     ensures { IfOk result (λ uids. (uid : List ℕ) → has index.now (entry_at uid (Attendee key.now)) ≡ true → Contains (map (λ u. u.now) uids.items) uid) }
@@ -60,10 +60,10 @@ fn next_key(alloc: Global, key: &Text) -> Result<Text, AllocError>
 }
 
 /// The entry that no other stands before of those of a mark.
-fn bound(alloc: Global, mark: Mark) -> Entry
+fn bound(alloc: Global, mark: Mark) -> IndexEntry
     ensures { result ≡ entry_at [] mark }
 {
-    Entry {
+    IndexEntry {
         mark,
         uid: Uid::new(Text::new(alloc)),
     }
@@ -71,9 +71,9 @@ fn bound(alloc: Global, mark: Mark) -> Entry
 
 /// Adds the UIDs of the entries from `from` up to `to`, which is left out.
 fn find_between<'a>(
-    index: &'a BTreeSet<Entry>,
-    from: Entry,
-    to: Entry,
+    index: &'a BTreeSet<IndexEntry>,
+    from: IndexEntry,
+    to: IndexEntry,
     uids: &mut Vec<&'a Uid>,
 ) -> Result<(), AllocError>
     requires { IsLeBy entry_cmp from to }

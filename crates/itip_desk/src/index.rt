@@ -4,11 +4,11 @@ ghost use Rattle.std.specs.List.{Contains};
 ghost use Rattle.std.specs.Ordering.{is_eq};
 ghost use Rattle.itip_items.specs.KeyParts.{uid_of};
 ghost use Rattle.itip_items.specs.declared.item.Item.{Item};
-ghost use Rattle.itip_desk.specs.declared.entry.Entry.{Entry};
+ghost use Rattle.itip_desk.specs.declared.entry.IndexEntry.{IndexEntry};
 ghost use Rattle.itip_desk.specs.Entries.{entry_cmp, day_entries, attendee_entries, entries_of, IsNoted};
 ghost use Rattle.itip_desk.specs.Index.{has, is_in, AreEntriesOf};
 
-use crate::entry::{Entry, Mark};
+use crate::entry::{IndexEntry, Mark};
 use itip_items::Item;
 use itip_todo::{Property, Uid, attendee_key};
 use itip_view::{has_rows, row_days};
@@ -17,11 +17,11 @@ use std::collections::BTreeSet;
 
 /// Adds the entries of an item.
 pub(crate) fn note(
-    entries: &mut BTreeSet<Entry>,
+    entries: &mut BTreeSet<IndexEntry>,
     alloc: Global,
     item: &Item,
 ) -> Result<(), AllocError>
-    ensures { OnOk result ((e : Entry) → has entries.new e ≡ (has entries.old e || is_in (entries_of item.now) e)) }
+    ensures { OnOk result ((e : IndexEntry) → has entries.new e ≡ (has entries.old e || is_in (entries_of item.now) e)) }
 {
     if !has_rows(item) {
         return Ok(());
@@ -35,8 +35,8 @@ pub(crate) fn note(
     )
 }
 
-fn note_days(entries: &mut BTreeSet<Entry>, item: &Item) -> Result<(), AllocError>
-    ensures { OnOk result ((e : Entry) → has entries.new e ≡ (has entries.old e || is_in (day_entries item.now) e)) }
+fn note_days(entries: &mut BTreeSet<IndexEntry>, item: &Item) -> Result<(), AllocError>
+    ensures { OnOk result ((e : IndexEntry) → has entries.new e ≡ (has entries.old e || is_in (day_entries item.now) e)) }
 {
     if let Some(days) = row_days(item) {
         put(entries, item.key.uid(), Mark::of(days))?;
@@ -45,12 +45,12 @@ fn note_days(entries: &mut BTreeSet<Entry>, item: &Item) -> Result<(), AllocErro
 }
 
 fn note_attendees(
-    entries: &mut BTreeSet<Entry>,
+    entries: &mut BTreeSet<IndexEntry>,
     alloc: Global,
     uid: &Uid,
     lines: &[Property],
 ) -> Result<(), AllocError>
-    ensures { OnOk result ((e : Entry) → has entries.new e ≡ (has entries.old e || is_in (attendee_entries uid.now lines.now) e)) }
+    ensures { OnOk result ((e : IndexEntry) → has entries.new e ≡ (has entries.old e || is_in (attendee_entries uid.now lines.now) e)) }
 {
     for line in lines {
         let key = attendee_key(alloc, line.value.as_str())?;
@@ -59,10 +59,10 @@ fn note_attendees(
     Ok(())
 }
 
-fn put(entries: &mut BTreeSet<Entry>, uid: &Uid, mark: Mark) -> Result<(), AllocError>
-    ensures { OnOk result ((e : Entry) → has entries.new e ≡ (has entries.old e || is_eq (entry_cmp e (record { mark = mark; uid = uid.now })))) }
+fn put(entries: &mut BTreeSet<IndexEntry>, uid: &Uid, mark: Mark) -> Result<(), AllocError>
+    ensures { OnOk result ((e : IndexEntry) → has entries.new e ≡ (has entries.old e || is_eq (entry_cmp e (record { mark = mark; uid = uid.now })))) }
 {
-    entries.insert(Entry {
+    entries.insert(IndexEntry {
         mark,
         uid: uid.clone()?,
     })?;
@@ -71,13 +71,13 @@ fn put(entries: &mut BTreeSet<Entry>, uid: &Uid, mark: Mark) -> Result<(), Alloc
 
 /// Puts in the entries of `new` that `old` lacks. A refusal changes nothing.
 pub(crate) fn grow(
-    index: &mut BTreeSet<Entry>,
-    new: &BTreeSet<Entry>,
-    old: &BTreeSet<Entry>,
+    index: &mut BTreeSet<IndexEntry>,
+    new: &BTreeSet<IndexEntry>,
+    old: &BTreeSet<IndexEntry>,
 ) -> Result<(), AllocError>
-    requires { (e : Entry) → has new.now e ≡ true → has old.now e ≡ false → has index.old e ≡ false }
-    ensures ok { OnOk result ((e : Entry) → has index.new e ≡ (has index.old e || (has new.now e && not (has old.now e)))) }
-    ensures err { OnErr result ((e : Entry) → has index.new e ≡ has index.old e) }
+    requires { (e : IndexEntry) → has new.now e ≡ true → has old.now e ≡ false → has index.old e ≡ false }
+    ensures ok { OnOk result ((e : IndexEntry) → has index.new e ≡ (has index.old e || (has new.now e && not (has old.now e)))) }
+    ensures err { OnErr result ((e : IndexEntry) → has index.new e ≡ has index.old e) }
 {
     for entry in new.difference(old) {
         if let Err(refused) = add(index, entry) {
@@ -88,8 +88,8 @@ pub(crate) fn grow(
     Ok(())
 }
 
-fn add(index: &mut BTreeSet<Entry>, entry: &Entry) -> Result<(), AllocError>
-    ensures ok { OnOk result ((e : Entry) → has index.new e ≡ (has index.old e || is_eq (entry_cmp e entry.now))) }
+fn add(index: &mut BTreeSet<IndexEntry>, entry: &IndexEntry) -> Result<(), AllocError>
+    ensures ok { OnOk result ((e : IndexEntry) → has index.new e ≡ (has index.old e || is_eq (entry_cmp e entry.now))) }
     ensures err { OnErr result (index.new.keys ≡ index.old.keys) }
 {
     index.insert(entry.clone()?)?;
@@ -97,16 +97,16 @@ fn add(index: &mut BTreeSet<Entry>, entry: &Entry) -> Result<(), AllocError>
 }
 
 /// Takes out the entries of `these` that `others` lacks. It takes no memory.
-pub(crate) fn shrink(index: &mut BTreeSet<Entry>, these: &BTreeSet<Entry>, others: &BTreeSet<Entry>)
-    ensures { (e : Entry) → has index.new e ≡ (has index.old e && not (has these.now e && not (has others.now e))) }
+pub(crate) fn shrink(index: &mut BTreeSet<IndexEntry>, these: &BTreeSet<IndexEntry>, others: &BTreeSet<IndexEntry>)
+    ensures { (e : IndexEntry) → has index.new e ≡ (has index.old e && not (has these.now e && not (has others.now e))) }
 {
     for entry in these.difference(others) {
         drop_one(index, entry);
     }
 }
 
-fn drop_one(index: &mut BTreeSet<Entry>, entry: &Entry)
-    ensures { (e : Entry) → has index.new e ≡ (has index.old e && not (is_eq (entry_cmp e entry.now))) }
+fn drop_one(index: &mut BTreeSet<IndexEntry>, entry: &IndexEntry)
+    ensures { (e : IndexEntry) → has index.new e ≡ (has index.old e && not (is_eq (entry_cmp e entry.now))) }
 {
     index.remove(entry);
 }

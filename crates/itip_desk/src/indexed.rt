@@ -6,11 +6,11 @@ ghost use Rattle.itip_state.specs.Order.{IsState};
 ghost use Rattle.std.specs.List.{Contains};
 ghost use Rattle.itip_todo.specs.Table.{attendee_key};
 ghost use Rattle.itip_view.specs.RowDays.{is_of_rows, HasRowsIn, NamesIn};
-ghost use Rattle.itip_desk.specs.declared.entry.Entry.{Entry};
+ghost use Rattle.itip_desk.specs.declared.entry.IndexEntry.{IndexEntry};
 ghost use Rattle.itip_desk.specs.Entries.{entries_of, IsNoted};
 ghost use Rattle.itip_desk.specs.Index.{has, is_in, IsTouched, AreOfRows, AreEntriesOf, HaveEntries};
 
-use crate::entry::Entry;
+use crate::entry::IndexEntry;
 use crate::found::{find_in, find_named};
 use crate::index::{grow, note, shrink};
 use itip_items::{Item, Key};
@@ -26,7 +26,7 @@ use std::marker::Model;
 pub(crate) struct IndexedState {
     alloc: Global,
     state: State,
-    index: BTreeSet<Entry>,
+    index: BTreeSet<IndexEntry>,
 }
 
 impl Model for IndexedState {
@@ -49,9 +49,9 @@ impl Model for IndexedState {
 
 /// The entries of some UIDs before a hearing and after it.
 #[derive(Debug, Drop)]
-struct Change {
-    old: BTreeSet<Entry>,
-    new: BTreeSet<Entry>,
+struct IndexChange {
+    old: BTreeSet<IndexEntry>,
+    new: BTreeSet<IndexEntry>,
 }
 
 impl IndexedState {
@@ -153,10 +153,10 @@ fn is_of_rows(key: &Key) -> bool
 }
 
 /// What hearing these items changes in the entries of the UIDs that they are about.
-fn changes_of(alloc: Global, state: &State, found: &[&SharedItem]) -> Result<Change, AllocError>
+fn changes_of(alloc: Global, state: &State, found: &[&SharedItem]) -> Result<IndexChange, AllocError>
     ensures old { IfOk result (λ change. AreEntriesOf state.now (map (λ item. item.now) found.now) change.old) }
     ensures new { IfOk result (λ change. (news after : List Item) → AreOfRows (map (λ item. item.now) found.now) news → AreKept after (state.now ++ news) → AreEntriesOf after (map (λ item. item.now) found.now) change.new) }
-    ensures about { IfOk result (λ change. (e : Entry) → IsTrue (has change.new e) → IsTouched (map (λ item. item.now) found.now) e.uid) }
+    ensures about { IfOk result (λ change. (e : IndexEntry) → IsTrue (has change.new e) → IsTouched (map (λ item. item.now) found.now) e.uid) }
     ensures state { OnOk result (IsState state.now) }
 {
     match found {
@@ -169,14 +169,14 @@ fn changes_of(alloc: Global, state: &State, found: &[&SharedItem]) -> Result<Cha
 }
 
 /// What hearing the first item of its UID changes: its entries come.
-fn first_of_uid(alloc: Global, item: &Item) -> Result<Change, AllocError>
-    ensures old { IfOk result (λ change. (e : Entry) → has change.old e ≡ false) }
-    ensures new { IfOk result (λ change. (e : Entry) → has change.new e ≡ is_in (entries_of item.now) e) }
+fn first_of_uid(alloc: Global, item: &Item) -> Result<IndexChange, AllocError>
+    ensures old { IfOk result (λ change. (e : IndexEntry) → has change.old e ≡ false) }
+    ensures new { IfOk result (λ change. (e : IndexEntry) → has change.new e ≡ is_in (entries_of item.now) e) }
 {
     let old = BTreeSet::new(alloc);
     let mut new = BTreeSet::new(alloc);
     note(&mut new, alloc, item)?;
-    Ok(Change { old, new })
+    Ok(IndexChange { old, new })
 }
 
 /// What hearing these items changes, worked out from all that is kept of the UIDs that they are about before and after.
@@ -184,10 +184,10 @@ fn changes_in_part(
     alloc: Global,
     state: &State,
     found: &[&SharedItem],
-) -> Result<Change, AllocError>
+) -> Result<IndexChange, AllocError>
     ensures old { IfOk result (λ change. AreEntriesOf state.now (map (λ item. item.now) found.now) change.old) }
     ensures new { IfOk result (λ change. (news after : List Item) → AreOfRows (map (λ item. item.now) found.now) news → AreKept after (state.now ++ news) → AreEntriesOf after (map (λ item. item.now) found.now) change.new) }
-    ensures about { IfOk result (λ change. (e : Entry) → IsTrue (has change.new e) → IsTouched (map (λ item. item.now) found.now) e.uid) }
+    ensures about { IfOk result (λ change. (e : IndexEntry) → IsTrue (has change.new e) → IsTouched (map (λ item. item.now) found.now) e.uid) }
     ensures state { OnOk result (IsState state.now) }
 {
     let uids = uids(alloc, found)?;
@@ -196,11 +196,11 @@ fn changes_in_part(
     part.hear(found)?;
     let new = entries_of(alloc, &part, &uids)?;
     state.lawful();
-    Ok(Change { old, new })
+    Ok(IndexChange { old, new })
 }
 
 /// The entries of the items of these UIDs.
-fn entries_of(alloc: Global, part: &State, uids: &[&Uid]) -> Result<BTreeSet<Entry>, AllocError>
+fn entries_of(alloc: Global, part: &State, uids: &[&Uid]) -> Result<BTreeSet<IndexEntry>, AllocError>
     ensures { IfOk result (λ entries. HaveEntries part.now (map (λ uid. uid.now) uids.now) entries) }
 {
     let mut entries = BTreeSet::new(alloc);
@@ -212,8 +212,8 @@ fn entries_of(alloc: Global, part: &State, uids: &[&Uid]) -> Result<BTreeSet<Ent
 }
 
 /// Adds the entries of these items.
-fn note_all(entries: &mut BTreeSet<Entry>, alloc: Global, items: &[&Item]) -> Result<(), AllocError>
-    ensures { OnOk result ((e : Entry) → IsTrue (has entries.new e) ↔ (IsTrue (has entries.old e) ⊎ IsNoted (map (λ item. item.now) items.now) e)) }
+fn note_all(entries: &mut BTreeSet<IndexEntry>, alloc: Global, items: &[&Item]) -> Result<(), AllocError>
+    ensures { OnOk result ((e : IndexEntry) → IsTrue (has entries.new e) ↔ (IsTrue (has entries.old e) ⊎ IsNoted (map (λ item. item.now) items.now) e)) }
 {
     for item in items {
         note(entries, alloc, item)?;

@@ -8,7 +8,7 @@ ghost use Rattle.itip_inbox.specs.Records.{IsRecorded, WritesRecords};
 
 use crate::csv_records::csv_text;
 use crate::json_records::json_text;
-use crate::kept::tell;
+use crate::compact::tell;
 use crate::read::read_inbox;
 use crate::refused::refusal_text;
 use crate::tasks::{Listed, rows_for};

@@ -9,7 +9,7 @@ ghost use Rattle.itip_inbox.specs.TaskList.{IsTaskList, WritesTaskList, IsListed
 ghost use Rattle.itip_view.specs.Rows.{row_limit};
 ghost use Rattle.itip_view.specs.Showing.{AreRowsWhere, AreTooManyWhere, Shows};
 
-use crate::kept::tell;
+use crate::compact::tell;
 use crate::read::read_inbox;
 use crate::refused::refusal_text;
 use crate::watch::Watch;

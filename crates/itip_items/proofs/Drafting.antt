@@ -9,7 +9,7 @@ use Rattle.itip_todo.specs.Parts.{Parts}
 use Rattle.itip_todo.specs.declared.property.Property.{Property}
 use Rattle.itip_todo.specs.declared.status.Status.{Status}
 use Rattle.itip_items.specs.Needs.{Suits, method_cause, has_some, removes, when}
-use Rattle.itip_items.specs.Items.{drafts, drafts_of, task_draft, add_drafts, series_draft, instance_draft, instance_key, attendee_draft, with_base, only_of, canonical_base, raised, instance_sequence, is_series, is_task, kind_of, method_of, Sends, IsCanonical}
+use Rattle.itip_items.specs.Items.{drafts, drafts_of, task_draft, add_drafts, series_draft, instance_draft, instance_key, attendee_draft, with_base, only_of, canonical_base, raised, effective_sequence, is_series, is_task, kind_of, method_of, Sends, IsCanonical}
 use Rattle.itip_items.specs.declared.error.MethodCause.TheVariants as cause
 use Rattle.itip_items.specs.declared.key.Key.TheVariants as key
 use Rattle.itip_items.specs.declared.kind.Kind.{Kind}
@@ -36,8 +36,8 @@ sends m p h = record {
   suits = subst (λ (n : Method). Suits n p) (sym (method_kept m p)) h;
 }
 
-drafts_alone : (k : Kind) (q : Parts) → kind_of (method_of k) q ≡ k → drafts (method_of k) (q ∷ []) ≡ drafts_of k (instance_sequence (method_of k) (q ∷ []) q) q
-drafts_alone k q e = append-nil _ ∙ ap (λ (l : Kind). drafts_of l (instance_sequence (method_of k) (q ∷ []) q) q) e
+drafts_alone : (k : Kind) (q : Parts) → kind_of (method_of k) q ≡ k → drafts (method_of k) (q ∷ []) ≡ drafts_of k (effective_sequence (method_of k) (q ∷ []) q) q
+drafts_alone k q e = append-nil _ ∙ ap (λ (l : Kind). drafts_of l (effective_sequence (method_of k) (q ∷ []) q) q) e
 
 -- X-DESK-BASE changes neither the kind nor what the method needs
 
@@ -71,7 +71,7 @@ task_drafts kind.Refresh e q h = absurd (cc)
 pub series_canonical : (k : Kind) (p : Parts) → Sends k p → is_task k ≡ true → p.rid ≡ None → IsCanonical (series_draft k p)
 series_canonical k p h task none =
     let q : Parts = with_base p None in
-    let e : ℕ = instance_sequence (method_of k) (q ∷ []) q in record {
+    let e : ℕ = effective_sequence (method_of k) (q ∷ []) q in record {
       alone = drafts_alone k q (kind_based (method_of k) p None ∙ h.kind_is) ∙ task_drafts k e q task ∙ ap (λ (id : Option Moment). task_draft k e id q ∷ []) none;
       suits = suits_based (method_of k) p None h.suits;
     }
@@ -93,7 +93,7 @@ sequence_back seq eff h =
 
 -- the effective sequence of an instance that stands alone with its canonical X-DESK-BASE
 alone_sequence : (m : Method) (p : Parts) (eff : ℕ) → p.seq ≤ eff → is_series m (with_base p (canonical_base p.seq eff)) ≡ false
-    → instance_sequence m (with_base p (canonical_base p.seq eff) ∷ []) (with_base p (canonical_base p.seq eff)) ≡ eff
+    → effective_sequence m (with_base p (canonical_base p.seq eff) ∷ []) (with_base p (canonical_base p.seq eff)) ≡ eff
 alone_sequence m p eff h other =
     ap (λ b. max p.seq (max (unwrap_or (canonical_base p.seq eff) 0) (max (cond (b && pointwise nat_eq p.uid p.uid) p.seq 0) 0))) other ∙ sequence_back p.seq eff h
 
@@ -107,7 +107,7 @@ pub instance_canonical : (k : Kind) (p : Parts) (id : Moment) (above : ℕ) → 
 instance_canonical k p id above h task some =
     let eff : ℕ = raised p above in
     let q : Parts = with_base p (canonical_base p.seq eff) in
-    let e : ℕ = instance_sequence (method_of k) (q ∷ []) q in
+    let e : ℕ = effective_sequence (method_of k) (q ∷ []) q in
     let same : e ≡ eff = alone_sequence (method_of k) p eff (raised_above p above) (no_series (method_of k) q id some) in record {
       alone = drafts_alone k q (kind_based (method_of k) p (canonical_base p.seq eff) ∙ h.kind_is) ∙ task_drafts k e q task
           ∙ ap (λ (r : Option Moment). task_draft k e r q ∷ []) some ∙ ap (λ (n : ℕ). instance_draft k n (instance_key p.range p.uid id) q ∷ []) same;
@@ -122,7 +122,7 @@ pub add_canonical : (p : Parts) (id : Moment) (above : ℕ) → Suits method.Add
 add_canonical p id above h some =
     let eff : ℕ = raised p above in
     let q : Parts = with_base p (canonical_base p.seq eff) in
-    let e : ℕ = instance_sequence method.Add (q ∷ []) q in
+    let e : ℕ = effective_sequence method.Add (q ∷ []) q in
     let same : e ≡ eff = alone_sequence method.Add p eff (raised_above p above) (and_false (is_none p.rid)) in record {
       alone = drafts_alone kind.Add q refl ∙ ap (λ (s : Option Moment). add_drafts e s q) some ∙ ap (λ (n : ℕ). instance_draft kind.Add n (key.Instance p.uid id) q ∷ []) same;
       suits = suits_based method.Add p (canonical_base p.seq eff) h;

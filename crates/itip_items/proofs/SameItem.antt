@@ -23,7 +23,7 @@ use Rattle.itip_todo.specs.declared.todo.Todo.{Todo}
 use Rattle.itip_todo.proofs.ReadingLaws.{one_todo}
 use Rattle.itip_todo.proofs.SameTodo.{todo_of}
 use Rattle.itip_todo.proofs.WritingLaws as todo_laws
-use Rattle.itip_items.specs.Items.{Draft, draft_of, drafts, drafts_of, task_draft, add_drafts, attendee_draft, instance_sequence, kind_of, IsItem, canonical_contents, canonical_octets, method_of, method_text, bare}
+use Rattle.itip_items.specs.Items.{ItemDraft, draft_of, drafts, drafts_of, task_draft, add_drafts, attendee_draft, effective_sequence, kind_of, IsItem, canonical_contents, canonical_octets, method_of, method_text, bare}
 use Rattle.itip_items.specs.Items.{method_named}
 use Rattle.itip_items.specs.declared.item.Item.{Item}
 use Rattle.itip_items.specs.declared.kind.Kind.{Kind}
@@ -89,10 +89,10 @@ Is item = IsItem item.key item.own item.eff item.stamp item.bytes item.todo item
 abbrev pub contents : Item → List Content
 contents item = canonical_contents item.kind (parts_of item.todo)
 
-abbrev pub draft : Item → Draft
+abbrev pub draft : Item → ItemDraft
 draft item = draft_of item.key item.eff item.todo item.kind
 
-abbrev drafts_alone : Item → List Draft
+abbrev drafts_alone : Item → List ItemDraft
 drafts_alone item = drafts (method_of item.kind) (parts_of item.todo ∷ [])
 
 pub few_lines : (item : Item) → length (contents item) ≤ 20000
@@ -150,11 +150,11 @@ parts_known k p q h j few less short e =
 
 -- the drafts of an item's to-do are its own draft
 
-abbrev first_or : Draft → List Draft → Draft
+abbrev first_or : ItemDraft → List ItemDraft → ItemDraft
 first_or d [] = d
 first_or d (e ∷ es) = e
 
-single : (d : Draft) (all : List Draft) → length all ≡ 1 → all ≡ first_or d all ∷ []
+single : (d : ItemDraft) (all : List ItemDraft) → length all ≡ 1 → all ≡ first_or d all ∷ []
 single d [] h = absurd (omega (arith, h))
 single d (e ∷ []) h = refl
 single d (e ∷ (f ∷ all)) h = absurd (omega (arith, h))
@@ -169,23 +169,23 @@ known_parts item p h =
     let octets : canonical_octets item.kind p ≡ canonical_octets item.kind (parts_of item.todo) = stable (told_bytes _ _) (∥∥₁_map h (λ same. ap (canonical_octets item.kind) same)) in
     parts_known item.kind p (parts_of item.todo) lawful item.todo.lawful few (few_lines item) short octets
 
-known_draft : (item : Item) (d : Draft) → ∥ d ≡ draft item ∥₁ → d ≡ draft item
+known_draft : (item : Item) (d : ItemDraft) → ∥ d ≡ draft item ∥₁ → d ≡ draft item
 known_draft item d h =
-    let keys : d.key ≡ item.key = stable (told_keys _ _) (∥∥₁_map h (λ same. ap (λ (e : Draft). e.key) same)) in
-    let kinds : d.kind ≡ item.kind = stable (told_kinds _ _) (∥∥₁_map h (λ same. ap (λ (e : Draft). e.kind) same)) in
-    let effs : d.eff ≡ item.eff = stable (told_numbers _ _) (∥∥₁_map h (λ same. ap (λ (e : Draft). e.eff) same)) in
-    let all : d.parts ≡ parts_of item.todo = known_parts item d.parts (∥∥₁_map h (λ same. ap (λ (e : Draft). e.parts) same)) in
+    let keys : d.key ≡ item.key = stable (told_keys _ _) (∥∥₁_map h (λ same. ap (λ (e : ItemDraft). e.key) same)) in
+    let kinds : d.kind ≡ item.kind = stable (told_kinds _ _) (∥∥₁_map h (λ same. ap (λ (e : ItemDraft). e.kind) same)) in
+    let effs : d.eff ≡ item.eff = stable (told_numbers _ _) (∥∥₁_map h (λ same. ap (λ (e : ItemDraft). e.eff) same)) in
+    let all : d.parts ≡ parts_of item.todo = known_parts item d.parts (∥∥₁_map h (λ same. ap (λ (e : ItemDraft). e.parts) same)) in
     λ i. record { key = keys i; kind = kinds i; eff = effs i; parts = all i }
 
 pub alone : (item : Item) → drafts_alone item ≡ draft item ∷ []
 alone item =
     let count : length (drafts_alone item) ≡ 1 = stable (told_numbers _ _) (∥∥₁_map item.canonical (λ (is : Is item). ap length is.is_canonical.alone)) in
     let first : ∥ first_or (draft item) (drafts_alone item) ≡ draft item ∥₁ = ∥∥₁_map item.canonical (λ (is : Is item). ap (first_or (draft item)) is.is_canonical.alone) in
-    single (draft item) (drafts_alone item) count ∙ ap (λ (d : Draft). d ∷ []) (known_draft item _ first)
+    single (draft item) (drafts_alone item) count ∙ ap (λ (d : ItemDraft). d ∷ []) (known_draft item _ first)
 
 -- the drafts of one to-do are of the kind that its method gives
-abbrev OfKind : Kind → List Draft → Type 0
-OfKind k all = AllByRecursion (λ (draft : Draft). draft.kind ≡ k) all
+abbrev OfKind : Kind → List ItemDraft → Type 0
+OfKind k all = AllByRecursion (λ (draft : ItemDraft). draft.kind ≡ k) all
 
 task_kind : (k : Kind) (eff : ℕ) (rid : Option Moment) (parts : Parts) → (task_draft k eff rid parts).kind ≡ k
 task_kind k eff None parts = refl
@@ -210,7 +210,7 @@ draft_kinds kind.Refresh eff parts = attendee_kinds kind.Refresh parts parts.att
 kind_is : (item : Item) → item.kind ≡ kind_of (method_of item.kind) (parts_of item.todo)
 kind_is item =
     let parts : Parts = parts_of item.todo in
-    let eff : ℕ = instance_sequence (method_of item.kind) (parts ∷ []) parts in
+    let eff : ℕ = effective_sequence (method_of item.kind) (parts ∷ []) parts in
     let k : Kind = kind_of (method_of item.kind) parts in
     let one : drafts_of k eff parts ≡ draft item ∷ [] = sym (append-nil (drafts_of k eff parts)) ∙ alone item in
     (subst (OfKind k) one (draft_kinds k eff parts)).0
@@ -242,5 +242,5 @@ same_item i j bytes =
     let methods : method_of i.kind ≡ method_of j.kind = same_method _ _ (same_method_text i.kind j.kind (parts_of i.todo) (parts_of j.todo) lines) in
     let kinds : i.kind ≡ j.kind = kind_is i ∙ (λ x. kind_of (methods x) (parts x)) ∙ sym (kind_is j) in
     let drafts_same : draft i ≡ draft j = same_draft i j kinds parts in
-    same_fields i j (ap (λ (d : Draft). d.key) drafts_same) (own_is i ∙ ap (λ (t : Todo). t.seq) todos ∙ sym (own_is j)) (ap (λ (d : Draft). d.eff) drafts_same)
+    same_fields i j (ap (λ (d : ItemDraft). d.key) drafts_same) (own_is i ∙ ap (λ (t : Todo). t.seq) todos ∙ sym (own_is j)) (ap (λ (d : ItemDraft). d.eff) drafts_same)
     (stamp_is i ∙ ap (λ (t : Todo). t.stamp) todos ∙ sym (stamp_is j)) bytes todos kinds

@@ -7,7 +7,7 @@ use Rattle.itip_todo.specs.PartsOf.{parts_of}
 use Rattle.itip_todo.specs.Table.{attendee_key}
 use Rattle.itip_todo.specs.declared.property.Property.{Property}
 use Rattle.itip_items.specs.KeyParts.{uid_of}
-use Rattle.itip_items.specs.Items.{Draft, drafts_of, task_draft, add_drafts, attendee_draft, instance_key, refreshes, instance_sequence, kind_of, method_of}
+use Rattle.itip_items.specs.Items.{ItemDraft, drafts_of, task_draft, add_drafts, attendee_draft, instance_key, refreshes, effective_sequence, kind_of, method_of}
 use Rattle.itip_items.specs.declared.item.Item.{Item}
 use Rattle.itip_items.specs.declared.key.Key.TheVariants as key
 use Rattle.itip_items.specs.declared.kind.Kind.{Kind}
@@ -15,7 +15,7 @@ use Rattle.itip_items.specs.declared.kind.Kind.TheVariants as kind
 use Rattle.itip_items.proofs.SameItem.{draft, alone}
 
 -- a draft is about this UID
-abbrev IsAbout : List ℕ → Draft → Type 0
+abbrev IsAbout : List ℕ → ItemDraft → Type 0
 IsAbout uid draft = uid_of draft.key ≡ uid
 
 instance_about : (b : Bool) (uid : List ℕ) (id : Moment) → uid_of (instance_key b uid id) ≡ uid
@@ -49,7 +49,7 @@ drafts_about kind.Refresh eff parts = attendees_about kind.Refresh parts parts.a
 pub uid_of_item : (item : Item) → uid_of item.key ≡ item.todo.uid
 uid_of_item item =
     let parts : Parts = parts_of item.todo in
-    let eff : ℕ = instance_sequence (method_of item.kind) (parts ∷ []) parts in
+    let eff : ℕ = effective_sequence (method_of item.kind) (parts ∷ []) parts in
     let k : Kind = kind_of (method_of item.kind) parts in
     let one : drafts_of k eff parts ≡ draft item ∷ [] = sym (append-nil (drafts_of k eff parts)) ∙ alone item in
-    (subst (λ (ds : List Draft). AllByRecursion (IsAbout parts.uid) ds) one (drafts_about k eff parts)).0
+    (subst (λ (ds : List ItemDraft). AllByRecursion (IsAbout parts.uid) ds) one (drafts_about k eff parts)).0

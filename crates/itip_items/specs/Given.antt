@@ -3,7 +3,7 @@ use Rattle.std.specs.Prelude.{◌≡◌, ◌⊎◌, ℕ, ◌+◌, List, [], ◌�
 use Rattle.std.specs.List.{AllByRecursion, Any, flat_map}
 use Rattle.itip_todo.specs.Parts.{Parts}
 use Rattle.itip_todo.specs.PartsOf.{parts_of}
-use Rattle.itip_items.specs.Items.{Draft, drafts_of, kind_of, instance_sequence, IsWithinLimits, IsOfDraft}
+use Rattle.itip_items.specs.Items.{ItemDraft, drafts_of, kind_of, effective_sequence, IsWithinLimits, IsOfDraft}
 use Rattle.itip_items.specs.declared.error.FormError.{FormError}
 use Rattle.itip_items.specs.declared.error.FormError.TheVariants as error
 use Rattle.itip_items.specs.declared.error.ItemError.{ItemError}
@@ -11,27 +11,27 @@ use Rattle.itip_items.specs.declared.error.ItemError.TheVariants as item_error
 use Rattle.itip_items.specs.declared.item.Item.{Item}
 use Rattle.itip_items.specs.declared.kind.Method.{Method}
 
-abbrev pub IsItemOf : Draft → Item → Type 0
+abbrev pub IsItemOf : ItemDraft → Item → Type 0
 IsItemOf draft item = IsOfDraft draft item.key item.own item.eff item.stamp item.bytes (parts_of item.todo) item.kind
 
 -- these items are those of the drafts, in their order
-abbrev pub AreItemsOf : List Draft → List Item → Type 0
+abbrev pub AreItemsOf : List ItemDraft → List Item → Type 0
 AreItemsOf [] [] = Unit {0}
 AreItemsOf [] (item ∷ items) = ⊥
 AreItemsOf (draft ∷ drafts) [] = ⊥
 AreItemsOf (draft ∷ drafts) (item ∷ items) = IsItemOf draft item × AreItemsOf drafts items
 
 -- what these to-dos give, which stand in a message with all of these
-abbrev pub drafts_among : Method → List Parts → List Parts → List Draft
-drafts_among m all rest = flat_map (λ parts. drafts_of (kind_of m parts) (instance_sequence m all parts) parts) rest
+abbrev pub drafts_among : Method → List Parts → List Parts → List ItemDraft
+drafts_among m all rest = flat_map (λ parts. drafts_of (kind_of m parts) (effective_sequence m all parts) parts) rest
 
 -- the items of drafts, each within the limits
-pub record GivesItems (given : List Draft) (items : List Item) : Type 0 where
+pub record GivesItems (given : List ItemDraft) (items : List Item) : Type 0 where
   pub within : AllByRecursion IsWithinLimits given
   pub items_are : AreItemsOf given items
 
 -- the canonical form of some draft is too large
-pub record IsOver (given : List Draft) : Type 0 where
+pub record IsOver (given : List ItemDraft) : Type 0 where
   pub over : Any (λ draft. ¬ IsWithinLimits draft) given
 
 -- of an error: nothing where an allocation failed, and otherwise P
@@ -40,11 +40,11 @@ IfLarge item_error.NoMemory P = Unit {0}
 IfLarge item_error.TooLarge P = P
 
 -- what each of these to-dos gives, which stand in a message with all of these
-abbrev pub drafts_each : Method → List Parts → List Parts → List (List Draft)
-drafts_each m all rest = map (λ parts. drafts_of (kind_of m parts) (instance_sequence m all parts) parts) rest
+abbrev pub drafts_each : Method → List Parts → List Parts → List (List ItemDraft)
+drafts_each m all rest = map (λ parts. drafts_of (kind_of m parts) (effective_sequence m all parts) parts) rest
 
 -- of these drafts, each to-do's apart, those of the to-do `todo` are the first with a form that is too large; the first to-do has the number `number`
-abbrev pub FirstOver : ℕ → List (List Draft) → ℕ → Type 0
+abbrev pub FirstOver : ℕ → List (List ItemDraft) → ℕ → Type 0
 FirstOver number [] todo = ⊥
 FirstOver number (given ∷ others) todo = ((todo ≡ number) × IsOver given) ⊎ (AllByRecursion IsWithinLimits given × FirstOver (number + 1) others todo)
 
@@ -59,11 +59,11 @@ error_of_todo item_error.NoMemory todo = error.NoMemory
 error_of_todo item_error.TooLarge todo = error.TooLarge todo
 
 -- an item is that of a draft, within the limits
-abbrev pub Gives : Draft → Item → Type 0
+abbrev pub Gives : ItemDraft → Item → Type 0
 Gives draft item = IsItemOf draft item × IsWithinLimits draft
 
 -- the items of drafts stand behind those that were there
-pub record Adds (given : List Draft) (old new : List Item) : Type 0 where
+pub record Adds (given : List ItemDraft) (old new : List Item) : Type 0 where
   pub added : List Item
   pub whole : new ≡ old ++ added
   pub gives : GivesItems given added

@@ -70,7 +70,7 @@ one_if true = 1
 one_if false = 0
 
 -- an item as data: what it speaks of, its kind, its effective sequence, its to-do in canonical form
-pub record Draft : Type 0 where
+pub record ItemDraft : Type 0 where
   pub key : Key
   pub kind : Kind
   pub eff : ℕ
@@ -106,8 +106,8 @@ abbrev pub raised : Parts → ℕ → ℕ
 raised parts above = max parts.seq (max (unwrap_or parts.base 0) above)
 
 -- the effective sequence of an instance or range item (our own rule): the greatest of its own SEQUENCE, its X-DESK-BASE and those of the series components of its UID beside it
-abbrev pub instance_sequence : Method → List Parts → Parts → ℕ
-instance_sequence m all parts = raised parts (series_sequence m parts.uid all)
+abbrev pub effective_sequence : Method → List Parts → Parts → ℕ
+effective_sequence m all parts = raised parts (series_sequence m parts.uid all)
 
 -- X-DESK-BASE in canonical form: the effective sequence, where it exceeds the own one
 abbrev pub canonical_base : ℕ → ℕ → Option ℕ
@@ -116,11 +116,11 @@ canonical_base own eff = cond (nat_lt own eff) (Some eff) None
 abbrev pub with_base : Parts → Option ℕ → Parts
 with_base parts base = record parts { base = base }
 
-abbrev pub series_draft : Kind → Parts → Draft
+abbrev pub series_draft : Kind → Parts → ItemDraft
 series_draft k parts = record { key = key.Series parts.uid; kind = k; eff = parts.seq; parts = with_base parts None }
 
 -- of this key, which is of an instance, or of it and all after it
-abbrev pub instance_draft : Kind → ℕ → Key → Parts → Draft
+abbrev pub instance_draft : Kind → ℕ → Key → Parts → ItemDraft
 instance_draft k eff key parts = record { key = key; kind = k; eff = eff; parts = with_base parts (canonical_base parts.seq eff) }
 
 -- an instance, or it and all after it
@@ -164,21 +164,21 @@ refreshes kind.Refresh = true
 abbrev pub attendee_key_of : Kind → Parts → Property → Key
 attendee_key_of k parts attendee = cond (refreshes k) (key.Refresh parts.uid parts.rid (attendee_key attendee.value)) (key.Answer parts.uid parts.rid (attendee_key attendee.value))
 
-abbrev pub attendee_draft : Kind → Parts → Property → Draft
+abbrev pub attendee_draft : Kind → Parts → Property → ItemDraft
 attendee_draft k parts attendee = record { key = attendee_key_of k parts attendee; kind = k; eff = parts.seq; parts = only_of attendee parts }
 
 -- of the series, or of the instance that RECURRENCE-ID names, or of it and all after it
-abbrev pub task_draft : Kind → ℕ → Option Moment → Parts → Draft
+abbrev pub task_draft : Kind → ℕ → Option Moment → Parts → ItemDraft
 task_draft k eff None parts = series_draft k parts
 task_draft k eff (Some id) parts = instance_draft k eff (instance_key parts.range parts.uid id) parts
 
 -- of the instance that DTSTART names
-abbrev pub add_drafts : ℕ → Option Moment → Parts → List Draft
+abbrev pub add_drafts : ℕ → Option Moment → Parts → List ItemDraft
 add_drafts eff None parts = []
 add_drafts eff (Some id) parts = instance_draft kind.Add eff (key.Instance parts.uid id) parts ∷ []
 
 -- what a to-do of a kind gives, where its effective sequence as an instance is eff
-abbrev pub drafts_of : Kind → ℕ → Parts → List Draft
+abbrev pub drafts_of : Kind → ℕ → Parts → List ItemDraft
 drafts_of kind.Request eff parts = task_draft kind.Request eff parts.rid parts ∷ []
 drafts_of kind.Cancel eff parts = task_draft kind.Cancel eff parts.rid parts ∷ []
 drafts_of kind.Add eff parts = add_drafts eff parts.start parts
@@ -187,16 +187,16 @@ drafts_of kind.Reply eff parts = map (attendee_draft kind.Reply parts) parts.att
 drafts_of kind.Refresh eff parts = map (attendee_draft kind.Refresh parts) parts.attendees
 
 -- the items of a message as data, by to-do and then by ATTENDEE line
-abbrev pub drafts : Method → List Parts → List Draft
-drafts m all = flat_map (λ parts. drafts_of (kind_of m parts) (instance_sequence m all parts) parts) all
+abbrev pub drafts : Method → List Parts → List ItemDraft
+drafts m all = flat_map (λ parts. drafts_of (kind_of m parts) (effective_sequence m all parts) parts) all
 
 -- the canonical form is within its limits
-pub record IsWithinLimits (draft : Draft) : Type 0 where
+pub record IsWithinLimits (draft : ItemDraft) : Type 0 where
   pub octets : length (canonical_octets draft.kind draft.parts) ≤ canonical_octets_limit
   pub lines : length (canonical_contents draft.kind draft.parts) ≤ canonical_lines_limit
 
 -- these fields are those of the draft
-pub record IsOfDraft (draft : Draft) (key : Key) (own eff : ℕ) (stamp : Stamp) (bytes : List ℕ) (parts : Parts) (kind : Kind) : Type 0 where
+pub record IsOfDraft (draft : ItemDraft) (key : Key) (own eff : ℕ) (stamp : Stamp) (bytes : List ℕ) (parts : Parts) (kind : Kind) : Type 0 where
   pub key_is : key ≡ draft.key
   pub kind_is : kind ≡ draft.kind
   pub eff_is : eff ≡ draft.eff
@@ -211,11 +211,11 @@ pub record Sends (k : Kind) (parts : Parts) : Type 0 where
   pub suits : Suits (method_of k) parts
 
 -- A draft is in canonical form: its to-do alone, under the method of its kind, gives this draft and no other.
-pub record IsCanonical (draft : Draft) : Type 0 where
+pub record IsCanonical (draft : ItemDraft) : Type 0 where
   pub alone : drafts (method_of draft.kind) (draft.parts ∷ []) ≡ draft ∷ []
   pub suits : Suits (method_of draft.kind) draft.parts
 
-abbrev pub draft_of : Key → ℕ → Todo → Kind → Draft
+abbrev pub draft_of : Key → ℕ → Todo → Kind → ItemDraft
 draft_of key eff todo kind = record { key = key; kind = kind; eff = eff; parts = parts_of todo }
 
 -- An item is the one that its to-do alone, in canonical form, gives under the method of its kind.

@@ -3,7 +3,7 @@ ghost use Rattle.std.specs.Prelude.{◌≡◌, ◌≤◌, ◌+◌, ◌^◌, ◌-
 ghost use Rattle.std.specs.Option.{is_some};
 ghost use Rattle.itip_todo.specs.PartsOf.{parts_of};
 ghost use Rattle.itip_todo.specs.Written.{content_octets};
-ghost use Rattle.itip_items.specs.Items.{Draft, draft_of, canonical_octets, canonical_contents, bare, method_of, method_text, IsCanonical, IsItem, IsWithinLimits, one_if};
+ghost use Rattle.itip_items.specs.Items.{ItemDraft, draft_of, canonical_octets, canonical_contents, bare, method_of, method_text, IsCanonical, IsItem, IsWithinLimits, one_if};
 ghost use Rattle.itip_items.specs.Given.{IsItemOf, IsOver, IfLarge, Gives};
 ghost use Rattle.itip_items.specs.declared.key.Key.{Key};
 ghost use Rattle.itip_items.specs.declared.kind.Kind.{Kind};

@@ -15,7 +15,7 @@ use Rattle.itip_message.specs.Refusals.{of_lines, of_todo, in_todo, large_form}
 use Rattle.itip_message.specs.Places.{place_of}
 use Rattle.itip_message.specs.Frame.{frame, todos}
 use Rattle.itip_message.specs.Head.{head}
-use Rattle.itip_items.specs.Items.{Draft, drafts, IsWithinLimits, canonical_octets}
+use Rattle.itip_items.specs.Items.{ItemDraft, drafts, IsWithinLimits, canonical_octets}
 use Rattle.itip_items.specs.Needs.{method_cause}
 use Rattle.itip_items.specs.declared.error.MethodCause.{MethodCause}
 use Rattle.itip_message.specs.Message.{ReadsComponent, RefusesComponent, AreComponents, FirstRefused, HasHead, ReadsMessage, RefusesMessage, at_lines, at_frame, at_head, at_component, at_canonical_form}
@@ -72,11 +72,11 @@ one_refused m n (c ∷ all) f g (inr h) (inr k) = one_refused m (n + 1) all f g 
 
 -- items
 
-one_item : (draft : Draft) (i j : Item) → IsItemOf draft i → IsItemOf draft j → i ≡ j
+one_item : (draft : ItemDraft) (i j : Item) → IsItemOf draft i → IsItemOf draft j → i ≡ j
 one_item draft i j h k =
     same_item i j (h.bytes_are ∙ (λ x. canonical_octets ((h.kind_is ∙ sym k.kind_is) x) ((h.parts_are ∙ sym k.parts_are) x)) ∙ sym k.bytes_are)
 
-one_items : (ds : List Draft) (a b : List Item) → AreItemsOf ds a → AreItemsOf ds b → a ≡ b
+one_items : (ds : List ItemDraft) (a b : List Item) → AreItemsOf ds a → AreItemsOf ds b → a ≡ b
 one_items [] [] [] h k = refl
 one_items [] [] (y ∷ b) h k = absurd k
 one_items [] (x ∷ a) b h k = absurd h
@@ -84,25 +84,25 @@ one_items (d ∷ ds) [] b h k = absurd h
 one_items (d ∷ ds) (x ∷ a) [] h k = absurd k
 one_items (d ∷ ds) (x ∷ a) (y ∷ b) h k = λ i. one_item d x y h.0 k.0 i ∷ one_items ds a b h.1 k.1 i
 
-within_at : (ds : List Draft) (k : ℕ) (x : Draft) → AllByRecursion IsWithinLimits ds → k < length ds → get_or ds k x ≡ x → IsWithinLimits x
+within_at : (ds : List ItemDraft) (k : ℕ) (x : ItemDraft) → AllByRecursion IsWithinLimits ds → k < length ds → get_or ds k x ≡ x → IsWithinLimits x
 within_at [] k x h less at = absurd (omega arith)
 within_at (d ∷ ds) zero x h less at = subst IsWithinLimits at h.0
 within_at (d ∷ ds) (suc k) x h less at = within_at ds k x h.1 (omega arith) at
 
-limits_apart : (ds : List Draft) → AllByRecursion IsWithinLimits ds → IsOver ds → ⊥
+limits_apart : (ds : List ItemDraft) → AllByRecursion IsWithinLimits ds → IsOver ds → ⊥
 limits_apart ds h over = past ds h over.over
   where
-    past : (ds : List Draft) → AllByRecursion IsWithinLimits ds → Any (λ draft. ¬ IsWithinLimits draft) ds → ⊥
+    past : (ds : List ItemDraft) → AllByRecursion IsWithinLimits ds → Any (λ draft. ¬ IsWithinLimits draft) ds → ⊥
     past ds h (k, x, less, at, not) = not (within_at ds k x h less at)
 
-one_over : (n : ℕ) (dss : List (List Draft)) (a b : ℕ) → FirstOver n dss a → FirstOver n dss b → a ≡ b
+one_over : (n : ℕ) (dss : List (List ItemDraft)) (a b : ℕ) → FirstOver n dss a → FirstOver n dss b → a ≡ b
 one_over n [] a b h k = absurd h
 one_over n (ds ∷ dss) a b (inl h) (inl k) = h.0 ∙ sym k.0
 one_over n (ds ∷ dss) a b (inl h) (inr k) = absurd (limits_apart ds k.0 h.1)
 one_over n (ds ∷ dss) a b (inr h) (inl k) = absurd (limits_apart ds h.0 k.1)
 one_over n (ds ∷ dss) a b (inr h) (inr k) = one_over (n + 1) dss a b h.1 k.1
 
-within_front : (ds es : List Draft) → AllByRecursion IsWithinLimits (ds ++ es) → AllByRecursion IsWithinLimits ds × AllByRecursion IsWithinLimits es
+within_front : (ds es : List ItemDraft) → AllByRecursion IsWithinLimits (ds ++ es) → AllByRecursion IsWithinLimits ds × AllByRecursion IsWithinLimits es
 within_front [] es h = (tt, h)
 within_front (d ∷ ds) es h = let rest = within_front ds es h.1 in ((h.0, rest.0), rest.1)
 

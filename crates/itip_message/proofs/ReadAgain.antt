@@ -11,7 +11,7 @@ use Rattle.itip_todo.specs.Parts.{Parts}
 use Rattle.itip_todo.specs.PartsOf.{parts_of}
 use Rattle.itip_todo.proofs.WritingLaws as todo_laws
 use Rattle.itip_message.specs.Frame.{todos}
-use Rattle.itip_items.specs.Items.{Draft, method_of, IsWithinLimits}
+use Rattle.itip_items.specs.Items.{ItemDraft, method_of, IsWithinLimits}
 use Rattle.itip_items.specs.Needs.{method_cause, is_property}
 use Rattle.itip_message.specs.Message.{AreComponents, ReadsMessage}
 use Rattle.itip_items.specs.Given.{IsItemOf, AreItemsOf}
@@ -66,6 +66,6 @@ reads_again item =
       };
       read = subst (λ (cs : List Component). AreComponents (method_of item.kind) cs (item.todo ∷ [])) (sym is.todos_are)
           (record { reads = todo_laws.read_again (plain_lines is.inner.lines) item.todo is.contents; fits = fits item }, tt);
-      within = subst (λ (ds : List Draft). AllByRecursion IsWithinLimits ds) (sym (alone item)) (within, tt);
-      items_are = subst (λ (ds : List Draft). AreItemsOf ds (item ∷ [])) (sym (alone item)) (item_of_draft item, tt);
+      within = subst (λ (ds : List ItemDraft). AllByRecursion IsWithinLimits ds) (sym (alone item)) (within, tt);
+      items_are = subst (λ (ds : List ItemDraft). AreItemsOf ds (item ∷ [])) (sym (alone item)) (item_of_draft item, tt);
     }

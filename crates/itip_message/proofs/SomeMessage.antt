@@ -20,7 +20,7 @@ use Rattle.itip_message.specs.Refusals.{of_lines, of_todo, in_todo, large_form}
 use Rattle.itip_message.specs.Places.{place_of}
 use Rattle.itip_message.specs.Frame.{frame, todos}
 use Rattle.itip_message.specs.Head.{head}
-use Rattle.itip_items.specs.Items.{Draft, drafts, drafts_of, task_draft, add_drafts, attendee_draft, only_of, kind_of, raised, series_sequence, is_task, canonical_base, canonical_contents, canonical_octets, Sends, IsCanonical, IsWithinLimits}
+use Rattle.itip_items.specs.Items.{ItemDraft, drafts, drafts_of, task_draft, add_drafts, attendee_draft, only_of, kind_of, raised, series_sequence, is_task, canonical_base, canonical_contents, canonical_octets, Sends, IsCanonical, IsWithinLimits}
 use Rattle.itip_items.specs.Needs.{method_cause, Suits}
 use Rattle.itip_items.specs.declared.error.MethodCause.{MethodCause}
 use Rattle.itip_message.specs.Message.{ReadsComponent, RefusesComponent, AreComponents, FirstRefused, HasHead, ReadsMessage, RefusesMessage, at_lines, at_frame, at_head, at_component, at_canonical_form}
@@ -64,7 +64,7 @@ decide_components m n (c ∷ all) =
 
 -- ---- limits
 
-decide_draft : (draft : Draft) → IsWithinLimits draft ⊎ (IsWithinLimits draft → ⊥)
+decide_draft : (draft : ItemDraft) → IsWithinLimits draft ⊎ (IsWithinLimits draft → ⊥)
 decide_draft draft =
     elim (leb_tells (length (canonical_octets draft.kind draft.parts)) 262144) [
       | inr long ↦ inr (λ h. omega (arith, long.1, h.octets))
@@ -74,7 +74,7 @@ decide_draft draft =
       ]
     ]
 
-some_drafts : (ds : List Draft) → AllByRecursion IsWithinLimits ds ⊎ Any (λ draft. ¬ IsWithinLimits draft) ds
+some_drafts : (ds : List ItemDraft) → AllByRecursion IsWithinLimits ds ⊎ Any (λ draft. ¬ IsWithinLimits draft) ds
 some_drafts [] = inl tt
 some_drafts (d ∷ ds) =
     elim (decide_draft d) [
@@ -85,10 +85,10 @@ some_drafts (d ∷ ds) =
       ]
     ]
 
-decide_drafts : (ds : List Draft) → AllByRecursion IsWithinLimits ds ⊎ IsOver ds
+decide_drafts : (ds : List ItemDraft) → AllByRecursion IsWithinLimits ds ⊎ IsOver ds
 decide_drafts ds = elim (some_drafts ds) [ inl within ↦ inl within | inr over ↦ inr (record { over = over }) ]
 
-within_both : (ds es : List Draft) → AllByRecursion IsWithinLimits ds → AllByRecursion IsWithinLimits es → AllByRecursion IsWithinLimits (ds ++ es)
+within_both : (ds es : List ItemDraft) → AllByRecursion IsWithinLimits ds → AllByRecursion IsWithinLimits es → AllByRecursion IsWithinLimits (ds ++ es)
 within_both [] es h k = k
 within_both (d ∷ ds) es h k = (h.0, within_both ds es h.1 k)
 
@@ -105,14 +105,14 @@ decide_each n m all (parts ∷ rest) =
 
 -- ---- each draft is that of an item
 
-record IsSound (d : Draft) : Type 0 where
+record IsSound (d : ItemDraft) : Type 0 where
   canonical : IsCanonical d
   lawful : IsLawful d.parts
 
-abbrev AreSound : List Draft → Type 0
+abbrev AreSound : List ItemDraft → Type 0
 AreSound ds = AllByRecursion IsSound ds
 
-sound_both : (ds es : List Draft) → AreSound ds → AreSound es → AreSound (ds ++ es)
+sound_both : (ds es : List ItemDraft) → AreSound ds → AreSound es → AreSound (ds ++ es)
 sound_both [] es h k = k
 sound_both (d ∷ ds) es h k = (h.0, sound_both ds es h.1 k)
 
@@ -147,7 +147,7 @@ among_sound m all (todo ∷ rest) h =
     sound_both (drafts_of (kind_of m (parts_of todo)) (raised (parts_of todo) above) (parts_of todo)) (drafts_among m (map parts_of all) (map parts_of rest))
     (drafts_sound (parts_of todo) above (series_small m todo.uid all) todo.lawful (kind_of m (parts_of todo)) (sends m (parts_of todo) h.0)) (among_sound m all rest h.1)
 
-item_of : (d : Draft) → IsSound d → IsWithinLimits d → (item : Item) × IsItemOf d item
+item_of : (d : ItemDraft) → IsSound d → IsWithinLimits d → (item : Item) × IsItemOf d item
 item_of d h within = (
   record {
     key = d.key;
@@ -162,7 +162,7 @@ item_of d h within = (
   record { key_is = refl; kind_is = refl; eff_is = refl; parts_are = refl; own_is = refl; stamp_is = refl; bytes_are = refl },
 )
 
-items_of : (ds : List Draft) → AreSound ds → AllByRecursion IsWithinLimits ds → (items : List Item) × AreItemsOf ds items
+items_of : (ds : List ItemDraft) → AreSound ds → AllByRecursion IsWithinLimits ds → (items : List Item) × AreItemsOf ds items
 items_of [] h within = ([], tt)
 items_of (d ∷ ds) h within =
     let first = item_of d h.0 within.0 in let more = items_of ds h.1 within.1 in (first.0 ∷ more.0, (first.1, more.1))

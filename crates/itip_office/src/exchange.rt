@@ -8,7 +8,7 @@ ghost use Rattle.itip_desk.specs.Desk.{IsDeskOf, IsDeltaOf};
 ghost use Rattle.itip_office.specs.Ended.{all_heard};
 
 use crate::error::OfficeError;
-use crate::held::Held;
+use crate::owned_keeper::OwnedKeeper;
 use crate::team::live_error;
 use itip_desk::{Batch, Desk, DeskError};
 use itip_running::meet;
@@ -18,7 +18,7 @@ use std::sync::Wait;
 /// The published desks of these keepers, each of which has taken what the others keep.
 pub(crate) fn ended_desks<R: AllocGlobal + Wait + Copy>(
     rt: &R,
-    keepers: Vec<Held<R>>,
+    keepers: Vec<OwnedKeeper<R>>,
 ) -> Result<Vec<Desk>, OfficeError>
     ensures count { IfOk result (λ ended. length ended.items ≡ length keepers.items) }
     ensures kept { IfOk result (λ ended. All (λ desk. AreKept desk.kept (all_heard (map (λ h. published h.keeper) keepers.items))) ended.items) }
@@ -30,7 +30,7 @@ pub(crate) fn ended_desks<R: AllocGlobal + Wait + Copy>(
 // The published desks of these keepers.
 fn meet_all<R: AllocGlobal + Wait + Copy>(
     rt: &R,
-    keepers: Vec<Held<R>>,
+    keepers: Vec<OwnedKeeper<R>>,
 ) -> Result<Vec<Desk>, OfficeError>
     ensures { IfOk result (λ desks. AllZip (λ batches desk. IsDeskOf batches 0 desk) (map (λ h. published h.keeper) keepers.items) desks.items) }
 {
@@ -41,7 +41,7 @@ fn meet_all<R: AllocGlobal + Wait + Copy>(
     Ok(desks)
 }
 
-fn published_desk<R: AllocGlobal + Wait + Copy>(held: Held<R>) -> Result<Desk, OfficeError>
+fn published_desk<R: AllocGlobal + Wait + Copy>(held: OwnedKeeper<R>) -> Result<Desk, OfficeError>
     ensures { IfOk result (λ desk. IsDeskOf (published held.keeper) 0 desk) }
 {
     let (keeper, rt) = held.into_parts();

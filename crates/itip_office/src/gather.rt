@@ -7,7 +7,7 @@ ghost use Rattle.itip_office.specs.Team.{AreOfDesks};
 ghost use Rattle.itip_office.specs.Ended.{Tells, all_heard};
 
 use crate::error::OfficeError;
-use crate::held::Held;
+use crate::owned_keeper::OwnedKeeper;
 use crate::job::Job;
 use crate::outcome::Outcome;
 use crate::team::{Done, Merged};
@@ -19,7 +19,7 @@ pub(crate) fn gather<R: AllocGlobal + Wait + Copy>(
     rt: &R,
     desks: usize,
     done: Done<R>,
-) -> Result<(Vec<(Job, Outcome)>, Vec<Held<R>>), OfficeError>
+) -> Result<(Vec<(Job, Outcome)>, Vec<OwnedKeeper<R>>), OfficeError>
     requires alone { All (λ a. AnswersAlone desks a.0.work a.1) done.alone.items }
     requires kept { AreOfDesks 0 (map (λ k. (k.answers.items, published k.held.keeper)) done.kept.items) }
     requires count { length done.kept.items ≡ desks }

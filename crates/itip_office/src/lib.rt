@@ -12,7 +12,7 @@ mod error;
 mod exchange;
 mod gate;
 mod gather;
-mod held;
+mod owned_keeper;
 mod job;
 mod keeper;
 mod merge;

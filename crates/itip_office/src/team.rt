@@ -7,7 +7,7 @@ ghost use Rattle.itip_office.specs.Team.{AreOfDesks, AreNumbered};
 
 use crate::error::OfficeError;
 use crate::gate::Gate;
-use crate::held::Held;
+use crate::owned_keeper::OwnedKeeper;
 use crate::job::Job;
 use crate::keeper::keeper_loop;
 use crate::merge::Merge;
@@ -23,7 +23,7 @@ use std::thread::{Promise, PromisedHandle, Threads};
 /// What the thread of a keeper returns: the keeper, and the jobs that it merged, with their outcomes.
 #[derive(Drop)]
 pub(crate) struct Merged<R: AllocGlobal + Wait + Copy> {
-    pub(crate) held: Held<R>,
+    pub(crate) held: OwnedKeeper<R>,
     pub(crate) answers: Vec<(Job, Outcome)>,
 }
 
@@ -182,7 +182,7 @@ fn start_keeper<
     ensures workers { length benches.new ≡ length benches.old }
 {
     let (keeper, passes) = start_desk(rt, benches.len()).map_err(live_error)?;
-    let held = Held { keeper, rt: *rt };
+    let held = OwnedKeeper { keeper, rt: *rt };
     let (to, merges) = unbounded(rt.alloc())?;
     seat(benches, passes, &to)?;
     keeper_thread(rt, desk, held, merges, Arc::try_clone(gate)?)
@@ -247,7 +247,7 @@ fn keeper_thread<
 >(
     rt: &R,
     desk: u64,
-    held: Held<R>,
+    held: OwnedKeeper<R>,
     merges: Receiver<Merge>,
     gate: Arc<G>,
 ) -> Result<KeeperThread<R>, OfficeError>
@@ -266,7 +266,7 @@ fn keeper_thread<
 
 fn keep<R: AllocGlobal + Wait + Copy, G: Gate + Drop>(
     desk: u64,
-    held: Held<R>,
+    held: OwnedKeeper<R>,
     merges: Receiver<Merge>,
     gate: Arc<G>,
 ) -> Result<Merged<R>, OfficeError>
@@ -275,7 +275,7 @@ fn keep<R: AllocGlobal + Wait + Copy, G: Gate + Drop>(
 {
     let (keeper, rt) = held.into_parts();
     let (keeper, answers) = keeper_loop(&rt, desk, keeper, merges, &*gate)?;
-    let held = Held { keeper, rt };
+    let held = OwnedKeeper { keeper, rt };
     Ok(Merged { held, answers })
 }
 

@@ -6,7 +6,7 @@ use Rattle.itip_moment.specs.declared.moment.Moment.{Moment}
 use Rattle.itip_todo.specs.Parts.{Parts}
 use Rattle.itip_todo.specs.PartsOf.{parts_of}
 use Rattle.itip_todo.specs.declared.property.Property.{Property}
-use Rattle.itip_items.specs.Items.{Draft, drafts_of, task_draft, add_drafts, attendee_draft, instance_sequence, kind_of, method_of}
+use Rattle.itip_items.specs.Items.{ItemDraft, drafts_of, task_draft, add_drafts, attendee_draft, effective_sequence, kind_of, method_of}
 use Rattle.itip_items.specs.declared.item.Item.{Item}
 use Rattle.itip_items.specs.declared.kind.Kind.{Kind}
 use Rattle.itip_items.specs.declared.kind.Kind.TheVariants as kind
@@ -15,7 +15,7 @@ use Rattle.itip_items.proofs.SameItem.{draft, alone}
 use Rattle.itip_state.specs.Organizers.{IsLastUsed}
 use Rattle.itip_report.specs.Organizing.{IsNext, last_sequence}
 
-abbrev IsSmall : Draft → Type 0
+abbrev IsSmall : ItemDraft → Type 0
 IsSmall draft = draft.eff ≤ last_sequence
 
 module _ (parts : Parts) (seq : parts.seq ≤ last_sequence) (eff : ℕ) (small : eff ≤ last_sequence) where
@@ -42,11 +42,11 @@ module _ (parts : Parts) (seq : parts.seq ≤ last_sequence) (eff : ℕ) (small 
 pub eff_small : (item : Item) → item.eff ≤ last_sequence
 eff_small item =
     let parts : Parts = parts_of item.todo in
-    let eff : ℕ = instance_sequence (method_of item.kind) (parts ∷ []) parts in
+    let eff : ℕ = effective_sequence (method_of item.kind) (parts ∷ []) parts in
     let small : eff ≤ last_sequence = raised_small parts _ item.todo.lawful (series_small (method_of item.kind) parts.uid (item.todo ∷ [])) in
     let k : Kind = kind_of (method_of item.kind) parts in
     let one : drafts_of k eff parts ≡ draft item ∷ [] = sym (append-nil (drafts_of k eff parts)) ∙ alone item in
-    (subst (λ (ds : List Draft). AllByRecursion IsSmall ds) one (drafts_small parts item.todo.lawful.seq eff small k)).0
+    (subst (λ (ds : List ItemDraft). AllByRecursion IsSmall ds) one (drafts_small parts item.todo.lawful.seq eff small k)).0
 
 -- what was used last is the effective sequence of an item
 pub last_small : (heard : List Item) (uid : List ℕ) (n : ℕ) → IsLastUsed heard uid (Some n) → n ≤ last_sequence

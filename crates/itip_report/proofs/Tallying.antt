@@ -13,12 +13,12 @@ use Rattle.itip_state.proofs.Members.{by_bool}
 use Rattle.itip_view.specs.declared.row.Row.{Row}
 use Rattle.itip_report.specs.Load.{same_text, keys_in, firsts, rows_with, load_line, load_lines}
 use Rattle.itip_report.specs.Tally.{one_if, IsCounted, IsTally, rows_before}
-use Rattle.itip_report.specs.declared.load.Seen.{Seen}
+use Rattle.itip_report.specs.declared.load.Tallied.{Tallied}
 use Rattle.itip_report.proofs.Mapped.{map_both}
 use Rattle.itip_report.proofs.Firsts.{same_is, same_itself, same_back, any_push, neither, firsts_new, firsts_old, any_firsts, firsts_distinct}
 
 abbrev Entry : Type 0
-Entry = List ℕ × Seen
+Entry = List ℕ × Tallied
 
 -- texts are told apart by their octets
 pub eq_is : pointwise nat_eq ≡ same_text
@@ -67,7 +67,7 @@ rows_push k (r ∷ rs) row =
     ]
 
 -- ---- entries
-there : (k : List ℕ) (es : List Entry) (s : Seen) → lookup (same_text k) es ≡ Some s → list_any (same_text k) (keys_of es) ≡ true
+there : (k : List ℕ) (es : List Entry) (s : Tallied) → lookup (same_text k) es ≡ Some s → list_any (same_text k) (keys_of es) ≡ true
 there k [] s e = let x : None ≡ Some s = e in absurd (cc)
 there k (f ∷ fs) s e = elim (same_text k f.0) as (λ b. cond b (Some f.1) (lookup (same_text k) fs) ≡ Some s → (b || list_any (same_text k) (keys_of fs)) ≡ true) [
   | true ↦ λ h. refl
@@ -81,14 +81,14 @@ away k (f ∷ fs) e = elim (same_text k f.0) as (λ b. cond b (Some f.1) (lookup
   | false ↦ λ h. away k fs h
 ] e
 
-insert_new : (k : List ℕ) (v : Seen) (es : List Entry) → lookup (same_text k) es ≡ None → insert_entry same_text es k v ≡ es ++ (k, v) ∷ []
+insert_new : (k : List ℕ) (v : Tallied) (es : List Entry) → lookup (same_text k) es ≡ None → insert_entry same_text es k v ≡ es ++ (k, v) ∷ []
 insert_new k v [] e = refl
 insert_new k v (f ∷ fs) e = elim (same_text k f.0) as (λ b. cond b (Some f.1) (lookup (same_text k) fs) ≡ None → cond b ((f.0, v) ∷ fs) (f ∷ insert_entry same_text fs k v) ≡ f ∷ (fs ++ (k, v) ∷ [])) [
   | true ↦ λ h. let x : Some f.1 ≡ None = h in absurd (cc)
   | false ↦ λ h. ap (λ rest. f ∷ rest) (insert_new k v fs h)
 ] e
 
-insert_keys : (k : List ℕ) (v s : Seen) (es : List Entry) → lookup (same_text k) es ≡ Some s → keys_of (insert_entry same_text es k v) ≡ keys_of es
+insert_keys : (k : List ℕ) (v s : Tallied) (es : List Entry) → lookup (same_text k) es ≡ Some s → keys_of (insert_entry same_text es k v) ≡ keys_of es
 insert_keys k v s [] e = let x : None ≡ Some s = e in absurd (cc)
 insert_keys k v s (f ∷ fs) e = elim (same_text k f.0) as (λ b. cond b (Some f.1) (lookup (same_text k) fs) ≡ Some s → keys_of (cond b ((f.0, v) ∷ fs) (f ∷ insert_entry same_text fs k v)) ≡ keys_of (f ∷ fs)) [
   | true ↦ λ h. refl
@@ -104,26 +104,26 @@ right_false true b e = refl
 right_false false b e = e
 
 module _ (done : List Row) (before : List (List ℕ)) where
-  counted_at : (k : List ℕ) (s : Seen) (es : List Entry) → AllByRecursion (λ e. IsCounted done before e.0 e.1) es → lookup (same_text k) es ≡ Some s → IsCounted done before k s
+  counted_at : (k : List ℕ) (s : Tallied) (es : List Entry) → AllByRecursion (λ e. IsCounted done before e.0 e.1) es → lookup (same_text k) es ≡ Some s → IsCounted done before k s
   counted_at k s [] h e = let x : None ≡ Some s = e in absurd (cc)
   counted_at k s (f ∷ fs) h e = elim (same_text k f.0) as (λ b. same_text k f.0 ≡ b → cond b (Some f.1) (lookup (same_text k) fs) ≡ Some s → IsCounted done before k s) [
     | true ↦ λ same g. subst (λ (q : List ℕ). IsCounted done before q s) (sym (same_is k f.0 same)) (subst (IsCounted done before f.0) (one f.1 s g) h.0)
     | false ↦ λ apart g. counted_at k s fs h.1 g
   ] refl e
     where
-      one : (a b : Seen) → Some a ≡ Some b → a ≡ b
+      one : (a b : Tallied) → Some a ≡ Some b → a ≡ b
       one a b g = cc
 
   module _ (k : List ℕ) where
     -- the attendee was shown before as after
-    still : (key : List ℕ) (s : Seen) → list_any (same_text key) (before ++ k ∷ []) ≡ list_any (same_text key) before → IsCounted done before key s → IsCounted done (before ++ k ∷ []) key s
+    still : (key : List ℕ) (s : Tallied) → list_any (same_text key) (before ++ k ∷ []) ≡ list_any (same_text key) before → IsCounted done before key s → IsCounted done (before ++ k ∷ []) key s
     still key s same c = record {
       rows = c.rows ∙ ap (λ b. rows_with key done + one_if b) (sym same);
       here = λ e. c.here (sym same ∙ e);
       earlier = λ e. c.earlier (sym same ∙ e);
     }
 
-    other : (key : List ℕ) (s : Seen) → same_text k key ≡ false → IsCounted done before key s → IsCounted done (before ++ k ∷ []) key s
+    other : (key : List ℕ) (s : Tallied) → same_text k key ≡ false → IsCounted done before key s → IsCounted done (before ++ k ∷ []) key s
     other key s apart = still key s (any_push (same_text key) before k ∙ right_false (list_any (same_text key) before) (same_text key k) (same_back key k ∙ apart))
 
     others : (es : List Entry) → list_any (same_text k) (keys_of es) ≡ false → AllByRecursion (λ e. IsCounted done before e.0 e.1) es → AllByRecursion (λ e. IsCounted done (before ++ k ∷ []) e.0 e.1) es
@@ -147,14 +147,14 @@ module _ (done : List Row) (before : List (List ℕ)) where
         right_true true = refl
         right_true false = refl
 
-    counted_now : (v : Seen) → v.rows ≡ rows_with k done + 1 → v.last ≡ length done → IsCounted done (before ++ k ∷ []) k v
+    counted_now : (v : Tallied) → v.rows ≡ rows_with k done + 1 → v.last ≡ length done → IsCounted done (before ++ k ∷ []) k v
     counted_now v rows last = record {
       rows = rows ∙ ap (λ b. rows_with k done + one_if b) (sym now_here);
       here = λ e. last;
       earlier = λ e. let x : true ≡ false = sym now_here ∙ e in absurd (cc);
     }
 
-    replaced : (v s : Seen) → IsCounted done (before ++ k ∷ []) k v → (es : List Entry) → IsDistinct same_text (keys_of es) → AllByRecursion (λ e. IsCounted done before e.0 e.1) es → lookup (same_text k) es ≡ Some s
+    replaced : (v s : Tallied) → IsCounted done (before ++ k ∷ []) k v → (es : List Entry) → IsDistinct same_text (keys_of es) → AllByRecursion (λ e. IsCounted done before e.0 e.1) es → lookup (same_text k) es ≡ Some s
         → AllByRecursion (λ e. IsCounted done (before ++ k ∷ []) e.0 e.1) (insert_entry same_text es k v)
     unfolding IsDistinct
     replaced v s c [] d h e = let x : None ≡ Some s = e in absurd (cc)
@@ -173,7 +173,7 @@ module _ (done : List Row) (before : List (List ℕ)) where
     assoc : (flat_map keys_in done ++ before) ++ k ∷ [] ≡ flat_map keys_in done ++ (before ++ k ∷ [])
     assoc = append_assoc (flat_map keys_in done) before (k ∷ [])
 
-    counted_already : (s : Seen) → lookup (same_text k) es ≡ Some s → s.last ≡ length done → IsTally done (before ++ k ∷ []) es
+    counted_already : (s : Tallied) → lookup (same_text k) es ≡ Some s → s.last ≡ length done → IsTally done (before ++ k ∷ []) es
     counted_already s found last =
         let c = counted_at k s es tally.counts found in
         let shown : list_any (same_text k) before ≡ true = by_bool (list_any (same_text k) before) (list_any (same_text k) before ≡ true) (λ e. e) (λ e. let x : s.last < length done = c.earlier e in absurd (omega (arith, x, last))) in
@@ -182,7 +182,7 @@ module _ (done : List Row) (before : List (List ℕ)) where
           counts = all_map (λ e. IsCounted done before e.0 e.1) (λ e. IsCounted done (before ++ k ∷ []) e.0 e.1) es (again k shown) tally.counts;
         }
 
-    counted_first : (v : Seen) → lookup (same_text k) es ≡ None → v.rows ≡ 1 → v.last ≡ length done → IsTally done (before ++ k ∷ []) (insert_entry same_text es k v)
+    counted_first : (v : Tallied) → lookup (same_text k) es ≡ None → v.rows ≡ 1 → v.last ≡ length done → IsTally done (before ++ k ∷ []) (insert_entry same_text es k v)
     counted_first v none rows last =
         let absent : list_any (same_text k) (flat_map keys_in done ++ before) ≡ false = sym all_any ∙ away k es none in
         let parts = neither (list_any (same_text k) (flat_map keys_in done)) (list_any (same_text k) before) (sym (list_any-append (same_text k) (flat_map keys_in done) before) ∙ absent) in
@@ -192,7 +192,7 @@ module _ (done : List Row) (before : List (List ℕ)) where
           counts = all_push (λ e. IsCounted done (before ++ k ∷ []) e.0 e.1) es (k, v) (others k es (away k es none) tally.counts) (counted_now k v (omega (arith, rows, nothing)) last);
         })
 
-    counted_more : (v s : Seen) → lookup (same_text k) es ≡ Some s → (s.last ≡ length done → ⊥) → v.rows ≡ s.rows + 1 → v.last ≡ length done → IsTally done (before ++ k ∷ []) (insert_entry same_text es k v)
+    counted_more : (v s : Tallied) → lookup (same_text k) es ≡ Some s → (s.last ≡ length done → ⊥) → v.rows ≡ s.rows + 1 → v.last ≡ length done → IsTally done (before ++ k ∷ []) (insert_entry same_text es k v)
     counted_more v s found not rows last =
         let c = counted_at k s es tally.counts found in
         let absent : list_any (same_text k) before ≡ false = by_bool (list_any (same_text k) before) (list_any (same_text k) before ≡ false) (λ e. absurd (not (c.here e))) (λ e. e) in
@@ -203,7 +203,7 @@ module _ (done : List Row) (before : List (List ℕ)) where
         }
 
   -- what was counted of an attendee is no more than the rows done
-  few_rows : (es : List Entry) → IsTally done before es → (k : List ℕ) (s : Seen) → lookup (same_text k) es ≡ Some s → (s.last ≡ length done → ⊥) → s.rows ≤ length done
+  few_rows : (es : List Entry) → IsTally done before es → (k : List ℕ) (s : Tallied) → lookup (same_text k) es ≡ Some s → (s.last ≡ length done → ⊥) → s.rows ≤ length done
   few_rows es tally k s found not =
       let c = counted_at k s es tally.counts found in
       let absent : list_any (same_text k) before ≡ false = by_bool (list_any (same_text k) before) (list_any (same_text k) before ≡ false) (λ e. absurd (not (c.here e))) (λ e. e) in
@@ -219,21 +219,21 @@ module _ (place : ℕ) (done : List Row) (before : List (List ℕ)) (es : List E
   pub count_done : rows_before place (lookup (same_text k) es) ≡ None → IsTally done (before ++ k ∷ []) es
   count_done e = by (lookup (same_text k) es) refl e
     where
-      by : (o : Option Seen) → lookup (same_text k) es ≡ o → rows_before place o ≡ None → IsTally done (before ++ k ∷ []) es
+      by : (o : Option Tallied) → lookup (same_text k) es ≡ o → rows_before place o ≡ None → IsTally done (before ++ k ∷ []) es
       by None found h = absurd (no_number 0 h)
       by (Some s) found h = elim (s.last == place) as (λ b. (s.last == place) ≡ b → cond b None (Some s.rows) ≡ None → IsTally done (before ++ k ∷ []) es) [
         | true ↦ λ same g. counted_already done before es tally k s found (equal_from s.last place same ∙ sym long)
         | false ↦ λ apart g. absurd (no_number s.rows g)
       ] refl h
 
-  pub count_more : (rows : ℕ) (v : Seen) → rows_before place (lookup (same_text k) es) ≡ Some rows → place < 18446744073709551615 → v.rows ≡ min (rows + 1) 18446744073709551615 → v.last ≡ place
+  pub count_more : (rows : ℕ) (v : Tallied) → rows_before place (lookup (same_text k) es) ≡ Some rows → place < 18446744073709551615 → v.rows ≡ min (rows + 1) 18446744073709551615 → v.last ≡ place
       → IsTally done (before ++ k ∷ []) (insert_entry same_text es k v)
   count_more rows v e small rows_are last = by (lookup (same_text k) es) refl e
     where
       number : (a b : ℕ) → Some a ≡ Some b → a ≡ b
       number a b g = cc
 
-      by : (o : Option Seen) → lookup (same_text k) es ≡ o → rows_before place o ≡ Some rows → IsTally done (before ++ k ∷ []) (insert_entry same_text es k v)
+      by : (o : Option Tallied) → lookup (same_text k) es ≡ o → rows_before place o ≡ Some rows → IsTally done (before ++ k ∷ []) (insert_entry same_text es k v)
       by None found h =
           let zero_is : 0 ≡ rows = number 0 rows h in
           counted_first done before es tally k v found (omega (arith, zero_is, rows_are)) (last ∙ sym long)

@@ -15,7 +15,7 @@ AreStanding heard uid items = AreReported (IsStanding heard uid) items
 pub record IsResend (heard : List Item) (uid : List ℕ) (bytes : List ℕ) : Type 0 where
   pub series : Item
   pub live : IsLiveSeries heard uid series
-  pub instances : List Item
+  pub overrides : List Item
   pub standing : AreStanding heard uid instances
   pub bytes_are : bytes ≡ flat_map (λ (item : Item). item.bytes) (series ∷ instances)
 

@@ -27,12 +27,12 @@ pub record IsStanding (heard : List Item) (uid : List ℕ) (item : Item) : Type 
   pub stands : Stands heard uid id item ⊎ StandsFrom heard uid id item
 
 -- a cancelled instance or range item that stands
-pub record IsCancelledInstance (heard : List Item) (item : Item) : Type 0 where
+pub record IsCancelledOverride (heard : List Item) (item : Item) : Type 0 where
   pub standing : IsStanding heard (uid_of item.key) item
   pub cancelled : IsCancelled item
 
 abbrev pub IsCancellation : List Item → Item → Type 0
-IsCancellation heard item = IsCancelledSeries heard item ⊎ IsCancelledInstance heard item
+IsCancellation heard item = IsCancelledSeries heard item ⊎ IsCancelledOverride heard item
 
 -- nothing was heard at the key
 abbrev pub NoneAt : List Item → Key → Type 0

@@ -23,5 +23,5 @@ pub fn one_report()
 
 /// What is sent again of a to-do of which no instance stands is a message that gives its one item.
 pub fn resend_is_read()
-    ensures { (heard : List Item) (uid bytes : List ℕ) (sent : IsResend heard uid bytes) → sent.instances ≡ [] → ReadsMessage bytes (sent.series ∷ []) }
+    ensures { (heard : List Item) (uid bytes : List ℕ) (sent : IsResend heard uid bytes) → sent.overrides ≡ [] → ReadsMessage bytes (sent.series ∷ []) }
 {}

@@ -17,7 +17,7 @@ use std::alloc::Global;
 
 /// How many rows have shown an attendee, and the place of the last of them.
 #[derive(Clone, Copy, Debug)]
-struct Seen {
+struct Tallied {
     rows: usize,
     last: usize,
 }
@@ -47,7 +47,7 @@ fn load_line(alloc: Global, key: &Text, rows: usize) -> Result<String, NoMemory>
 }
 
 /// The attendees that rows show, each counted.
-fn tally(alloc: Global, rows: &[Row]) -> Result<IndexMap<Text, Seen>, NoMemory>
+fn tally(alloc: Global, rows: &[Row]) -> Result<IndexMap<Text, Tallied>, NoMemory>
     ensures { IfOk result (λ tally. IsTally rows.now [] tally.entries) }
 {
     let mut tally = IndexMap::new(alloc);
@@ -62,7 +62,7 @@ fn tally(alloc: Global, rows: &[Row]) -> Result<IndexMap<Text, Seen>, NoMemory>
 /// Counts the row at a place, once for each attendee that it shows.
 fn count_row(
     alloc: Global,
-    tally: &mut IndexMap<Text, Seen>,
+    tally: &mut IndexMap<Text, Tallied>,
     row: &Row,
     place: usize,
 ) -> Result<(), NoMemory>
@@ -77,14 +77,14 @@ fn count_row(
 }
 
 /// Counts the row at a place for one attendee, unless it was counted for him.
-fn count(tally: &mut IndexMap<Text, Seen>, key: Text, place: usize) -> Result<(), NoMemory>
+fn count(tally: &mut IndexMap<Text, Tallied>, key: Text, place: usize) -> Result<(), NoMemory>
     requires { place < usize.MAX }
     ensures { OnOk result ((done : List Row) (before : List (List ℕ)) → length done ≡ place → IsTally done before tally.old.entries → IsTally done (before ++ key ∷ []) tally.new.entries) }
 {
     let Some(rows) = rows_before(tally, &key, place) else {
         return Ok(());
     };
-    let seen = Seen {
+    let seen = Tallied {
         rows: rows.saturating_add(1),
         last: place,
     };
@@ -93,7 +93,7 @@ fn count(tally: &mut IndexMap<Text, Seen>, key: Text, place: usize) -> Result<()
 }
 
 /// The rows counted so far for an attendee, or `None` where the row at the place was counted already.
-fn rows_before(tally: &IndexMap<Text, Seen>, key: &Text, place: usize) -> Option<usize>
+fn rows_before(tally: &IndexMap<Text, Tallied>, key: &Text, place: usize) -> Option<usize>
     ensures { result ≡ rows_before place (lookup (same_text key.now) tally.now.entries) }
 {
     match tally.get(key) {

@@ -5,19 +5,19 @@ use lib.ListN.{get_elem?}
 use Rattle.logbook.specs.Pages.{Book}
 use Rattle.itip_running.specs.History.{Items}
 use Rattle.itip_running.specs.declared.published.Published.{Published}
-use Rattle.itip_running.specs.declared.published.View.{View}
+use Rattle.itip_running.specs.declared.published.KnownHistory.{KnownHistory}
 use Rattle.itip_running.specs.declared.published.Op.{Op}
 use Rattle.itip_running.specs.declared.published.Op.TheVariants.{Take, Mark}
 
 -- which history it is
-abbrev pub name_of : Book → View
+abbrev pub name_of : Book → KnownHistory
 name_of b = record { known = true; number = b.number; log_name = b.log_name; cells_name = b.cells_name }
 
 -- what the two copies have in common: the batches that they have taken, and how long the history was at the last mark
-abbrev pub state_of : Published → List Items × View × List Items
+abbrev pub state_of : Published → List Items × KnownHistory × List Items
 state_of x = (x.history, name_of x.front.seen.book, x.front.seen.log)
 
-abbrev pub applied_to : List Items × View × List Items → Op → List Items × View × List Items
+abbrev pub applied_to : List Items × KnownHistory × List Items → Op → List Items × KnownHistory × List Items
 applied_to s (Take b) = (s.0 ++ b ∷ [], s.1, s.2)
 applied_to s (Mark f) = (s.0, name_of f.seen.book, f.seen.log)
 
@@ -28,9 +28,9 @@ takes (Take b ∷ ops) = b ∷ takes ops
 takes (Mark f ∷ ops) = takes ops
 
 -- the pair's rule: the value's history is its front's, and every seat that knows a history knows this one
-abbrev pub Tied : Published → List View → Type 0
-Tied x views = (x.history ≡ x.front.seen.log) × ((seat : ℕ) (v : View) → get_elem? views seat ≡ some v → v.known ≡ true → v ≡ name_of x.front.seen.book)
+abbrev pub Tied : Published → List KnownHistory → Type 0
+Tied x views = (x.history ≡ x.front.seen.log) × ((seat : ℕ) (v : KnownHistory) → get_elem? views seat ≡ some v → v.known ≡ true → v ≡ name_of x.front.seen.book)
 
 -- what entering and publishing tell
-abbrev pub Sights : View → Published → Published → View → Type 0
+abbrev pub Sights : KnownHistory → Published → Published → KnownHistory → Type 0
 Sights v x y w = (y.history ≡ y.front.seen.log) × (w ≡ name_of y.front.seen.book) × (v.known ≡ true → w ≡ v)

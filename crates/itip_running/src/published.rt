@@ -31,7 +31,7 @@ impl Published {
 }
 
 /// What a seat of the pair knows: which history it is. No value of it is made.
-pub(crate) struct View {
+pub(crate) struct KnownHistory {
     pub known: bool,
     pub number: u64,
     pub log_name: u64,
@@ -48,7 +48,7 @@ pub(crate) enum Op {
 impl Absorb<Op> for Published {
     ghost use Rattle.itip_running.specs.Pair.{state_of, applied_to};
 
-    type State = ([Batch; 0], View, [Batch; 0]);
+    type State = ([Batch; 0], KnownHistory, [Batch; 0]);
 
     ghost state = { λ s. state_of s };
 

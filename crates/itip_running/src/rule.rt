@@ -1,6 +1,6 @@
 //! The rule of the pair.
 
-use crate::published::{Op, Published, View};
+use crate::published::{Op, Published, KnownHistory};
 use atomic_table::{Join, Split};
 use crossbeam_utils::rule::{Outcome, Protocol};
 use left_right::reader::{Reader, Reading};
@@ -9,7 +9,7 @@ use left_right::writer::Writer;
 /// The value is the desk of its history, and all seats speak of one history.
 pub(crate) struct Ties;
 
-impl Protocol<Published, View> for Ties {
+impl Protocol<Published, KnownHistory> for Ties {
     ghost use Rattle.std.specs.Prelude.{false};
     ghost use Rattle.itip_running.specs.Pair.{Tied};
 
@@ -21,31 +21,31 @@ impl Protocol<Published, View> for Ties {
 /// A look at the value, or its exchange.
 pub(crate) struct Sees;
 
-impl Outcome<Published, View> for Sees {
+impl Outcome<Published, KnownHistory> for Sees {
     ghost use Rattle.itip_running.specs.Pair.{Sights};
 
     ghost then = { Sights };
 }
 
 /// A reader of the pair.
-pub(crate) type PublishedReader = Reader<Published, View, Ties>;
+pub(crate) type PublishedReader = Reader<Published, KnownHistory, Ties>;
 
 /// A read that is open.
-pub(crate) type PublishedReading = Reading<Published, View, Ties>;
+pub(crate) type PublishedReading = Reading<Published, KnownHistory, Ties>;
 
 /// The writer of the pair.
-pub(crate) type PublishedWriter = Writer<Published, Op, View, Ties>;
+pub(crate) type PublishedWriter = Writer<Published, Op, KnownHistory, Ties>;
 
 /// What the keeper knows is told to a reader.
 pub(crate) struct Tells;
 
-impl Split<View> for Tells {
+impl Split<KnownHistory> for Tells {
     ghost left = { λ v. v };
 
     ghost right = { λ v. v };
 }
 
-impl Join<View> for Tells {
+impl Join<KnownHistory> for Tells {
     ghost use Rattle.std.specs.Prelude.{false};
 
     ghost both = { λ v w. w };

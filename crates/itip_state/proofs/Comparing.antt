@@ -16,19 +16,19 @@ use Rattle.itip_items.specs.declared.key.Key.{Key}
 use Rattle.itip_items.specs.declared.key.Key.TheVariants.{Series}
 use Rattle.itip_state.specs.Kept.{IsBest, IsDead, IsKept, AreKept}
 use Rattle.itip_state.specs.Slots.{slot_cmp}
-use Rattle.itip_state.specs.Held.{Best, Shape, best, is_series, can_die, is_killed, kills, shape_items, IsSound}
+use Rattle.itip_state.specs.Held.{Best, UidState, best, is_series, can_die, is_killed, kills, uid_state_items, IsSound}
 use Rattle.itip_state.specs.Dying.{IsNoLater, eff_up_to, less_from}
-use Rattle.itip_state.specs.Joined.{IsShapeBelow}
+use Rattle.itip_state.specs.Joined.{IsUidStateBelow}
 use Rattle.itip_state.proofs.Members.{by_bool}
 use Rattle.itip_state.proofs.Best.{best_above, not_later_itself, later_transitive, greater_eff}
 use Rattle.itip_state.proofs.Later.{up_to_not_later, not_later_up_to, neither_later}
 use Rattle.itip_state.proofs.Keeping.{series_kept}
 use Rattle.itip_state.proofs.Tests.{series_key, can, killed, kill}
-use Rattle.itip_state.proofs.Shapes.{held_as, series_held, entry_held, entry_key, known_key, about, series_is, entry_is, one_of_key, not_killed, is_state, killed_is_dead}
+use Rattle.itip_state.proofs.UidStates.{held_as, series_held, entry_held, entry_key, known_key, about, series_is, entry_is, one_of_key, not_killed, is_state, killed_is_dead}
 
 -- where no item can be dead, none is killed
-abbrev pub IsToldBy : Shape → Item → Type 0
-IsToldBy b j = ((w : Item) × Contains (shape_items b) w × (w.key ≡ j.key) × IsUpTo revision_cmp j w) ⊎ (kills b.series j.key j ≡ true)
+abbrev pub IsToldBy : UidState → Item → Type 0
+IsToldBy b j = ((w : Item) × Contains (uid_state_items b) w × (w.key ≡ j.key) × IsUpTo revision_cmp j w) ⊎ (kills b.series j.key j ≡ true)
 
 pub series_lives : (s : Lift Best) (key : Key) (i : Item) → is_series key ≡ true → kills s key i ≡ true → ⊥
 series_lives Nothing key i e d = let x : false ≡ true = d in cc
@@ -36,12 +36,12 @@ series_lives (Known s) key i e d =
     let c : can_die (Series (uid_of key)) ≡ true = ap can_die (sym (series_key key e)) ∙ (killed s.value key i d).0 in
     let x : false ≡ true = c in cc
 
-module _ (uid : List ℕ) (a b : Shape) (sound_a : IsSound uid a) (sound_b : IsSound uid b) where
+module _ (uid : List ℕ) (a b : UidState) (sound_a : IsSound uid a) (sound_b : IsSound uid b) where
   abbrev x : List Item
-  x = shape_items a
+  x = uid_state_items a
 
   abbrev z : List Item
-  z = shape_items b
+  z = uid_state_items b
 
   by_series : (j : Item) → j.key ≡ Series uid → (s : Lift Best) → b.series ≡ s → IsLiftedBelow IsNoLater (Known (best j)) s → IsToldBy b j
   by_series j key Nothing e l = absurd l
@@ -53,7 +53,7 @@ module _ (uid : List ℕ) (a b : Shape) (sound_a : IsSound uid a) (sound_b : IsS
   by_entry j (Some w) e (inr l) = inl (w.value, entry_held uid b sound_b j.key w e, (entry_key uid b sound_b j.key w e).in_place, l)
 
   -- what the one tells the other tells too, or it is dead there
-  pub told : IsShapeBelow a b → (j : Item) → Contains x j → IsToldBy b j
+  pub told : IsUidStateBelow a b → (j : Item) → Contains x j → IsToldBy b j
   told le j h = elim (held_as uid a sound_a j h) [
     | inl first ↦ by_series j (known_key uid a sound_a j first.0) b.series refl (subst (λ (s : Lift Best). IsLiftedBelow IsNoLater s b.series) first.0 le.0)
     | inr other ↦ by_entry j (value_at slot_cmp b.entries j.key) refl
@@ -85,7 +85,7 @@ module _ (uid : List ℕ) (a b : Shape) (sound_a : IsSound uid a) (sound_b : IsS
               (λ over. less_than i.eff t.eff low over)
 
   -- a series item that is told has one above it
-  told_series : IsShapeBelow a b → (t : Item) → Contains (x ++ z) t → t.key ≡ Series uid → (s : Item) × Contains z s × (s.key ≡ Series uid) × (t.eff ≤ s.eff)
+  told_series : IsUidStateBelow a b → (t : Item) → Contains (x ++ z) t → t.key ≡ Series uid → (s : Item) × Contains z s × (s.key ≡ Series uid) × (t.eff ≤ s.eff)
   told_series le t h key = elim (Contains-append_cases x z t h) [
     | inl left ↦ by (told le t left)
     | inr right ↦ (t, right, key, omega arith)
@@ -95,7 +95,7 @@ module _ (uid : List ℕ) (a b : Shape) (sound_a : IsSound uid a) (sound_b : IsS
       by (inl (w, there, same, up)) = (w, there, same ∙ key, eff_up_to t w up)
       by (inr d) = absurd (series_lives b.series t.key t (ap is_series key) d)
 
-  pub below_kept : IsShapeBelow a b → AreKept z (x ++ z)
+  pub below_kept : IsUidStateBelow a b → AreKept z (x ++ z)
   below_kept le i = (up, down)
     where
       up : Contains z i → IsKept (x ++ z) i
@@ -138,7 +138,7 @@ module _ (uid : List ℕ) (a b : Shape) (sound_a : IsSound uid a) (sound_b : IsS
   series_in : AreKept z (x ++ z) → (t : Item) → IsBest (x ++ z) (Series uid) t → b.series ≡ Known (best t)
   series_in kept t is = series_is uid b sound_b t ((kept t).1 (series_kept (x ++ z) uid t is)) (ap is_series is.about)
 
-  pub kept_below : AreKept z (x ++ z) → IsShapeBelow a b
+  pub kept_below : AreKept z (x ++ z) → IsUidStateBelow a b
   kept_below kept = (series_below a.series refl, λ k. entry_below k (value_at slot_cmp a.entries k) refl)
     where
       series_below : (s : Lift Best) → a.series ≡ s → IsLiftedBelow IsNoLater s b.series

@@ -10,7 +10,7 @@ use Rattle.itip_join.specs.declared.lift.Lift.TheVariants.{Nothing, Known}
 use Rattle.itip_items.specs.KeyParts.{uid_of}
 use Rattle.itip_items.specs.declared.item.Item.{Item}
 use Rattle.itip_state.specs.Kept.{AreKept}
-use Rattle.itip_state.specs.Held.{Shape, best, is_series, items_of, shape_items, alone, at, IsSound, AreOrdered, AreHeld, HoldKept}
+use Rattle.itip_state.specs.Held.{UidState, best, is_series, items_of, uid_state_items, alone, at, IsSound, AreOrdered, AreHeld, HoldKept}
 use Rattle.itip_state.specs.Joined.{IsJoinedAt}
 use Rattle.itip_state.proofs.Members.{by_bool, none_in}
 use Rattle.itip_state.proofs.Lookups.{one_key, at_head, at_other}
@@ -19,11 +19,11 @@ use Rattle.itip_state.proofs.Tests.{series_key}
 use Rattle.itip_state.proofs.Maps.{uid_cmp, joined_held}
 
 -- one item alone is placed and whole, and is the only one
-alone_sound : (item : Item) → IsSound (uid_of item.key) (alone item) × (0 < length (shape_items (alone item)))
+alone_sound : (item : Item) → IsSound (uid_of item.key) (alone item) × (0 < length (uid_state_items (alone item)))
 unfolding IsStrictlySortedBy
 alone_sound item =
     elim (is_series item.key) as (λ b. is_series item.key ≡ b → IsSound (uid_of item.key) (cond b (record { series = Known (best item); entries = [] }) (record { series = Nothing; entries = (item.key, best item) ∷ [] }))
-    × (0 < length (shape_items (cond b (record { series = Known (best item); entries = [] }) (record { series = Nothing; entries = (item.key, best item) ∷ [] }))))) [
+    × (0 < length (uid_state_items (cond b (record { series = Known (best item); entries = [] }) (record { series = Nothing; entries = (item.key, best item) ∷ [] }))))) [
       | true ↦ λ e. (record { placed = record { series = series_key item.key e; entries = tt }; whole = record { sorted = tt; alive = refl } }, omega arith)
       | false ↦ λ e. (
         record {
@@ -34,32 +34,32 @@ alone_sound item =
       )
     ] refl
 
-alone_items : (item : Item) → shape_items (alone item) ≡ item ∷ []
+alone_items : (item : Item) → uid_state_items (alone item) ≡ item ∷ []
 alone_items item =
-    elim (is_series item.key) as (λ b. shape_items (cond b (record { series = Known (best item); entries = [] }) (record { series = Nothing; entries = (item.key, best item) ∷ [] })) ≡ item ∷ []) [ true ↦ refl | false ↦ refl ]
+    elim (is_series item.key) as (λ b. uid_state_items (cond b (record { series = Known (best item); entries = [] }) (record { series = Nothing; entries = (item.key, best item) ∷ [] })) ≡ item ∷ []) [ true ↦ refl | false ↦ refl ]
 
 one_held : (item : Item) → AreHeld ((uid_of item.key, alone item) ∷ [])
 unfolding IsStrictlySortedBy
 one_held item = record { ordered = (tt, tt); sound = (alone_sound item, tt) }
 
-joined_none : (o : Option Shape) → IsJoinedAt o None o
+joined_none : (o : Option UidState) → IsJoinedAt o None o
 joined_none None = refl
 joined_none (Some a) = refl
 
-module _ (item : Item) (xs zs : List (List ℕ × Shape)) (ordered : AreOrdered zs)
+module _ (item : Item) (xs zs : List (List ℕ × UidState)) (ordered : AreOrdered zs)
     (joined : IsJoinedAt (at xs (uid_of item.key)) (Some (alone item)) (at zs (uid_of item.key)))
     (others : (q : List ℕ) → is_eq (uid_cmp (uid_of item.key) q) ≡ false → at zs q ≡ at xs q) where
   abbrev u : List ℕ
   u = uid_of item.key
 
-  abbrev ys : List (List ℕ × Shape)
+  abbrev ys : List (List ℕ × UidState)
   ys = (u, alone item) ∷ []
 
   each : (q : List ℕ) → IsJoinedAt (at xs q) (at ys q) (at zs q)
   each q = by_bool (is_eq (uid_cmp u q)) (IsJoinedAt (at xs q) (at ys q) (at zs q))
       (λ k. subst (λ (r : List ℕ). IsJoinedAt (at xs r) (at ys r) (at zs r)) (one_key nat_list_cmp_total exact_bytes u q k)
-      (subst (λ (o : Option Shape). IsJoinedAt (at xs u) o (at zs u)) (sym (at_head nat_list_cmp_total exact_bytes (u, alone item) [])) joined))
-      (λ k. subst (λ (o : Option Shape). IsJoinedAt (at xs q) o (at zs q)) (sym (at_other nat_list_cmp_total exact_bytes (u, alone item) [] q ((eq_by_cmp_equiv nat_list_cmp_total).symm q u ∙ k)))
+      (subst (λ (o : Option UidState). IsJoinedAt (at xs u) o (at zs u)) (sym (at_head nat_list_cmp_total exact_bytes (u, alone item) [])) joined))
+      (λ k. subst (λ (o : Option UidState). IsJoinedAt (at xs q) o (at zs q)) (sym (at_other nat_list_cmp_total exact_bytes (u, alone item) [] q ((eq_by_cmp_equiv nat_list_cmp_total).symm q u ∙ k)))
       (subst (IsJoinedAt (at xs q) None) (sym (others q k)) (joined_none (at xs q))))
 
   pub heard_once : (heard : List Item) → HoldKept heard xs → HoldKept (heard ++ item ∷ []) zs

@@ -18,11 +18,11 @@ use Rattle.itip_items.specs.declared.key.Key.{Key}
 use Rattle.itip_state.specs.Slots.{slot_cmp, slot_total, slot_exact}
 use Rattle.itip_items.specs.Revisions.{revisions_total}
 use Rattle.itip_items.proofs.Revisions.{revision_exact}
-use Rattle.itip_state.specs.Held.{Best, Shape, best, shape_items, is_killed, IsSeriesAt, IsEntryAt, IsPlaced, IsWhole, IsSound}
-use Rattle.itip_state.specs.Joined.{IsShapeBelow, HoldsOfTwo}
+use Rattle.itip_state.specs.Held.{Best, UidState, best, uid_state_items, is_killed, IsSeriesAt, IsEntryAt, IsPlaced, IsReduced, IsSound}
+use Rattle.itip_state.specs.Joined.{IsUidStateBelow, HoldsOfTwo}
 use Rattle.itip_state.specs.Dying.{IsNoLater, kills_below, kills_more}
 use Rattle.itip_state.proofs.Lookups.{all_from_values, value_from_all}
-use Rattle.itip_state.proofs.Shapes.{AreSorted, held_as, series_held, entry_held}
+use Rattle.itip_state.proofs.UidStates.{AreSorted, held_as, series_held, entry_held}
 use Rattle.itip_state.proofs.Combine.{combined, combined_sorted, combined_first, combined_second, combined_one}
 
 no_later_itself : (b : Best) → IsNoLater b b
@@ -59,7 +59,7 @@ alive_some dead None b e = let x : None ≡ Some b = e in absurd (cc)
 alive_some dead (Some c) b e = elim (dead c) as (λ t. cond t None (Some c) ≡ Some b → Some c ≡ Some b) [ true ↦ λ f. let x : None ≡ Some b = f in absurd (cc) | false ↦ λ f. f ] e
 
 -- ---- a bound that holds nothing but what is told again
-module _ (a b c bound : Shape) (whole_c : IsWhole c) (above_a : IsShapeBelow a c) (above_b : IsShapeBelow b c) (le : IsShapeBelow c bound) (of_two : HoldsOfTwo a b bound) where
+module _ (a b c bound : UidState) (whole_c : IsReduced c) (above_a : IsUidStateBelow a c) (above_b : IsUidStateBelow b c) (le : IsUidStateBelow c bound) (of_two : HoldsOfTwo a b bound) where
   up : IsLiftedBelow IsNoLater bound.series c.series
   up = elim of_two.series [
     | inl e ↦ subst (λ (s : Lift Best). IsLiftedBelow IsNoLater s c.series) (sym e) above_a.0
@@ -77,7 +77,7 @@ module _ (a b c bound : Shape) (whole_c : IsWhole c) (above_a : IsShapeBelow a c
     dead_there d = lives (kills_more bound.series c.series q v.value up d)
 
     -- a value that tells no less is the value
-    same : (d : Shape) (w : Best) → IsShapeBelow d c → value_at slot_cmp d.entries q ≡ Some w → IsNoLater v w → value_at slot_cmp d.entries q ≡ Some v
+    same : (d : UidState) (w : Best) → IsUidStateBelow d c → value_at slot_cmp d.entries q ≡ Some w → IsNoLater v w → value_at slot_cmp d.entries q ≡ Some v
     same d w above there l = there ∙ ap Some (back (subst (λ (o : Option Best). IsBelowUnder (is_killed c.series q) IsNoLater (Some w) o) here
         (subst (λ (o : Option Best). IsBelowUnder (is_killed c.series q) IsNoLater o (value_at slot_cmp c.entries q)) there (above.1 q))))
       where
@@ -101,18 +101,18 @@ module _ (a b c bound : Shape) (whole_c : IsWhole c) (above_a : IsShapeBelow a c
   }
 
 -- ---- the bound of two
-module _ (a b : Shape) (whole_a : IsWhole a) (whole_b : IsWhole b) (g : Lift Best)
+module _ (a b : UidState) (whole_a : IsReduced a) (whole_b : IsReduced b) (g : Lift Best)
     (up_a : IsLiftedBelow IsNoLater a.series g) (up_b : IsLiftedBelow IsNoLater b.series g) (one : (g ≡ a.series) ⊎ (g ≡ b.series)) where
   abbrev all : List (Key × Best)
   all = both_entries a.entries b.entries
 
-  abbrev bound : Shape
+  abbrev bound : UidState
   bound = record { series = g; entries = kept (is_killed g) all }
 
   all_sorted : AreSorted all
   all_sorted = combined_sorted slot_total slot_exact IsNoLater no_later_itself no_later_through no_later_one a.entries b.entries whole_a.sorted
 
-  bound_whole : IsWhole bound
+  bound_whole : IsReduced bound
   bound_whole = record { sorted = kept_sorted slot_cmp (is_killed g) all all_sorted; alive = all_alive-kept (is_killed g) all }
 
   found : (q : Key) → value_at slot_cmp bound.entries q ≡ alive_part (is_killed g q) (value_at slot_cmp all q)
@@ -134,25 +134,25 @@ module _ (a b : Shape) (whole_a : IsWhole a) (whole_b : IsWhole b) (g : Lift Bes
     | false ↦ λ d. inr l
   ] refl
 
-  bound_first : IsShapeBelow a bound
+  bound_first : IsUidStateBelow a bound
   bound_first = (
     up_a,
     λ q. subst (IsBelowUnder (is_killed g q) IsNoLater (value_at slot_cmp a.entries q)) (sym (found q))
         (under q (value_at slot_cmp a.entries q) (value_at slot_cmp all q) (combined_first slot_total slot_exact IsNoLater no_later_itself no_later_through no_later_one a.entries b.entries whole_b.sorted q)),
   )
 
-  bound_second : IsShapeBelow b bound
+  bound_second : IsUidStateBelow b bound
   bound_second = (
     up_b,
     λ q. subst (IsBelowUnder (is_killed g q) IsNoLater (value_at slot_cmp b.entries q)) (sym (found q))
         (under q (value_at slot_cmp b.entries q) (value_at slot_cmp all q) (combined_second slot_total slot_exact IsNoLater no_later_itself no_later_through no_later_one a.entries b.entries whole_b.sorted q)),
   )
 
-  pub of_two : (c : Shape) → IsWhole c → IsShapeBelow a c → IsShapeBelow b c → ((d : Shape) → IsWhole d → IsShapeBelow a d → IsShapeBelow b d → IsShapeBelow c d) → HoldsOfTwo a b c
+  pub of_two : (c : UidState) → IsReduced c → IsUidStateBelow a c → IsUidStateBelow b c → ((d : UidState) → IsReduced d → IsUidStateBelow a d → IsUidStateBelow b d → IsUidStateBelow c d) → HoldsOfTwo a b c
   of_two c whole_c above_a above_b least = of_bound a b c bound whole_c above_a above_b (least bound bound_whole bound_first bound_second) bound_of_two
 
 -- ---- what holds nothing but what two hold is placed, and has their items alone
-module _ (uid : List ℕ) (a b c : Shape) (is : HoldsOfTwo a b c) (whole_c : IsWhole c) where
+module _ (uid : List ℕ) (a b c : UidState) (is : HoldsOfTwo a b c) (whole_c : IsReduced c) where
   pub placed_of_two : IsPlaced uid a → IsPlaced uid b → IsPlaced uid c
   placed_of_two p q = record {
     series = elim is.series [ inl e ↦ subst (IsSeriesAt uid) (sym e) p.series | inr e ↦ subst (IsSeriesAt uid) (sym e) q.series ];
@@ -160,33 +160,33 @@ module _ (uid : List ℕ) (a b c : Shape) (is : HoldsOfTwo a b c) (whole_c : IsW
         (λ k v e. elim (is.entries k v e) [ inl f ↦ at a p k v f | inr f ↦ at b q k v f ]);
   }
     where
-      at : (d : Shape) → IsPlaced uid d → (k : Key) (v : Best) → value_at slot_cmp d.entries k ≡ Some v → IsEntryAt uid k v
+      at : (d : UidState) → IsPlaced uid d → (k : Key) (v : Best) → value_at slot_cmp d.entries k ≡ Some v → IsEntryAt uid k v
       at d r k v f = value_from_all slot_total slot_exact (λ e. IsEntryAt uid e.0 e.1) d.entries r.entries k v f
 
-  pub items_of_two : IsSound uid a → IsSound uid b → IsSound uid c → (i : Item) → Contains (shape_items c) i → Contains (shape_items a) i ⊎ Contains (shape_items b) i
+  pub items_of_two : IsSound uid a → IsSound uid b → IsSound uid c → (i : Item) → Contains (uid_state_items c) i → Contains (uid_state_items a) i ⊎ Contains (uid_state_items b) i
   items_of_two p q r i h = elim (held_as uid c r i h) [
     | inl first ↦ elim is.series [ inl e ↦ inl (series_held uid a p i (sym e ∙ first.0)) | inr e ↦ inr (series_held uid b q i (sym e ∙ first.0)) ]
     | inr other ↦ elim (is.entries i.key (best i) other.0) [ inl f ↦ inl (entry_held uid a p i.key (best i) f) | inr f ↦ inr (entry_held uid b q i.key (best i) f) ]
   ]
 
-pub shape_below_itself : (sh : Shape) → IsShapeBelow sh sh
-shape_below_itself sh = (IsLiftedBelow-refl IsNoLater no_later_itself sh.series, λ q. at q (value_at slot_cmp sh.entries q))
+pub uid_state_below_itself : (sh : UidState) → IsUidStateBelow sh sh
+uid_state_below_itself sh = (IsLiftedBelow-refl IsNoLater no_later_itself sh.series, λ q. at q (value_at slot_cmp sh.entries q))
   where
     at : (q : Key) (o : Option Best) → IsBelowUnder (is_killed sh.series q) IsNoLater o o
     at q None = tt
     at q (Some v) = inr (no_later_itself v)
 
 -- each below the other, the two are one
-pub same_shape : (a b : Shape) → IsWhole a → IsWhole b → IsShapeBelow a b → IsShapeBelow b a → a ≡ b
-same_shape a b whole_a whole_b up down =
+pub same_uid_state : (a b : UidState) → IsReduced a → IsReduced b → IsUidStateBelow a b → IsUidStateBelow b a → a ≡ b
+same_uid_state a b whole_a whole_b up down =
     let s : a.series ≡ b.series = IsLiftedBelow-antisym IsNoLater no_later_same a.series b.series up.0 down.0 in
     let e : a.entries ≡ b.entries = IsMapBelowUnder-antisym slot_exact (is_killed b.series) slot_total IsNoLater no_later_same a.entries b.entries whole_a.sorted whole_b.sorted
     (subst (λ (t : Lift Best). all_alive (is_killed t) a.entries ≡ true) s whole_a.alive) whole_b.alive up.1
     (subst (λ (t : Lift Best). IsMapBelowUnder (is_killed t) slot_cmp IsNoLater b.entries a.entries) s down.1) in
     λ i. record { series = s i; entries = e i }
 
-pub of_both : (a b : Shape) → IsWhole a → IsWhole b → (c : Shape) → IsWhole c → IsShapeBelow a c → IsShapeBelow b c
-    → ((d : Shape) → IsWhole d → IsShapeBelow a d → IsShapeBelow b d → IsShapeBelow c d) → HoldsOfTwo a b c
+pub of_both : (a b : UidState) → IsReduced a → IsReduced b → (c : UidState) → IsReduced c → IsUidStateBelow a c → IsUidStateBelow b c
+    → ((d : UidState) → IsReduced d → IsUidStateBelow a d → IsUidStateBelow b d → IsUidStateBelow c d) → HoldsOfTwo a b c
 of_both a b whole_a whole_b c whole_c above_a above_b least = elim (IsLiftedBelow-comparable IsNoLater no_later_one a.series b.series) [
   | inl up ↦ of_two a b whole_a whole_b b.series up (IsLiftedBelow-refl IsNoLater no_later_itself b.series) (inr refl) c whole_c above_a above_b least
   | inr down ↦ of_two a b whole_a whole_b a.series (IsLiftedBelow-refl IsNoLater no_later_itself a.series) down (inl refl) c whole_c above_a above_b least

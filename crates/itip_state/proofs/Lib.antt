@@ -9,7 +9,7 @@ pub mod Once
 pub mod Lookups
 pub mod Tests
 pub mod KeptOnes
-pub mod Shapes
+pub mod UidStates
 pub mod Comparing
 pub mod Combine
 pub mod Joining

@@ -12,14 +12,14 @@ use Rattle.itip_items.specs.declared.key.Key.{Key}
 use Rattle.itip_items.specs.declared.key.Key.TheVariants.{Series}
 use Rattle.itip_state.specs.Kept.{IsBest, IsKept, IsDead, KeepSame, Moves}
 use Rattle.itip_state.specs.Slots.{slot_cmp}
-use Rattle.itip_state.specs.Held.{Best, Shape, best, is_series, kills, items_of, shape_items, at, IsSound, AreHeld}
+use Rattle.itip_state.specs.Held.{Best, UidState, best, is_series, kills, items_of, uid_state_items, at, IsSound, AreHeld}
 use Rattle.itip_state.specs.Told.{IsTold, IsOutdone, AreNews, HoldsNoEarlier}
 use Rattle.itip_state.proofs.Members.{by_bool, none_in, cons_cases}
 use Rattle.itip_state.proofs.Later.{neither_later}
 use Rattle.itip_state.proofs.Best.{best_above, not_later_itself, later_transitive}
 use Rattle.itip_state.proofs.Keeping.{Covers, covers_itself, kept_of_parts, kept_part, best_part, series_kept}
 use Rattle.itip_state.proofs.Tests.{series_key, dead_under, can, kill}
-use Rattle.itip_state.proofs.Shapes.{IsHeldAs, known_key, series_held, entry_held, entry_key, held_as, series_is, killed_is_dead}
+use Rattle.itip_state.proofs.UidStates.{IsHeldAs, known_key, series_held, entry_held, entry_key, held_as, series_is, killed_is_dead}
 use Rattle.itip_state.proofs.Reading.{held_part, held_no_part, held_sound}
 
 pub one_more_news : (set items news : List Item) (j : Item) → (¬ IsOutdone set j) → AreNews set items news → AreNews set (items ++ j ∷ []) (news ++ j ∷ [])
@@ -163,7 +163,7 @@ news_move set items news are = record {
 pub not_series : (key : Key) → ((uid : List ℕ) → key ≡ Series uid → ⊥) → is_series key ≡ false
 not_series key not = by_bool (is_series key) (is_series key ≡ false) (λ e. absurd (not (uid_of key) (series_key key e))) (λ e. e)
 
-module _ (sh : Shape) (item : Item) (b : Best) where
+module _ (sh : UidState) (item : Item) (b : Best) where
   pub known_holds : is_series item.key ≡ true → sh.series ≡ Known b → HoldsNoEarlier sh item ↔ (¬ IsLater item b.value)
   known_holds e known = (λ h. by h.held h.not_later h.place, λ n. record { held = b; place = inl (e, known); not_later = n })
     where
@@ -187,7 +187,7 @@ module _ (sh : Shape) (item : Item) (b : Best) where
       by held not (inr other) = subst (λ (x : Best). ¬ IsLater item x.value) (one held b (sym other.1 ∙ there)) not
 
 -- ---- where nothing, or this, is held of a UID
-module _ (es : List (List ℕ × Shape)) (p : AreHeld es) (item : Item) where
+module _ (es : List (List ℕ × UidState)) (p : AreHeld es) (item : Item) where
   abbrev all : List Item
   all = items_of es
 
@@ -195,28 +195,28 @@ module _ (es : List (List ℕ × Shape)) (p : AreHeld es) (item : Item) where
   not_outdone e (inl told) = none_in told.teller ((held_no_part es p (uid_of item.key) e told.teller).1 (told.there, ap uid_of told.same))
   not_outdone e (inr dead) = none_in dead.series ((held_no_part es p (uid_of item.key) e dead.series).1 (dead.best.is_heard, ap uid_of dead.best.about))
 
-  module _ (sh : Shape) (e : at es (uid_of item.key) ≡ Some sh) where
+  module _ (sh : UidState) (e : at es (uid_of item.key) ≡ Some sh) where
     sound : IsSound (uid_of item.key) sh
     sound = held_sound es p (uid_of item.key) sh e
 
     in_place : (held : Best) → ((is_series item.key ≡ true) × (sh.series ≡ Known held)) ⊎ ((is_series item.key ≡ false) × (value_at slot_cmp sh.entries item.key ≡ Some held))
-        → Contains (shape_items sh) held.value × (held.value.key ≡ item.key)
+        → Contains (uid_state_items sh) held.value × (held.value.key ≡ item.key)
     in_place held (inl first) = (series_held (uid_of item.key) sh sound held.value first.1, known_key (uid_of item.key) sh sound held.value first.1 ∙ sym (series_key item.key first.0))
     in_place held (inr other) = (entry_held (uid_of item.key) sh sound item.key held other.1, (entry_key (uid_of item.key) sh sound item.key held other.1).in_place)
 
-    from_shape : (i : Item) → Contains (shape_items sh) i → Contains all i
-    from_shape i h = ((held_part es p (uid_of item.key) sh e i).0 h).0
+    from_uid_state : (i : Item) → Contains (uid_state_items sh) i → Contains all i
+    from_uid_state i h = ((held_part es p (uid_of item.key) sh e i).0 h).0
 
-    in_shape : (i : Item) → Contains all i → uid_of i.key ≡ uid_of item.key → Contains (shape_items sh) i
-    in_shape i h same = (held_part es p (uid_of item.key) sh e i).1 (h, same)
+    in_uid_state : (i : Item) → Contains all i → uid_of i.key ≡ uid_of item.key → Contains (uid_state_items sh) i
+    in_uid_state i h same = (held_part es p (uid_of item.key) sh e i).1 (h, same)
 
     pub told_here : HoldsNoEarlier sh item → IsOutdone all item
     told_here holds =
         let one = in_place holds.held holds.place in
-        inl (record { teller = holds.held.value; there = from_shape holds.held.value one.0; same = one.1; not_later = holds.not_later })
+        inl (record { teller = holds.held.value; there = from_uid_state holds.held.value one.0; same = one.1; not_later = holds.not_later })
 
     pub dead_here : kills sh.series item.key item ≡ true → IsOutdone all item
-    dead_here k = inr (killed_is_dead (uid_of item.key) sh sound all from_shape item refl k)
+    dead_here k = inr (killed_is_dead (uid_of item.key) sh sound all from_uid_state item refl k)
 
     holds_as : (w : Item) → w.key ≡ item.key → (¬ IsLater item w) → IsHeldAs sh w → HoldsNoEarlier sh item
     holds_as w same not (inl first) = record { held = best w; place = inl (ap is_series (sym same) ∙ first.1, first.0); not_later = not }
@@ -225,8 +225,8 @@ module _ (es : List (List ℕ × Shape)) (p : AreHeld es) (item : Item) where
     -- where an item is outdone, one of the two is seen here
     pub outdone_here : IsOutdone all item → (kills sh.series item.key item ≡ true) ⊎ HoldsNoEarlier sh item
     outdone_here (inl told) =
-        inr (holds_as told.teller told.same told.not_later (held_as (uid_of item.key) sh sound told.teller (in_shape told.teller told.there (ap uid_of told.same))))
+        inr (holds_as told.teller told.same told.not_later (held_as (uid_of item.key) sh sound told.teller (in_uid_state told.teller told.there (ap uid_of told.same))))
     outdone_here (inr dead) =
-        let there : Contains (shape_items sh) dead.series = in_shape dead.series dead.best.is_heard (ap uid_of dead.best.about) in
+        let there : Contains (uid_state_items sh) dead.series = in_uid_state dead.series dead.best.is_heard (ap uid_of dead.best.about) in
         let known = series_is (uid_of item.key) sh sound dead.series there (ap is_series dead.best.about) in
         inl (ap (λ (t : Lift Best). kills t item.key item) known ∙ kill dead.series item.key item (can item.key dead.can_die) dead.below)

@@ -19,10 +19,10 @@ use Rattle.itip_items.specs.declared.key.Key.{Key}
 use Rattle.itip_items.specs.declared.key.Key.TheVariants.{Series, Instance, Range, Answer, Refresh}
 use Rattle.itip_state.specs.Kept.{AreSeriesOf, AreUidsOf, IsSeries, HasEachOnce, AscendKeys}
 use Rattle.itip_state.specs.Slots.{rest_cmp, key_cmp, slot_cmp, key_total}
-use Rattle.itip_state.specs.Held.{Best, Shape, is_series, series_items, entry_items, shape_items, items_of, series_list, IsEntryAt, IsSound, AreOrdered, AreSound, AreHeld}
+use Rattle.itip_state.specs.Held.{Best, UidState, is_series, series_items, entry_items, uid_state_items, items_of, series_list, IsEntryAt, IsSound, AreOrdered, AreSound, AreHeld}
 use Rattle.itip_state.proofs.Ascending.{pairs_ascend}
 use Rattle.itip_state.proofs.Members.{none_in, cons_cases, cons_first, cons_later, all_each, no_pairs, pairs_append}
-use Rattle.itip_state.proofs.Shapes.{AreSorted, known_items, known_key, held_as, about, entry_there}
+use Rattle.itip_state.proofs.UidStates.{AreSorted, known_items, known_key, held_as, about, entry_there}
 
 abbrev pub IsBefore : Item → Item → Type 0
 IsBefore a b = key_cmp a.key b.key ≡ Less
@@ -68,17 +68,17 @@ one_pair : (s : Lift Best) → AllPairs IsBefore (series_items s)
 one_pair Nothing = no_pairs IsBefore
 one_pair (Known s) = AllPairs-cons IsBefore s.value [] (all_each (IsBefore s.value) [] (λ i h. absurd (none_in i h))) (no_pairs IsBefore)
 
-pub shape_ascends : (uid : List ℕ) (sh : Shape) → IsSound uid sh → AscendKeys (shape_items sh)
-shape_ascends uid sh sound = pairs_append IsBefore (series_items sh.series) (entry_items sh.entries) (one_pair sh.series) (entries_ascend uid sh.entries sound.whole.sorted sound.placed.entries)
+pub uid_state_ascends : (uid : List ℕ) (sh : UidState) → IsSound uid sh → AscendKeys (uid_state_items sh)
+uid_state_ascends uid sh sound = pairs_append IsBefore (series_items sh.series) (entry_items sh.entries) (one_pair sh.series) (entries_ascend uid sh.entries sound.whole.sorted sound.placed.entries)
     (λ i j h g.
     let there = (entry_there uid sh.entries sound.whole.sorted sound.placed.entries j g).1 in
     subst (λ (q : Key). key_cmp q j.key ≡ Less) (sym (known_key uid sh sound i (known_items sh.series i h))) (series_before j.key uid there.about there.other))
 
 -- ---- all UIDs
 -- what holds of each UID that is held holds of that of each item
-of_uids : (P : List ℕ → Type 0) (es : List (List ℕ × Shape)) → AreSound es → AllByRecursion P (keys_of es) → (i : Item) → Contains (items_of es) i → P (uid_of i.key)
+of_uids : (P : List ℕ → Type 0) (es : List (List ℕ × UidState)) → AreSound es → AllByRecursion P (keys_of es) → (i : Item) → Contains (items_of es) i → P (uid_of i.key)
 of_uids P [] s a i h = absurd (none_in i h)
-of_uids P (e ∷ es) s a i h = elim (Contains-append_cases (shape_items e.1) (items_of es) i h) [
+of_uids P (e ∷ es) s a i h = elim (Contains-append_cases (uid_state_items e.1) (items_of es) i h) [
   | inl here ↦ subst P (sym (about e.0 e.1 s.0.0 i here)) a.0
   | inr rest ↦ of_uids P es s.1 a.1 i rest
 ]
@@ -86,9 +86,9 @@ of_uids P (e ∷ es) s a i h = elim (Contains-append_cases (shape_items e.1) (it
 uid_below : (a b : Key) → slice_cmp nat_cmp (uid_of a) (uid_of b) ≡ Less → key_cmp a b ≡ Less
 uid_below a b e = ap (λ o. ordering_then o (rest_cmp a b)) e
 
-items_ascend : (es : List (List ℕ × Shape)) → AreOrdered es → AreSound es → AscendKeys (items_of es)
+items_ascend : (es : List (List ℕ × UidState)) → AreOrdered es → AreSound es → AscendKeys (items_of es)
 items_ascend [] s p = no_pairs IsBefore
-items_ascend (e ∷ es) s p = pairs_append IsBefore (shape_items e.1) (items_of es) (shape_ascends e.0 e.1 p.0.0) (items_ascend es (sorted_tail (slice_cmp nat_cmp) e.0 (keys_of es) s) p.1)
+items_ascend (e ∷ es) s p = pairs_append IsBefore (uid_state_items e.1) (items_of es) (uid_state_ascends e.0 e.1 p.0.0) (items_ascend es (sorted_tail (slice_cmp nat_cmp) e.0 (keys_of es) s) p.1)
     (λ i j h g. uid_below i.key j.key (subst (λ (u : List ℕ). slice_cmp nat_cmp u (uid_of j.key) ≡ Less) (sym (about e.0 e.1 p.0.0 i h))
     (of_uids (λ u. slice_cmp nat_cmp e.0 u ≡ Less) es p.1 (sorted_head (slice_cmp nat_cmp) e.0 (keys_of es) s) j g)))
 
@@ -98,25 +98,25 @@ once_from_ascending xs a = λ i j d below inside. apart (get_or xs i d) (get_or 
     apart : (x y : Item) → key_cmp x.key y.key ≡ Less → x ≡ y → ⊥
     apart x y e same = let z : Less ≡ Equal = sym e ∙ ap (λ (k : Item). key_cmp k.key y.key) same ∙ tied_itself key_total y.key in cc
 
-pub held_once : (es : List (List ℕ × Shape)) → AreHeld es → HasEachOnce (items_of es)
+pub held_once : (es : List (List ℕ × UidState)) → AreHeld es → HasEachOnce (items_of es)
 held_once es held = once_from_ascending (items_of es) (items_ascend es held.ordered held.sound)
 
 -- ---- series items
 abbrev IsUidBefore : Item → Item → Type 0
 IsUidBefore a b = slice_cmp nat_cmp (uid_of a.key) (uid_of b.key) ≡ Less
 
-series_among : (es : List (List ℕ × Shape)) → AreSound es → (i : Item) → Contains (series_list es) i → Contains (items_of es) i × IsSeries i
+series_among : (es : List (List ℕ × UidState)) → AreSound es → (i : Item) → Contains (series_list es) i → Contains (items_of es) i × IsSeries i
 series_among [] s i h = absurd (none_in i h)
 series_among (e ∷ es) s i h = elim (Contains-append_cases (series_items e.1.series) (series_list es) i h) [
   | inl here ↦
       let key : i.key ≡ Series e.0 = known_key e.0 e.1 s.0.0 i (known_items e.1.series i here) in
-      (Contains-append_left (shape_items e.1) (items_of es) i (Contains-append_left (series_items e.1.series) (entry_items e.1.entries) i here), key ∙ ap Series (sym (ap uid_of key)))
-  | inr rest ↦ let r = series_among es s.1 i rest in (Contains-append_right (shape_items e.1) (items_of es) i r.0, r.1)
+      (Contains-append_left (uid_state_items e.1) (items_of es) i (Contains-append_left (series_items e.1.series) (entry_items e.1.entries) i here), key ∙ ap Series (sym (ap uid_of key)))
+  | inr rest ↦ let r = series_among es s.1 i rest in (Contains-append_right (uid_state_items e.1) (items_of es) i r.0, r.1)
 ]
 
-series_all : (es : List (List ℕ × Shape)) → AreSound es → (i : Item) → Contains (items_of es) i → IsSeries i → Contains (series_list es) i
+series_all : (es : List (List ℕ × UidState)) → AreSound es → (i : Item) → Contains (items_of es) i → IsSeries i → Contains (series_list es) i
 series_all [] s i h is = absurd (none_in i h)
-series_all (e ∷ es) s i h is = elim (Contains-append_cases (shape_items e.1) (items_of es) i h) [
+series_all (e ∷ es) s i h is = elim (Contains-append_cases (uid_state_items e.1) (items_of es) i h) [
   | inl here ↦ elim (held_as e.0 e.1 s.0.0 i here) [
     | inl known ↦ Contains-append_left (series_items e.1.series) (series_list es) i (subst (λ (t : Lift Best). Contains (series_items t) i) (sym known.0) (cons_first i []))
     | inr other ↦ let x : true ≡ false = sym (ap is_series is) ∙ other.1 in absurd (cc)
@@ -128,13 +128,13 @@ one_series : (s : Lift Best) → AllPairs IsUidBefore (series_items s)
 one_series Nothing = no_pairs IsUidBefore
 one_series (Known s) = AllPairs-cons IsUidBefore s.value [] (all_each (IsUidBefore s.value) [] (λ i h. absurd (none_in i h))) (no_pairs IsUidBefore)
 
-series_ascend : (es : List (List ℕ × Shape)) → AreOrdered es → AreSound es → AllPairs IsUidBefore (series_list es)
+series_ascend : (es : List (List ℕ × UidState)) → AreOrdered es → AreSound es → AllPairs IsUidBefore (series_list es)
 series_ascend [] s p = no_pairs IsUidBefore
 series_ascend (e ∷ es) s p = pairs_append IsUidBefore (series_items e.1.series) (series_list es) (one_series e.1.series) (series_ascend es (sorted_tail (slice_cmp nat_cmp) e.0 (keys_of es) s) p.1)
     (λ i j h g. subst (λ (u : List ℕ). slice_cmp nat_cmp u (uid_of j.key) ≡ Less) (sym (ap uid_of (known_key e.0 e.1 p.0.0 i (known_items e.1.series i h))))
     (of_uids (λ u. slice_cmp nat_cmp e.0 u ≡ Less) es p.1 (sorted_head (slice_cmp nat_cmp) e.0 (keys_of es) s) j (series_among es p.1 j g).0))
 
-pub series_of : (es : List (List ℕ × Shape)) → AreHeld es → AreSeriesOf (series_list es) (items_of es)
+pub series_of : (es : List (List ℕ × UidState)) → AreHeld es → AreSeriesOf (series_list es) (items_of es)
 series_of es held = record { ascend = series_ascend es held.ordered held.sound; each = series_among es held.sound; all = series_all es held.sound }
 
 -- ---- UIDs
@@ -142,19 +142,19 @@ some_in : (xs : List Item) → 0 < length xs → (i : Item) × Contains xs i
 some_in [] h = absurd (omega (arith, h))
 some_in (x ∷ xs) h = (x, cons_first x xs)
 
-uids_each : (es : List (List ℕ × Shape)) → AreSound es → (uid : List ℕ) → Contains (keys_of es) uid → (i : Item) × Contains (items_of es) i × (uid_of i.key ≡ uid)
+uids_each : (es : List (List ℕ × UidState)) → AreSound es → (uid : List ℕ) → Contains (keys_of es) uid → (i : Item) × Contains (items_of es) i × (uid_of i.key ≡ uid)
 uids_each [] s uid h = absurd (none_in uid h)
 uids_each (e ∷ es) s uid h = elim (cons_cases e.0 (keys_of es) uid h) [
-  | inl same ↦ let one = some_in (shape_items e.1) s.0.1 in (one.0, Contains-append_left (shape_items e.1) (items_of es) one.0 one.1, about e.0 e.1 s.0.0 one.0 one.1 ∙ same)
-  | inr rest ↦ let one = uids_each es s.1 uid rest in (one.0, Contains-append_right (shape_items e.1) (items_of es) one.0 one.1, one.2)
+  | inl same ↦ let one = some_in (uid_state_items e.1) s.0.1 in (one.0, Contains-append_left (uid_state_items e.1) (items_of es) one.0 one.1, about e.0 e.1 s.0.0 one.0 one.1 ∙ same)
+  | inr rest ↦ let one = uids_each es s.1 uid rest in (one.0, Contains-append_right (uid_state_items e.1) (items_of es) one.0 one.1, one.2)
 ]
 
-uids_all : (es : List (List ℕ × Shape)) → AreSound es → (i : Item) → Contains (items_of es) i → Contains (keys_of es) (uid_of i.key)
+uids_all : (es : List (List ℕ × UidState)) → AreSound es → (i : Item) → Contains (items_of es) i → Contains (keys_of es) (uid_of i.key)
 uids_all [] s i h = absurd (none_in i h)
-uids_all (e ∷ es) s i h = elim (Contains-append_cases (shape_items e.1) (items_of es) i h) [
+uids_all (e ∷ es) s i h = elim (Contains-append_cases (uid_state_items e.1) (items_of es) i h) [
   | inl here ↦ subst (Contains (e.0 ∷ keys_of es)) (sym (about e.0 e.1 s.0.0 i here)) (cons_first e.0 (keys_of es))
   | inr rest ↦ cons_later e.0 (keys_of es) (uid_of i.key) (uids_all es s.1 i rest)
 ]
 
-pub uids_of : (es : List (List ℕ × Shape)) → AreHeld es → AreUidsOf (keys_of es) (items_of es)
+pub uids_of : (es : List (List ℕ × UidState)) → AreHeld es → AreUidsOf (keys_of es) (items_of es)
 uids_of es held = record { ascend = pairs_ascend (slice_cmp nat_cmp) (keys_of es) held.ordered; each = uids_each es held.sound; all = uids_all es held.sound }

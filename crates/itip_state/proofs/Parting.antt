@@ -8,7 +8,7 @@ use Rattle.std.proofs.lemmas.List.Folds.{list_any-append}
 use Rattle.std.proofs.lemmas.Map.Lookups.{exact_bytes}
 use Rattle.itip_items.specs.KeyParts.{uid_of}
 use Rattle.itip_state.specs.Kept.{ArePartOf}
-use Rattle.itip_state.specs.Held.{Shape, items_of, at, AreOrdered, AreHeld}
+use Rattle.itip_state.specs.Held.{UidState, items_of, at, AreOrdered, AreHeld}
 use Rattle.itip_state.proofs.Members.{by_bool, none_in, cons_cases, cons_first, cons_later}
 use Rattle.itip_state.proofs.Lookups.{one_key, itself}
 use Rattle.itip_state.proofs.Maps.{uid_cmp, items_at, IsSoundAt, sound_at, all_sound, part_at}
@@ -69,7 +69,7 @@ in_listed (u ∷ us) q h = elim (cons_cases u us q h) [
   | inr rest ↦ or_right (is_eq (uid_cmp u q)) (is_listed us q) (in_listed us q rest)
 ]
 
-module _ (es ps : List (List ℕ × Shape)) (p : AreHeld es) (ordered : AreOrdered ps) (us : List (List ℕ))
+module _ (es ps : List (List ℕ × UidState)) (p : AreHeld es) (ordered : AreOrdered ps) (us : List (List ℕ))
     (is : (q : List ℕ) → at ps q ≡ cond (is_listed us q) (at es q) None) where
   pub part_held : AreHeld ps
   part_held = record { ordered = ordered; sound = all_sound ps ordered (λ q. subst (IsSoundAt q) (sym (is q)) (one q (is_listed us q))) }
@@ -84,7 +84,7 @@ module _ (es ps : List (List ℕ × Shape)) (p : AreHeld es) (ordered : AreOrder
       let mine = part_at ps part_held u i in
       let all = part_at es p u i in (
         λ h. by_bool (is_listed us u) (Contains (items_of es) i × Contains us u)
-            (λ k. ((all.0 (subst (λ (o : Option Shape). Contains (items_at o) i) (is u ∙ ap (λ b. cond b (at es u) None) k) (mine.1 (h, refl)))).0, listed_in us u k))
-            (λ k. absurd (none_in i (subst (λ (o : Option Shape). Contains (items_at o) i) (is u ∙ ap (λ b. cond b (at es u) None) k) (mine.1 (h, refl))))),
-        λ h. (mine.0 (subst (λ (o : Option Shape). Contains (items_at o) i) (sym (is u ∙ ap (λ b. cond b (at es u) None) (in_listed us u h.1))) (all.1 (h.0, refl)))).0,
+            (λ k. ((all.0 (subst (λ (o : Option UidState). Contains (items_at o) i) (is u ∙ ap (λ b. cond b (at es u) None) k) (mine.1 (h, refl)))).0, listed_in us u k))
+            (λ k. absurd (none_in i (subst (λ (o : Option UidState). Contains (items_at o) i) (is u ∙ ap (λ b. cond b (at es u) None) k) (mine.1 (h, refl))))),
+        λ h. (mine.0 (subst (λ (o : Option UidState). Contains (items_at o) i) (sym (is u ∙ ap (λ b. cond b (at es u) None) (in_listed us u h.1))) (all.1 (h.0, refl)))).0,
       )

@@ -19,7 +19,7 @@ use Rattle.itip_items.specs.declared.key.Key.TheVariants.{Series}
 use Rattle.itip_state.specs.Kept.{IsDead, CanDie}
 use Rattle.itip_state.specs.Order.{IsState}
 use Rattle.itip_state.specs.Slots.{slot_cmp, slot_total, slot_exact}
-use Rattle.itip_state.specs.Held.{Best, Shape, best, is_series, is_killed, kills, series_items, entry_items, shape_items, IsSeriesAt, IsEntryAt, IsSound}
+use Rattle.itip_state.specs.Held.{Best, UidState, best, is_series, is_killed, kills, series_items, entry_items, uid_state_items, IsSeriesAt, IsEntryAt, IsSound}
 use Rattle.itip_state.proofs.Members.{by_bool, none_in, cons_cases, cons_first, cons_later}
 use Rattle.itip_state.proofs.Lookups.{at_head, from_tail, value_from_all}
 use Rattle.itip_state.proofs.Best.{not_later_itself}
@@ -61,41 +61,41 @@ known_items Nothing i h = absurd (none_in i h)
 known_items (Known s) i h = elim (cons_cases s.value [] i h) [ inl same ↦ λ x. Known (record { value = same x }) | inr none ↦ absurd (none_in i none) ]
 
 -- how an item is held
-abbrev pub IsHeldAs : Shape → Item → Type 0
+abbrev pub IsHeldAs : UidState → Item → Type 0
 IsHeldAs sh i = ((sh.series ≡ Known (best i)) × (is_series i.key ≡ true)) ⊎ ((value_at slot_cmp sh.entries i.key ≡ Some (best i)) × (is_series i.key ≡ false))
 
-module _ (uid : List ℕ) (sh : Shape) (sound : IsSound uid sh) where
+module _ (uid : List ℕ) (sh : UidState) (sound : IsSound uid sh) where
   pub known_key : (i : Item) → sh.series ≡ Known (best i) → i.key ≡ Series uid
   known_key i e = subst (IsSeriesAt uid) e sound.placed.series
 
-  pub held_as : (i : Item) → Contains (shape_items sh) i → IsHeldAs sh i
+  pub held_as : (i : Item) → Contains (uid_state_items sh) i → IsHeldAs sh i
   held_as i h = elim (Contains-append_cases (series_items sh.series) (entry_items sh.entries) i h) [
     | inl first ↦ let e = known_items sh.series i first in inl (e, ap is_series (known_key i e))
     | inr other ↦ let r = entry_there uid sh.entries sound.whole.sorted sound.placed.entries i other in inr (r.0, r.1.other)
   ]
 
-  pub series_held : (i : Item) → sh.series ≡ Known (best i) → Contains (shape_items sh) i
+  pub series_held : (i : Item) → sh.series ≡ Known (best i) → Contains (uid_state_items sh) i
   series_held i e = Contains-append_left (series_items sh.series) (entry_items sh.entries) i (subst (λ (s : Lift Best). Contains (series_items s) i) (sym e) (cons_first i []))
 
-  pub entry_held : (q : Key) (b : Best) → value_at slot_cmp sh.entries q ≡ Some b → Contains (shape_items sh) b.value
+  pub entry_held : (q : Key) (b : Best) → value_at slot_cmp sh.entries q ≡ Some b → Contains (uid_state_items sh) b.value
   entry_held q b e = Contains-append_right (series_items sh.series) (entry_items sh.entries) b.value (entry_in sh.entries q b e)
 
   pub entry_key : (q : Key) (b : Best) → value_at slot_cmp sh.entries q ≡ Some b → IsEntryAt uid q b
   entry_key q b e = value_from_all slot_total slot_exact (λ f. IsEntryAt uid f.0 f.1) sh.entries sound.placed.entries q b e
 
-  pub about : (i : Item) → Contains (shape_items sh) i → uid_of i.key ≡ uid
+  pub about : (i : Item) → Contains (uid_state_items sh) i → uid_of i.key ≡ uid
   about i h = elim (Contains-append_cases (series_items sh.series) (entry_items sh.entries) i h) [
     | inl first ↦ ap uid_of (known_key i (known_items sh.series i first))
     | inr other ↦ (entry_there uid sh.entries sound.whole.sorted sound.placed.entries i other).1.about
   ]
 
-  pub series_is : (i : Item) → Contains (shape_items sh) i → is_series i.key ≡ true → sh.series ≡ Known (best i)
+  pub series_is : (i : Item) → Contains (uid_state_items sh) i → is_series i.key ≡ true → sh.series ≡ Known (best i)
   series_is i h e = elim (held_as i h) [ inl here ↦ here.0 | inr other ↦ let x : true ≡ false = sym e ∙ other.1 in absurd (cc) ]
 
-  pub entry_is : (i : Item) → Contains (shape_items sh) i → is_series i.key ≡ false → value_at slot_cmp sh.entries i.key ≡ Some (best i)
+  pub entry_is : (i : Item) → Contains (uid_state_items sh) i → is_series i.key ≡ false → value_at slot_cmp sh.entries i.key ≡ Some (best i)
   entry_is i h e = elim (held_as i h) [ inl here ↦ let x : true ≡ false = sym here.1 ∙ e in absurd (cc) | inr other ↦ other.0 ]
 
-  pub one_of_key : (i j : Item) → Contains (shape_items sh) i → Contains (shape_items sh) j → i.key ≡ j.key → i ≡ j
+  pub one_of_key : (i j : Item) → Contains (uid_state_items sh) i → Contains (uid_state_items sh) j → i.key ≡ j.key → i ≡ j
   one_of_key i j h g same = by_bool (is_series i.key) (i ≡ j)
       (λ e. one_known i j (sym (series_is i h e) ∙ series_is j g (ap is_series (sym same) ∙ e)))
       (λ e. one_entry i j (sym (entry_is i h e) ∙ ap (λ k. value_at slot_cmp sh.entries k) same ∙ entry_is j g (ap is_series (sym same) ∙ e)))
@@ -114,10 +114,10 @@ module _ (uid : List ℕ) (sh : Shape) (sound : IsSound uid sh) where
       one_entry : (x y : Item) → Some (best x) ≡ Some (best y) → x ≡ y
       one_entry x y e = ap item_at e
 
-  pub not_killed : (i : Item) → Contains (shape_items sh) i → is_series i.key ≡ false → kills sh.series i.key i ≡ false
+  pub not_killed : (i : Item) → Contains (uid_state_items sh) i → is_series i.key ≡ false → kills sh.series i.key i ≡ false
   not_killed i h e = found_alive slot_exact (is_killed sh.series) sh.entries sound.whole.alive i.key (best i) (entry_is i h e)
 
-  pub is_state : IsState (shape_items sh)
+  pub is_state : IsState (uid_state_items sh)
   is_state i = (
     λ h. record {
       best = record { is_heard = h; about = refl; none_later = λ j g same. subst (λ (x : Item). ¬ IsLater x i) (sym (one_of_key j i g h same)) (not_later_itself i) };
@@ -130,12 +130,12 @@ module _ (uid : List ℕ) (sh : Shape) (sound : IsSound uid sh) where
   )
 
   -- the items of the UID alone can be dead here
-  pub killed_is_dead : (all : List Item) → ((j : Item) → Contains (shape_items sh) j → Contains all j) → (i : Item) → uid_of i.key ≡ uid → kills sh.series i.key i ≡ true → IsDead all i
+  pub killed_is_dead : (all : List Item) → ((j : Item) → Contains (uid_state_items sh) j → Contains all j) → (i : Item) → uid_of i.key ≡ uid → kills sh.series i.key i ≡ true → IsDead all i
   killed_is_dead all among i of_uid k = by sh.series refl k
     where
       by : (s : Lift Best) → sh.series ≡ s → kills s i.key i ≡ true → IsDead all i
       by Nothing e d = let x : false ≡ true = d in absurd (cc)
       by (Known s) e d =
           let parts = killed s.value i.key i d in
-          let here : Contains (shape_items sh) s.value = series_held s.value e in
+          let here : Contains (uid_state_items sh) s.value = series_held s.value e in
           dead_under all s.value i (among s.value here) (known_key s.value e ∙ ap Series (sym of_uid)) parts.0 parts.1

@@ -18,13 +18,13 @@ use Rattle.itip_items.specs.KeyParts.{uid_of}
 use Rattle.itip_items.specs.declared.item.Item.{Item}
 use Rattle.itip_items.specs.declared.key.Key.{Key}
 use Rattle.itip_state.specs.Changes.{IsBackAt, in_place_of}
-use Rattle.itip_state.specs.Joined.{IsShapeBelow, HoldsOfTwo, IsJoinedAt}
+use Rattle.itip_state.specs.Joined.{IsUidStateBelow, HoldsOfTwo, IsJoinedAt}
 use Rattle.itip_state.specs.Undone.{IsNoted, LeadsBack, IsUndone, AreUndone, IsOfAll, NotesAll}
 use Rattle.itip_state.specs.declared.hear.Before.{Before}
 use Rattle.itip_state.specs.declared.hear.Before.TheVariants.{Absent, Whole, Entry}
-use Rattle.itip_state.specs.declared.hear.Change.{Change}
+use Rattle.itip_state.specs.declared.hear.Hearing.{Hearing}
 use Rattle.itip_state.specs.Dying.{IsNoLater}
-use Rattle.itip_state.specs.Held.{Best, Shape, best, is_series, is_killed, alone, at, IsWhole, AreOrdered}
+use Rattle.itip_state.specs.Held.{Best, UidState, best, is_series, is_killed, alone, at, IsReduced, AreOrdered}
 use Rattle.itip_state.specs.Slots.{slot_cmp, slot_total, slot_exact}
 use Rattle.itip_state.proofs.Members.{by_bool}
 use Rattle.itip_state.proofs.Lookups.{one_key, itself}
@@ -38,7 +38,7 @@ none_some x e = cc
 
 -- ---- one UID
 -- what is noted of a key
-pub noted_at : (key : Key) (held : Option Best) (w : Shape) → IsWhole w → held ≡ value_at slot_cmp w.entries key → IsBackAt key held w w
+pub noted_at : (key : Key) (held : Option Best) (w : UidState) → IsReduced w → held ≡ value_at slot_cmp w.entries key → IsBackAt key held w w
 noted_at key held w whole is = record {
   series = refl;
   entries = λ q. by_bool (is_eq (slot_cmp key q)) (value_at slot_cmp w.entries q ≡ cond (is_eq (slot_cmp key q)) held (value_at slot_cmp w.entries q))
@@ -52,11 +52,11 @@ noted_at key held w whole is = record {
 alone_other : (item : Item) → is_series item.key ≡ false → alone item ≡ record { series = Nothing; entries = (item.key, best item) ∷ [] }
 alone_other item e = ap (λ b. cond b (record { series = Known (best item); entries = [] }) (record { series = Nothing; entries = (item.key, best item) ∷ [] })) e
 
-module _ (item : Item) (a c : Shape) (of : HoldsOfTwo a (alone item) c) (whole : IsWhole a) (above : IsShapeBelow a c) (other : is_series item.key ≡ false) where
+module _ (item : Item) (a c : UidState) (of : HoldsOfTwo a (alone item) c) (whole : IsReduced a) (above : IsUidStateBelow a c) (other : is_series item.key ≡ false) where
   series_same : c.series ≡ a.series
   series_same = elim of.series [
     | inl e ↦ e
-    | inr e ↦ none_below a.series c.series (e ∙ ap (λ (sh : Shape). sh.series) (alone_other item other)) above.0
+    | inr e ↦ none_below a.series c.series (e ∙ ap (λ (sh : UidState). sh.series) (alone_other item other)) above.0
   ]
     where
       none_below : (s t : Lift Best) → t ≡ Nothing → IsLiftedBelow IsNoLater s t → t ≡ s
@@ -74,7 +74,7 @@ module _ (item : Item) (a c : Shape) (of : HoldsOfTwo a (alone item) c) (whole :
   not_alone : (q : Key) (v : Best) → is_eq (slot_cmp item.key q) ≡ false → value_at slot_cmp (alone item).entries q ≡ Some v → ⊥
   not_alone q v n e =
       let flipped : is_eq (slot_cmp q item.key) ≡ false = (eq_by_cmp_equiv slot_total).symm q item.key ∙ n in
-      none_some v (sym (ap (λ (sh : Shape). value_at slot_cmp sh.entries q) (alone_other item other) ∙ ap (λ b. cond b (Some (best item)) None) flipped) ∙ e)
+      none_some v (sym (ap (λ (sh : UidState). value_at slot_cmp sh.entries q) (alone_other item other) ∙ ap (λ b. cond b (Some (best item)) None) flipped) ∙ e)
 
   apart : (q : Key) → is_eq (slot_cmp item.key q) ≡ false → (o p : Option Best) → value_at slot_cmp a.entries q ≡ o → value_at slot_cmp c.entries q ≡ p → o ≡ p
   apart q n None None e f = refl
@@ -102,8 +102,8 @@ put_there None there s = refl
 put_there (Some b) (Some was) s = refl
 put_there (Some b) None s = let x : false ≡ true = s refl in absurd (cc)
 
--- two shapes with the same at each key are one
-pub back_is : (key : Key) (held : Option Best) (v w z : Shape) → IsBackAt key held v w → z.series ≡ v.series → IsStrictlySortedBy slot_cmp (keys_of z.entries)
+-- two uid_states with the same at each key are one
+pub back_is : (key : Key) (held : Option Best) (v w z : UidState) → IsBackAt key held v w → z.series ≡ v.series → IsStrictlySortedBy slot_cmp (keys_of z.entries)
     → ((q : Key) → value_at slot_cmp z.entries q ≡ cond (is_eq (slot_cmp key q)) (in_place_of (value_at slot_cmp v.entries key) held) (value_at slot_cmp v.entries q)) → z ≡ w
 back_is key held v w z is same sorted put =
     let e : z.entries ≡ w.entries = entries_from_values slot_total slot_exact z.entries w.entries sorted is.whole.sorted
@@ -112,32 +112,32 @@ back_is key held v w z is same sorted put =
     λ i. record { series = s i; entries = e i }
 
 -- ---- one change
-held_is : (key : Key) (held : Option Best) (w : Shape) → IsBackAt key held w w → value_at slot_cmp w.entries key ≡ held
+held_is : (key : Key) (held : Option Best) (w : UidState) → IsBackAt key held w w → value_at slot_cmp w.entries key ≡ held
 held_is key held w back = back.entries key ∙ ap (λ t. cond t held (value_at slot_cmp w.entries key)) (itself slot_total slot_exact key)
 
-pub joined_some : (o : Option Shape) (b : Shape) (n : Option Shape) → IsJoinedAt o (Some b) n → is_some n ≡ true
+pub joined_some : (o : Option UidState) (b : UidState) (n : Option UidState) → IsJoinedAt o (Some b) n → is_some n ≡ true
 joined_some None b n e = ap is_some e
 joined_some (Some a) b n (joined, e, j) = ap is_some e
 
-pub noted_leads : (before : Before) (item : Item) (old now : Option Shape) → IsNoted before item old → IsJoinedAt old (Some (alone item)) now → LeadsBack before item now old
+pub noted_leads : (before : Before) (item : Item) (old now : Option UidState) → IsNoted before item old → IsJoinedAt old (Some (alone item)) now → LeadsBack before item now old
 noted_leads Absent item old now is joined = is
 noted_leads (Whole was) item old now is joined = (joined_some old (alone item) now joined, is.0)
 noted_leads (Entry place held) item old now (w, e, back, other, here) joined =
-    let all : IsJoinedAt (Some w) (Some (alone item)) now = subst (λ (o : Option Shape). IsJoinedAt o (Some (alone item)) now) e joined in
+    let all : IsJoinedAt (Some w) (Some (alone item)) now = subst (λ (o : Option UidState). IsJoinedAt o (Some (alone item)) now) e joined in
     (all.0, w, all.1, e, subst (λ (h : Option Best). IsBackAt item.key h all.0 w) (held_is item.key held w back) (back_at item w all.0 (all.2).of_two back.whole (all.2).above_first other), here)
 
-pub noted_stays : (before : Before) (item : Item) (old : Option Shape) → IsNoted before item old → LeadsBack before item old old
+pub noted_stays : (before : Before) (item : Item) (old : Option UidState) → IsNoted before item old → LeadsBack before item old old
 noted_stays Absent item old is = is
 noted_stays (Whole was) item old is = (ap is_some is.0, is.0)
 noted_stays (Entry place held) item old (w, e, back, other, here) = (w, w, e, e, back, here)
 
 -- ---- a list of them
-pub undone_push : (cs : List Change) (c : Change) (now mid start : List (List ℕ × Shape)) → AreUndone cs mid start → IsUndone c now mid → AreUndone (cs ++ c ∷ []) now start
+pub undone_push : (cs : List Hearing) (c : Hearing) (now mid start : List (List ℕ × UidState)) → AreUndone cs mid start → IsUndone c now mid → AreUndone (cs ++ c ∷ []) now start
 undone_push [] c now mid start all one = (now, refl, subst (IsUndone c now) all one)
 undone_push (d ∷ cs) c now mid start (m, rest, first) one = (m, undone_push cs c now mid m rest one, first)
 
-pub undone_pop : (cs : List Change) (c : Change) (now start : List (List ℕ × Shape)) → AreUndone (cs ++ c ∷ []) now start → (mid : List (List ℕ × Shape)) × IsUndone c now mid × AreUndone cs mid start
-undone_pop [] c now start (m, same, one) = (start, subst (λ (n : List (List ℕ × Shape)). IsUndone c n start) (sym same) one, refl)
+pub undone_pop : (cs : List Hearing) (c : Hearing) (now start : List (List ℕ × UidState)) → AreUndone (cs ++ c ∷ []) now start → (mid : List (List ℕ × UidState)) × IsUndone c now mid × AreUndone cs mid start
+undone_pop [] c now start (m, same, one) = (start, subst (λ (n : List (List ℕ × UidState)). IsUndone c n start) (sym same) one, refl)
 undone_pop (d ∷ cs) c now start (m, rest, first) = let r = undone_pop cs c now m rest in (r.0, r.1, (m, r.2, first))
 
 pub of_all : (b : Before) → ((place : _) (held : Option Best) → b ≡ Entry place held → ⊥) → IsOfAll b
@@ -166,21 +166,21 @@ one_last (z ∷ xs) [] x y e = absurd (none_ends xs x (rest_same y z [] (xs ++ x
 one_last (v ∷ xs) (w ∷ ys) x y e = one_last xs ys x y (rest_same v w (xs ++ x ∷ []) (ys ++ y ∷ []) e)
 
 -- what notes all is the last change
-pub last_notes : (cs earlier : List Change) (c : Change) (u : List ℕ) → cs ≡ earlier ++ c ∷ [] → NotesAll cs u → (uid_of c.item.now.key ≡ u) × IsOfAll c.before
+pub last_notes : (cs earlier : List Hearing) (c : Hearing) (u : List ℕ) → cs ≡ earlier ++ c ∷ [] → NotesAll cs u → (uid_of c.item.now.key ≡ u) × IsOfAll c.before
 last_notes cs earlier c u e notes =
     let same : notes.last ≡ c = one_last notes.earlier earlier notes.last c (sym notes.is_last ∙ e) in
-    (subst (λ (d : Change). uid_of d.item.now.key ≡ u) same notes.about, subst (λ (d : Change). IsOfAll d.before) same notes.all)
+    (subst (λ (d : Hearing). uid_of d.item.now.key ≡ u) same notes.about, subst (λ (d : Hearing). IsOfAll d.before) same notes.all)
 
-pub notes_same : (cs ds : List Change) (u v : List ℕ) → cs ≡ ds → u ≡ v → NotesAll cs u → NotesAll ds v
-notes_same cs ds u v e f notes = subst (λ (xs : List Change). NotesAll xs v) e (subst (NotesAll cs) f notes)
+pub notes_same : (cs ds : List Hearing) (u v : List ℕ) → cs ≡ ds → u ≡ v → NotesAll cs u → NotesAll ds v
+notes_same cs ds u v e f notes = subst (λ (xs : List Hearing). NotesAll xs v) e (subst (NotesAll cs) f notes)
 
-leads_still : (b : Before) (item : Item) (now next old : Option Shape) → IsOfAll b → (is_some now ≡ true → is_some next ≡ true) → LeadsBack b item now old → LeadsBack b item next old
+leads_still : (b : Before) (item : Item) (now next old : Option UidState) → IsOfAll b → (is_some now ≡ true → is_some next ≡ true) → LeadsBack b item now old → LeadsBack b item next old
 leads_still Absent item now next old all some leads = leads
 leads_still (Whole was) item now next old all some leads = (some leads.0, leads.1)
 leads_still (Entry place held) item now next old all some leads = absurd all
 
 -- what is noted of a UID as a whole takes back what happens to it later, too
-pub undone_still : (cs : List Change) (u : List ℕ) (now next start : List (List ℕ × Shape)) → NotesAll cs u → (is_some (at now u) ≡ true → is_some (at next u) ≡ true)
+pub undone_still : (cs : List Hearing) (u : List ℕ) (now next start : List (List ℕ × UidState)) → NotesAll cs u → (is_some (at now u) ≡ true → is_some (at next u) ≡ true)
     → ((q : List ℕ) → is_eq (uid_cmp u q) ≡ false → at next q ≡ at now q) → AreUndone cs now start → AreUndone cs next start
 undone_still cs u now next start notes some others all =
     let last = undone_pop notes.earlier notes.last now start (subst (λ ds. AreUndone ds now start) notes.is_last all) in
@@ -195,27 +195,27 @@ undone_still cs u now next start notes some others all =
 
 -- ---- a change that is taken back
 -- with `o` at the UID, a map is what it was before
-pub undone_put : (now next before : List (List ℕ × Shape)) (k u : List ℕ) (o : Option Shape) → k ≡ u → AreOrdered next → AreOrdered before
+pub undone_put : (now next before : List (List ℕ × UidState)) (k u : List ℕ) (o : Option UidState) → k ≡ u → AreOrdered next → AreOrdered before
     → ((q : List ℕ) → at next q ≡ cond (is_eq (uid_cmp k q)) o (at now q)) → o ≡ at before u → ((q : List ℕ) → is_eq (uid_cmp u q) ≡ false → at now q ≡ at before q) → next ≡ before
 undone_put now next before k u o about ordered was put there others = entries_from_values nat_list_cmp_total exact_bytes next before ordered was
     (λ q. by_bool (is_eq (uid_cmp u q)) (at next q ≡ at before q)
     (λ e. put q ∙ ap (λ b. cond b o (at now q)) (ap (λ r. is_eq (uid_cmp r q)) about ∙ e) ∙ there ∙ ap (at before) (one_key nat_list_cmp_total exact_bytes u q e))
     (λ n. put q ∙ ap (λ b. cond b o (at now q)) (ap (λ r. is_eq (uid_cmp r q)) about ∙ n) ∙ others q n))
 
-pub replaced_some : (o : Option Shape) (x : Shape) → is_some o ≡ true → replaced o x ≡ Some x
+pub replaced_some : (o : Option UidState) (x : UidState) → is_some o ≡ true → replaced o x ≡ Some x
 replaced_some None x s = let y : false ≡ true = s in absurd (cc)
 replaced_some (Some v) x s = refl
 
 -- what stands at a key, once it was put there, is there and nowhere else
-pub put_at : (now next : List (List ℕ × Shape)) (k u : List ℕ) (o : Option Shape) → k ≡ u → ((q : List ℕ) → at next q ≡ cond (is_eq (uid_cmp k q)) o (at now q)) → at next k ≡ o
+pub put_at : (now next : List (List ℕ × UidState)) (k u : List ℕ) (o : Option UidState) → k ≡ u → ((q : List ℕ) → at next q ≡ cond (is_eq (uid_cmp k q)) o (at now q)) → at next k ≡ o
 put_at now next k u o about put = put k ∙ ap (λ b. cond b o (at now k)) (itself nat_list_cmp_total exact_bytes k)
 
-pub put_apart : (now next : List (List ℕ × Shape)) (k u : List ℕ) (o : Option Shape) → k ≡ u → ((q : List ℕ) → at next q ≡ cond (is_eq (uid_cmp k q)) o (at now q))
+pub put_apart : (now next : List (List ℕ × UidState)) (k u : List ℕ) (o : Option UidState) → k ≡ u → ((q : List ℕ) → at next q ≡ cond (is_eq (uid_cmp k q)) o (at now q))
     → (q : List ℕ) → is_eq (uid_cmp u q) ≡ false → at next q ≡ at now q
 put_apart now next k u o about put q n = put q ∙ ap (λ b. cond b o (at now q)) (ap (λ r. is_eq (uid_cmp r q)) about ∙ n)
 
-pub entry_leads : (place : _) (item : Item) (held : Option Best) (now old : Option Shape) (v : Shape) → now ≡ Some v → LeadsBack (Entry place held) item now old → (w : Shape) × (old ≡ Some w) × IsBackAt place.now held v w
-entry_leads place item held now old v e (x, w, f, g, back, here) = (w, g, subst (λ (k : Key). IsBackAt k held v w) (sym here) (subst (λ (sh : Shape). IsBackAt item.key held sh w) (some_one x v (sym f ∙ e)) back))
+pub entry_leads : (place : _) (item : Item) (held : Option Best) (now old : Option UidState) (v : UidState) → now ≡ Some v → LeadsBack (Entry place held) item now old → (w : UidState) × (old ≡ Some w) × IsBackAt place.now held v w
+entry_leads place item held now old v e (x, w, f, g, back, here) = (w, g, subst (λ (k : Key). IsBackAt k held v w) (sym here) (subst (λ (sh : UidState). IsBackAt item.key held sh w) (some_one x v (sym f ∙ e)) back))
 
-pub not_absent : (place : _) (item : Item) (held : Option Best) (now old : Option Shape) → now ≡ None → LeadsBack (Entry place held) item now old → ⊥
+pub not_absent : (place : _) (item : Item) (held : Option Best) (now old : Option UidState) → now ≡ None → LeadsBack (Entry place held) item now old → ⊥
 not_absent place item held now old e (x, w, f, g, back, here) = none_some x (sym e ∙ f)

@@ -4,14 +4,14 @@ use Rattle.std.specs.Ordering.{is_eq}
 use Rattle.itip_join.specs.KeyByKey.{value_at}
 use Rattle.itip_items.specs.declared.key.Key.{Key}
 use Rattle.itip_state.specs.Slots.{slot_cmp}
-use Rattle.itip_state.specs.Held.{Best, Shape, IsWhole}
+use Rattle.itip_state.specs.Held.{Best, UidState, IsReduced}
 
 -- `old` is `now` with `held` at the key, and the same series item. Where `held` is an item, `now` has one there too, in whose place it is put. `old` is whole.
-pub record IsBackAt (key : Key) (held : Option Best) (now old : Shape) : Type 0 where
+pub record IsBackAt (key : Key) (held : Option Best) (now old : UidState) : Type 0 where
   pub series : now.series ≡ old.series
   pub entries : (q : Key) → value_at slot_cmp old.entries q ≡ cond (is_eq (slot_cmp key q)) held (value_at slot_cmp now.entries q)
   pub there : is_some held ≡ true → is_some (value_at slot_cmp now.entries key) ≡ true
-  pub whole : IsWhole old
+  pub whole : IsReduced old
 
 -- what stands where `there` stood, once it was taken out, or another was put in its place; where nothing stood, nothing stands
 abbrev pub in_place_of : Option Best → Option Best → Option Best

@@ -52,17 +52,17 @@ abbrev pub is_killed : Lift Best → Key → Best → Bool
 is_killed series key held = kills series key held.value
 
 -- what is held of one UID
-pub record Shape : Type 0 where
+pub record UidState : Type 0 where
   pub series : Lift Best
   -- the items of the other keys
   pub entries : List (Key × Best)
 
 -- a map by UID is the list of what is held of each; this is what is held of one
-abbrev pub at : List (List ℕ × Shape) → List ℕ → Option Shape
+abbrev pub at : List (List ℕ × UidState) → List ℕ → Option UidState
 at es uid = value_at (slice_cmp nat_cmp) es uid
 
 -- the UIDs rise
-abbrev pub AreOrdered : List (List ℕ × Shape) → Type 0
+abbrev pub AreOrdered : List (List ℕ × UidState) → Type 0
 AreOrdered es = IsStrictlySortedBy (slice_cmp nat_cmp) (keys_of es)
 
 abbrev pub series_items : Lift Best → List Item
@@ -73,16 +73,16 @@ abbrev pub entry_items : List (Key × Best) → List Item
 entry_items [] = []
 entry_items (e ∷ es) = e.1.value ∷ entry_items es
 
-abbrev pub shape_items : Shape → List Item
-shape_items shape = series_items shape.series ++ entry_items shape.entries
+abbrev pub uid_state_items : UidState → List Item
+uid_state_items uid_state = series_items uid_state.series ++ entry_items uid_state.entries
 
 -- all items held
-abbrev pub items_of : List (List ℕ × Shape) → List Item
+abbrev pub items_of : List (List ℕ × UidState) → List Item
 items_of [] = []
-items_of (e ∷ es) = shape_items e.1 ++ items_of es
+items_of (e ∷ es) = uid_state_items e.1 ++ items_of es
 
 -- the series items held
-abbrev pub series_list : List (List ℕ × Shape) → List Item
+abbrev pub series_list : List (List ℕ × UidState) → List Item
 series_list [] = []
 series_list (e ∷ es) = series_items e.1.series ++ series_list es
 
@@ -103,34 +103,34 @@ pub record IsEntryAt (uid : List ℕ) (key : Key) (held : Best) : Type 0 where
   pub other : is_series key ≡ false
 
 -- each item is held under its UID and at its key
-pub record IsPlaced (uid : List ℕ) (shape : Shape) : Type 0 where
-  pub series : IsSeriesAt uid shape.series
-  pub entries : AllByRecursion (λ e. IsEntryAt uid e.0 e.1) shape.entries
+pub record IsPlaced (uid : List ℕ) (uid_state : UidState) : Type 0 where
+  pub series : IsSeriesAt uid uid_state.series
+  pub entries : AllByRecursion (λ e. IsEntryAt uid e.0 e.1) uid_state.entries
 
 -- the keys of the other items rise, and the series item makes none of them dead
-pub record IsWhole (shape : Shape) : Type 0 where
-  pub sorted : IsStrictlySortedBy slot_cmp (keys_of shape.entries)
-  pub alive : all_alive (is_killed shape.series) shape.entries ≡ true
+pub record IsReduced (uid_state : UidState) : Type 0 where
+  pub sorted : IsStrictlySortedBy slot_cmp (keys_of uid_state.entries)
+  pub alive : all_alive (is_killed uid_state.series) uid_state.entries ≡ true
 
 -- what is held of a UID, with both
-pub record IsSound (uid : List ℕ) (shape : Shape) : Type 0 where
-  pub placed : IsPlaced uid shape
-  pub whole : IsWhole shape
+pub record IsSound (uid : List ℕ) (uid_state : UidState) : Type 0 where
+  pub placed : IsPlaced uid uid_state
+  pub whole : IsReduced uid_state
 
 -- the same of all UIDs; and of each UID that is held there is an item
-abbrev pub AreSound : List (List ℕ × Shape) → Type 0
-AreSound es = AllByRecursion (λ e. IsSound e.0 e.1 × (0 < length (shape_items e.1))) es
+abbrev pub AreSound : List (List ℕ × UidState) → Type 0
+AreSound es = AllByRecursion (λ e. IsSound e.0 e.1 × (0 < length (uid_state_items e.1))) es
 
 -- what a state holds
-pub record AreHeld (es : List (List ℕ × Shape)) : Type 0 where
+pub record AreHeld (es : List (List ℕ × UidState)) : Type 0 where
   pub ordered : AreOrdered es
   pub sound : AreSound es
 
 -- one item alone
-abbrev pub alone : Item → Shape
+abbrev pub alone : Item → UidState
 alone item = cond (is_series item.key) (record { series = Known (best item); entries = [] }) (record { series = Nothing; entries = (item.key, best item) ∷ [] })
 
 -- what is held is what is kept of what was heard
-pub record HoldKept (heard : List Item) (es : List (List ℕ × Shape)) : Type 0 where
+pub record HoldKept (heard : List Item) (es : List (List ℕ × UidState)) : Type 0 where
   pub held : AreHeld es
   pub kept : AreKept (items_of es) heard

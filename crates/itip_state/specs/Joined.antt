@@ -6,31 +6,31 @@ use Rattle.itip_items.specs.declared.key.Key.{Key}
 use Rattle.itip_join.specs.KeyByKey.{value_at, IsMapBelow, IsMapBelowUnder}
 use Rattle.itip_join.specs.Lifted.{IsLiftedBelow}
 use Rattle.itip_state.specs.Slots.{slot_cmp}
-use Rattle.itip_state.specs.Held.{Best, Shape, is_killed, IsWhole}
+use Rattle.itip_state.specs.Held.{Best, UidState, is_killed, IsReduced}
 use Rattle.itip_state.specs.Dying.{IsNoLater}
 
 -- the series item is no later, and each other item is no later than the one at its key, or dead below the other series item
-abbrev pub IsShapeBelow : Shape → Shape → Type 0
-IsShapeBelow a b = IsLiftedBelow IsNoLater a.series b.series × IsMapBelowUnder (is_killed b.series) slot_cmp IsNoLater a.entries b.entries
+abbrev pub IsUidStateBelow : UidState → UidState → Type 0
+IsUidStateBelow a b = IsLiftedBelow IsNoLater a.series b.series × IsMapBelowUnder (is_killed b.series) slot_cmp IsNoLater a.entries b.entries
 
 -- the same of each UID
-abbrev pub AreBelow : List (List ℕ × Shape) → List (List ℕ × Shape) → Type 0
-AreBelow es fs = IsMapBelow (slice_cmp nat_cmp) IsShapeBelow es fs
+abbrev pub AreBelow : List (List ℕ × UidState) → List (List ℕ × UidState) → Type 0
+AreBelow es fs = IsMapBelow (slice_cmp nat_cmp) IsUidStateBelow es fs
 
 -- what one or the other holds
-pub record HoldsOfTwo (a b c : Shape) : Type 0 where
+pub record HoldsOfTwo (a b c : UidState) : Type 0 where
   pub series : (c.series ≡ a.series) ⊎ (c.series ≡ b.series)
   pub entries : (q : Key) (v : Best) → value_at slot_cmp c.entries q ≡ Some v → (value_at slot_cmp a.entries q ≡ Some v) ⊎ (value_at slot_cmp b.entries q ≡ Some v)
 
 -- above both, and with nothing but what one or the other holds
-pub record IsJoined (a b c : Shape) : Type 0 where
-  pub above_first : IsShapeBelow a c
-  pub above_second : IsShapeBelow b c
+pub record IsJoined (a b c : UidState) : Type 0 where
+  pub above_first : IsUidStateBelow a c
+  pub above_second : IsUidStateBelow b c
   pub of_two : HoldsOfTwo a b c
-  pub whole : IsWhole c
+  pub whole : IsReduced c
 
 -- the same of a UID, of which nothing may be held
-abbrev pub IsJoinedAt : Option Shape → Option Shape → Option Shape → Type 0
+abbrev pub IsJoinedAt : Option UidState → Option UidState → Option UidState → Type 0
 IsJoinedAt None b c = c ≡ b
 IsJoinedAt (Some a) None c = c ≡ Some a
-IsJoinedAt (Some a) (Some b) c = (joined : Shape) × (c ≡ Some joined) × IsJoined a b joined
+IsJoinedAt (Some a) (Some b) c = (joined : UidState) × (c ≡ Some joined) × IsJoined a b joined

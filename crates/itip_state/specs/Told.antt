@@ -7,7 +7,7 @@ use Rattle.itip_join.specs.declared.lift.Lift.TheVariants.{Known}
 use Rattle.itip_join.specs.KeyByKey.{value_at}
 use Rattle.itip_state.specs.Slots.{slot_cmp}
 use Rattle.itip_state.specs.Kept.{IsDead}
-use Rattle.itip_state.specs.Held.{Best, Shape, is_series}
+use Rattle.itip_state.specs.Held.{Best, UidState, is_series}
 
 -- an item of the set has the key of this item, and this item is not later than it
 pub record IsTold (set : List Item) (item : Item) : Type 0 where
@@ -26,8 +26,8 @@ pub record AreNews (set items news : List Item) : Type 0 where
   pub new : (item : Item) → Contains news item → ¬ IsOutdone set item
   pub rest : (item : Item) → Contains items item → Contains news item ⊎ IsOutdone set item
 
--- something is held at the key of the item, and it is no earlier than the item; `shape` is what is held of its UID
-pub record HoldsNoEarlier (shape : Shape) (item : Item) : Type 0 where
+-- something is held at the key of the item, and it is no earlier than the item; `uid_state` is what is held of its UID
+pub record HoldsNoEarlier (uid_state : UidState) (item : Item) : Type 0 where
   pub held : Best
-  pub place : ((is_series item.key ≡ true) × (shape.series ≡ Known held)) ⊎ ((is_series item.key ≡ false) × (value_at slot_cmp shape.entries item.key ≡ Some held))
+  pub place : ((is_series item.key ≡ true) × (uid_state.series ≡ Known held)) ⊎ ((is_series item.key ≡ false) × (value_at slot_cmp uid_state.entries item.key ≡ Some held))
   pub not_later : ¬ IsLater item held.value

@@ -4,7 +4,7 @@ ghost use Rattle.std.specs.Ordering.{nat_cmp, is_eq};
 ghost use Rattle.std.specs.Cmp.Lexicographic.{slice_cmp};
 ghost use Rattle.itip_items.specs.KeyParts.{uid_of};
 ghost use Rattle.itip_items.specs.declared.item.Item.{Item};
-ghost use Rattle.itip_state.specs.Held.{Shape, at, alone, AreOrdered, HoldKept};
+ghost use Rattle.itip_state.specs.Held.{UidState, at, alone, AreOrdered, HoldKept};
 ghost use Rattle.itip_state.specs.Joined.{IsJoinedAt};
 ghost use Rattle.itip_state.specs.Undone.{IsNoted, IsUndone, AreUndone, NotesAll};
 
@@ -31,7 +31,7 @@ enum Before<'a> {
 
 /// An item that was heard, or whose hearing was refused, and what was held before.
 #[derive(Drop)]
-struct Change<'a> {
+struct Hearing<'a> {
     item: &'a SharedItem,
     before: Before<'a>,
 }
@@ -74,22 +74,22 @@ fn hear_noted<'a>(
     held: &mut Held,
     alloc: Global,
     item: &'a SharedItem,
-    changes: &mut Vec<Change<'a>>,
+    changes: &mut Vec<Hearing<'a>>,
 ) -> Result<(), NoMemory>
     ensures kept { OnOk result ((heard : List Item) → HoldKept heard held.old → HoldKept (heard ++ item.now ∷ []) held.new) }
-    ensures noted { (start : List (List ℕ × Shape)) → AreUndone changes.old.items held.old start → AreUndone changes.new.items held.new start }
+    ensures noted { (start : List (List ℕ × UidState)) → AreUndone changes.old.items held.old start → AreUndone changes.new.items held.new start }
 {
     if notes_all(changes, item.uid()) {
         return hear(held, alloc, item);
     }
     let before = note(held, item)?;
-    changes.push(Change { item, before })?;
+    changes.push(Hearing { item, before })?;
     hear(held, alloc, item)
 }
 
 /// Whether the last change noted all that was held of a UID: then it takes back later hearings of this UID too. So a batch copies what is held of a UID at most
 /// once for each run of items of the UID, however long the run is.
-fn notes_all(changes: &[Change<'_>], about: &Uid) -> bool
+fn notes_all(changes: &[Hearing<'_>], about: &Uid) -> bool
     ensures { IsTrue result ↔ NotesAll changes.now about.now }
 {
     let Some((last, _)) = changes.split_last() else {
@@ -119,9 +119,9 @@ fn note<'a>(held: &Held, item: &'a SharedItem) -> Result<Before<'a>, NoMemory>
 }
 
 /// Takes changes back, the last first. It takes no memory.
-fn take_back(held: &mut Held, alloc: Global, changes: Vec<Change<'_>>)
-    requires { (start : List (List ℕ × Shape)) × AreUndone changes.items held.old start }
-    ensures { (start : List (List ℕ × Shape)) → AreUndone changes.entry.items held.old start → held.new ≡ start }
+fn take_back(held: &mut Held, alloc: Global, changes: Vec<Hearing<'_>>)
+    requires { (start : List (List ℕ × UidState)) × AreUndone changes.items held.old start }
+    ensures { (start : List (List ℕ × UidState)) → AreUndone changes.entry.items held.old start → held.new ≡ start }
 {
     let mut changes = changes;
     while let Some(change) = changes.pop() {
@@ -130,11 +130,11 @@ fn take_back(held: &mut Held, alloc: Global, changes: Vec<Change<'_>>)
 }
 
 /// Takes one change back. It takes no memory.
-fn undo(held: &mut Held, alloc: Global, change: Change<'_>)
-    requires { (old : List (List ℕ × Shape)) × IsUndone change held.old old }
-    ensures { (old : List (List ℕ × Shape)) → IsUndone change.entry held.old old → held.new ≡ old }
+fn undo(held: &mut Held, alloc: Global, change: Hearing<'_>)
+    requires { (old : List (List ℕ × UidState)) × IsUndone change held.old old }
+    ensures { (old : List (List ℕ × UidState)) → IsUndone change.entry held.old old → held.new ≡ old }
 {
-    let Change { item, before } = change;
+    let Hearing { item, before } = change;
     let uid = item.uid();
     match before {
         Before::Absent => held.remove(uid),

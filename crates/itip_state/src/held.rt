@@ -6,7 +6,7 @@ ghost use Rattle.std.specs.Ordering.{nat_cmp, is_eq};
 ghost use Rattle.std.specs.Cmp.Lexicographic.{slice_cmp};
 ghost use Rattle.itip_join.specs.Changes.{replaced};
 ghost use Rattle.itip_state.specs.Held.{at, AreOrdered, AreSound, items_of, series_list};
-ghost use Rattle.itip_state.specs.Seen.{shape};
+ghost use Rattle.itip_state.specs.UidStates.{uid_state};
 ghost use Rattle.itip_state.specs.Joined.{IsJoinedAt, AreBelow};
 
 use crate::NoMemory;
@@ -26,10 +26,10 @@ pub(crate) struct Held {
 
 impl Model for Held {
     ghost use Rattle.std.specs.Prelude.{List, ℕ};
-    ghost use Rattle.itip_state.specs.Held.{Shape};
-    ghost use Rattle.itip_state.specs.Seen.{shape, shapes};
+    ghost use Rattle.itip_state.specs.Held.{UidState};
+    ghost use Rattle.itip_state.specs.UidStates.{uid_state, uid_states};
 
-    ghost Value = { List (List ℕ × Shape) };
+    ghost Value = { List (List ℕ × UidState) };
 
     ghost use Rattle.std.specs.Coded.{codes};
     ghost use Rattle.itip_items.specs.contracts.item.Item as item;
@@ -37,7 +37,7 @@ impl Model for Held {
 
     ghost coded = { Prim.hlevel (codes, item.the_row.coded, key.the_row.coded) };
 
-    ghost view = { λ h. shapes h.map.map shape };
+    ghost view = { λ h. uid_states h.map.map uid_state };
 }
 
 impl Held {
@@ -52,7 +52,7 @@ impl Held {
 
     /// What is held of a UID.
     pub(crate) fn get(&self, uid: &Uid) -> Option<&SeriesState>
-        ensures found { option_map shape (option_copied result) ≡ at self.now uid.now }
+        ensures found { option_map uid_state (option_copied result) ≡ at self.now uid.now }
         ensures ordered { AreOrdered self.now }
     {
         self.map.get(uid)
@@ -60,7 +60,7 @@ impl Held {
 
     /// Joins `one` in at a UID, in place. A refusal (out of memory) changes nothing.
     pub(crate) fn join_one(&mut self, uid: &Uid, one: &SeriesState) -> Result<(), NoMemory>
-        ensures joined { OnOk result (IsJoinedAt (at self.old uid.now) (Some (shape one.now)) (at self.new uid.now)) }
+        ensures joined { OnOk result (IsJoinedAt (at self.old uid.now) (Some (uid_state one.now)) (at self.new uid.now)) }
         ensures others { (q : List ℕ) → is_eq (slice_cmp nat_cmp uid.now q) ≡ false → at self.new q ≡ at self.old q }
         ensures ordered { AreOrdered self.new }
         ensures err { OnErr result (self.new ≡ self.old) }
@@ -70,7 +70,7 @@ impl Held {
 
     /// Puts in a copy of what another map holds of a UID. A refusal (out of memory) changes nothing.
     pub(crate) fn put(&mut self, uid: &Uid, series: &SeriesState) -> Result<(), NoMemory>
-        ensures put { OnOk result ((q : List ℕ) → at self.new q ≡ cond (is_eq (slice_cmp nat_cmp uid.now q)) (Some (shape series.now)) (at self.old q)) }
+        ensures put { OnOk result ((q : List ℕ) → at self.new q ≡ cond (is_eq (slice_cmp nat_cmp uid.now q)) (Some (uid_state series.now)) (at self.old q)) }
         ensures ordered { OnOk result (AreOrdered self.new) }
     {
         let copy = series.copy()?;
@@ -88,8 +88,8 @@ impl Held {
 
     /// Puts `series` in the place of what is held of a UID, and gives that. Where nothing is held of it, nothing changes. It takes no memory.
     pub(crate) fn replace(&mut self, uid: &Uid, series: SeriesState) -> Option<SeriesState>
-        ensures before { option_map shape result ≡ at self.old uid.now }
-        ensures with { (q : List ℕ) → at self.new q ≡ cond (is_eq (slice_cmp nat_cmp uid.now q)) (replaced (at self.old uid.now) (shape series)) (at self.old q) }
+        ensures before { option_map uid_state result ≡ at self.old uid.now }
+        ensures with { (q : List ℕ) → at self.new q ≡ cond (is_eq (slice_cmp nat_cmp uid.now q)) (replaced (at self.old uid.now) (uid_state series)) (at self.old q) }
         ensures ordered { AreOrdered self.new }
     {
         self.map.replace(uid, series)

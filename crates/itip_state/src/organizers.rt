@@ -1,7 +1,7 @@
 //! The sequences that organizers have used.
 ghost use Rattle.std.specs.Prelude.{◌≡◌, None};
-ghost use Rattle.itip_state.specs.Held.{shape_items};
-ghost use Rattle.itip_state.specs.Seen.{shape};
+ghost use Rattle.itip_state.specs.Held.{uid_state_items};
+ghost use Rattle.itip_state.specs.UidStates.{uid_state};
 ghost use Rattle.itip_state.specs.Organizers.{used_by, greater, greatest};
 
 use crate::series::SeriesState;
@@ -31,7 +31,7 @@ fn greater(last: Option<u32>, used: Option<u32>) -> Option<u32>
 
 /// The greatest effective sequence of the items of one UID that its organizer has sent.
 pub(crate) fn greatest(series: &SeriesState) -> Option<u32>
-    ensures { result ≡ greatest None (shape_items (shape series.now)) }
+    ensures { result ≡ greatest None (uid_state_items (uid_state series.now)) }
 {
     let mut last = match &series.guard {
         Lift::Nothing => None,

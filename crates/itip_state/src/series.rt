@@ -1,8 +1,8 @@
 //! What a state holds of one UID.
 ghost use Rattle.std.specs.Prelude.{◌≡◌, ◌++◌, [], ℕ, List, cond, IfOk, OnOk};
 ghost use Rattle.itip_join.specs.declared.lift.Lift.TheVariants.{Nothing};
-ghost use Rattle.itip_state.specs.Held.{can_die as key_can_die, is_below as item_is_below, kills as series_kills, alone, Shape, shape_items, IsPlaced};
-ghost use Rattle.itip_state.specs.Seen.{shape};
+ghost use Rattle.itip_state.specs.Held.{can_die as key_can_die, is_below as item_is_below, kills as series_kills, alone, UidState, uid_state_items, IsPlaced};
+ghost use Rattle.itip_state.specs.UidStates.{uid_state};
 ghost use Rattle.std.specs.Ordering.{is_eq};
 ghost use Rattle.itip_join.specs.KeyByKey.{value_at};
 ghost use Rattle.itip_items.specs.declared.key.Key.{Key};
@@ -74,7 +74,7 @@ pub(crate) fn of_nothing(alloc: Global) -> SeriesState
 
 /// What is held where this item alone was heard.
 pub(crate) fn of_item(alloc: Global, item: &SharedItem) -> Result<SeriesState, NoMemory>
-    ensures { IfOk result (λ one. shape one ≡ alone item.now) }
+    ensures { IfOk result (λ one. uid_state one ≡ alone item.now) }
 {
     let best = Greatest {
         value: item.revision().copy()?,
@@ -93,8 +93,8 @@ pub(crate) fn of_item(alloc: Global, item: &SharedItem) -> Result<SeriesState, N
 
 /// Adds the items of one UID, the series item first.
 pub(crate) fn share(series: &SeriesState, items: &mut Vec<SharedItem>) -> Result<(), NoMemory>
-    requires { (uid : List ℕ) × IsPlaced uid (shape series.now) }
-    ensures { OnOk result (items.new.items ≡ items.old.items ++ shape_items (shape series.now)) }
+    requires { (uid : List ℕ) × IsPlaced uid (uid_state series.now) }
+    ensures { OnOk result (items.new.items ≡ items.old.items ++ uid_state_items (uid_state series.now)) }
 {
     if let Lift::Known(best) = &series.guard {
         items.push(SharedItem::held_at(None, &best.value)?)?;
@@ -107,9 +107,9 @@ pub(crate) fn share(series: &SeriesState, items: &mut Vec<SharedItem>) -> Result
 
 /// What is held of one UID, with what stood at a key put back.
 pub(crate) fn put_back(series: SeriesState, slot: &Slot, before: Option<Best>) -> SeriesState
-    requires { (old : Shape) × IsBackAt slot.now before (shape series) old }
-    ensures { (old : Shape) → IsBackAt slot.now before (shape series) old
-        → shape result ≡ old }
+    requires { (old : UidState) × IsBackAt slot.now before (uid_state series) old }
+    ensures { (old : UidState) → IsBackAt slot.now before (uid_state series) old
+        → uid_state result ≡ old }
 {
     let Guarded { guard, mut entries } = series;
     put_entry(&mut entries, slot, before);

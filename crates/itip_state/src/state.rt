@@ -5,8 +5,8 @@ ghost use Rattle.std.specs.Option.{option_copied};
 ghost use Rattle.itip_items.specs.KeyParts.{uid_of};
 ghost use Rattle.itip_items.specs.Later.{IsLater};
 ghost use Rattle.itip_items.specs.declared.item.Item.{Item};
-ghost use Rattle.itip_state.specs.Held.{items_of, shape_items, AreHeld};
-ghost use Rattle.itip_state.specs.Seen.{shape};
+ghost use Rattle.itip_state.specs.Held.{items_of, uid_state_items, AreHeld};
+ghost use Rattle.itip_state.specs.UidStates.{uid_state};
 ghost use Rattle.itip_state.specs.Told.{IsOutdone, HoldsNoEarlier};
 
 use crate::NoMemory;
@@ -32,7 +32,7 @@ fn is_no_later(item: &Item, best: &Best) -> bool
 
 /// Whether what is held of the UID of `item` at its key is no earlier than it.
 fn holds_no_earlier(series: &SeriesState, item: &SharedItem) -> bool
-    ensures { IsTrue result ↔ HoldsNoEarlier (shape series.now) item.now }
+    ensures { IsTrue result ↔ HoldsNoEarlier (uid_state series.now) item.now }
 {
     match item.slot() {
         None => match &series.guard {
@@ -59,7 +59,7 @@ fn outdoes(held: &Held, item: &SharedItem) -> bool
 /// Shows the items of one UID, the series item first.
 fn show<'a>(series: &'a SeriesState, items: &mut Vec<&'a Item>) -> Result<(), NoMemory>
     ensures { OnOk result (map (λ item. item.now) items.new.items
-        ≡ map (λ item. item.now) items.old.items ++ shape_items (shape series.now)) }
+        ≡ map (λ item. item.now) items.old.items ++ uid_state_items (uid_state series.now)) }
 {
     if let Lift::Known(best) = &series.guard {
         items.push(best.value.item())?;

@@ -7,7 +7,7 @@ use Rattle.itip_moment.specs.declared.moment.Moment.{Moment}
 use Rattle.itip_todo.specs.Parts.{Parts}
 use Rattle.itip_todo.specs.PartsOf.{parts_of}
 use Rattle.itip_todo.specs.declared.property.Property.{Property}
-use Rattle.itip_items.specs.Items.{Draft, drafts_of, task_draft, add_drafts, attendee_draft, draft_of, instance_key, instance_sequence, kind_of, method_of}
+use Rattle.itip_items.specs.Items.{ItemDraft, drafts_of, task_draft, add_drafts, attendee_draft, draft_of, instance_key, effective_sequence, kind_of, method_of}
 use Rattle.itip_items.specs.declared.item.Item.{Item}
 use Rattle.itip_items.specs.declared.key.Key.{Key}
 use Rattle.itip_items.specs.declared.key.Key.TheVariants.{Series, Instance, Range, Answer, Refresh}
@@ -23,7 +23,7 @@ is_instance (Range uid id) = true
 is_instance (Answer uid id attendee) = false
 is_instance (Refresh uid id attendee) = false
 
-abbrev IsPlain : Parts → Draft → Type 0
+abbrev IsPlain : Parts → ItemDraft → Type 0
 IsPlain parts draft = is_instance draft.key ≡ false → draft.eff ≡ parts.seq
 
 instance_key-is : (range : Bool) (uid : List ℕ) (id : Moment) → is_instance (instance_key range uid id) ≡ true
@@ -57,9 +57,9 @@ all_plain kind.Refresh eff parts = attendees_plain kind.Refresh parts parts.atte
 plain_from : (item : Item) → is_instance item.key ≡ false → Is item → item.eff ≡ item.own
 plain_from item not_instance is =
     let parts : Parts = parts_of item.todo in
-    let eff : ℕ = instance_sequence (method_of item.kind) (parts ∷ []) parts in
+    let eff : ℕ = effective_sequence (method_of item.kind) (parts ∷ []) parts in
     let k : Kind = kind_of (method_of item.kind) parts in
-    let draft : Draft = draft_of item.key item.eff item.todo item.kind in
+    let draft : ItemDraft = draft_of item.key item.eff item.todo item.kind in
     let one : drafts_of k eff parts ≡ draft ∷ [] = sym (append-nil (drafts_of k eff parts)) ∙ is.is_canonical.alone in
     let plain : AllByRecursion (IsPlain parts) (draft ∷ []) = subst (AllByRecursion (IsPlain parts)) one (all_plain k eff parts) in
     plain.0 not_instance ∙ sym is.own_is

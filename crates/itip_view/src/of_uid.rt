@@ -26,7 +26,7 @@ use std::alloc::Global;
 
 /// What names a row beside its UID, and its dates.
 #[derive(Drop)]
-struct Place {
+struct RowHead {
     id: RowId,
     start: Option<Moment>,
     due: Option<Moment>,
@@ -176,7 +176,7 @@ impl<'v, 'a> UidView<'v, 'a> {
     fn own_row(&self, item: &Item, id: RowId, asked: Option<&Moment>) -> Result<Row, NoMemory>
         ensures { IfOk result (IsRowWith self.now item.now id item.now.todo.start item.now.todo.due (record { id = asked.entry; since = item.now.own } ∷ [])) }
     {
-        let place = Place {
+        let place = RowHead {
             id,
             start: item.todo.start.clone()?,
             due: item.todo.due.clone()?,
@@ -225,7 +225,7 @@ impl<'v, 'a> UidView<'v, 'a> {
         if !is_live(range.item.kind) {
             return Ok(None);
         }
-        let place = Place {
+        let place = RowHead {
             id: RowId::At(at.clone()?),
             start: start_from(&range.item.todo.start, id, at)?,
             due: due_from(&range.item.todo.due, id, at)?,
@@ -258,7 +258,7 @@ impl<'v, 'a> UidView<'v, 'a> {
             Shape::Single | Shape::Opaque => return Ok(None),
         };
         let item = governing.item;
-        let place = Place {
+        let place = RowHead {
             id: RowId::At(at.clone()?),
             start: Some(at.clone()?),
             due: due_of(&item.todo.due, &series.start, at)?,
@@ -272,7 +272,7 @@ impl<'v, 'a> UidView<'v, 'a> {
     fn row_of(
         &self,
         governing: &Governing<'_>,
-        place: Place,
+        place: RowHead,
         questions: &[Question<'_>],
     ) -> Result<Row, NoMemory>
         ensures { IfOk result (IsRowWith self.now governing.now.item.now place.id place.start place.due questions.now) }

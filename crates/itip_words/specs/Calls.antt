@@ -37,7 +37,7 @@ AreOffice scripted workers = AreDesks scripted.desks × AreWorkers workers
 
 -- of what is written: P of the list, where it is one
 abbrev pub IfList : (Listing → Type 0) → Written → Type 0
-IfList P written.Kept = Unit {0}
+IfList P written.Compaction = Unit {0}
 IfList P (written.List listing) = P listing
 
 -- two dates spell the ends of the window

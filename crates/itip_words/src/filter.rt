@@ -23,7 +23,7 @@ pub struct Filter {
 #[derive(Drop)]
 pub enum Written {
     /// The octets of what is kept.
-    Kept,
+    Compaction,
     /// The task list.
     List(Listing),
 }
@@ -77,7 +77,7 @@ fn compact_of(words: &ArgMatches<'_>) -> Option<Filter>
     ensures { IfSome result CanFilter }
 {
     let intake = intake_of(words)?;
-    let written = Written::Kept;
+    let written = Written::Compaction;
     Some(Filter { intake, written })
 }
 

@@ -1,8 +1,8 @@
 use Rattle.std.proofs.Common.{◌↔◌, ◌⊎◌, IsTrue, map, take}
-use Rattle.itip_desk.specs.declared.entry.Entry.{Entry}
+use Rattle.itip_desk.specs.declared.entry.IndexEntry.{IndexEntry}
 use Rattle.itip_desk.specs.Entries.{IsNoted}
 use Rattle.itip_desk.specs.Index.{has}
 use Rattle.itip_desk.proofs.indexed.note_all.Given as goal
 
 abbrev pub invariant-loop-item : goal.invariant-loop-item
-invariant-loop-item l = (e : Entry) → IsTrue (has l.entries e) ↔ (IsTrue (has l.fn.entries e) ⊎ IsNoted (take l.item-index (map (λ item. item.now) l.items)) e)
+invariant-loop-item l = (e : IndexEntry) → IsTrue (has l.entries e) ↔ (IsTrue (has l.fn.entries e) ⊎ IsNoted (take l.item-index (map (λ item. item.now) l.items)) e)

@@ -6,7 +6,7 @@ use Rattle.itip_todo.specs.Lawful.{IsLawful}
 use Rattle.itip_todo.specs.Parts.{Parts}
 use Rattle.itip_todo.specs.PartsOf.{parts_of}
 use Rattle.itip_todo.specs.declared.property.Property.{Property}
-use Rattle.itip_items.specs.Items.{Draft, attendee_draft, only_of}
+use Rattle.itip_items.specs.Items.{ItemDraft, attendee_draft, only_of}
 use Rattle.itip_items.specs.Given.{Adds, IsOver}
 use Rattle.itip_items.specs.declared.item.Item.{Item}
 use Rattle.itip_items.proofs.Adding.{adds_both, adds_one, adds_none, over_here, over_later, if_large}
@@ -35,7 +35,7 @@ attendee_item-requires c =
 pub returns-in_err-attendee_item-clause-large : goal.returns-in_err-attendee_item-clause-large
 returns-in_err-attendee_item-clause-large c =
     let p = err_from_is_err_and c.from_residual.result c.from_residual.ensures.1 in
-    let draft : Property → Draft = attendee_draft c.args.kind (parts_of c.args.todo.now) in
+    let draft : Property → ItemDraft = attendee_draft c.args.kind (parts_of c.args.todo.now) in
     let i = c.loop-attendee.attendee-index in
     let all = c.as_slice-attendee-items.result.now in
     let a : Property = c.attendee-item.result in
@@ -47,7 +47,7 @@ returns-in_err-attendee_item-clause-large c =
 pub loop-attendee-preserved : goal.loop-attendee-preserved
 loop-attendee-preserved c =
     let parts : Parts = parts_of c.args.todo.now in
-    let draft : Property → Draft = attendee_draft c.args.kind parts in
+    let draft : Property → ItemDraft = attendee_draft c.args.kind parts in
     let i = c.loop-attendee.attendee-index in
     let all = c.as_slice-attendee-items.result.now in
     let a : Property = c.attendee-item.result in
@@ -63,7 +63,7 @@ loop-attendee-preserved c =
 
 pub returns-clause-found : goal.returns-clause-found
 returns-clause-found c =
-    let draft : Property → Draft = attendee_draft c.args.kind (parts_of c.args.todo.now) in
+    let draft : Property → ItemDraft = attendee_draft c.args.kind (parts_of c.args.todo.now) in
     let all = c.as_slice-attendee-items.result.now in
     let items : List Item = c.loop-attendee.items.items in
     let none : drop c.loop-attendee.attendee-index all ≡ [] = at_drop_all (λ (list : List Property). list) all c.loop-attendee.attendee-index (omega arith) in

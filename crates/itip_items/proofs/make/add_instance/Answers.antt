@@ -4,7 +4,7 @@ use Rattle.std.proofs.lemmas.Result.{err_from_is_err_and}
 use Rattle.itip_moment.specs.declared.moment.Moment.{Moment}
 use Rattle.itip_todo.specs.Parts.{Parts}
 use Rattle.itip_todo.specs.PartsOf.{parts_of}
-use Rattle.itip_items.specs.Items.{Draft, add_drafts, instance_draft, instance_key, raised, IsCanonical}
+use Rattle.itip_items.specs.Items.{ItemDraft, add_drafts, instance_draft, instance_key, raised, IsCanonical}
 use Rattle.itip_items.specs.Given.{Adds, IsOver, IfLarge}
 use Rattle.itip_items.specs.declared.key.Key.{Key}
 use Rattle.itip_items.specs.declared.kind.Kind.TheVariants as kind
@@ -41,7 +41,7 @@ pub returns-in_ok-push-in-Ok-Some-clause-found : goal.returns-in_ok-push-in-Ok-S
 returns-in_ok-push-in-Ok-Some-clause-found c =
     let parts : Parts = parts_of c.args.todo in
     let m = started c.args.todo.start (instance_key false c.args.todo.uid) c.in-Ok-Some.key (sym c.in-Ok-Some.field-0-is ∙ c.in-Ok-Some.ensures) in
-    subst (λ (ds : List Draft). Adds ds c.args.items.now.items c.push.new.self.items) (sym (of_started (raised parts c.args.above) parts c.in-Ok-Some.key m))
+    subst (λ (ds : List ItemDraft). Adds ds c.args.items.now.items c.push.new.self.items) (sym (of_started (raised parts c.args.above) parts c.in-Ok-Some.key m))
     (adds_one _ c.in_ok-instance_item-in-Ok-Some.field-0 c.args.items.now.items c.push.new.self.items c.in_ok-instance_item-in-Ok-Some.ensures.found c.in_ok-push-in-Ok-Some.ensures.items)
 
 pub returns-in_err-instance_item-in-Ok-Some-clause-large : goal.returns-in_err-instance_item-in-Ok-Some-clause-large
@@ -49,10 +49,10 @@ returns-in_err-instance_item-in-Ok-Some-clause-large c =
     let p = err_from_is_err_and c.from_residual.result c.from_residual.ensures.1 in
     let parts : Parts = parts_of c.args.todo in
     let m = started c.args.todo.start (instance_key false c.args.todo.uid) c.in-Ok-Some.key (sym c.in-Ok-Some.field-0-is ∙ c.in-Ok-Some.ensures) in
-    rw (p.1, p.2) (subst (λ (ds : List Draft). IfLarge c.in_err-instance_item-in-Ok-Some.field-0.0 (IsOver ds)) (sym (of_started (raised parts c.args.above) parts c.in-Ok-Some.key m)) c.in_err-instance_item-in-Ok-Some.ensures.large)
+    rw (p.1, p.2) (subst (λ (ds : List ItemDraft). IfLarge c.in_err-instance_item-in-Ok-Some.field-0.0 (IsOver ds)) (sym (of_started (raised parts c.args.above) parts c.in-Ok-Some.key m)) c.in_err-instance_item-in-Ok-Some.ensures.large)
 
 pub returns-in-Ok-None-clause-found : goal.returns-in-Ok-None-clause-found
 returns-in-Ok-None-clause-found c =
     let parts : Parts = parts_of c.args.todo in
     let none = not_started c.args.todo.start (instance_key false c.args.todo.uid) (sym c.in-Ok-None.field-0-is ∙ c.in-Ok-None.ensures) in
-    subst (λ (ds : List Draft). Adds ds c.args.items.now.items c.args.items.now.items) (sym (ap (λ (s : Option Moment). add_drafts (raised parts c.args.above) s parts) none)) (adds_none c.args.items.now.items)
+    subst (λ (ds : List ItemDraft). Adds ds c.args.items.now.items c.args.items.now.items) (sym (ap (λ (s : Option Moment). add_drafts (raised parts c.args.above) s parts) none)) (adds_none c.args.items.now.items)

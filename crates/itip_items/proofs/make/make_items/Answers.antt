@@ -5,7 +5,7 @@ use Rattle.std.specs.Vec.Iter.{into_iter_items}
 use Rattle.itip_todo.specs.Parts.{Parts}
 use Rattle.itip_todo.specs.PartsOf.{parts_of}
 use Rattle.itip_todo.specs.declared.todo.Todo.{Todo}
-use Rattle.itip_items.specs.Items.{Draft, drafts, drafts_of, kind_of, raised, series_sequence}
+use Rattle.itip_items.specs.Items.{ItemDraft, drafts, drafts_of, kind_of, raised, series_sequence}
 use Rattle.itip_items.specs.Given.{Adds, GivesItems, IsOver, FirstOver, IfTooLarge, drafts_among, drafts_each}
 use Rattle.itip_items.specs.declared.error.FormError.{FormError}
 use Rattle.itip_items.specs.Needs.{Suits}
@@ -16,7 +16,7 @@ use Rattle.itip_items.proofs.Lawfulness.{series_small}
 use Rattle.itip_items.proofs.make.make_items.Goals as goal
 
 -- the drafts of the first to-do, where the greatest series sequence of its UID is known
-abbrev own : Method → ℕ → Todo → List Draft
+abbrev own : Method → ℕ → Todo → List ItemDraft
 own m above todo = drafts_of (kind_of m (parts_of todo)) (raised (parts_of todo) above) (parts_of todo)
 
 among_more : (m : Method) (all : List Parts) (left rest : List Todo) (todo : Todo) (above : ℕ) → left ≡ todo ∷ rest → above ≡ series_sequence m todo.uid all
@@ -64,7 +64,7 @@ returns-in-Err-clause-large c =
     let sum : n + c.loop-todo.left ≡ c.len-count.result + 1 = omega (arith, few) in
     let over : IsOver (own m c.sequence_in-above.result todo) → FirstOver 1 (drafts_each m (map parts_of c.args.all.items) (map parts_of c.args.all.items)) n =
     λ h. subst (λ (ts : List Todo). FirstOver 1 (drafts_each m (map parts_of ts) (map parts_of ts)) n) same
-    (c.loop-todo.invariant.over n n sum (subst (λ (dss : List (List Draft)). FirstOver n dss n) (sym more) (inl (refl, h)))) in
+    (c.loop-todo.invariant.over n n sum (subst (λ (dss : List (List ItemDraft)). FirstOver n dss n) (sym more) (inl (refl, h)))) in
     subst (λ (e : FormError). IfTooLarge e (FirstOver 1 (drafts_each m (map parts_of c.args.all.items) (map parts_of c.args.all.items)))) (sym c.of_todo.ensures)
     (large_of _ c.in-Err.error n over c.in-Err.ensures.large)
 
@@ -84,8 +84,8 @@ loop-todo-preserved c =
     let was = c.loop-todo.invariant.length_is in
     let gone = c.in-Some.ensures.steps.1 in
     let short = ap length e in
-    let first : List Draft = own m c.sequence_in-above.result todo in
-    let later : List Draft = drafts_among m all (map parts_of rest) in
+    let first : List ItemDraft = own m c.sequence_in-above.result todo in
+    let later : List ItemDraft = drafts_among m all (map parts_of rest) in
     let old : List Item = c.loop-todo.items.items in
     let each = each_more m all left rest todo c.sequence_in-above.result e above in
     let was_left = c.loop-todo.invariant.left_is in
@@ -94,13 +94,13 @@ loop-todo-preserved c =
     let mid : List Item = c.add_items.new.items.items in record {
       length_is = omega arith;
       suits = (first_suits m left rest todo e c.loop-todo.invariant.suits).1;
-      found = λ new h. c.loop-todo.invariant.found new (subst (λ (ds : List Draft). Adds ds old new) (sym more) (adds_both first later old mid new c.in_default.ensures.found h));
+      found = λ new h. c.loop-todo.invariant.found new (subst (λ (ds : List ItemDraft). Adds ds old new) (sym more) (adds_both first later old mid new c.in_default.ensures.found h));
       left_is = omega (arith, was_left, short);
       few = omega (arith, few);
       over = λ at number sum h.
           let next : at ≡ n + 1 = omega (arith, sum, few, was_left, short) in
           let before : n + c.loop-todo.left ≡ c.len-count.result + 1 = omega (arith, few) in
-          c.loop-todo.invariant.over n number before (subst (λ (dss : List (List Draft)). FirstOver n dss number) (sym each) (inr (c.in_default.ensures.found.gives.within, subst (λ (k : ℕ). FirstOver k (drafts_each m all (map parts_of rest)) number) next h)));
+          c.loop-todo.invariant.over n number before (subst (λ (dss : List (List ItemDraft)). FirstOver n dss number) (sym each) (inr (c.in_default.ensures.found.gives.within, subst (λ (k : ℕ). FirstOver k (drafts_each m all (map parts_of rest)) number) next h)));
     }
 
 pub returns-clause-found : goal.returns-clause-found
@@ -114,4 +114,4 @@ returns-clause-found c =
     let none : drafts_among m all (map parts_of (into_iter_items c.loop-todo.todo-iterator)) ≡ [] = none_left m all (into_iter_items c.loop-todo.todo-iterator) (omega arith) in
     let items : List Item = c.loop-todo.items.items in
     subst (λ (ts : List Todo). GivesItems (drafts m (map parts_of ts)) items) same
-    (adds_all (drafts m all) items (c.loop-todo.invariant.found items (subst (λ (ds : List Draft). Adds ds items items) (sym none) (adds_none items))))
+    (adds_all (drafts m all) items (c.loop-todo.invariant.found items (subst (λ (ds : List ItemDraft). Adds ds items items) (sym none) (adds_none items))))

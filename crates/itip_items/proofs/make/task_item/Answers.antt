@@ -4,7 +4,7 @@ use Rattle.std.specs.Option.{option_map}
 use Rattle.itip_moment.specs.declared.moment.Moment.{Moment}
 use Rattle.itip_todo.specs.Parts.{Parts}
 use Rattle.itip_todo.specs.PartsOf.{parts_of}
-use Rattle.itip_items.specs.Items.{Draft, instance_draft, instance_key, series_draft, task_draft, raised, IsCanonical}
+use Rattle.itip_items.specs.Items.{ItemDraft, instance_draft, instance_key, series_draft, task_draft, raised, IsCanonical}
 use Rattle.itip_items.specs.Given.{Gives, IsOver, IfLarge}
 use Rattle.itip_items.specs.declared.key.Key.{Key}
 use Rattle.itip_items.proofs.Drafting.{instance_canonical, series_canonical}
@@ -44,13 +44,13 @@ pub returns-in-Ok-Some-clause-found : goal.returns-in-Ok-Some-clause-found
 returns-in-Ok-Some-clause-found c =
     let parts : Parts = parts_of c.args.todo in
     let m = made c.args.todo.rid (instance_key c.args.todo.range c.args.todo.uid) c.in-Ok-Some.key (sym c.in-Ok-Some.field-0-is ∙ c.in-Ok-Some.ensures) in
-    subst (λ (d : Draft). IfOk c.instance_item.result (Gives d)) (sym (of_instance c.args.kind (raised parts c.args.above) parts c.in-Ok-Some.key m)) c.instance_item.ensures.found
+    subst (λ (d : ItemDraft). IfOk c.instance_item.result (Gives d)) (sym (of_instance c.args.kind (raised parts c.args.above) parts c.in-Ok-Some.key m)) c.instance_item.ensures.found
 
 pub returns-in-Ok-Some-clause-large : goal.returns-in-Ok-Some-clause-large
 returns-in-Ok-Some-clause-large c =
     let parts : Parts = parts_of c.args.todo in
     let m = made c.args.todo.rid (instance_key c.args.todo.range c.args.todo.uid) c.in-Ok-Some.key (sym c.in-Ok-Some.field-0-is ∙ c.in-Ok-Some.ensures) in
-    subst (λ (d : Draft). IfErr c.instance_item.result (λ e. IfLarge e (IsOver (d ∷ [])))) (sym (of_instance c.args.kind (raised parts c.args.above) parts c.in-Ok-Some.key m)) c.instance_item.ensures.large
+    subst (λ (d : ItemDraft). IfErr c.instance_item.result (λ e. IfLarge e (IsOver (d ∷ [])))) (sym (of_instance c.args.kind (raised parts c.args.above) parts c.in-Ok-Some.key m)) c.instance_item.ensures.large
 
 of_series : (k : _) (eff : _) (parts : Parts) → parts.rid ≡ None → task_draft k eff parts.rid parts ≡ series_draft k parts
 of_series k eff parts none = ap (λ (r : Option Moment). task_draft k eff r parts) none
@@ -59,10 +59,10 @@ pub returns-in-Ok-None-clause-found : goal.returns-in-Ok-None-clause-found
 returns-in-Ok-None-clause-found c =
     let parts : Parts = parts_of c.args.todo in
     let none = none_made c.args.todo.rid (instance_key c.args.todo.range c.args.todo.uid) (sym c.in-Ok-None.field-0-is ∙ c.in-Ok-None.ensures) in
-    subst (λ (d : Draft). IfOk c.series_item.result (Gives d)) (sym (of_series c.args.kind (raised parts c.args.above) parts none)) c.series_item.ensures.found
+    subst (λ (d : ItemDraft). IfOk c.series_item.result (Gives d)) (sym (of_series c.args.kind (raised parts c.args.above) parts none)) c.series_item.ensures.found
 
 pub returns-in-Ok-None-clause-large : goal.returns-in-Ok-None-clause-large
 returns-in-Ok-None-clause-large c =
     let parts : Parts = parts_of c.args.todo in
     let none = none_made c.args.todo.rid (instance_key c.args.todo.range c.args.todo.uid) (sym c.in-Ok-None.field-0-is ∙ c.in-Ok-None.ensures) in
-    subst (λ (d : Draft). IfErr c.series_item.result (λ e. IfLarge e (IsOver (d ∷ [])))) (sym (of_series c.args.kind (raised parts c.args.above) parts none)) c.series_item.ensures.large
+    subst (λ (d : ItemDraft). IfErr c.series_item.result (λ e. IfLarge e (IsOver (d ∷ [])))) (sym (of_series c.args.kind (raised parts c.args.above) parts none)) c.series_item.ensures.large

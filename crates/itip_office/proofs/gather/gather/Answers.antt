@@ -4,7 +4,7 @@ use Rattle.std.proofs.lemmas.List.{map-append, length_push}
 use Rattle.itip_items.specs.declared.item.Item.{Item}
 use Rattle.itip_desk.specs.Heard.{heard}
 use Rattle.itip_running.specs.Ends.{published}
-use Rattle.itip_office.specs.declared.held.Held.{Held}
+use Rattle.itip_office.specs.declared.owned_keeper.OwnedKeeper.{OwnedKeeper}
 use Rattle.itip_office.specs.declared.team.Merged.{Merged}
 use Rattle.itip_office.specs.Answers.{Answer}
 use Rattle.itip_office.specs.Team.{AreOfDesks}
@@ -27,8 +27,8 @@ loop-one-preserved g c =
     let are : All (IsFor c.args.desks desk) one.answers.items = subst (λ (l : List Answer). All (IsFor c.args.desks desk) l) c.deref.ensures.value (c.if-not-are_for.ensures refl) in
     let histories : List (List (List Item)) = map (λ h. published h.keeper) c.loop-one.keepers.items in
     let batches = published one.held.keeper in
-    let more : all_heard (map (λ h. published h.keeper) c.push.new.self.items) ≡ all_heard histories ++ heard batches = ap (λ (l : List (Held g.row.R.Denot)). all_heard (map (λ h. published h.keeper) l)) keepers
-    ∙ ap all_heard (map-append (λ (h : Held g.row.R.Denot). published h.keeper) c.loop-one.keepers.items (one.held ∷ [])) ∙ heard_more histories batches in
+    let more : all_heard (map (λ h. published h.keeper) c.push.new.self.items) ≡ all_heard histories ++ heard batches = ap (λ (l : List (OwnedKeeper g.row.R.Denot)). all_heard (map (λ h. published h.keeper) l)) keepers
+    ∙ ap all_heard (map-append (λ (h : OwnedKeeper g.row.R.Denot). published h.keeper) c.loop-one.keepers.items (one.held ∷ [])) ∙ heard_more histories batches in
     record {
       at = (let at = was.at in omega (arith, at, count));
       count = (let sum = was.count in omega (arith, sum, long, count));

@@ -2,18 +2,18 @@ use Rattle.std.proofs.Common.{◌∙◌, ◌≡◌, List, ℕ, Some, ap, subst, 
 use Rattle.std.specs.Ordering.{is_eq, nat_cmp}
 use Rattle.std.specs.Cmp.Lexicographic.{slice_cmp}
 use Rattle.itip_items.specs.KeyParts.{uid_of}
-use Rattle.itip_state.specs.Held.{Shape, alone, at}
-use Rattle.itip_state.specs.Seen.{shape}
+use Rattle.itip_state.specs.Held.{UidState, alone, at}
+use Rattle.itip_state.specs.UidStates.{uid_state}
 use Rattle.itip_state.specs.Joined.{IsJoinedAt}
 use Rattle.itip_state.proofs.Members.{on_ok_then}
 use Rattle.itip_state.proofs.Hearing.{heard_once}
 use Rattle.itip_state.proofs.hear.hear.Goals as goal
 use Rattle.itip_state.proofs.hear.hear.Goals.{After-join_one}
 
-joined : (c : After-join_one) → IsJoinedAt (at c.args.held.now c.uid.result.now) (Some (shape c.in_ok-one.one)) (at c.join_one.new.self c.uid.result.now)
+joined : (c : After-join_one) → IsJoinedAt (at c.args.held.now c.uid.result.now) (Some (uid_state c.in_ok-one.one)) (at c.join_one.new.self c.uid.result.now)
     → IsJoinedAt (at c.args.held.now (uid_of c.args.item.now.key)) (Some (alone c.args.item.now)) (at c.join_one.new.self (uid_of c.args.item.now.key))
 joined c j = subst (λ (u : List ℕ). IsJoinedAt (at c.args.held.now u) (Some (alone c.args.item.now)) (at c.join_one.new.self u)) c.uid.ensures
-    (subst (λ (sh : Shape). IsJoinedAt (at c.args.held.now c.uid.result.now) (Some sh) (at c.join_one.new.self c.uid.result.now)) c.in_ok-one.ensures j)
+    (subst (λ (sh : UidState). IsJoinedAt (at c.args.held.now c.uid.result.now) (Some sh) (at c.join_one.new.self c.uid.result.now)) c.in_ok-one.ensures j)
 
 others : (c : After-join_one) (q : List ℕ) → is_eq (slice_cmp nat_cmp (uid_of c.args.item.now.key) q) ≡ false → at c.join_one.new.self q ≡ at c.args.held.now q
 others c q n = c.join_one.ensures.others q (ap (λ u. is_eq (slice_cmp nat_cmp u q)) c.uid.ensures ∙ n)

@@ -1,6 +1,6 @@
 use Rattle.std.proofs.Common.{◌∙◌, ap, sym, Some, None}
-use Rattle.itip_state.specs.Held.{Shape, at}
-use Rattle.itip_state.specs.Seen.{shape}
+use Rattle.itip_state.specs.Held.{UidState, at}
+use Rattle.itip_state.specs.UidStates.{uid_state}
 use Rattle.itip_join.specs.KeyByKey.{value_at}
 use Rattle.itip_state.specs.Slots.{slot_cmp}
 use Rattle.itip_state.proofs.Undoing.{noted_at}
@@ -8,7 +8,7 @@ use Rattle.itip_state.proofs.hear.note.Goals as goal
 
 pub returns-in-None-get-clause-noted : goal.returns-in-None-get-clause-noted
 returns-in-None-get-clause-noted c =
-    let w : Shape = shape c.in-Some.series.now in (
+    let w : UidState = uid_state c.in-Some.series.now in (
       w,
       sym (ap (at c.args.held.now) c.uid.ensures) ∙ sym c.in-Some.ensures.found,
       noted_at c.args.item.now.key None w (record { sorted = c.in-Some.series.now.entries.ordered; alive = c.in-Some.series.now.no_dead_entry })
@@ -19,7 +19,7 @@ returns-in-None-get-clause-noted c =
 
 pub returns-in_ok-copy-in-Some-get-clause-noted : goal.returns-in_ok-copy-in-Some-get-clause-noted
 returns-in_ok-copy-in-Some-get-clause-noted c =
-    let w : Shape = shape c.in-Some.series.now in (
+    let w : UidState = uid_state c.in-Some.series.now in (
       w,
       sym (ap (at c.args.held.now) c.uid.ensures) ∙ sym c.in-Some.ensures.found,
       noted_at c.args.item.now.key (Some c.in_ok-copy-in-Some-get.field-0) w (record { sorted = c.in-Some.series.now.entries.ordered; alive = c.in-Some.series.now.no_dead_entry })

@@ -2,16 +2,16 @@ use Rattle.std.proofs.Common.{◌≡◌, List, [], ◌∷◌, ◌++◌, append_a
 use Rattle.std.specs.List.{AllByRecursion}
 use Rattle.itip_items.specs.declared.item.Item.{Item}
 use Rattle.itip_state.specs.Held.{IsEntryAt, series_items, entry_items}
-use Rattle.itip_state.specs.Seen.{shape}
+use Rattle.itip_state.specs.UidStates.{uid_state}
 use Rattle.itip_state.proofs.Sharing.{placed_rest, no_series_items}
 use Rattle.itip_state.proofs.series.share.Goals as goal
 use Rattle.itip_state.proofs.series.share.Goals.{in-Known+in_ok-held_at+in_ok-push, in_default}
 
 pub loop-slot-init : goal.loop-slot-init
 loop-slot-init c =
-    let there : (shape c.args.series.now).entries ≡ c.into_iter-slot-iterator.result = search rules in
+    let there : (uid_state c.args.series.now).entries ≡ c.into_iter-slot-iterator.result = search rules in
     let before : List Item = c.args.items.now.items in
-    let entries : List Item = entry_items (shape c.args.series.now).entries in
+    let entries : List Item = entry_items (uid_state c.args.series.now).entries in
     let first : c.match-series.items.items ++ entries ≡ before ++ (series_items c.args.series.now.guard ++ entries) =
     elim c.match-series.branch [
       | in-Known+in_ok-held_at+in_ok-push w ↦

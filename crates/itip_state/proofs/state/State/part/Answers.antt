@@ -4,7 +4,7 @@ use Rattle.std.proofs.lemmas.List.{map_more, take_all}
 use Rattle.itip_items.specs.declared.item.Item.{Item}
 use Rattle.itip_state.specs.Kept.{ArePartOf}
 use Rattle.itip_state.specs.Held.{at, items_of}
-use Rattle.itip_state.specs.Seen.{shape}
+use Rattle.itip_state.specs.UidStates.{uid_state}
 use Rattle.itip_state.proofs.Hearing.{hold_nothing}
 use Rattle.itip_state.proofs.Parting.{is_listed, put_more, pass_more, part_held, part_of}
 use Rattle.itip_state.proofs.state.State.part.Goals as goal
@@ -19,7 +19,7 @@ loop-uid-preserved c =
     record {
       values = λ q. put_more (at c.self.inside.held) done (map (λ uid. uid.now) (take (c.loop-uid.uid-index + 1) c.args.uids.now)) c.uid-item.result.now
           (map_more (λ uid. uid.now) c.args.uids.now c.loop-uid.uid-index c.uid-item.result c.loop-uid-test.true ∙ ap (λ x. done ++ x.now ∷ []) (sym c.uid-item.is)) q
-          (shape c.in-Some.series.now) (at c.loop-uid.held q) (at c.put.new.self q) c.in-Some.ensures.found (c.in_ok-put.ensures.put q) (c.loop-uid.invariant.values q);
+          (uid_state c.in-Some.series.now) (at c.loop-uid.held q) (at c.put.new.self q) c.in-Some.ensures.found (c.in_ok-put.ensures.put q) (c.loop-uid.invariant.values q);
       ordered = c.in_ok-put.ensures.ordered;
     }
 

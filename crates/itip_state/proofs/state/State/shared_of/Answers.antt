@@ -2,15 +2,15 @@ use Rattle.std.proofs.Common.{◌≡◌, ◌+◌, List, [], ◌∷◌, ◌++◌,
 use Rattle.std.proofs.lemmas.List.{take_more, take_all, map-append}
 use Rattle.itip_items.specs.declared.item.Item.{Item}
 use Rattle.itip_state.specs.Kept.{ArePartOf}
-use Rattle.itip_state.specs.Held.{Shape, items_of, shape_items}
-use Rattle.itip_state.specs.Seen.{shape}
+use Rattle.itip_state.specs.Held.{UidState, items_of, uid_state_items}
+use Rattle.itip_state.specs.UidStates.{uid_state}
 use Rattle.itip_state.proofs.Reading.{held_part, held_no_part, held_sound}
 use Rattle.itip_state.proofs.Sharing.{of_none, of_more, of_no_more}
 use Rattle.itip_state.proofs.state.State.shared_of.Goals as goal
 use Rattle.itip_state.proofs.state.State.shared_of.Goals.{in-Some+in_ok-share, in_default}
 
 pub share-requires : goal.share-requires
-share-requires c = (c.uid-item.result.now, (held_sound c.self.inside.held c.self.invariant c.uid-item.result.now (shape c.in-Some.series.now) (sym c.in-Some.ensures.found)).placed)
+share-requires c = (c.uid-item.result.now, (held_sound c.self.inside.held c.self.invariant c.uid-item.result.now (uid_state c.in-Some.series.now) (sym c.in-Some.ensures.found)).placed)
 
 pub loop-uid-init : goal.loop-uid-init
 loop-uid-init c = subst (λ (xs : List Item). ArePartOf xs (items_of c.self.inside.held) []) (sym c.new-items.ensures.items) (of_none (items_of c.self.inside.held))
@@ -26,9 +26,9 @@ loop-uid-preserved c =
     ∙ map-append (λ u. u.now) (take i c.args.uids.now) (c.uid-item.result ∷ []) in
     elim c.match-get.branch [
       | in-Some+in_ok-share w ↦
-          let sh : Shape = shape w.in-Some.series.now in
+          let sh : UidState = uid_state w.in-Some.series.now in
           subst (λ (xs : List Item). ArePartOf xs set now) (sym w.in_ok-share.ensures ∙ ap (λ v. v.items) (sym w.items-is))
-          (of_more set c.loop-uid.items.items (shape_items sh) before now c.uid-item.result.now more c.loop-uid.invariant
+          (of_more set c.loop-uid.items.items (uid_state_items sh) before now c.uid-item.result.now more c.loop-uid.invariant
           (held_part c.self.inside.held c.self.invariant c.uid-item.result.now sh (sym w.in-Some.ensures.found)))
       | in_default w ↦
           subst (λ (xs : List Item). ArePartOf xs set now) (ap (λ v. v.items) (sym w.items-is))
