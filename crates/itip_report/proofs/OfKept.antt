@@ -94,8 +94,8 @@ resend_alike x y same uid None none = λ item live. none item (live_series_alike
 resend_alike x y same uid (Some bytes) is = record {
   series = is.series;
   live = live_series_alike x y same uid is.series is.live;
-  instances = is.instances;
-  standing = all_standing_alike x y same uid is.instances (standing_alike y x (alike_back x y same) uid) is.standing;
+  overrides = is.overrides;
+  standing = all_standing_alike x y same uid is.overrides (standing_alike y x (alike_back x y same) uid) is.standing;
   bytes_are = is.bytes_are;
 }
 

@@ -30,7 +30,7 @@ one_lines heard asked lines others mine theirs =
 two_resends : (heard : List Item) (uid bytes others : List ℕ) → IsResend heard uid bytes → IsResend heard uid others → bytes ≡ others
 two_resends heard uid bytes others mine theirs =
     let one : mine.series ≡ theirs.series = one_best heard (Series uid) mine.series theirs.series mine.live.best theirs.live.best in
-    let same : mine.instances ≡ theirs.instances = same_places mine.instances theirs.instances mine.standing.ascend theirs.standing.ascend
+    let same : mine.overrides ≡ theirs.overrides = same_places mine.overrides theirs.overrides mine.standing.ascend theirs.standing.ascend
     (λ item h. theirs.standing.all item (mine.standing.each item h)) (λ item h. mine.standing.all item (theirs.standing.each item h)) in
     mine.bytes_are ∙ (λ i. flat_map (λ (item : Item). item.bytes) (one i ∷ same i)) ∙ sym theirs.bytes_are
 

@@ -28,10 +28,10 @@ fn resend_of(alloc: Global, items: &ItemsOfUid<'_>) -> Result<Option<Vec<u8>>, N
     let Some(live) = if_live(items.series()) else {
         return Ok(None);
     };
-    let instances = sought_items(alloc, items, &Sought::Standing)?;
+    let overrides = sought_items(alloc, items, &Sought::Standing)?;
     let mut messages = Vec::new(alloc);
     messages.extend_from_slice(live.bytes.as_slice())?;
-    put_messages(&mut messages, &instances)?;
+    put_messages(&mut messages, &overrides)?;
     Ok(Some(messages))
 }
 

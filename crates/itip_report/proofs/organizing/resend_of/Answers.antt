@@ -24,12 +24,12 @@ returns c =
     (live_series items c.args.items.now.uid (option_copied c.series.result) c.series.ensures) in
     let front : c.extend_from_slice.new.self.items ≡ c.in-Some.live.now.bytes =
     c.in_ok-extend_from_slice.ensures.items ∙ (λ i. c.new-messages.ensures.items i ++ c.as_slice.ensures i) in
-    let back : flat_map (λ item. item.now.bytes) c.deref.result.now ≡ flat_map (λ (item : Item). item.bytes) (map (λ item. item.now) c.in_ok-instances.instances.items) =
-    ap (flat_map (λ item. item.now.bytes)) c.deref.ensures.value ∙ flat_map_mapped (λ (item : Item). item.bytes) (λ item. item.now) c.in_ok-instances.instances.items in
+    let back : flat_map (λ item. item.now.bytes) c.deref.result.now ≡ flat_map (λ (item : Item). item.bytes) (map (λ item. item.now) c.in_ok-overrides.overrides.items) =
+    ap (flat_map (λ item. item.now.bytes)) c.deref.ensures.value ∙ flat_map_mapped (λ (item : Item). item.bytes) (λ item. item.now) c.in_ok-overrides.overrides.items in
     record {
       series = c.in-Some.live.now;
       live = rw c.in-Some.is at found;
-      instances = map (λ item. item.now) c.in_ok-instances.instances.items;
-      standing = c.in_ok-instances.ensures;
+      overrides = map (λ item. item.now) c.in_ok-overrides.overrides.items;
+      standing = c.in_ok-overrides.ensures;
       bytes_are = c.in_ok-put_messages.ensures ∙ (λ i. front i ++ back i);
     }
