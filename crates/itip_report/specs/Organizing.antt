@@ -16,8 +16,8 @@ pub record IsResend (heard : List Item) (uid : List ℕ) (bytes : List ℕ) : Ty
   pub series : Item
   pub live : IsLiveSeries heard uid series
   pub overrides : List Item
-  pub standing : AreStanding heard uid instances
-  pub bytes_are : bytes ≡ flat_map (λ (item : Item). item.bytes) (series ∷ instances)
+  pub standing : AreStanding heard uid overrides
+  pub bytes_are : bytes ≡ flat_map (λ (item : Item). item.bytes) (series ∷ overrides)
 
 -- what is sent again of a UID: nothing where no series item is live
 abbrev pub IsResendOf : List Item → List ℕ → Option (List ℕ) → Type 0
