@@ -1,13 +1,20 @@
 -- Items that are added, one draft after another.
 use Rattle.std.proofs.Common.{◌≡◌, ◌∙◌, sym, ap, refl, ℕ, List, [], ◌∷◌, ◌++◌, append_assoc, append-nil, subst, zero, suc, arith}
-use Rattle.std.specs.List.{AllByRecursion, Any}
-use Rattle.itip_items.specs.Items.{ItemDraft, IsWithinLimits}
+use Rattle.std.specs.List.{AllByRecursion, Any, flat_map}
+use Rattle.itip_todo.specs.Parts.{Parts}
+use Rattle.itip_items.specs.Items.{ItemDraft, drafts_of, kind_of, effective_sequence, IsWithinLimits}
 use Rattle.itip_items.specs.Given.{AreItemsOf, GivesItems, IsOver, IfLarge, IfTooLarge, error_of_todo, Gives, Adds}
 use Rattle.itip_items.specs.declared.item.Item.{Item}
+use Rattle.itip_items.specs.declared.kind.Method.{Method}
 use Rattle.itip_items.specs.declared.error.ItemError.{ItemError}
 use Rattle.itip_items.specs.declared.error.ItemError.TheVariants as error
 
-within_both : (ds es : List ItemDraft) → AllByRecursion IsWithinLimits ds → AllByRecursion IsWithinLimits es → AllByRecursion IsWithinLimits (ds ++ es)
+-- what these to-dos give, which stand in a message with all of these
+abbrev pub drafts_among : Method → List Parts → List Parts → List ItemDraft
+drafts_among m all rest = flat_map (λ parts. drafts_of (kind_of m parts) (effective_sequence m all parts) parts) rest
+
+pub within_both : (ds es : List ItemDraft) → AllByRecursion IsWithinLimits ds → AllByRecursion IsWithinLimits es →
+    AllByRecursion IsWithinLimits (ds ++ es)
 within_both [] es h k = k
 within_both (d ∷ ds) es h k = (h.0, within_both ds es h.1 k)
 
@@ -41,14 +48,16 @@ any_left [] es (k, x, less, at, h) = absurd (omega arith)
 any_left (d ∷ ds) es (zero, x, less, at, h) = (zero, x, omega arith, at, h)
 any_left (d ∷ ds) es (suc k, x, less, at, h) = any_more d (ds ++ es) (any_left ds es (k, x, omega arith, at, h))
   where
-    any_more : (d : ItemDraft) (es : List ItemDraft) → Any (λ draft. ¬ IsWithinLimits draft) es → Any (λ draft. ¬ IsWithinLimits draft) (d ∷ es)
+    any_more : (d : ItemDraft) (es : List ItemDraft) → Any (λ draft. ¬ IsWithinLimits draft) es →
+        Any (λ draft. ¬ IsWithinLimits draft) (d ∷ es)
     any_more d es (k, x, less, at, h) = (suc k, x, omega arith, at, h)
 
 any_right : (ds es : List ItemDraft) → Any (λ draft. ¬ IsWithinLimits draft) es → Any (λ draft. ¬ IsWithinLimits draft) (ds ++ es)
 any_right [] es h = h
 any_right (d ∷ ds) es h = any_more d (ds ++ es) (any_right ds es h)
   where
-    any_more : (d : ItemDraft) (es : List ItemDraft) → Any (λ draft. ¬ IsWithinLimits draft) es → Any (λ draft. ¬ IsWithinLimits draft) (d ∷ es)
+    any_more : (d : ItemDraft) (es : List ItemDraft) → Any (λ draft. ¬ IsWithinLimits draft) es →
+        Any (λ draft. ¬ IsWithinLimits draft) (d ∷ es)
     any_more d es (k, x, less, at, h) = (suc k, x, omega arith, at, h)
 
 pub over_here : (ds es : List ItemDraft) → IsOver ds → IsOver (ds ++ es)
@@ -66,6 +75,7 @@ if_large error.NoMemory way h = tt
 if_large error.TooLarge way h = way h
 
 -- of an error of the to-do of a number, through a way from a form that is too large
-pub large_of : {P : Type 0} (Q : ℕ → Type 0) (e : ItemError) (number : ℕ) → (P → Q number) → IfLarge e P → IfTooLarge (error_of_todo e number) Q
+pub large_of : {P : Type 0} (Q : ℕ → Type 0) (e : ItemError) (number : ℕ) → (P → Q number) → IfLarge e P →
+    IfTooLarge (error_of_todo e number) Q
 large_of Q error.NoMemory number way h = tt
 large_of Q error.TooLarge number way h = way h

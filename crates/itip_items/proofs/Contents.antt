@@ -13,14 +13,20 @@ use Rattle.itip_items.specs.declared.kind.Kind.{Kind}
 use Rattle.itip_items.specs.declared.kind.Method.{Method}
 use Rattle.itip_items.specs.declared.kind.Method.TheVariants as method
 
-pub reads_contents : (cs : List Content) (h : AllByRecursion IsLawfulContent cs) → length cs ≤ 20000 → length (contents_octets cs) ≤ 262144 → ReadsLines (contents_octets cs) (lines_from cs h)
+pub reads_contents : (cs : List Content) (h : AllByRecursion IsLawfulContent cs) → length cs ≤ 20000 →
+    length (contents_octets cs) ≤ 262144 → ReadsLines (contents_octets cs) (lines_from cs h)
 reads_contents cs h few short = reads_from cs h few (omega (arith, short))
 
 -- contents are known by their octets
-pub same_contents : (cs ds : List Content) → AllByRecursion IsLawfulContent cs → AllByRecursion IsLawfulContent ds → length cs ≤ 20000 → length ds ≤ 20000 → length (contents_octets cs) ≤ 262144 → contents_octets cs ≡ contents_octets ds → cs ≡ ds
+pub same_contents : (cs ds : List Content) → AllByRecursion IsLawfulContent cs → AllByRecursion IsLawfulContent ds → length cs ≤ 20000 →
+    length ds ≤ 20000 → length (contents_octets cs) ≤ 262144 → contents_octets cs ≡ contents_octets ds → cs ≡ ds
 same_contents cs ds h k few less short same =
-    let reads : ReadsLines (contents_octets cs) (lines_from ds k) = subst (λ (bytes : List ℕ). ReadsLines bytes (lines_from ds k)) (sym same) (reads_contents ds k less (omega (arith, ap length same))) in
-    sym (contents_of cs h) ∙ ap (map content_of) (one_plain_reading (contents_octets cs) (lines_from cs h) (lines_from ds k) (reads_contents cs h few short) reads) ∙ contents_of ds k
+    let reads : ReadsLines (contents_octets cs) (lines_from ds k) =
+    subst (λ (bytes : List ℕ). ReadsLines bytes (lines_from ds k)) (sym same)
+    (reads_contents ds k less (omega (arith, ap length same))) in
+    sym (contents_of cs h) ∙ ap (map content_of)
+    (one_plain_reading (contents_octets cs) (lines_from cs h) (lines_from ds k) (reads_contents cs h few short) reads) ∙
+    contents_of ds k
 
 -- the lines around a to-do
 
@@ -32,17 +38,30 @@ method_lawful method.Reply = plain_lawful (codes "METHOD") (codes "REPLY") (omeg
 method_lawful method.Refresh = plain_lawful (codes "METHOD") (codes "REFRESH") (omega arith) refl refl refl (omega arith)
 
 lawful_ends : AllByRecursion IsLawfulContent (bare (codes "END") (codes "VTODO") ∷ bare (codes "END") (codes "VCALENDAR") ∷ [])
-lawful_ends = (plain_lawful (codes "END") (codes "VTODO") (omega arith) refl refl refl (omega arith), (plain_lawful (codes "END") (codes "VCALENDAR") (omega arith) refl refl refl (omega arith), tt))
+lawful_ends = (
+  plain_lawful (codes "END") (codes "VTODO") (omega arith) refl refl refl (omega arith),
+  (plain_lawful (codes "END") (codes "VCALENDAR") (omega arith) refl refl refl (omega arith), tt),
+)
 
-lawful_head : (k : Kind) → AllByRecursion IsLawfulContent (bare (codes "BEGIN") (codes "VCALENDAR") ∷ bare (codes "PRODID") (codes "-//itipdesk//1//EN") ∷ bare (codes "VERSION") (codes "2.0") ∷ bare (codes "METHOD") (method_text (method_of k)) ∷ bare (codes "BEGIN") (codes "VTODO") ∷ [])
+lawful_head : (k : Kind) → AllByRecursion IsLawfulContent (bare (codes "BEGIN") (codes "VCALENDAR") ∷
+    bare (codes "PRODID") (codes "-//itipdesk//1//EN") ∷ bare (codes "VERSION") (codes "2.0") ∷
+    bare (codes "METHOD") (method_text (method_of k)) ∷ bare (codes "BEGIN") (codes "VTODO") ∷ [])
 lawful_head k =
-    let begin : IsLawfulContent (bare (codes "BEGIN") (codes "VCALENDAR")) = plain_lawful (codes "BEGIN") (codes "VCALENDAR") (omega arith) refl refl refl (omega arith) in
-    let product : IsLawfulContent (bare (codes "PRODID") (codes "-//itipdesk//1//EN")) = plain_lawful (codes "PRODID") (codes "-//itipdesk//1//EN") (omega arith) refl refl refl (omega arith) in
-    let version : IsLawfulContent (bare (codes "VERSION") (codes "2.0")) = plain_lawful (codes "VERSION") (codes "2.0") (omega arith) refl refl refl (omega arith) in
-    let todo : IsLawfulContent (bare (codes "BEGIN") (codes "VTODO")) = plain_lawful (codes "BEGIN") (codes "VTODO") (omega arith) refl refl refl (omega arith) in
+    let begin : IsLawfulContent (bare (codes "BEGIN") (codes "VCALENDAR")) =
+    plain_lawful (codes "BEGIN") (codes "VCALENDAR") (omega arith) refl refl refl (omega arith) in
+    let product : IsLawfulContent (bare (codes "PRODID") (codes "-//itipdesk//1//EN")) =
+    plain_lawful (codes "PRODID") (codes "-//itipdesk//1//EN") (omega arith) refl refl refl (omega arith) in
+    let version : IsLawfulContent (bare (codes "VERSION") (codes "2.0")) =
+    plain_lawful (codes "VERSION") (codes "2.0") (omega arith) refl refl refl (omega arith) in
+    let todo : IsLawfulContent (bare (codes "BEGIN") (codes "VTODO")) =
+    plain_lawful (codes "BEGIN") (codes "VTODO") (omega arith) refl refl refl (omega arith) in
     (begin, (product, (version, (method_lawful (method_of k), (todo, tt)))))
 
 -- the canonical lines of a lawful to-do are lawful
-pub canonical_lawful : (k : Kind) (parts : Parts) → AllByRecursion IsLawfulContent (parts_contents parts) → AllByRecursion IsLawfulContent (canonical_contents k parts)
+pub canonical_lawful : (k : Kind) (parts : Parts) → AllByRecursion IsLawfulContent (parts_contents parts) →
+    AllByRecursion IsLawfulContent (canonical_contents k parts)
 canonical_lawful k parts h =
-    followed (bare (codes "BEGIN") (codes "VCALENDAR") ∷ bare (codes "PRODID") (codes "-//itipdesk//1//EN") ∷ bare (codes "VERSION") (codes "2.0") ∷ bare (codes "METHOD") (method_text (method_of k)) ∷ bare (codes "BEGIN") (codes "VTODO") ∷ []) (parts_contents parts ++ (bare (codes "END") (codes "VTODO") ∷ bare (codes "END") (codes "VCALENDAR") ∷ [])) (lawful_head k) (followed (parts_contents parts) (bare (codes "END") (codes "VTODO") ∷ bare (codes "END") (codes "VCALENDAR") ∷ []) h lawful_ends)
+    followed (bare (codes "BEGIN") (codes "VCALENDAR") ∷ bare (codes "PRODID") (codes "-//itipdesk//1//EN") ∷
+    bare (codes "VERSION") (codes "2.0") ∷ bare (codes "METHOD") (method_text (method_of k)) ∷ bare (codes "BEGIN") (codes "VTODO") ∷
+    []) (parts_contents parts ++ (bare (codes "END") (codes "VTODO") ∷ bare (codes "END") (codes "VCALENDAR") ∷ [])) (lawful_head k)
+    (followed (parts_contents parts) (bare (codes "END") (codes "VTODO") ∷ bare (codes "END") (codes "VCALENDAR") ∷ []) h lawful_ends)

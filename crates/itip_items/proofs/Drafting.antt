@@ -1,5 +1,6 @@
 -- The drafts of one to-do are in canonical form.
-use Rattle.std.proofs.Common.{◌≡◌, ◌≢◌, ◌∙◌, sym, ap, refl, ℕ, ◌≤◌, Bool, true, false, List, [], ◌∷◌, append-nil, arith, subst, Option, Some, None}
+use Rattle.std.proofs.Common.{◌≡◌, ◌≢◌, ◌∙◌, sym, ap, refl, ℕ, ◌≤◌, Bool, true, false, List, [], ◌∷◌, append-nil, arith, subst, Option}
+use Rattle.std.proofs.Common.{Some, None}
 use Rattle.std.specs.Prelude.{max, cond, nat_lt, nat_eq, unwrap_or, ◌&&◌}
 use Rattle.std.specs.Option.{is_none}
 use Rattle.std.specs.Cmp.Lexicographic.{pointwise}
@@ -9,7 +10,9 @@ use Rattle.itip_todo.specs.Parts.{Parts}
 use Rattle.itip_todo.specs.declared.property.Property.{Property}
 use Rattle.itip_todo.specs.declared.status.Status.{Status}
 use Rattle.itip_items.specs.Needs.{Suits, method_cause, has_some, removes, when}
-use Rattle.itip_items.specs.Items.{drafts, drafts_of, task_draft, add_drafts, series_draft, instance_draft, instance_key, attendee_draft, with_base, only_of, canonical_base, raised, effective_sequence, is_series, is_task, kind_of, method_of, Sends, IsCanonical}
+use Rattle.itip_items.specs.Items.{drafts, drafts_of, task_draft, add_drafts, series_draft, instance_draft, instance_key, attendee_draft}
+use Rattle.itip_items.specs.Items.{with_base, only_of, canonical_base, raised, effective_sequence, is_series, is_task, kind_of, method_of}
+use Rattle.itip_items.specs.Items.{Sends, IsCanonical}
 use Rattle.itip_items.specs.declared.error.MethodCause.TheVariants as cause
 use Rattle.itip_items.specs.declared.key.Key.TheVariants as key
 use Rattle.itip_items.specs.declared.kind.Kind.{Kind}
@@ -36,7 +39,8 @@ sends m p h = record {
   suits = subst (λ (n : Method). Suits n p) (sym (method_kept m p)) h;
 }
 
-drafts_alone : (k : Kind) (q : Parts) → kind_of (method_of k) q ≡ k → drafts (method_of k) (q ∷ []) ≡ drafts_of k (effective_sequence (method_of k) (q ∷ []) q) q
+drafts_alone : (k : Kind) (q : Parts) → kind_of (method_of k) q ≡ k →
+    drafts (method_of k) (q ∷ []) ≡ drafts_of k (effective_sequence (method_of k) (q ∷ []) q) q
 drafts_alone k q e = append-nil _ ∙ ap (λ (l : Kind). drafts_of l (effective_sequence (method_of k) (q ∷ []) q) q) e
 
 -- X-DESK-BASE changes neither the kind nor what the method needs
@@ -72,7 +76,8 @@ pub series_canonical : (k : Kind) (p : Parts) → Sends k p → is_task k ≡ tr
 series_canonical k p h task none =
     let q : Parts = with_base p None in
     let e : ℕ = effective_sequence (method_of k) (q ∷ []) q in record {
-      alone = drafts_alone k q (kind_based (method_of k) p None ∙ h.kind_is) ∙ task_drafts k e q task ∙ ap (λ (id : Option Moment). task_draft k e id q ∷ []) none;
+      alone = drafts_alone k q (kind_based (method_of k) p None ∙ h.kind_is) ∙ task_drafts k e q task ∙
+          ap (λ (id : Option Moment). task_draft k e id q ∷ []) none;
       suits = suits_based (method_of k) p None h.suits;
     }
 
@@ -95,7 +100,8 @@ sequence_back seq eff h =
 alone_sequence : (m : Method) (p : Parts) (eff : ℕ) → p.seq ≤ eff → is_series m (with_base p (canonical_base p.seq eff)) ≡ false
     → effective_sequence m (with_base p (canonical_base p.seq eff) ∷ []) (with_base p (canonical_base p.seq eff)) ≡ eff
 alone_sequence m p eff h other =
-    ap (λ b. max p.seq (max (unwrap_or (canonical_base p.seq eff) 0) (max (cond (b && pointwise nat_eq p.uid p.uid) p.seq 0) 0))) other ∙ sequence_back p.seq eff h
+    ap (λ b. max p.seq (max (unwrap_or (canonical_base p.seq eff) 0) (max (cond (b && pointwise nat_eq p.uid p.uid) p.seq 0) 0))) other ∙
+    sequence_back p.seq eff h
 
 no_series : (m : Method) (q : Parts) (id : Moment) → q.rid ≡ Some id → is_series m q ≡ false
 no_series m q id e = ap (λ r. is_none r && is_task (kind_of m q)) e
@@ -103,14 +109,16 @@ no_series m q id e = ap (λ r. is_none r && is_task (kind_of m q)) e
 raised_above : (p : Parts) (above : ℕ) → p.seq ≤ raised p above
 raised_above p above = omega arith
 
-pub instance_canonical : (k : Kind) (p : Parts) (id : Moment) (above : ℕ) → Sends k p → is_task k ≡ true → p.rid ≡ Some id → IsCanonical (instance_draft k (raised p above) (instance_key p.range p.uid id) p)
+pub instance_canonical : (k : Kind) (p : Parts) (id : Moment) (above : ℕ) → Sends k p → is_task k ≡ true → p.rid ≡ Some id →
+    IsCanonical (instance_draft k (raised p above) (instance_key p.range p.uid id) p)
 instance_canonical k p id above h task some =
     let eff : ℕ = raised p above in
     let q : Parts = with_base p (canonical_base p.seq eff) in
     let e : ℕ = effective_sequence (method_of k) (q ∷ []) q in
     let same : e ≡ eff = alone_sequence (method_of k) p eff (raised_above p above) (no_series (method_of k) q id some) in record {
       alone = drafts_alone k q (kind_based (method_of k) p (canonical_base p.seq eff) ∙ h.kind_is) ∙ task_drafts k e q task
-          ∙ ap (λ (r : Option Moment). task_draft k e r q ∷ []) some ∙ ap (λ (n : ℕ). instance_draft k n (instance_key p.range p.uid id) q ∷ []) same;
+          ∙ ap (λ (r : Option Moment). task_draft k e r q ∷ []) some ∙
+          ap (λ (n : ℕ). instance_draft k n (instance_key p.range p.uid id) q ∷ []) same;
       suits = suits_based (method_of k) p (canonical_base p.seq eff) h.suits;
     }
 
@@ -118,28 +126,33 @@ and_false : (b : Bool) → (b && false) ≡ false
 and_false true = refl
 and_false false = refl
 
-pub add_canonical : (p : Parts) (id : Moment) (above : ℕ) → Suits method.Add p → p.start ≡ Some id → IsCanonical (instance_draft kind.Add (raised p above) (key.Instance p.uid id) p)
+pub add_canonical : (p : Parts) (id : Moment) (above : ℕ) → Suits method.Add p → p.start ≡ Some id →
+    IsCanonical (instance_draft kind.Add (raised p above) (key.Instance p.uid id) p)
 add_canonical p id above h some =
     let eff : ℕ = raised p above in
     let q : Parts = with_base p (canonical_base p.seq eff) in
     let e : ℕ = effective_sequence method.Add (q ∷ []) q in
     let same : e ≡ eff = alone_sequence method.Add p eff (raised_above p above) (and_false (is_none p.rid)) in record {
-      alone = drafts_alone kind.Add q refl ∙ ap (λ (s : Option Moment). add_drafts e s q) some ∙ ap (λ (n : ℕ). instance_draft kind.Add n (key.Instance p.uid id) q ∷ []) same;
+      alone = drafts_alone kind.Add q refl ∙ ap (λ (s : Option Moment). add_drafts e s q) some ∙
+          ap (λ (n : ℕ). instance_draft kind.Add n (key.Instance p.uid id) q ∷ []) same;
       suits = suits_based method.Add p (canonical_base p.seq eff) h;
     }
 
 -- one attendee
 
-no_status : (s : Option Status) (attendees : List Property) → cond (is_none s && has_some attendees) kind.Remove kind.Cancel ≡ kind.Remove → s ≡ None
+no_status : (s : Option Status) (attendees : List Property) →
+    cond (is_none s && has_some attendees) kind.Remove kind.Cancel ≡ kind.Remove → s ≡ None
 no_status None attendees e = refl
 no_status (Some s) attendees e = absurd (cc)
 
-pub attendee_canonical : (k : Kind) (p : Parts) (a : Property) → Sends k p → is_task k ≡ false → k ≢ kind.Add → IsCanonical (attendee_draft k p a)
+pub attendee_canonical : (k : Kind) (p : Parts) (a : Property) → Sends k p → is_task k ≡ false → k ≢ kind.Add →
+    IsCanonical (attendee_draft k p a)
 attendee_canonical kind.Request p a h task other = absurd (cc)
 attendee_canonical kind.Cancel p a h task other = absurd (cc)
 attendee_canonical kind.Add p a h task other = absurd (other refl)
 attendee_canonical kind.Remove p a h task other = record {
-  alone = drafts_alone kind.Remove (only_of a p) (ap (λ (s : Option Status). cond (is_none s && true) kind.Remove kind.Cancel) (no_status p.status p.attendees h.kind_is));
+  alone = drafts_alone kind.Remove (only_of a p)
+      (ap (λ (s : Option Status). cond (is_none s && true) kind.Remove kind.Cancel) (no_status p.status p.attendees h.kind_is));
   suits = record { fits = ap (λ (b : Bool). when b cause.Range) (and_false (removes (only_of a p))); others = refl };
 }
 attendee_canonical kind.Reply p a h task other = record { alone = refl; suits = record { fits = refl; others = refl } }

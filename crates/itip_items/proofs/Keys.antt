@@ -62,7 +62,8 @@ parts_back (Answer u i a) = refl
 parts_back (Refresh u i a) = refl
 
 -- keys whose parts are equal are one key
-pub from_parts : (a b : Key) → uid_of a ≡ uid_of b → rank_of a ≡ rank_of b → instance_of a ≡ instance_of b → attendee_of a ≡ attendee_of b → a ≡ b
+pub from_parts : (a b : Key) → uid_of a ≡ uid_of b → rank_of a ≡ rank_of b → instance_of a ≡ instance_of b →
+    attendee_of a ≡ attendee_of b → a ≡ b
 from_parts a b p r m t = sym (parts_back a) ∙ (λ x. of_parts (r x) (p x) (m x) (t x)) ∙ parts_back b
 
 pub told_keys : (a b : Key) → Told a b

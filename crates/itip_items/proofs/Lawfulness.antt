@@ -1,5 +1,6 @@
 -- Parts in canonical form are lawful where the to-do is.
-use Rattle.std.proofs.Common.{◌≡◌, refl, ℕ, ◌≤◌, Bool, true, false, List, [], ◌∷◌, ◌++◌, map, length, length-append, append-nil, sym, subst, arith, Option, Some, None}
+use Rattle.std.proofs.Common.{◌≡◌, refl, ℕ, ◌≤◌, Bool, true, false, List, [], ◌∷◌, ◌++◌, map, length, length-append, append-nil, sym, subst}
+use Rattle.std.proofs.Common.{arith, Option, Some, None}
 use Rattle.std.specs.Prelude.{max, cond, nat_lt, nat_eq, unwrap_or, codes, ◌&&◌}
 use Rattle.std.specs.Cmp.Lexicographic.{pointwise}
 use Rattle.std.specs.Fmt.{decimal}
@@ -22,7 +23,9 @@ use Rattle.itip_todo.specs.declared.todo.Todo.{Todo}
 use Rattle.itip_todo.proofs.LawfulLines.{number_lawful}
 use Rattle.itip_items.specs.Items.{with_base, only_of, canonical_base, raised, series_sequence, is_series}
 use Rattle.itip_items.specs.declared.kind.Method.{Method}
-use Rattle.itip_items.proofs.Pieces.{base_of, rid_of, start_of, due_of, status_of, percent_of, priority_of, summary_of, organizer_of, attendees_of, from_rid, from_start, from_due, from_status, from_percent, from_priority, from_summary, from_organizer, from_attendees, from_rule}
+use Rattle.itip_items.proofs.Pieces.{base_of, rid_of, start_of, due_of, status_of, percent_of, priority_of, summary_of, organizer_of}
+use Rattle.itip_items.proofs.Pieces.{attendees_of, from_rid, from_start, from_due, from_status, from_percent, from_priority, from_summary}
+use Rattle.itip_items.proofs.Pieces.{from_organizer, from_attendees, from_rule}
 
 abbrev AreLawful : List Content → Type 0
 AreLawful cs = AllByRecursion IsLawfulContent cs
@@ -63,7 +66,17 @@ base_lawful p b h small = record {
   rdates = h.rdates;
   exdates = h.exdates;
   others = h.others;
-  lines = (h.lines.0, (h.lines.1.0, (h.lines.1.1.0, both (optional (λ n. plain name.DeskBase (decimal n)) b) (from_rid p) (base_lines b small) (back (base_of p) (from_rid p) h.lines.1.1.1))));
+  lines = (
+    h.lines.0,
+    (
+      h.lines.1.0,
+      (
+        h.lines.1.1.0,
+        both (optional (λ n. plain name.DeskBase (decimal n)) b) (from_rid p) (base_lines b small)
+            (back (base_of p) (from_rid p) h.lines.1.1.1),
+      ),
+    ),
+  );
 }
 
 -- one attendee
@@ -98,13 +111,19 @@ behind p h =
 -- RECURRENCE-ID without its range
 fewer : (ps qs : List Param) → length (params_text ps) ≤ length (params_text (ps ++ qs))
 fewer [] qs = omega arith
-fewer (p ∷ ps) qs = omega (arith, fewer ps qs, length-append (param_text p) (params_text ps), length-append (param_text p) (params_text (ps ++ qs)))
+fewer (p ∷ ps) qs = omega (
+  arith,
+  fewer ps qs,
+  length-append (param_text p) (params_text ps),
+  length-append (param_text p) (params_text (ps ++ qs)),
+)
 
 each_front : (ps qs : List Param) → AllByRecursion IsLawfulParam (ps ++ qs) → AllByRecursion IsLawfulParam ps
 each_front [] qs h = tt
 each_front (p ∷ ps) qs h = (h.0, each_front ps qs h.1)
 
-fewer_lawful : (name : List ℕ) (ps qs : List Param) (value : List ℕ) → line.IsLawful name (ps ++ qs) value → line.IsLawful name (ps ++ []) value
+fewer_lawful : (name : List ℕ) (ps qs : List Param) (value : List ℕ) → line.IsLawful name (ps ++ qs) value →
+    line.IsLawful name (ps ++ []) value
 fewer_lawful name ps qs value h = subst (λ (rs : List Param). line.IsLawful name rs value) (sym (append-nil ps)) (record {
   named = h.named;
   each_param = each_front ps qs h.each_param;
@@ -125,7 +144,9 @@ without_range : (v : Option Moment) (b : Bool) → AreLawful (optional (rid_line
 without_range None b h = tt
 without_range (Some m) b h = (fewer_lawful (name_text name.RecurrenceId) (moment_params m) (range_params b) (moment_text m) h.0, tt)
 
-only_lines : (p : Parts) (a : Property) → IsLawful p → IsLawfulContent (property_line name.Attendee a) → AreLawful (optional (rid_line false) p.rid ++ (status_of p ++ (percent_of p ++ (organizer_of p ++ (property_line name.Attendee a ∷ [])))))
+only_lines : (p : Parts) (a : Property) → IsLawful p → IsLawfulContent (property_line name.Attendee a) →
+    AreLawful (optional (rid_line false) p.rid ++
+    (status_of p ++ (percent_of p ++ (organizer_of p ++ (property_line name.Attendee a ∷ [])))))
 only_lines p a h line =
     let b : Behind p = behind p h in
     both (optional (rid_line false) p.rid) _ (without_range p.rid p.range (front (rid_of p) (from_start p) b.rid))
@@ -136,7 +157,8 @@ only_lines p a h line =
 none_small : (limit n : ℕ) → None ≡ Some n → n ≤ limit
 none_small limit n e = absurd (cc)
 
-only_lawful : (p : Parts) (a : Property) → IsLawful p → HasValue a → IsLawfulContent (property_line name.Attendee a) → IsLawful (only_of a p)
+only_lawful : (p : Parts) (a : Property) → IsLawful p → HasValue a → IsLawfulContent (property_line name.Attendee a) →
+    IsLawful (only_of a p)
 only_lawful p a h value line = record {
   uid = h.uid;
   seq = h.seq;
@@ -154,12 +176,14 @@ only_lawful p a h value line = record {
   lines = (h.lines.0, (h.lines.1.0, (h.lines.1.1.0, only_lines p a h line)));
 }
 
-each_only : (p : Parts) (attendees : List Property) → IsLawful p → AllByRecursion HasValue attendees → AreLawful (map (property_line name.Attendee) attendees) → AllByRecursion (λ a. IsLawful (only_of a p)) attendees
+each_only : (p : Parts) (attendees : List Property) → IsLawful p → AllByRecursion HasValue attendees →
+    AreLawful (map (property_line name.Attendee) attendees) → AllByRecursion (λ a. IsLawful (only_of a p)) attendees
 each_only p [] h values lines = tt
 each_only p (a ∷ attendees) h values lines = (only_lawful p a h values.0 lines.0, each_only p attendees h values.1 lines.1)
 
 pub only_each : (p : Parts) → IsLawful p → AllByRecursion (λ a. IsLawful (only_of a p)) p.attendees
-only_each p h = each_only p p.attendees h h.attendee_values (front (attendees_of p) (from_rule p) (back (organizer_of p) (from_attendees p) (behind p h).organizer))
+only_each p h = each_only p p.attendees h h.attendee_values
+    (front (attendees_of p) (from_rule p) (back (organizer_of p) (from_attendees p) (behind p h).organizer))
 
 -- sequences are small
 
@@ -183,4 +207,6 @@ chosen false n m h k = omega arith
 
 pub series_small : (m : Method) (uid : List ℕ) (all : List Todo) → series_sequence m uid (map parts_of all) ≤ 2147483647
 series_small m uid [] = omega arith
-series_small m uid (todo ∷ all) = chosen (is_series m (parts_of todo) && pointwise nat_eq todo.uid uid) todo.seq (series_sequence m uid (map parts_of all)) todo.lawful.seq (series_small m uid all)
+series_small m uid (todo ∷ all) =
+    chosen (is_series m (parts_of todo) && pointwise nat_eq todo.uid uid) todo.seq (series_sequence m uid (map parts_of all))
+    todo.lawful.seq (series_small m uid all)

@@ -1,5 +1,6 @@
 -- Items with equal canonical octets are equal.
-use Rattle.std.proofs.Common.{append-nil, ◌≡◌, ◌∙◌, sym, ap, refl, ℕ, ◌≤◌, List, [], ◌∷◌, length, map, arith, subst, inl, inr, Option, Some, None}
+use Rattle.std.proofs.Common.{append-nil, ◌≡◌, ◌∙◌, sym, ap, refl, ℕ, ◌≤◌, List, [], ◌∷◌, length, map, arith, subst, inl, inr, Option, Some}
+use Rattle.std.proofs.Common.{None}
 use Rattle.std.specs.Prelude.{nat_eq, cond, codes}
 use Rattle.std.proofs.Math.Logic.{∥∥₁_elim, ∥∥₁_map, ∥∥₁_prop}
 use Rattle.std.proofs.Props.{props}
@@ -23,7 +24,8 @@ use Rattle.itip_todo.specs.declared.todo.Todo.{Todo}
 use Rattle.itip_todo.proofs.ReadingLaws.{one_todo}
 use Rattle.itip_todo.proofs.SameTodo.{todo_of}
 use Rattle.itip_todo.proofs.WritingLaws as todo_laws
-use Rattle.itip_items.specs.Items.{ItemDraft, draft_of, drafts, drafts_of, task_draft, add_drafts, attendee_draft, effective_sequence, kind_of, IsItem, canonical_contents, canonical_octets, method_of, method_text, bare}
+use Rattle.itip_items.specs.Items.{ItemDraft, draft_of, drafts, drafts_of, task_draft, add_drafts, attendee_draft, effective_sequence}
+use Rattle.itip_items.specs.Items.{kind_of, IsItem, canonical_contents, canonical_octets, method_of, method_text, bare}
 use Rattle.itip_items.specs.Items.{method_named}
 use Rattle.itip_items.specs.declared.item.Item.{Item}
 use Rattle.itip_items.specs.declared.kind.Kind.{Kind}
@@ -54,7 +56,8 @@ number kind.Reply = 4
 number kind.Refresh = 5
 
 abbrev numbered : ℕ → Kind
-numbered n = cond (nat_eq n 0) kind.Request (cond (nat_eq n 1) kind.Add (cond (nat_eq n 2) kind.Remove (cond (nat_eq n 3) kind.Cancel (cond (nat_eq n 4) kind.Reply kind.Refresh))))
+numbered n = cond (nat_eq n 0) kind.Request (cond (nat_eq n 1) kind.Add
+    (cond (nat_eq n 2) kind.Remove (cond (nat_eq n 3) kind.Cancel (cond (nat_eq n 4) kind.Reply kind.Refresh))))
 
 number_back : (k : Kind) → numbered (number k) ≡ k
 number_back kind.Request = refl
@@ -128,9 +131,12 @@ abbrev ends : List Content
 ends = bare (codes "END") (codes "VTODO") ∷ bare (codes "END") (codes "VCALENDAR") ∷ []
 
 same_inner : (k l : Kind) (p q : Parts) → canonical_contents k p ≡ canonical_contents l q → parts_contents p ≡ parts_contents q
-same_inner k l p q e = append_cancel_right (parts_contents p) (parts_contents q) ends (ap (λ (cs : List Content). behind (behind (behind (behind (behind cs))))) e)
+same_inner k l p q e =
+    append_cancel_right (parts_contents p) (parts_contents q) ends
+    (ap (λ (cs : List Content). behind (behind (behind (behind (behind cs))))) e)
 
-same_method_text : (k l : Kind) (p q : Parts) → canonical_contents k p ≡ canonical_contents l q → method_text (method_of k) ≡ method_text (method_of l)
+same_method_text : (k l : Kind) (p q : Parts) → canonical_contents k p ≡ canonical_contents l q →
+    method_text (method_of k) ≡ method_text (method_of l)
 same_method_text k l p q e = ap (λ (cs : List Content). value_of (behind (behind (behind cs)))) e
 
 -- to-dos are known by their lines
@@ -143,10 +149,12 @@ same_lines a b e =
 same_parts : (p q : Parts) → IsLawful p → IsLawful q → parts_contents p ≡ parts_contents q → p ≡ q
 same_parts p q h k e = ap parts_of (same_lines (todo_of p h) (todo_of q k) e)
 
-parts_known : (k : Kind) (p q : Parts) → IsLawful p → IsLawful q → length (canonical_contents k p) ≤ 20000 → length (canonical_contents k q) ≤ 20000 → length (canonical_octets k p) ≤ 262144
+parts_known : (k : Kind) (p q : Parts) → IsLawful p → IsLawful q → length (canonical_contents k p) ≤ 20000 →
+    length (canonical_contents k q) ≤ 20000 → length (canonical_octets k p) ≤ 262144
     → canonical_octets k p ≡ canonical_octets k q → p ≡ q
 parts_known k p q h j few less short e =
-    same_parts p q h j (same_inner k k p q (same_contents (canonical_contents k p) (canonical_contents k q) (canonical_lawful k p h.lines) (canonical_lawful k q j.lines) few less short e))
+    same_parts p q h j (same_inner k k p q (same_contents (canonical_contents k p) (canonical_contents k q) (canonical_lawful k p h.lines)
+    (canonical_lawful k q j.lines) few less short e))
 
 -- the drafts of an item's to-do are its own draft
 
@@ -163,10 +171,14 @@ known_parts : (item : Item) (p : Parts) → ∥ p ≡ parts_of item.todo ∥₁ 
 known_parts item p h =
     let lawful : IsLawful p = ∥∥₁_elim h (IsLawful-prop p) (λ same. subst IsLawful (sym same) item.todo.lawful) in
     let few_prop : IsProp (length (canonical_contents item.kind p) ≤ 20000) = hlevel props in
-    let few : length (canonical_contents item.kind p) ≤ 20000 = ∥∥₁_elim h few_prop (λ same. subst (λ (q : Parts). length (canonical_contents item.kind q) ≤ 20000) (sym same) (few_lines item)) in
+    let few : length (canonical_contents item.kind p) ≤ 20000 =
+    ∥∥₁_elim h few_prop (λ same. subst (λ (q : Parts). length (canonical_contents item.kind q) ≤ 20000) (sym same) (few_lines item)) in
     let short_prop : IsProp (length (canonical_octets item.kind p) ≤ 262144) = hlevel props in
-    let short : length (canonical_octets item.kind p) ≤ 262144 = ∥∥₁_elim h short_prop (λ same. subst (λ (q : Parts). length (canonical_octets item.kind q) ≤ 262144) (sym same) (few_octets item)) in
-    let octets : canonical_octets item.kind p ≡ canonical_octets item.kind (parts_of item.todo) = stable (told_bytes _ _) (∥∥₁_map h (λ same. ap (canonical_octets item.kind) same)) in
+    let short : length (canonical_octets item.kind p) ≤ 262144 =
+    ∥∥₁_elim h short_prop (λ same. subst (λ (q : Parts). length (canonical_octets item.kind q) ≤ 262144) (sym same) (few_octets item))
+    in
+    let octets : canonical_octets item.kind p ≡ canonical_octets item.kind (parts_of item.todo) =
+    stable (told_bytes _ _) (∥∥₁_map h (λ same. ap (canonical_octets item.kind) same)) in
     parts_known item.kind p (parts_of item.todo) lawful item.todo.lawful few (few_lines item) short octets
 
 known_draft : (item : Item) (d : ItemDraft) → ∥ d ≡ draft item ∥₁ → d ≡ draft item
@@ -179,8 +191,10 @@ known_draft item d h =
 
 pub alone : (item : Item) → drafts_alone item ≡ draft item ∷ []
 alone item =
-    let count : length (drafts_alone item) ≡ 1 = stable (told_numbers _ _) (∥∥₁_map item.canonical (λ (is : Is item). ap length is.is_canonical.alone)) in
-    let first : ∥ first_or (draft item) (drafts_alone item) ≡ draft item ∥₁ = ∥∥₁_map item.canonical (λ (is : Is item). ap (first_or (draft item)) is.is_canonical.alone) in
+    let count : length (drafts_alone item) ≡ 1 =
+    stable (told_numbers _ _) (∥∥₁_map item.canonical (λ (is : Is item). ap length is.is_canonical.alone)) in
+    let first : ∥ first_or (draft item) (drafts_alone item) ≡ draft item ∥₁ =
+    ∥∥₁_map item.canonical (λ (is : Is item). ap (first_or (draft item)) is.is_canonical.alone) in
     single (draft item) (drafts_alone item) count ∙ ap (λ (d : ItemDraft). d ∷ []) (known_draft item _ first)
 
 -- the drafts of one to-do are of the kind that its method gives
@@ -220,7 +234,8 @@ same_draft : (i j : Item) → i.kind ≡ j.kind → parts_of i.todo ≡ parts_of
 same_draft i j k p = ap (first_or (draft i)) (sym (alone i) ∙ (λ x. drafts (method_of (k x)) (p x ∷ [])) ∙ alone j)
 
 -- items with one key, one to-do and so on are one
-pub same_fields : (i j : Item) → i.key ≡ j.key → i.own ≡ j.own → i.eff ≡ j.eff → i.stamp ≡ j.stamp → i.bytes ≡ j.bytes → i.todo ≡ j.todo → i.kind ≡ j.kind → i ≡ j
+pub same_fields : (i j : Item) → i.key ≡ j.key → i.own ≡ j.own → i.eff ≡ j.eff → i.stamp ≡ j.stamp → i.bytes ≡ j.bytes → i.todo ≡ j.todo →
+    i.kind ≡ j.kind → i ≡ j
 same_fields i j key own eff stamp bytes todo kind =
     λ x. record {
       key = key x;
@@ -230,17 +245,22 @@ same_fields i j key own eff stamp bytes todo kind =
       bytes = bytes x;
       todo = todo x;
       kind = kind x;
-      canonical = is_prop→PathP (λ y. ∥ IsItem (key y) (own y) (eff y) (stamp y) (bytes y) (todo y) (kind y) ∥₁) (λ y. ∥∥₁_prop) i.canonical j.canonical x;
+      canonical = is_prop→PathP (λ y. ∥ IsItem (key y) (own y) (eff y) (stamp y) (bytes y) (todo y) (kind y) ∥₁) (λ y. ∥∥₁_prop)
+          i.canonical j.canonical x;
     }
 
 pub same_item : (i j : Item) → i.bytes ≡ j.bytes → i ≡ j
 same_item i j bytes =
     let octets : contents_octets (contents i) ≡ contents_octets (contents j) = sym (bytes_are i) ∙ bytes ∙ bytes_are j in
-    let lines : contents i ≡ contents j = same_contents (contents i) (contents j) (canonical_lawful i.kind (parts_of i.todo) i.todo.lawful.lines) (canonical_lawful j.kind (parts_of j.todo) j.todo.lawful.lines) (few_lines i) (few_lines j) (few_octets i) octets in
+    let lines : contents i ≡ contents j =
+    same_contents (contents i) (contents j) (canonical_lawful i.kind (parts_of i.todo) i.todo.lawful.lines)
+    (canonical_lawful j.kind (parts_of j.todo) j.todo.lawful.lines) (few_lines i) (few_lines j) (few_octets i) octets in
     let todos : i.todo ≡ j.todo = same_lines i.todo j.todo (same_inner i.kind j.kind (parts_of i.todo) (parts_of j.todo) lines) in
     let parts : parts_of i.todo ≡ parts_of j.todo = ap parts_of todos in
-    let methods : method_of i.kind ≡ method_of j.kind = same_method _ _ (same_method_text i.kind j.kind (parts_of i.todo) (parts_of j.todo) lines) in
+    let methods : method_of i.kind ≡ method_of j.kind =
+    same_method _ _ (same_method_text i.kind j.kind (parts_of i.todo) (parts_of j.todo) lines) in
     let kinds : i.kind ≡ j.kind = kind_is i ∙ (λ x. kind_of (methods x) (parts x)) ∙ sym (kind_is j) in
     let drafts_same : draft i ≡ draft j = same_draft i j kinds parts in
-    same_fields i j (ap (λ (d : ItemDraft). d.key) drafts_same) (own_is i ∙ ap (λ (t : Todo). t.seq) todos ∙ sym (own_is j)) (ap (λ (d : ItemDraft). d.eff) drafts_same)
+    same_fields i j (ap (λ (d : ItemDraft). d.key) drafts_same) (own_is i ∙ ap (λ (t : Todo). t.seq) todos ∙ sym (own_is j))
+    (ap (λ (d : ItemDraft). d.eff) drafts_same)
     (stamp_is i ∙ ap (λ (t : Todo). t.stamp) todos ∙ sym (stamp_is j)) bytes todos kinds

@@ -7,7 +7,8 @@ use Rattle.itip_todo.specs.PartsOf.{parts_of}
 use Rattle.itip_todo.specs.Table.{attendee_key}
 use Rattle.itip_todo.specs.declared.property.Property.{Property}
 use Rattle.itip_items.specs.KeyParts.{uid_of}
-use Rattle.itip_items.specs.Items.{ItemDraft, drafts_of, task_draft, add_drafts, attendee_draft, instance_key, refreshes, effective_sequence, kind_of, method_of}
+use Rattle.itip_items.specs.Items.{ItemDraft, drafts_of, task_draft, add_drafts, attendee_draft, instance_key, refreshes}
+use Rattle.itip_items.specs.Items.{effective_sequence, kind_of, method_of}
 use Rattle.itip_items.specs.declared.item.Item.{Item}
 use Rattle.itip_items.specs.declared.key.Key.TheVariants as key
 use Rattle.itip_items.specs.declared.kind.Kind.{Kind}
@@ -30,7 +31,9 @@ add_about : (eff : ℕ) (start : Option Moment) (parts : Parts) → AllByRecursi
 add_about eff None parts = tt
 add_about eff (Some id) parts = (refl, tt)
 
-chosen_about : (b : Bool) (parts : Parts) (a : Property) → uid_of (cond b (key.Refresh parts.uid parts.rid (attendee_key a.value)) (key.Answer parts.uid parts.rid (attendee_key a.value))) ≡ parts.uid
+chosen_about : (b : Bool) (parts : Parts) (a : Property) →
+    uid_of (cond b (key.Refresh parts.uid parts.rid (attendee_key a.value)) (key.Answer parts.uid parts.rid (attendee_key a.value))) ≡
+    parts.uid
 chosen_about true parts a = refl
 chosen_about false parts a = refl
 

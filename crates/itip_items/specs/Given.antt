@@ -1,6 +1,6 @@
 -- The items that drafts give (our own form).
 use Rattle.std.specs.Prelude.{◌≡◌, ◌⊎◌, ℕ, ◌+◌, List, [], ◌∷◌, ◌++◌, map}
-use Rattle.std.specs.List.{AllByRecursion, Any, flat_map}
+use Rattle.std.specs.List.{AllByRecursion, Any}
 use Rattle.itip_todo.specs.Parts.{Parts}
 use Rattle.itip_todo.specs.PartsOf.{parts_of}
 use Rattle.itip_items.specs.Items.{ItemDraft, drafts_of, kind_of, effective_sequence, IsWithinLimits, IsOfDraft}
@@ -21,10 +21,6 @@ AreItemsOf [] (item ∷ items) = ⊥
 AreItemsOf (draft ∷ drafts) [] = ⊥
 AreItemsOf (draft ∷ drafts) (item ∷ items) = IsItemOf draft item × AreItemsOf drafts items
 
--- what these to-dos give, which stand in a message with all of these
-abbrev pub drafts_among : Method → List Parts → List Parts → List ItemDraft
-drafts_among m all rest = flat_map (λ parts. drafts_of (kind_of m parts) (effective_sequence m all parts) parts) rest
-
 -- the items of drafts, each within the limits
 pub record GivesItems (given : List ItemDraft) (items : List Item) : Type 0 where
   pub within : AllByRecursion IsWithinLimits given
@@ -43,10 +39,12 @@ IfLarge item_error.TooLarge P = P
 abbrev pub drafts_each : Method → List Parts → List Parts → List (List ItemDraft)
 drafts_each m all rest = map (λ parts. drafts_of (kind_of m parts) (effective_sequence m all parts) parts) rest
 
--- of these drafts, each to-do's apart, those of the to-do `todo` are the first with a form that is too large; the first to-do has the number `number`
+-- of these drafts, each to-do's apart, those of the to-do `todo` are the first with a form that is too large; the first
+-- to-do has the number `number`
 abbrev pub FirstOver : ℕ → List (List ItemDraft) → ℕ → Type 0
 FirstOver number [] todo = ⊥
-FirstOver number (given ∷ others) todo = ((todo ≡ number) × IsOver given) ⊎ (AllByRecursion IsWithinLimits given × FirstOver (number + 1) others todo)
+FirstOver number (given ∷ others) todo = ((todo ≡ number) × IsOver given) ⊎
+    (AllByRecursion IsWithinLimits given × FirstOver (number + 1) others todo)
 
 -- of an error: nothing where an allocation failed, and otherwise P of the to-do's number
 abbrev pub IfTooLarge : FormError → (ℕ → Type 0) → Type 0

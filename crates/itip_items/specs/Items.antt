@@ -1,5 +1,6 @@
 -- The items of a message's to-dos (RFC 5546 2.1.5 and 3.4; the effective sequence and the canonical form are our own).
-use Rattle.std.specs.Prelude.{◌≡◌, ℕ, ◌≤◌, nat_lt, nat_eq, max, Bool, true, false, cond, ◌&&◌, List, [], ◌∷◌, ◌++◌, length, map, codes, Option, Some, None, unwrap_or}
+use Rattle.std.specs.Prelude.{◌≡◌, ℕ, ◌≤◌, nat_lt, nat_eq, max, Bool, true, false, cond, ◌&&◌, List, [], ◌∷◌, ◌++◌, length, map, codes}
+use Rattle.std.specs.Prelude.{Option, Some, None, unwrap_or}
 use Rattle.std.specs.Option.{is_none}
 use Rattle.itip_moment.specs.declared.moment.Moment.{Moment}
 use Rattle.std.specs.List.{flat_map}
@@ -99,13 +100,15 @@ is_series m parts = is_none parts.rid && is_task (kind_of m parts)
 -- the greatest SEQUENCE of the series components of a UID, 0 where there is none
 abbrev pub series_sequence : Method → List ℕ → List Parts → ℕ
 series_sequence m uid [] = 0
-series_sequence m uid (parts ∷ all) = max (cond (is_series m parts && pointwise nat_eq parts.uid uid) parts.seq 0) (series_sequence m uid all)
+series_sequence m uid (parts ∷ all) =
+    max (cond (is_series m parts && pointwise nat_eq parts.uid uid) parts.seq 0) (series_sequence m uid all)
 
 -- the greatest of a to-do's SEQUENCE, its X-DESK-BASE, and this
 abbrev pub raised : Parts → ℕ → ℕ
 raised parts above = max parts.seq (max (unwrap_or parts.base 0) above)
 
--- the effective sequence of an instance or range item (our own rule): the greatest of its own SEQUENCE, its X-DESK-BASE and those of the series components of its UID beside it
+-- the effective sequence of an instance or range item (our own rule): the greatest of its own SEQUENCE, its X-DESK-BASE
+-- and those of the series components of its UID beside it
 abbrev pub effective_sequence : Method → List Parts → Parts → ℕ
 effective_sequence m all parts = raised parts (series_sequence m parts.uid all)
 
@@ -162,10 +165,13 @@ refreshes kind.Refresh = true
 
 -- the key of what an attendee answers, or wants
 abbrev pub attendee_key_of : Kind → Parts → Property → Key
-attendee_key_of k parts attendee = cond (refreshes k) (key.Refresh parts.uid parts.rid (attendee_key attendee.value)) (key.Answer parts.uid parts.rid (attendee_key attendee.value))
+attendee_key_of k parts attendee =
+    cond (refreshes k) (key.Refresh parts.uid parts.rid (attendee_key attendee.value))
+    (key.Answer parts.uid parts.rid (attendee_key attendee.value))
 
 abbrev pub attendee_draft : Kind → Parts → Property → ItemDraft
-attendee_draft k parts attendee = record { key = attendee_key_of k parts attendee; kind = k; eff = parts.seq; parts = only_of attendee parts }
+attendee_draft k parts attendee =
+    record { key = attendee_key_of k parts attendee; kind = k; eff = parts.seq; parts = only_of attendee parts }
 
 -- of the series, or of the instance that RECURRENCE-ID names, or of it and all after it
 abbrev pub task_draft : Kind → ℕ → Option Moment → Parts → ItemDraft
@@ -196,14 +202,15 @@ pub record IsWithinLimits (draft : ItemDraft) : Type 0 where
   pub lines : length (canonical_contents draft.kind draft.parts) ≤ canonical_lines_limit
 
 -- these fields are those of the draft
-pub record IsOfDraft (draft : ItemDraft) (key : Key) (own eff : ℕ) (stamp : Stamp) (bytes : List ℕ) (parts : Parts) (kind : Kind) : Type 0 where
-  pub key_is : key ≡ draft.key
-  pub kind_is : kind ≡ draft.kind
-  pub eff_is : eff ≡ draft.eff
-  pub parts_are : parts ≡ draft.parts
-  pub own_is : own ≡ parts.seq
-  pub stamp_is : stamp ≡ parts.stamp
-  pub bytes_are : bytes ≡ canonical_octets kind parts
+pub record IsOfDraft (draft : ItemDraft) (key : Key) (own eff : ℕ) (stamp : Stamp) (bytes : List ℕ) (parts : Parts) (kind : Kind) : Type 0
+  where
+    pub key_is : key ≡ draft.key
+    pub kind_is : kind ≡ draft.kind
+    pub eff_is : eff ≡ draft.eff
+    pub parts_are : parts ≡ draft.parts
+    pub own_is : own ≡ parts.seq
+    pub stamp_is : stamp ≡ parts.stamp
+    pub bytes_are : bytes ≡ canonical_octets kind parts
 
 -- a to-do gives items of this kind under the method of the kind, and may be sent alone
 pub record Sends (k : Kind) (parts : Parts) : Type 0 where

@@ -6,4 +6,5 @@ use Rattle.itip_items.specs.Later.{revision_cmp}
 use Rattle.itip_items.specs.declared.item.Item.{Item}
 
 pub revisions_total : IsTotalOrder revision_cmp
-revisions_total = then_total (on_total (λ (i : Item). i.eff) nat_cmp_total) (then_total (on_total (λ (i : Item). i.stamp) stamp_total) (on_total (λ (i : Item). i.bytes) nat_list_cmp_total))
+revisions_total = then_total (on_total (λ (i : Item). i.eff) nat_cmp_total)
+    (then_total (on_total (λ (i : Item). i.stamp) stamp_total) (on_total (λ (i : Item). i.bytes) nat_list_cmp_total))

@@ -3,7 +3,8 @@ ghost use Rattle.std.specs.Prelude.{◌≡◌, ◌≤◌, ◌+◌, ◌^◌, ◌-
 ghost use Rattle.std.specs.Option.{is_some};
 ghost use Rattle.itip_todo.specs.PartsOf.{parts_of};
 ghost use Rattle.itip_todo.specs.Written.{content_octets};
-ghost use Rattle.itip_items.specs.Items.{ItemDraft, draft_of, canonical_octets, canonical_contents, bare, method_of, method_text, IsCanonical, IsItem, IsWithinLimits, one_if};
+ghost use Rattle.itip_items.specs.Items.{ItemDraft, draft_of, canonical_octets, canonical_contents, bare, method_of, method_text};
+ghost use Rattle.itip_items.specs.Items.{IsCanonical, IsItem, IsWithinLimits, one_if};
 ghost use Rattle.itip_items.specs.Given.{IsItemOf, IsOver, IfLarge, Gives};
 ghost use Rattle.itip_items.specs.declared.key.Key.{Key};
 ghost use Rattle.itip_items.specs.declared.kind.Kind.{Kind};
@@ -95,7 +96,8 @@ fn line_count(todo: &Todo) -> usize
 
 /// How many lines the properties have that stand once.
 fn single_count(todo: &Todo) -> usize
-    ensures count { result ≡ 3 + one_if (is_some todo.now.base) + one_if (is_some todo.now.rid) + one_if (is_some todo.now.start) + one_if (is_some todo.now.due) + one_if (is_some todo.now.status)
+    ensures count { result ≡ 3 + one_if (is_some todo.now.base) + one_if (is_some todo.now.rid) + one_if (is_some todo.now.start) + one_if
+        (is_some todo.now.due) + one_if (is_some todo.now.status)
         + one_if (is_some todo.now.percent) + one_if (is_some todo.now.priority) + one_if (is_some todo.now.summary) + one_if (is_some todo.now.organizer) }
 {
     3 + one_if(todo.base.is_some())

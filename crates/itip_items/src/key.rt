@@ -55,7 +55,7 @@ impl Key {
         }
     }
 
-    /// The recurrence id of the instance that the key is about, or `None` where it is about the to-do as a whole.
+    /// The recurrence id of the instance or range that the key is about, or `None` where it is about the to-do as a whole.
     pub fn instance(&self) -> Option<&Moment>
         ensures { option_copied result ≡ instance_of self.now }
     {
@@ -66,7 +66,7 @@ impl Key {
         }
     }
 
-    /// The order of what two keys are about: the to-do as a whole, then its instances by recurrence id.
+    /// The order of what two keys are about: the to-do as a whole, then its instances and ranges by recurrence id.
     pub fn cmp_instances(&self, other: &Key) -> Ordering
         ensures { result ≡ option_cmp moment_cmp (instance_of self.now) (instance_of other.now) }
     {

@@ -1,4 +1,5 @@
-//! Items (RFC 5546 3.4): what a message's to-dos say, each under its key, with its place in the order of revisions and its canonical octets.
+//! Items (RFC 5546 3.4): what a message's to-dos say, each under its key, with its place in the order of revisions and
+//! its canonical octets.
 #![tactic(auto)]
 
 mod attendee;

@@ -6,7 +6,8 @@ ghost use Rattle.itip_moment.specs.declared.moment.Moment.{Moment};
 ghost use Rattle.itip_todo.specs.Lawful.{IsLawful};
 ghost use Rattle.itip_todo.specs.PartsOf.{parts_of};
 ghost use Rattle.itip_items.specs.Needs.{Suits};
-ghost use Rattle.itip_items.specs.Items.{drafts, drafts_of, kind_of, raised, task_draft, series_draft, add_drafts, instance_draft, instance_key, attendee_draft, canonical_base, is_task, Sends, IsCanonical};
+ghost use Rattle.itip_items.specs.Items.{drafts, drafts_of, kind_of, raised, task_draft, series_draft, add_drafts, instance_draft};
+ghost use Rattle.itip_items.specs.Items.{instance_key, attendee_draft, canonical_base, is_task, Sends, IsCanonical};
 ghost use Rattle.itip_items.specs.Given.{GivesItems, IsOver, IfLarge, IfTooLarge, FirstOver, drafts_each, Adds, Gives};
 ghost use Rattle.itip_items.specs.declared.kind.Kind.TheVariants as kinds;
 ghost use Rattle.itip_items.specs.declared.kind.Method.TheVariants as methods;
@@ -54,8 +55,10 @@ fn add_items(
     items: &mut Vec<Item>,
 ) -> Result<(), ItemError>
     requires { Suits method (parts_of todo) × (above ≤ 2147483647) }
-    ensures found { OnOk result (Adds (drafts_of (kind_of method (parts_of todo)) (raised (parts_of todo) above) (parts_of todo)) items.old.items items.new.items) }
-    ensures large { IfErr result (λ e. IfLarge e (IsOver (drafts_of (kind_of method (parts_of todo)) (raised (parts_of todo) above) (parts_of todo)))) }
+    ensures found { OnOk result (Adds (drafts_of (kind_of method (parts_of todo)) (raised (parts_of todo) above) (parts_of todo))
+        items.old.items items.new.items) }
+    ensures large { IfErr result (λ e. IfLarge e
+        (IsOver (drafts_of (kind_of method (parts_of todo)) (raised (parts_of todo) above) (parts_of todo)))) }
 {
     let kind = kind_of(method, &todo);
     match kind {
@@ -80,7 +83,8 @@ fn add_instance(
     items: &mut Vec<Item>,
 ) -> Result<(), ItemError>
     requires { Suits methods.Add (parts_of todo) × (above ≤ 2147483647) }
-    ensures found { OnOk result (Adds (add_drafts (raised (parts_of todo) above) todo.start (parts_of todo)) items.old.items items.new.items) }
+    ensures found { OnOk result (Adds (add_drafts (raised (parts_of todo) above) todo.start (parts_of todo))
+        items.old.items items.new.items) }
     ensures large { IfErr result (λ e. IfLarge e (IsOver (add_drafts (raised (parts_of todo) above) todo.start (parts_of todo)))) }
 {
     match started_key(&todo) {
@@ -223,7 +227,8 @@ fn attendee_item(
     todo: &Todo,
     attendee: &Property,
 ) -> Result<Item, ItemError>
-    requires { IsCanonical (attendee_draft kind (parts_of todo.now) attendee.now) × IsLawful (attendee_draft kind (parts_of todo.now) attendee.now).parts }
+    requires { IsCanonical (attendee_draft kind (parts_of todo.now) attendee.now)
+        × IsLawful (attendee_draft kind (parts_of todo.now) attendee.now).parts }
     ensures found { IfOk result (Gives (attendee_draft kind (parts_of todo.now) attendee.now)) }
     ensures large { IfErr result (λ e. IfLarge e (IsOver (attendee_draft kind (parts_of todo.now) attendee.now ∷ []))) }
 {

@@ -19,7 +19,8 @@ pub(crate) fn series_sequences(
     method: Method,
     all: &[Todo],
 ) -> Result<BTreeMap<Uid, u32>, NoMemory>
-    ensures { IfOk result (λ greatest. (uid : List ℕ) → unwrap_or (get (slice_cmp nat_cmp) greatest uid) 0 ≡ series_sequence method uid (map parts_of all.now)) }
+    ensures { IfOk result (λ greatest. (uid : List ℕ) → unwrap_or (get (slice_cmp nat_cmp) greatest uid) 0
+        ≡ series_sequence method uid (map parts_of all.now)) }
 {
     let mut greatest = BTreeMap::new(alloc);
     for todo in all {

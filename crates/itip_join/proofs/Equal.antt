@@ -14,13 +14,16 @@ use Rattle.itip_join.specs.declared.keyed.Keyed.{Keyed}
 use Rattle.itip_join.specs.declared.join.Join as join
 use Rattle.itip_join.specs.declared.under_guard.UnderGuard as under
 
-pub guarded_equal : {S M : Type 0} {g : join.Ghosts S} {h : under.Ghosts M S} {j : join.Ghosts M} (x y : Guarded S M g h j) → x.guard ≡ y.guard → x.entries ≡ y.entries → x ≡ y
-guarded_equal {h = h} x y p q = λ i. record { guard = p i; entries = q i; no_dead_entry = passes_along h.are_alive p q x.no_dead_entry y.no_dead_entry i }
+pub guarded_equal : {S M : Type 0} {g : join.Ghosts S} {h : under.Ghosts M S} {j : join.Ghosts M} (x y : Guarded S M g h j) →
+    x.guard ≡ y.guard → x.entries ≡ y.entries → x ≡ y
+guarded_equal {h = h} x y p q =
+    λ i. record { guard = p i; entries = q i; no_dead_entry = passes_along h.are_alive p q x.no_dead_entry y.no_dead_entry i }
 
 pub keyed_equal : {K V : Type 0} {g : ord.Ghosts K} {h : eq.Ghosts K} {j : partial.Ghosts K} (x y : Keyed K V g h j) → x.map ≡ y.map → x ≡ y
 keyed_equal {g = g} x y e = λ i. record {
   map = e i;
-  ordered = is_prop→PathP (λ j. IsStrictlySortedBy g.cmp (keys_of (e j))) (λ j. IsStrictlySortedBy-prop g.cmp (keys_of (e j))) x.ordered y.ordered i;
+  ordered = is_prop→PathP (λ j. IsStrictlySortedBy g.cmp (keys_of (e j))) (λ j. IsStrictlySortedBy-prop g.cmp (keys_of (e j))) x.ordered
+      y.ordered i;
 }
 
 pub on_err : {T E P : Type 0} (r : Result T E) → P → OnErr r P

@@ -2,7 +2,8 @@
 use Rattle.std.proofs.Common.{◌≡◌, sym, subst, refl, List, [], ◌∷◌, ◌++◌, inl, inr, arith}
 use Rattle.std.specs.Prelude.{◌⊎◌}
 use Rattle.std.specs.List.{Contains}
-use Rattle.std.proofs.lemmas.List.Elements.{Contains-append_left, Contains-append_right, Contains-push, Contains-append_cases, Contains-push_cases}
+use Rattle.std.proofs.lemmas.List.Elements.{Contains-append_left, Contains-append_right, Contains-push, Contains-append_cases}
+use Rattle.std.proofs.lemmas.List.Elements.{Contains-push_cases}
 use Rattle.itip_join.specs.Bounds.{IsJoinOf, IsFoldOfJoins, HaveSameMembers}
 
 module _ {T : Type 0} where
@@ -42,8 +43,10 @@ module _ {T : Type 0} {le : T → T → Type 0} (o : IsOrder le) where
 
   pub join_associates : (x y z xy yz l r : T) → IsJoinOf le x y xy → IsJoinOf le xy z l → IsJoinOf le y z yz → IsJoinOf le x yz r → l ≡ r
   join_associates x y z xy yz l r a b c d = o.antisymmetric l r
-      (b.least r (a.least r d.above_first (o.transitive y yz r c.above_first d.above_second)) (o.transitive z yz r c.above_second d.above_second))
-      (d.least l (o.transitive x xy l a.above_first b.above_first) (c.least l (o.transitive y xy l a.above_second b.above_first) b.above_second))
+      (b.least r (a.least r d.above_first (o.transitive y yz r c.above_first d.above_second))
+      (o.transitive z yz r c.above_second d.above_second))
+      (d.least l (o.transitive x xy l a.above_first b.above_first)
+      (c.least l (o.transitive y xy l a.above_second b.above_first) b.above_second))
 
   pub join_of_below : (x y z : T) → le y x → IsJoinOf le x y z → z ≡ x
   join_of_below x y z p j = o.antisymmetric z x (j.least x (o.reflexive x) p) j.above_first
@@ -78,7 +81,8 @@ module _ {T : Type 0} {le : T → T → Type 0} (o : IsOrder le) where
       by q (inl e) = subst (λ (u : T). le u b) e middle
       by q (inr c) = h q (contains_tail x (y' ∷ ys) q (contains_tail y' ys q c))
 
-  pub folds_agree : (x y : T) (xs ys : List T) (z w : T) → HaveSameMembers (x ∷ xs) (y ∷ ys) → IsFoldOfJoins le x xs z → IsFoldOfJoins le y ys w → z ≡ w
+  pub folds_agree : (x y : T) (xs ys : List T) (z w : T) → HaveSameMembers (x ∷ xs) (y ∷ ys) → IsFoldOfJoins le x xs z →
+      IsFoldOfJoins le y ys w → z ≡ w
   folds_agree x y xs ys z w same f g = o.antisymmetric z w
       (fold_least x xs z f w (λ q c. fold_above y ys w g q ((same q).0 c)))
       (fold_least y ys w g z (λ q c. fold_above x xs z f q ((same q).1 c)))

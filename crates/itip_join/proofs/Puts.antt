@@ -16,11 +16,13 @@ module _ {V : Type 0} (le : V → V → Type 0) where
   pub join_with_nothing : ((x : V) → le x x) → (a : Option V) → IsJoinOf (IsBelowAt le) a None a
   join_with_nothing r a = record { above_first = IsBelowAt-refl le r a; above_second = tt; least = λ d p q. p }
 
-  least_at : (x y z : V) → ((b : V) → le x b → le y b → le z b) → (d : Option V) → IsBelowAt le (Some x) d → IsBelowAt le (Some y) d → IsBelowAt le (Some z) d
+  least_at : (x y z : V) → ((b : V) → le x b → le y b → le z b) → (d : Option V) → IsBelowAt le (Some x) d → IsBelowAt le (Some y) d →
+      IsBelowAt le (Some z) d
   least_at x y z l None p q = absurd p
   least_at x y z l (Some b) p q = l b p q
 
-  pub join_of_two : (x y z : V) → le x z → le y z → ((b : V) → le x b → le y b → le z b) → IsJoinOf (IsBelowAt le) (Some x) (Some y) (Some z)
+  pub join_of_two : (x y z : V) → le x z → le y z → ((b : V) → le x b → le y b → le z b) →
+      IsJoinOf (IsBelowAt le) (Some x) (Some y) (Some z)
   join_of_two x y z a b l = record { above_first = a; above_second = b; least = least_at x y z l }
 
 pub alive_some : {V : Type 0} (dead : V → Bool) (w : V) → dead w ≡ false → alive_part dead (Some w) ≡ Some w
@@ -34,10 +36,11 @@ or_false false = refl
 module _ {K : Type 0} (cmp : K → K → Ordering) where
   pub is_listed_push : (q : K) (ks : List K) (k : K) → is_listed cmp q (ks ++ k ∷ []) ≡ (is_listed cmp q ks || is_eq (cmp k q))
   is_listed_push q [] k = or_false (is_eq (cmp k q))
-  is_listed_push q (r ∷ ks) k = elim (is_eq (cmp r q)) as (λ b. (b || is_listed cmp q (ks ++ k ∷ [])) ≡ ((b || is_listed cmp q ks) || is_eq (cmp k q))) [
-    | true ↦ refl
-    | false ↦ is_listed_push q ks k
-  ]
+  is_listed_push q (r ∷ ks) k =
+      elim (is_eq (cmp r q)) as (λ b. (b || is_listed cmp q (ks ++ k ∷ [])) ≡ ((b || is_listed cmp q ks) || is_eq (cmp k q))) [
+        | true ↦ refl
+        | false ↦ is_listed_push q ks k
+      ]
 
 module _ {K : Type 0} {cmp : K → K → Ordering} (total : IsTotalOrder cmp) where
   pub flipped : (x y : K) → is_eq (cmp x y) ≡ false → is_eq (cmp y x) ≡ false
@@ -48,16 +51,18 @@ module _ {K : Type 0} {cmp : K → K → Ordering} (total : IsTotalOrder cmp) wh
 
 -- ---- pairs that are put in
 module _ {K V : Type 0} (cmp : K → K → Ordering) where
-  pub before_push : (q : K) (o : Option V) (ps : List (K × V)) (p : K × V) → before cmp q o (ps ++ p ∷ []) ≡ before cmp q (cond (is_eq (cmp p.0 q)) (Some p.1) o) ps
+  pub before_push : (q : K) (o : Option V) (ps : List (K × V)) (p : K × V) →
+      before cmp q o (ps ++ p ∷ []) ≡ before cmp q (cond (is_eq (cmp p.0 q)) (Some p.1) o) ps
   before_push q o [] p = refl
   before_push q o (r ∷ ps) p = ap (λ (x : Option V). cond (is_eq (cmp r.0 q)) (Some r.1) x) (before_push q o ps p)
 
   pub has_key_push : (q : K) (ps : List (K × V)) (p : K × V) → has_key cmp q (ps ++ p ∷ []) ≡ (has_key cmp q ps || is_eq (cmp p.0 q))
   has_key_push q [] p = or_false (is_eq (cmp p.0 q))
-  has_key_push q (r ∷ ps) p = elim (is_eq (cmp r.0 q)) as (λ b. (b || has_key cmp q (ps ++ p ∷ [])) ≡ ((b || has_key cmp q ps) || is_eq (cmp p.0 q))) [
-    | true ↦ refl
-    | false ↦ has_key_push q ps p
-  ]
+  has_key_push q (r ∷ ps) p =
+      elim (is_eq (cmp r.0 q)) as (λ b. (b || has_key cmp q (ps ++ p ∷ [])) ≡ ((b || has_key cmp q ps) || is_eq (cmp p.0 q))) [
+        | true ↦ refl
+        | false ↦ has_key_push q ps p
+      ]
 
 -- a map with the pair (k', v') put in, where k' is k and v' is v
 module _ {K V : Type 0} {cmp : K → K → Ordering} (total : IsTotalOrder cmp) (o o' : K → Option V) {k k' : K} (v' : V)
@@ -78,16 +83,20 @@ module _ {V : Type 0} (le : V → V → Type 0) (dead : V → Bool) where
       at (Some y) = inl d
 
   pub below_both : {a b : Option V} {x y : V} → a ≡ Some x → b ≡ Some y → le x y → IsBelowUnder dead le a b
-  below_both {b = b} {x = x} some e l = subst (λ (o : Option V). IsBelowUnder dead le o b) (sym some) (subst (λ (o : Option V). IsBelowUnder dead le (Some x) o) (sym e) (inr l))
+  below_both {b = b} {x = x} some e l =
+      subst (λ (o : Option V). IsBelowUnder dead le o b) (sym some)
+      (subst (λ (o : Option V). IsBelowUnder dead le (Some x) o) (sym e) (inr l))
 
   pub not_below_none : {a b : Option V} {x : V} → a ≡ Some x → dead x ≡ false → b ≡ None → IsBelowUnder dead le a b → ⊥
-  not_below_none {b = b} {x = x} some alive none p = at (subst (λ (o : Option V). IsBelowUnder dead le (Some x) o) none (subst (λ (o : Option V). IsBelowUnder dead le o b) some p))
+  not_below_none {b = b} {x = x} some alive none p =
+      at (subst (λ (o : Option V). IsBelowUnder dead le (Some x) o) none (subst (λ (o : Option V). IsBelowUnder dead le o b) some p))
     where
       at : dead x ≡ true → ⊥
       at d = cc
 
   pub not_below : {a b : Option V} {x y : V} → a ≡ Some x → dead x ≡ false → b ≡ Some y → (le x y → ⊥) → IsBelowUnder dead le a b → ⊥
-  not_below {b = b} {x = x} {y = y} some alive e n p = at (subst (λ (o : Option V). IsBelowUnder dead le (Some x) o) e (subst (λ (o : Option V). IsBelowUnder dead le o b) some p))
+  not_below {b = b} {x = x} {y = y} some alive e n p =
+      at (subst (λ (o : Option V). IsBelowUnder dead le (Some x) o) e (subst (λ (o : Option V). IsBelowUnder dead le o b) some p))
     where
       at : (dead x ≡ true) ⊎ le x y → ⊥
       at (inl d) = cc

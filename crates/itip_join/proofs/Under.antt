@@ -37,7 +37,8 @@ module _ {V : Type 0} (le : V → V → Type 0) where
       | false ↦ λ d. inr l
     ] refl
 
-    pub above_first_under : (a b c : Option V) → IsJoinOf (IsBelowAt le) a (alive_part dead b) c → IsBelowUnder dead le a (alive_part dead c)
+    pub above_first_under : (a b c : Option V) → IsJoinOf (IsBelowAt le) a (alive_part dead b) c →
+        IsBelowUnder dead le a (alive_part dead c)
     above_first_under a b c j = by a c j.above_first
       where
         by : (a c : Option V) → IsBelowAt le a c → IsBelowUnder dead le a (alive_part dead c)
@@ -45,7 +46,8 @@ module _ {V : Type 0} (le : V → V → Type 0) where
         by (Some x) None p = absurd p
         by (Some x) (Some z) p = kept_above x z p
 
-    pub above_second_under : (a b c : Option V) → IsJoinOf (IsBelowAt le) a (alive_part dead b) c → IsBelowUnder dead le b (alive_part dead c)
+    pub above_second_under : (a b c : Option V) → IsJoinOf (IsBelowAt le) a (alive_part dead b) c →
+        IsBelowUnder dead le b (alive_part dead c)
     above_second_under a b c j = by b c j.above_second
       where
         dead_below : (y : V) (c : Option V) → dead y ≡ true → IsBelowUnder dead le (Some y) c
@@ -58,10 +60,11 @@ module _ {V : Type 0} (le : V → V → Type 0) where
 
         by : (b c : Option V) → IsBelowAt le (alive_part dead b) c → IsBelowUnder dead le b (alive_part dead c)
         by None c p = tt
-        by (Some y) c p = elim (dead y) as (λ t. dead y ≡ t → IsBelowAt le (cond t None (Some y)) c → IsBelowUnder dead le (Some y) (alive_part dead c)) [
-          | true ↦ λ d q. dead_below y (alive_part dead c) d
-          | false ↦ λ d q. at y c q
-        ] refl p
+        by (Some y) c p = elim (dead y) as (λ t. dead y ≡ t → IsBelowAt le (cond t None (Some y)) c →
+            IsBelowUnder dead le (Some y) (alive_part dead c)) [
+              | true ↦ λ d q. dead_below y (alive_part dead c) d
+              | false ↦ λ d q. at y c q
+            ] refl p
 
   -- what is kept is below what all of it is below
   alive_below : (dead more : V → Bool) (a d : Option V) → IsBelowUnder more le a d → IsBelowUnder more le (alive_part dead a) d
@@ -75,7 +78,8 @@ module _ {V : Type 0} (le : V → V → Type 0) where
     where
       by : (c ≡ a) ⊎ (c ≡ alive_part dead b) → IsBelowUnder more le (alive_part dead c) d
       by (inl e) = subst (λ (o : Option V). IsBelowUnder more le (alive_part dead o) d) (sym e) (alive_below dead more a d p)
-      by (inr e) = subst (λ (o : Option V). IsBelowUnder more le (alive_part dead o) d) (sym e) (alive_below dead more (alive_part dead b) d (alive_below dead more b d q))
+      by (inr e) = subst (λ (o : Option V). IsBelowUnder more le (alive_part dead o) d) (sym e)
+          (alive_below dead more (alive_part dead b) d (alive_below dead more b d q))
 
 -- ---- the entries that are kept
 module _ {K V : Type 0} (dead : K → V → Bool) where
@@ -85,12 +89,14 @@ module _ {K V : Type 0} (dead : K → V → Bool) where
 
   pub all_alive-kept : (es : List (K × V)) → all_alive dead (kept dead es) ≡ true
   all_alive-kept [] = refl
-  all_alive-kept (e ∷ es) = elim (dead e.0 e.1) as (λ b. dead e.0 e.1 ≡ b → all_alive dead (cond (not b) (e ∷ kept dead es) (kept dead es)) ≡ true) [
-    | true ↦ λ d. all_alive-kept es
-    | false ↦ λ d. both_true (not (dead e.0 e.1)) (all_alive dead (kept dead es)) (ap not d) (all_alive-kept es)
-  ] refl
+  all_alive-kept (e ∷ es) =
+      elim (dead e.0 e.1) as (λ b. dead e.0 e.1 ≡ b → all_alive dead (cond (not b) (e ∷ kept dead es) (kept dead es)) ≡ true) [
+        | true ↦ λ d. all_alive-kept es
+        | false ↦ λ d. both_true (not (dead e.0 e.1)) (all_alive dead (kept dead es)) (ap not d) (all_alive-kept es)
+      ] refl
 
-  pub value_at-kept : {cmp : K → K → Ordering} → IsTotalOrder cmp → ((x y : K) → cmp x y ≡ Equal → x ≡ y) → (es : List (K × V)) → IsStrictlySortedBy cmp (keys_of es)
+  pub value_at-kept : {cmp : K → K → Ordering} → IsTotalOrder cmp → ((x y : K) → cmp x y ≡ Equal → x ≡ y) → (es : List (K × V)) →
+      IsStrictlySortedBy cmp (keys_of es)
       → (q : K) → value_at cmp (kept dead es) q ≡ alive_part (dead q) (value_at cmp es q)
   value_at-kept total exact [] s q = refl
   value_at-kept {cmp} total exact (e ∷ es) s q =
@@ -98,16 +104,20 @@ module _ {K V : Type 0} (dead : K → V → Bool) where
       elim (is_eq (cmp q e.0)) as (λ t. is_eq (cmp q e.0) ≡ t
       → value_at cmp (kept dead (e ∷ es)) q ≡ alive_part (dead q) (cond t (Some e.1) (value_at cmp es q))) [
         | true ↦ λ k.
-            let none : value_at cmp es q ≡ None = lookup-none _ es (none_past_head (eq_by_cmp_equiv total) q e es (IsDistinct-from_sorted cmp (keys_of (e ∷ es)) s) k) in
+            let none : value_at cmp es q ≡ None =
+            lookup-none _ es (none_past_head (eq_by_cmp_equiv total) q e es (IsDistinct-from_sorted cmp (keys_of (e ∷ es)) s) k) in
             let same : dead q e.1 ≡ dead e.0 e.1 = ap (λ x. dead x e.1) (exact q e.0 ((Equal-is (cmp q e.0)).0 k)) in
-            elim (dead e.0 e.1) as (λ b. dead e.0 e.1 ≡ b → value_at cmp (cond (not b) (e ∷ kept dead es) (kept dead es)) q ≡ cond (dead q e.1) None (Some e.1)) [
+            elim (dead e.0 e.1) as (λ b. dead e.0 e.1 ≡ b →
+            value_at cmp (cond (not b) (e ∷ kept dead es) (kept dead es)) q ≡ cond (dead q e.1) None (Some e.1)) [
               | true ↦ λ d. rest ∙ ap (alive_part (dead q)) none ∙ sym (ap (λ b. cond b None (Some e.1)) (same ∙ d))
-              | false ↦ λ d. ap (λ b. cond b (Some e.1) (value_at cmp (kept dead es) q)) k ∙ sym (ap (λ b. cond b None (Some e.1)) (same ∙ d))
+              | false ↦ λ d. ap (λ b. cond b (Some e.1) (value_at cmp (kept dead es) q)) k ∙
+                  sym (ap (λ b. cond b None (Some e.1)) (same ∙ d))
             ] refl
-        | false ↦ λ k. elim (dead e.0 e.1) as (λ b. value_at cmp (cond (not b) (e ∷ kept dead es) (kept dead es)) q ≡ alive_part (dead q) (value_at cmp es q)) [
-          | true ↦ rest
-          | false ↦ ap (λ b. cond b (Some e.1) (value_at cmp (kept dead es) q)) k ∙ rest
-        ]
+        | false ↦ λ k. elim (dead e.0 e.1) as (λ b. value_at cmp (cond (not b) (e ∷ kept dead es) (kept dead es)) q ≡ alive_part (dead q)
+            (value_at cmp es q)) [
+              | true ↦ rest
+              | false ↦ ap (λ b. cond b (Some e.1) (value_at cmp (kept dead es) q)) k ∙ rest
+            ]
       ] refl
 
 -- where nothing dies, all is kept
@@ -130,7 +140,8 @@ module _ {V : Type 0} (dead : V → Bool) where
 
   -- in a chain, what is alive joined with what is alive is alive
   pub join_alive_at : (le : V → V → Type 0) → ((x : V) → le x x) → ((x y : V) → le x y → le y x → x ≡ y) → ((x y : V) → le x y ⊎ le y x)
-      → (a b c : Option V) → IsJoinOf (IsBelowAt le) a (alive_part dead b) c → ((x : V) → a ≡ Some x → dead x ≡ false) → (x : V) → c ≡ Some x → dead x ≡ false
+      → (a b c : Option V) → IsJoinOf (IsBelowAt le) a (alive_part dead b) c → ((x : V) → a ≡ Some x → dead x ≡ false) → (x : V) →
+      c ≡ Some x → dead x ≡ false
   join_alive_at le r s chain a b c j h x e = by (join_is_one le r s chain a (alive_part dead b) c j)
     where
       by : (c ≡ a) ⊎ (c ≡ alive_part dead b) → dead x ≡ false
@@ -142,7 +153,8 @@ module _ {K V : Type 0} {cmp : K → K → Ordering} (total : IsTotalOrder cmp) 
   all_true true b p q = q
   all_true false b p q = absurd (cc)
 
-  pub all_alive-from_values : (es : List (K × V)) → IsStrictlySortedBy cmp (keys_of es) → ((q : K) (x : V) → value_at cmp es q ≡ Some x → dead q x ≡ false) → all_alive dead es ≡ true
+  pub all_alive-from_values : (es : List (K × V)) → IsStrictlySortedBy cmp (keys_of es) →
+      ((q : K) (x : V) → value_at cmp es q ≡ Some x → dead q x ≡ false) → all_alive dead es ≡ true
   all_alive-from_values [] s h = refl
   all_alive-from_values (e ∷ es) s h = all_true (not (dead e.0 e.1)) (all_alive dead es)
       (ap not (h e.0 e.1 (ap (λ b. cond b (Some e.1) (value_at cmp es e.0)) (ap is_eq (tied_itself total e.0)))))
@@ -150,7 +162,9 @@ module _ {K V : Type 0} {cmp : K → K → Ordering} (total : IsTotalOrder cmp) 
     where
       later : (q : K) (x : V) → value_at cmp es q ≡ Some x → value_at cmp (e ∷ es) q ≡ Some x
       later q x f = elim (is_eq (cmp q e.0)) as (λ t. is_eq (cmp q e.0) ≡ t → cond t (Some e.1) (value_at cmp es q) ≡ Some x) [
-        | true ↦ λ k. let none : value_at cmp es q ≡ None = lookup-none _ es (none_past_head (eq_by_cmp_equiv total) q e es (IsDistinct-from_sorted cmp (keys_of (e ∷ es)) s) k) in absurd (cc)
+        | true ↦ λ k. let none : value_at cmp es q ≡ None =
+            lookup-none _ es (none_past_head (eq_by_cmp_equiv total) q e es (IsDistinct-from_sorted cmp (keys_of (e ∷ es)) s) k) in
+            absurd (cc)
         | false ↦ λ k. f
       ] refl
 
@@ -158,7 +172,9 @@ module _ {K V : Type 0} {cmp : K → K → Ordering} (total : IsTotalOrder cmp) 
 module _ {V : Type 0} (le : V → V → Type 0) (dead : V → Bool) (r : (x : V) → le x x) where
   pub below_kept : (a : Option V) → IsBelowUnder dead le a (alive_part dead a)
   below_kept None = tt
-  below_kept (Some x) = elim (dead x) as (λ b. dead x ≡ b → IsBelowUnder dead le (Some x) (cond b None (Some x))) [ true ↦ λ d. d | false ↦ λ d. inr (r x) ] refl
+  below_kept (Some x) =
+      elim (dead x) as (λ b. dead x ≡ b → IsBelowUnder dead le (Some x) (cond b None (Some x))) [ true ↦ λ d. d | false ↦ λ d. inr (r x) ]
+      refl
 
   pub kept_below : (a : Option V) → IsBelowUnder dead le (alive_part dead a) a
   kept_below None = tt

@@ -18,7 +18,8 @@ pub record IsWalk {K V : Type 0} (cmp : K → K → Ordering) (all : K → Optio
   pub passed : (q : K) → lookup (λ k. is_eq (cmp q k)) rest ≡ None → P q
   pub coming : (q : K) (v : V) → lookup (λ k. is_eq (cmp q k)) rest ≡ Some v → R q
 
-module _ {K V : Type 0} {cmp : K → K → Ordering} (total : IsTotalOrder cmp) (exact : (x y : K) → cmp x y ≡ Equal → x ≡ y) {all : K → Option V} {P R : K → Type 0} where
+module _ {K V : Type 0} {cmp : K → K → Ordering} (total : IsTotalOrder cmp) (exact : (x y : K) → cmp x y ≡ Equal → x ≡ y) {all : K →
+    Option V} {P R : K → Type 0} where
   module _ {k : K} {v : V} {rest : List (K × V)} (w : IsWalk cmp all P R ((k, v) ∷ rest)) where
     -- the next entry is found in the map
     pub walk_found : all k ≡ Some v
@@ -28,13 +29,15 @@ module _ {K V : Type 0} {cmp : K → K → Ordering} (total : IsTotalOrder cmp) 
     walk_coming = w.coming k v (ap (λ b. cond b (Some v) (lookup (λ x. is_eq (cmp k x)) rest)) (ap is_eq (tied_itself total k)))
 
     none_later : (q : K) → is_eq (cmp q k) ≡ true → lookup (λ x. is_eq (cmp q x)) rest ≡ None
-    none_later q e = lookup-none _ rest (none_past_head (eq_by_cmp_equiv total) q (k, v) rest (IsDistinct-from_sorted cmp (keys_of ((k, v) ∷ rest)) w.sorted) e)
+    none_later q e = lookup-none _ rest (none_past_head (eq_by_cmp_equiv total) q (k, v) rest
+        (IsDistinct-from_sorted cmp (keys_of ((k, v) ∷ rest)) w.sorted) e)
 
     same_key : (q : K) → is_eq (cmp q k) ≡ true → k ≡ q
     same_key q e = sym (exact q k ((Equal-is (cmp q k)).0 e))
 
     -- the walk passes the next entry, where P' and R' hold at the other keys where P and R did
-    pub walk_step : (P' R' : K → Type 0) → P' k → ((q : K) → is_eq (cmp q k) ≡ false → P q → P' q) → ((q : K) → is_eq (cmp q k) ≡ false → R q → R' q)
+    pub walk_step : (P' R' : K → Type 0) → P' k → ((q : K) → is_eq (cmp q k) ≡ false → P q → P' q) →
+        ((q : K) → is_eq (cmp q k) ≡ false → R q → R' q)
         → IsWalk cmp all P' R' rest
     walk_step P' R' here stays waits = record {
       sorted = sorted_tail cmp k (keys_of rest) w.sorted;

@@ -4,7 +4,8 @@ use mathlib.Core.Path.{PathP}
 use mathlib.Core.HLevel.{is_prop→PathP}
 use mathlib.Core.Bool.{Bool-set}
 
-abbrev pub passes_along : {S M : Type 0} (test : S → M → Bool) {s t : S} {m n : M} (p : s ≡ t) (q : m ≡ n) (a : test s m ≡ true) (b : test t n ≡ true)
+abbrev pub passes_along : {S M : Type 0} (test : S → M → Bool) {s t : S} {m n : M} (p : s ≡ t) (q : m ≡ n) (a : test s m ≡ true)
+    (b : test t n ≡ true)
     → PathP (λ i. test (p i) (q i) ≡ true) a b
 passes_along test p q a b = is_prop→PathP (λ i. test (p i) (q i) ≡ true) (λ i. Bool-set (test (p i) (q i)) true) a b
 

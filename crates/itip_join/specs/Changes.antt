@@ -29,19 +29,23 @@ abbrev pub replaced : {V : Type 0} → Option V → V → Option V
 replaced None value = None
 replaced (Some old) value = Some value
 
--- A map that had `mine` has `now`. The keys that were added are new, and the pairs stood where others stand; with the changes taken back the map is as it was.
-pub record TakesBack {K V : Type 0} (cmp : K → K → Ordering) (mine now : K → Option V) (added : List K) (raised : List (K × V)) : Type 0 where
-  pub added_are_new : (q : K) → is_listed cmp q added ≡ true → mine q ≡ None
-  pub raised_were_there : (q : K) → has_key cmp q raised ≡ true → is_some (mine q) ≡ true
-  pub raised_are_there : (q : K) → has_key cmp q raised ≡ true → is_some (now q) ≡ true
-  pub as_it_was : (q : K) → restored cmp q (now q) added raised ≡ mine q
+-- A map that had `mine` has `now`. The keys that were added are new, and the pairs stood where others stand; with the
+-- changes taken back the map is as it was.
+pub record TakesBack {K V : Type 0} (cmp : K → K → Ordering) (mine now : K → Option V) (added : List K) (raised : List (K × V)) : Type 0
+  where
+    pub added_are_new : (q : K) → is_listed cmp q added ≡ true → mine q ≡ None
+    pub raised_were_there : (q : K) → has_key cmp q raised ≡ true → is_some (mine q) ≡ true
+    pub raised_are_there : (q : K) → has_key cmp q raised ≡ true → is_some (now q) ≡ true
+    pub as_it_was : (q : K) → restored cmp q (now q) added raised ≡ mine q
 
 -- One key k was looked at: nothing changed, or a value may have been added, or one may have grown; and this was noted.
-pub data IsNoted {K V : Type 0} (cmp : K → K → Ordering) (k : K) (now now' : K → Option V) (added : List K) (raised : List (K × V)) (added' : List K) (raised' : List (K × V)) : Type 0 where
+pub data IsNoted {K V : Type 0} (cmp : K → K → Ordering) (k : K) (now now' : K → Option V) (added : List K) (raised : List (K × V))
+    (added' : List K) (raised' : List (K × V)) : Type 0 where
   is_same : ((q : K) → now' q ≡ now q) → added' ≡ added → raised' ≡ raised → IsNoted cmp k now now' added raised added' raised'
   is_new : now k ≡ None → ((q : K) → is_eq (cmp k q) ≡ false → now' q ≡ now q) → added' ≡ added ++ k ∷ [] → raised' ≡ raised
       → IsNoted cmp k now now' added raised added' raised'
-  is_raised : (v : V) → now k ≡ Some v → is_some (now' k) ≡ true → ((q : K) → is_eq (cmp k q) ≡ false → now' q ≡ now q) → added' ≡ added → raised' ≡ raised ++ (k, v) ∷ []
+  is_raised : (v : V) → now k ≡ Some v → is_some (now' k) ≡ true → ((q : K) → is_eq (cmp k q) ≡ false → now' q ≡ now q) → added' ≡ added →
+      raised' ≡ raised ++ (k, v) ∷ []
       → IsNoted cmp k now now' added raised added' raised'
 
 -- the keys and the pairs that an `Undo` holds

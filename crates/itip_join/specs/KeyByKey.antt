@@ -26,8 +26,10 @@ abbrev pub IsMapBelowUnder : {K V : Type 0} → (K → V → Bool) → (K → K 
 IsMapBelowUnder {K} dead cmp le es fs = (k : K) → IsBelowUnder (dead k) le (value_at cmp es k) (value_at cmp fs k)
 
 -- at each key gs has the join of what es and fs have, but for what is dead in fs
-abbrev pub IsMergeOf : {K V : Type 0} → (K → K → Ordering) → (V → V → Type 0) → (K → V → Bool) → List (K × V) → List (K × V) → List (K × V) → Type 0
-IsMergeOf {K} cmp le dead es fs gs = (k : K) → IsJoinOf (IsBelowAt le) (value_at cmp es k) (alive_part (dead k) (value_at cmp fs k)) (value_at cmp gs k)
+abbrev pub IsMergeOf : {K V : Type 0} → (K → K → Ordering) → (V → V → Type 0) → (K → V → Bool) → List (K × V) → List (K × V) →
+    List (K × V) → Type 0
+IsMergeOf {K} cmp le dead es fs gs = (k : K) →
+    IsJoinOf (IsBelowAt le) (value_at cmp es k) (alive_part (dead k) (value_at cmp fs k)) (value_at cmp gs k)
 
 -- the entries that are not dead
 abbrev pub kept : {K V : Type 0} → (K → V → Bool) → List (K × V) → List (K × V)
@@ -50,12 +52,14 @@ truth false t = absurd t
 module _ {K V : Type 0} (cmp : K → K → Ordering) where
   below_from : (x : K) (es : List (K × V)) → AllByRecursion (λ y. cmp x y ≡ Less) (keys_of es) → T (below_all cmp x es)
   below_from x [] h = tt
-  below_from x (e ∷ es) h = both_hold (is_lt (cmp x e.0)) (below_all cmp x es) (ap is_lt h.0) (truth (below_all cmp x es) (below_from x es h.1))
+  below_from x (e ∷ es) h =
+      both_hold (is_lt (cmp x e.0)) (below_all cmp x es) (ap is_lt h.0) (truth (below_all cmp x es) (below_from x es h.1))
 
   sorted_from : (es : List (K × V)) → IsStrictlySortedBy cmp (keys_of es) → T (is_sorted cmp es)
   sorted_from [] h = tt
   sorted_from (e ∷ es) h = both_hold (below_all cmp e.0 es) (is_sorted cmp es)
-      (truth (below_all cmp e.0 es) (below_from e.0 es (sorted_head cmp e.0 (keys_of es) h))) (truth (is_sorted cmp es) (sorted_from es (sorted_tail cmp e.0 (keys_of es) h)))
+      (truth (below_all cmp e.0 es) (below_from e.0 es (sorted_head cmp e.0 (keys_of es) h)))
+      (truth (is_sorted cmp es) (sorted_from es (sorted_tail cmp e.0 (keys_of es) h)))
 
   as_found : (q : K) (es : List (K × V)) → find cmp q es ≡ value_at cmp es q
   as_found q [] = refl
@@ -65,8 +69,12 @@ module _ {K V : Type 0} {cmp : K → K → Ordering} (total : IsTotalOrder cmp) 
   -- two maps that have the same at each key are the same
   pub entries_from_values : (es fs : List (K × V)) → IsStrictlySortedBy cmp (keys_of es) → IsStrictlySortedBy cmp (keys_of fs)
       → ((q : K) → value_at cmp es q ≡ value_at cmp fs q) → es ≡ fs
-  entries_from_values es fs s t h = same_entries cmp total exact es fs (sorted_from cmp es s) (sorted_from cmp fs t) (λ q. as_found cmp q es ∙ h q ∙ sym (as_found cmp q fs))
+  entries_from_values es fs s t h =
+      same_entries cmp total exact es fs (sorted_from cmp es s) (sorted_from cmp fs t) (λ q. as_found cmp q es ∙ h q ∙
+      sym (as_found cmp q fs))
 
-  pub IsMapBelow-antisym : (le : V → V → Type 0) → ((x y : V) → le x y → le y x → x ≡ y) → (es fs : List (K × V)) → IsStrictlySortedBy cmp (keys_of es) → IsStrictlySortedBy cmp (keys_of fs)
+  pub IsMapBelow-antisym : (le : V → V → Type 0) → ((x y : V) → le x y → le y x → x ≡ y) → (es fs : List (K × V)) →
+      IsStrictlySortedBy cmp (keys_of es) → IsStrictlySortedBy cmp (keys_of fs)
       → IsMapBelow cmp le es fs → IsMapBelow cmp le fs es → es ≡ fs
-  IsMapBelow-antisym le a es fs s t p q = entries_from_values es fs s t (λ k. IsBelowAt-antisym le a (value_at cmp es k) (value_at cmp fs k) (p k) (q k))
+  IsMapBelow-antisym le a es fs s t p q =
+      entries_from_values es fs s t (λ k. IsBelowAt-antisym le a (value_at cmp es k) (value_at cmp fs k) (p k) (q k))

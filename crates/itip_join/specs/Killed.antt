@@ -41,7 +41,8 @@ module _ {K V : Type 0} {cmp : K → K → Ordering} (exact : (x y : K) → cmp 
   -- two maps with no dead entry, each below the other but for what is dead, are the same
   pub IsMapBelowUnder-antisym : IsTotalOrder cmp → (le : V → V → Type 0) → ((x y : V) → le x y → le y x → x ≡ y)
       → (es fs : List (K × V)) → IsStrictlySortedBy cmp (keys_of es) → IsStrictlySortedBy cmp (keys_of fs)
-      → all_alive dead es ≡ true → all_alive dead fs ≡ true → IsMapBelowUnder dead cmp le es fs → IsMapBelowUnder dead cmp le fs es → es ≡ fs
+      → all_alive dead es ≡ true → all_alive dead fs ≡ true → IsMapBelowUnder dead cmp le es fs → IsMapBelowUnder dead cmp le fs es →
+      es ≡ fs
   IsMapBelowUnder-antisym total le a es fs s t alive also p q = entries_from_values total exact es fs s t
       (λ k. IsBelowAt-antisym le a (value_at cmp es k) (value_at cmp fs k)
       (IsBelowUnder-alive le (dead k) (value_at cmp es k) (value_at cmp fs k) (found_alive es alive k) (p k))

@@ -14,7 +14,8 @@ module _ {T : Type 0} (le : T → T → Type 0) where
   IsLiftedBelow-refl r Nothing = tt
   IsLiftedBelow-refl r (Known x) = r x
 
-  pub IsLiftedBelow-trans : ((x y z : T) → le x y → le y z → le x z) → (x y z : Lift T) → IsLiftedBelow le x y → IsLiftedBelow le y z → IsLiftedBelow le x z
+  pub IsLiftedBelow-trans : ((x y z : T) → le x y → le y z → le x z) → (x y z : Lift T) → IsLiftedBelow le x y → IsLiftedBelow le y z →
+      IsLiftedBelow le x z
   IsLiftedBelow-trans t Nothing y z p q = tt
   IsLiftedBelow-trans t (Known x) Nothing z p q = absurd p
   IsLiftedBelow-trans t (Known x) (Known y) Nothing p q = absurd q

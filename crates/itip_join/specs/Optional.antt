@@ -24,7 +24,8 @@ module _ {V : Type 0} (le : V → V → Type 0) where
   IsBelowAt-refl r None = tt
   IsBelowAt-refl r (Some x) = r x
 
-  pub IsBelowAt-trans : ((x y z : V) → le x y → le y z → le x z) → (a b c : Option V) → IsBelowAt le a b → IsBelowAt le b c → IsBelowAt le a c
+  pub IsBelowAt-trans : ((x y z : V) → le x y → le y z → le x z) → (a b c : Option V) → IsBelowAt le a b → IsBelowAt le b c →
+      IsBelowAt le a c
   IsBelowAt-trans t None b c p q = tt
   IsBelowAt-trans t (Some x) None c p q = absurd p
   IsBelowAt-trans t (Some x) (Some y) None p q = absurd q
@@ -54,7 +55,8 @@ module _ {V : Type 0} (le : V → V → Type 0) where
   IsBelowUnder-trans dead more t down grows (Some x) (Some y) (Some z) (inr l) (inr m) = inr (t x y z l m)
 
   -- where the first is alive, it is below the second
-  pub IsBelowUnder-alive : (dead : V → Bool) (a b : Option V) → ((x : V) → a ≡ Some x → dead x ≡ false) → IsBelowUnder dead le a b → IsBelowAt le a b
+  pub IsBelowUnder-alive : (dead : V → Bool) (a b : Option V) → ((x : V) → a ≡ Some x → dead x ≡ false) → IsBelowUnder dead le a b →
+      IsBelowAt le a b
   IsBelowUnder-alive dead None b h p = tt
   IsBelowUnder-alive dead (Some x) None h p = let e : dead x ≡ false = h x refl in absurd (cc)
   IsBelowUnder-alive dead (Some x) (Some y) h (inl d) = let e : dead x ≡ false = h x refl in absurd (cc)

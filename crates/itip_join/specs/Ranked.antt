@@ -67,7 +67,8 @@ module _ {T : Type 0} {cmp : T → T → Ordering} (total : IsTotalOrder cmp) wh
   is_lt-above x y z p l = ap is_lt (less_before x y z (is_less (cmp x y) l) p)
 
 -- where the order of the values tells all of them apart, so does theirs with nothing before them
-pub exact_option : {T : Type 0} (cmp : T → T → Ordering) → ((x y : T) → cmp x y ≡ Equal → x ≡ y) → (a b : Option T) → option_cmp cmp a b ≡ Equal → a ≡ b
+pub exact_option : {T : Type 0} (cmp : T → T → Ordering) → ((x y : T) → cmp x y ≡ Equal → x ≡ y) → (a b : Option T) →
+    option_cmp cmp a b ≡ Equal → a ≡ b
 exact_option cmp exact None None e = refl
 exact_option cmp exact None (Some y) e = absurd (cc)
 exact_option cmp exact (Some x) None e = absurd (cc)

@@ -20,7 +20,11 @@ impl<A: Join, B: Join> Join for Both<A, B> {
 
     ghost transitive = { λ x y z p q. (A.transitive x.first y.first z.first p.0 q.0, B.transitive x.second y.second z.second p.1 q.1) };
 
-    ghost antisymmetric = { λ x y p q. λ i. record { first = A.antisymmetric x.first y.first p.0 q.0 i; second = B.antisymmetric x.second y.second p.1 q.1 i } };
+    ghost antisymmetric = { λ x y p q. λ i. record {
+      first = A.antisymmetric x.first y.first p.0 q.0 i;
+      second =
+          B.antisymmetric x.second y.second p.1 q.1 i;
+    } };
 
     fn join(&mut self, other: &Both<A, B>) -> Result<(), NoMemory> {
         if other.first.below(&self.first) {
@@ -54,7 +58,10 @@ impl<S: Join, A: UnderGuard<S>, B: UnderGuard<S>> UnderGuard<S> for Both<A, B> {
 
     ghost reflexive_under = { λ s x. (A.reflexive_under s x.first, B.reflexive_under s x.second) };
 
-    ghost transitive_under = { λ s t x y z g p q. (A.transitive_under s t x.first y.first z.first g p.0 q.0, B.transitive_under s t x.second y.second z.second g p.1 q.1) };
+    ghost transitive_under = { λ s t x y z g p q. (
+      A.transitive_under s t x.first y.first z.first g p.0 q.0,
+      B.transitive_under s t x.second y.second z.second g p.1 q.1,
+    ) };
 
     ghost antisymmetric_under = { λ s x y a b p q. λ i. record {
       first = A.antisymmetric_under s x.first y.first (first_of_both _ _ a) (first_of_both _ _ b) p.0 q.0 i;

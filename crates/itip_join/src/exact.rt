@@ -8,7 +8,8 @@ use crate::NoMemory;
 
 /// A total order in which two values are equal only where they are the same value: what keys and revisions have.
 ///
-/// An order that leaves something out, such as a name's letter case, is not exact: two copies could then hold different values that count as equal.
+/// An order that leaves something out, such as a name's letter case, is not exact: two copies could then hold different
+/// values that count as equal.
 pub trait Exact: Ord + Drop {
     /// A second value, equal to this one, if there is the memory for it.
     fn copy(&self) -> Result<Self, NoMemory>

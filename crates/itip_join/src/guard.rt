@@ -5,8 +5,8 @@ use crate::Join;
 
 /// A value that makes items of a map with keys `K` and values `V` dead.
 ///
-/// The more it tells, the more it kills; and with an item it kills all of its key that is not later. A guard that kills what is less than itself
-/// has both laws from `is_lt-below` and `is_lt-above` of the crate's `specs/Ranked`.
+/// The more it tells, the more it kills; and with an item it kills all of its key that is not later. A guard that kills
+/// what is less than itself has both laws from `is_lt-below` and `is_lt-above` of the crate's `specs/Ranked`.
 pub trait Guard<K, V: Join>: Join {
     /// `is_dead s k v`: under the guard s the item v of the key k is dead.
     ghost is_dead: { Self → K → V → Bool };

@@ -7,7 +7,8 @@ use crate::{Join, NoMemory, UnderGuard};
 
 /// Entries under a guard, none of them dead.
 ///
-/// (g, m) is below (h, n) where g is below h, and each entry of m is at most n's entry of that key, or dead under h. So an entry may vanish in a join.
+/// (g, m) is below (h, n) where g is below h, and each entry of m is at most n's entry of that key, or dead under h. So
+/// an entry may vanish in a join.
 #[derive(Debug, Drop)]
 pub struct Guarded<S: Join, M: UnderGuard<S>> {
     /// What makes entries dead.
@@ -35,7 +36,10 @@ impl<S: Join, M: UnderGuard<S>> Join for Guarded<S, M> {
 
     ghost reflexive = { λ x. (S.reflexive x.guard, M.reflexive_under x.guard x.entries) };
 
-    ghost transitive = { λ x y z p q. (S.transitive x.guard y.guard z.guard p.0 q.0, M.transitive_under y.guard z.guard x.entries y.entries z.entries q.0 p.1 q.1) };
+    ghost transitive = { λ x y z p q. (
+      S.transitive x.guard y.guard z.guard p.0 q.0,
+      M.transitive_under y.guard z.guard x.entries y.entries z.entries q.0 p.1 q.1,
+    ) };
 
     ghost antisymmetric = { λ x y p q.
         let g : x.guard ≡ y.guard = S.antisymmetric x.guard y.guard p.0 q.0 in

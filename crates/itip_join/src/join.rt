@@ -11,8 +11,8 @@ pub trait Join: Drop {
 
     /// Makes this value the join of itself and `other`: the least that tells what either tells.
     ///
-    /// Where memory is refused nothing has changed. It is not asked for where this value already tells what `other` tells: then the answer is Ok, and nothing
-    /// changes.
+    /// Where memory is refused nothing has changed. It is not asked for where this value already tells what `other`
+    /// tells: then the answer is Ok, and nothing changes.
     fn join(&mut self, other: &Self) -> Result<(), NoMemory>
         ensures joined { OnOk result (IsJoinOf le self.old other.now self.new) }
         ensures err { OnErr result (self.new ≡ self.old) }

@@ -54,14 +54,16 @@ impl<K: Ord, V> Keyed<K, V> {
         K: Drop,
         V: Drop,
         ensures old { IfOk result (λ old. old ≡ value_at K.cmp self.old.map key) }
-        ensures updates { OnOk result ((q : K) → value_at K.cmp self.new.map q ≡ cond (is_eq (K.cmp key q)) (Some value) (value_at K.cmp self.old.map q)) }
+        ensures updates { OnOk result ((q : K) →
+            value_at K.cmp self.new.map q ≡ cond (is_eq (K.cmp key q)) (Some value) (value_at K.cmp self.old.map q)) }
         ensures absent { OnErr result (value_at K.cmp self.old.map key ≡ None) }
         ensures err { OnErr result (self.new.map ≡ self.old.map) }
     {
         self.map.insert(key, value)
     }
 
-    /// Takes out the entry at `key`, if there is one, and gives its value. This is no join: what was there is taken out. It takes no memory.
+    /// Takes out the entry at `key`, if there is one, and gives its value. This is no join: what was there is taken
+    /// out. It takes no memory.
     pub fn remove(&mut self, key: &K) -> Option<V>
     where
         K: Drop,
@@ -80,23 +82,27 @@ impl<K: Ord, V> Keyed<K, V> {
 }
 
 impl<K: Exact, V: Join> Keyed<K, V> {
-    /// Joins `theirs` in at `key`, in place: this copies nothing of what stands there. Where nothing stands there, copies of both are put in.
+    /// Joins `theirs` in at `key`, in place: this copies nothing of what stands there. Where nothing stands there,
+    /// copies of both are put in.
     ///
     /// A refusal (out of memory) changes nothing.
     pub fn join_one(&mut self, key: &K, theirs: &V) -> Result<(), NoMemory>
-        ensures joined { OnOk result (IsJoinOf (IsBelowAt V.le) (value_at K.cmp self.old.map key.now) (Some theirs.now) (value_at K.cmp self.new.map key.now)) }
+        ensures joined { OnOk result (IsJoinOf (IsBelowAt V.le) (value_at K.cmp self.old.map key.now) (Some theirs.now)
+            (value_at K.cmp self.new.map key.now)) }
         ensures others { (q : K) → is_eq (K.cmp key.now q) ≡ false → value_at K.cmp self.new.map q ≡ value_at K.cmp self.old.map q }
         ensures err { OnErr result (self.new.map ≡ self.old.map) }
     {
         self.map.join_one(key, theirs)
     }
 
-    /// Puts `value` in the place of what stands at `key`, and gives that. Where nothing stands there, nothing changes, and `value` is dropped.
+    /// Puts `value` in the place of what stands at `key`, and gives that. Where nothing stands there, nothing changes,
+    /// and `value` is dropped.
     ///
     /// This is no join: what was there is taken out. It takes no memory.
     pub fn replace(&mut self, key: &K, value: V) -> Option<V>
         ensures before { result ≡ value_at K.cmp self.old.map key.now }
-        ensures with { (q : K) → value_at K.cmp self.new.map q ≡ cond (is_eq (K.cmp key.now q)) (replaced (value_at K.cmp self.old.map key.now) value) (value_at K.cmp self.old.map q) }
+        ensures with { (q : K) → value_at K.cmp self.new.map q ≡ cond (is_eq (K.cmp key.now q))
+            (replaced (value_at K.cmp self.old.map key.now) value) (value_at K.cmp self.old.map q) }
     {
         self.map.replace(key, value)
     }
@@ -107,11 +113,17 @@ impl<K: Exact, V: Join> Join for Keyed<K, V> {
 
     ghost reflexive = { λ x k. IsBelowAt-refl V.le V.reflexive (value_at K.cmp x.map k) };
 
-    ghost transitive = { λ x y z p q k. IsBelowAt-trans V.le V.transitive (value_at K.cmp x.map k) (value_at K.cmp y.map k) (value_at K.cmp z.map k) (p k) (q k) };
+    ghost transitive = { λ x y z p q k. IsBelowAt-trans V.le V.transitive (value_at K.cmp x.map k) (value_at K.cmp y.map k)
+        (value_at K.cmp z.map k) (p k) (q k) };
 
     ghost antisymmetric = { λ x y p q.
         let e : x.map ≡ y.map = IsMapBelow-antisym K.total K.exact V.le V.antisymmetric x.map y.map x.ordered y.ordered p q in
-        λ i. record { map = e i; ordered = is_prop→PathP (λ j. IsStrictlySortedBy K.cmp (keys_of (e j))) (λ j. IsStrictlySortedBy-prop K.cmp (keys_of (e j))) x.ordered y.ordered i } };
+        λ i. record {
+          map = e i;
+          ordered =
+              is_prop→PathP (λ j. IsStrictlySortedBy K.cmp (keys_of (e j))) (λ j. IsStrictlySortedBy-prop K.cmp (keys_of (e j))) x.ordered
+              y.ordered i;
+        } };
 
     fn join(&mut self, other: &Keyed<K, V>) -> Result<(), NoMemory> {
         if other.below(self) {
@@ -140,11 +152,18 @@ impl<K: Exact, V: Chain, S: Guard<K, V>> UnderGuard<S> for Keyed<K, V> {
     ghost reflexive_under = { λ s x k. IsBelowUnder-refl V.le (S.is_dead s k) V.reflexive (value_at K.cmp x.map k) };
 
     ghost transitive_under = { λ s t x y z g p q k. IsBelowUnder-trans V.le (S.is_dead s k) (S.is_dead t k) V.transitive
-        (λ v w. S.below_dead t k v w) (λ v. S.dead_stays_dead s t k v g) (value_at K.cmp x.map k) (value_at K.cmp y.map k) (value_at K.cmp z.map k) (p k) (q k) };
+        (λ v w. S.below_dead t k v w) (λ v. S.dead_stays_dead s t k v g) (value_at K.cmp x.map k) (value_at K.cmp y.map k)
+        (value_at K.cmp z.map k) (p k) (q k) };
 
     ghost antisymmetric_under = { λ s x y a b p q.
-        let e : x.map ≡ y.map = IsMapBelowUnder-antisym K.exact (S.is_dead s) K.total V.le V.antisymmetric x.map y.map x.ordered y.ordered a b p q in
-        λ i. record { map = e i; ordered = is_prop→PathP (λ j. IsStrictlySortedBy K.cmp (keys_of (e j))) (λ j. IsStrictlySortedBy-prop K.cmp (keys_of (e j))) x.ordered y.ordered i } };
+        let e : x.map ≡ y.map =
+        IsMapBelowUnder-antisym K.exact (S.is_dead s) K.total V.le V.antisymmetric x.map y.map x.ordered y.ordered a b p q in
+        λ i. record {
+          map = e i;
+          ordered =
+              is_prop→PathP (λ j. IsStrictlySortedBy K.cmp (keys_of (e j))) (λ j. IsStrictlySortedBy-prop K.cmp (keys_of (e j))) x.ordered
+              y.ordered i;
+        } };
 
     fn join_under(&mut self, other: &Keyed<K, V>, guard: &S) -> Result<(), NoMemory> {
         self.map.merge(&other.map, guard)?;

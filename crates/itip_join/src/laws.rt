@@ -18,7 +18,8 @@ pub fn joins_commute<T: Join>()
 
 /// Nor does the order in which three meet.
 pub fn joins_associate<T: Join>()
-    ensures { (x y z xy yz left right : T) → IsJoinOf T.le x y xy → IsJoinOf T.le xy z left → IsJoinOf T.le y z yz → IsJoinOf T.le x yz right → left ≡ right }
+    ensures { (x y z xy yz left right : T) → IsJoinOf T.le x y xy → IsJoinOf T.le xy z left → IsJoinOf T.le y z yz →
+        IsJoinOf T.le x yz right → left ≡ right }
 {}
 
 /// To join in what is already told, the value itself among it, changes nothing.
@@ -28,7 +29,8 @@ pub fn joins_absorb<T: Join>()
 
 /// Copies that have taken in the same values are the same, in whatever order the values came, and however often.
 pub fn joins_converge<T: Join>()
-    ensures { (x y : T) (xs ys : List T) (z w : T) → HaveSameMembers (x ∷ xs) (y ∷ ys) → IsFoldOfJoins T.le x xs z → IsFoldOfJoins T.le y ys w → z ≡ w }
+    ensures { (x y : T) (xs ys : List T) (z w : T) → HaveSameMembers (x ∷ xs) (y ∷ ys) → IsFoldOfJoins T.le x xs z →
+        IsFoldOfJoins T.le y ys w → z ≡ w }
 {}
 
 /// What `first` becomes as the values of `rest` are joined in, in turn.

@@ -1,13 +1,15 @@
 //! Joins: what copies of one thing merge by, so that they end up the same.
 //!
-//! Several copies of a thing are changed apart from each other, and tell each other what they know: late, twice, in any order. If what a copy knows only ever
-//! grows, and two copies merge into the least that tells all that either told, then copies that have heard the same are the same. Such a merge is called a join.
+//! Several copies of a thing are changed apart from each other, and tell each other what they know: late, twice, in any
+//! order. If what a copy knows only ever grows, and two copies merge into the least that tells all that either told,
+//! then copies that have heard the same are the same. Such a merge is called a join.
 //!
-//! A [`Join`] is a type with an order of knowledge: `x.below(&y)` says that y tells all that x tells. Two values need not be ordered: each may tell what the
-//! other does not. But any two have a join, the least value above both, and `x.join(&y)` makes x that.
+//! A [`Join`] is a type with an order of knowledge: `x.below(&y)` says that y tells all that x tells. Two values need
+//! not be ordered: each may tell what the other does not. But any two have a join, the least value above both, and
+//! `x.join(&y)` makes x that.
 //!
-//! Five types build almost any such thing. In the pictures a line leads up to a value that tells more, and the join of two values is where the lines up from
-//! both first meet.
+//! Five types build almost any such thing. In the pictures a line leads up to a value that tells more, and the join of
+//! two values is where the lines up from both first meet.
 //!
 //! # `Greatest<T>`: the greatest so far
 //!
@@ -61,8 +63,8 @@
 //!
 //! # `Guarded<S, M>`: a map that forgets
 //!
-//! A map that only grows never forgets. Here a guard beside the map makes entries dead, and no dead entry is held. In the picture the guard is a number,
-//! and kills every value below it.
+//! A map that only grows never forgets. Here a guard beside the map makes entries dead, and no dead entry is held. In
+//! the picture the guard is a number, and kills every value below it.
 //!
 //! ```text
 //!     guard 5, {b: 9}
@@ -73,26 +75,30 @@
 //!     {a: 3}       {b: 9}
 //! ```
 //!
-//! The top value has fewer entries, and yet tells more: it says of `a: 3` that it is dead. So `a: 3` can't come back by a late message: joined with
-//! guard 2, {a: 3}, the top value stays as it is. (g, m) is below (h, n) where g is below h, and each entry of m is at most n's entry of that key, or dead under h.
+//! The top value has fewer entries, and yet tells more: it says of `a: 3` that it is dead. So `a: 3` can't come back by
+//! a late message: joined with guard 2, {a: 3}, the top value stays as it is. (g, m) is below (h, n) where g is below
+//! h, and each entry of m is at most n's entry of that key, or dead under h.
 //!
-//! Two laws of the guard make this an order, and the [`Guard`] of a type proves them: what is at most a dead item of its key is dead, and a guard kills all
-//! that a guard below it kills. The values are a [`Chain`], so that what is not later than a dead one is at most it.
+//! Two laws of the guard make this an order, and the [`Guard`] of a type proves them: what is at most a dead item of
+//! its key is dead, and a guard kills all that a guard below it kills. The values are a [`Chain`], so that what is not
+//! later than a dead one is at most it.
 //!
 //! # What is proved
 //!
-//! Each type proves the laws of [`Join`] from its parts' laws alone: `below` is a partial order, and values below each other are equal; the join is above
-//! both values and below every value above both; to join in what is already told, the value itself among it, changes nothing, and needs no memory; a refused join
-//! changes nothing; a copy is equal. `laws` has what follows for every join: joins commute and associate, and copies that have taken in the same values are the
-//! same, in whatever order the values came, and however often.
+//! Each type proves the laws of [`Join`] from its parts' laws alone: `below` is a partial order, and values below each
+//! other are equal; the join is above both values and below every value above both; to join in what is already told,
+//! the value itself among it, changes nothing, and needs no memory; a refused join changes nothing; a copy is equal.
+//! `laws` has what follows for every join: joins commute and associate, and copies that have taken in the same values
+//! are the same, in whatever order the values came, and however often.
 //!
 //! # What a join costs
 //!
-//! `join` is all or nothing. `Keyed` grows its values in place, puts in copies of the entries that it lacks, and notes both, so that it can take them back
-//! where memory is refused on the way: for this it copies each value that is to grow. Where the map that is joined in has a single entry there is nothing to
-//! take back, and nothing is copied. So a join costs in proportion to the map that is joined in and to the values that grow, but for the walk down the tree.
-//! `Guarded` does the same, and where its guard grows it also goes once over its own entries, to drop the dead. `Both` copies its first part where that
-//! part grows.
+//! `join` is all or nothing. `Keyed` grows its values in place, puts in copies of the entries that it lacks, and notes
+//! both, so that it can take them back where memory is refused on the way: for this it copies each value that is to
+//! grow. Where the map that is joined in has a single entry there is nothing to take back, and nothing is copied. So a
+//! join costs in proportion to the map that is joined in and to the values that grow, but for the walk down the tree.
+//! `Guarded` does the same, and where its guard grows it also goes once over its own entries, to drop the dead. `Both`
+//! copies its first part where that part grows.
 #![tactic(auto)]
 
 pub mod both;

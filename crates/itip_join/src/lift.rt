@@ -1,5 +1,6 @@
 //! A value, or nothing yet.
-ghost use Rattle.itip_join.specs.Lifted.{IsLiftedBelow, IsLiftedBelow-refl, IsLiftedBelow-trans, IsLiftedBelow-antisym, IsLiftedBelow-comparable};
+ghost use Rattle.itip_join.specs.Lifted.{IsLiftedBelow, IsLiftedBelow-refl, IsLiftedBelow-trans, IsLiftedBelow-antisym};
+ghost use Rattle.itip_join.specs.Lifted.{IsLiftedBelow-comparable};
 
 use crate::{Chain, Join, NoMemory};
 

@@ -1,5 +1,6 @@
 //! How a map takes in an entry, or what another map tells: in place, with what takes it back where memory is refused on the way.
-ghost use Rattle.std.specs.Prelude.{◌≡◌, ◌↔◌, ◌∷◌, [], true, false, not, cond, Some, None, map as each, is_some, IfSome, IsTrue, IfOk, OnOk, OnErr};
+ghost use Rattle.std.specs.Prelude.{◌≡◌, ◌↔◌, ◌∷◌, [], true, false, not, cond, Some, None, map as each, is_some, IfSome, IsTrue, IfOk};
+ghost use Rattle.std.specs.Prelude.{OnOk, OnErr};
 ghost use Rattle.std.specs.Ordering.{is_eq};
 ghost use Rattle.std.specs.BTreeMap.{get, IsOrdered};
 ghost use Rattle.itip_join.specs.Bounds.{IsJoinOf};
@@ -70,8 +71,8 @@ pub(crate) fn drop_dead<K: Exact, V: Join, S: Guard<K, V>>(map: &mut BTreeMap<K,
     );
 }
 
-/// Joins into `map`, key by key, the entries of `other` that `guard` does not kill. That it needs no memory where these are at most those of `map` is for its
-/// callers to say, which ask first.
+/// Joins into `map`, key by key, the entries of `other` that `guard` does not kill. That it needs no memory where these
+/// are at most those of `map` is for its callers to say, which ask first.
 pub(crate) fn merge<K: Exact, V: Join, S: Guard<K, V>>(
     alloc: Global,
     map: &mut BTreeMap<K, V>,
@@ -100,7 +101,8 @@ fn single<K: Exact, V>(map: &BTreeMap<K, V>) -> Option<(&K, &V)>
     }
 }
 
-/// Joins in the entry `theirs` at `key`, unless `guard` kills it. It is all or nothing by itself, so nothing is noted, and a value at the key is not copied.
+/// Joins in the entry `theirs` at `key`, unless `guard` kills it. It is all or nothing by itself, so nothing is noted,
+/// and a value at the key is not copied.
 pub(crate) fn join_one<K: Exact, V: Join, S: Guard<K, V>>(
     map: &mut BTreeMap<K, V>,
     key: &K,
@@ -109,7 +111,8 @@ pub(crate) fn join_one<K: Exact, V: Join, S: Guard<K, V>>(
 ) -> Result<(), NoMemory>
     requires { IsOrdered K.cmp map.old }
     ensures ordered { IsOrdered K.cmp map.new }
-    ensures joined { OnOk result (IsJoinOf (IsBelowAt V.le) (get K.cmp map.old key.now) (alive_part (S.is_dead guard.now key.now) (Some theirs.now)) (get K.cmp map.new key.now)) }
+    ensures joined { OnOk result (IsJoinOf (IsBelowAt V.le) (get K.cmp map.old key.now)
+        (alive_part (S.is_dead guard.now key.now) (Some theirs.now)) (get K.cmp map.new key.now)) }
     ensures others { (q : K) → is_eq (K.cmp key.now q) ≡ false → get K.cmp map.new q ≡ get K.cmp map.old q }
     ensures err { OnErr result ((q : K) → get K.cmp map.new q ≡ get K.cmp map.old q) }
 {
@@ -159,7 +162,8 @@ fn join_entry<'a, K: Exact, V: Join, S: Guard<K, V>>(
 ) -> Result<(), NoMemory>
     requires { IsOrdered K.cmp map.old }
     ensures ordered { IsOrdered K.cmp map.new }
-    ensures joined { OnOk result (IsJoinOf (IsBelowAt V.le) (get K.cmp map.old key.now) (alive_part (S.is_dead guard.now key.now) (Some theirs.now)) (get K.cmp map.new key.now)) }
+    ensures joined { OnOk result (IsJoinOf (IsBelowAt V.le) (get K.cmp map.old key.now)
+        (alive_part (S.is_dead guard.now key.now) (Some theirs.now)) (get K.cmp map.new key.now)) }
     ensures noted { IsNotedIn K.cmp key.now (get K.cmp map.old) (get K.cmp map.new) undo.old undo.new }
 {
     if guard.kills(key, theirs) {
@@ -238,7 +242,8 @@ pub(crate) fn replace<K: Exact, V: Join>(map: &mut BTreeMap<K, V>, key: &K, valu
     requires { IsOrdered K.cmp map.old }
     ensures ordered { IsOrdered K.cmp map.new }
     ensures before { result ≡ get K.cmp map.old key.now }
-    ensures with { (q : K) → get K.cmp map.new q ≡ cond (is_eq (K.cmp key.now q)) (replaced (get K.cmp map.old key.now) value) (get K.cmp map.old q) }
+    ensures with { (q : K) → get K.cmp map.new q ≡ cond (is_eq (K.cmp key.now q)) (replaced (get K.cmp map.old key.now) value)
+        (get K.cmp map.old q) }
 {
     let place = map.get_mut(key)?;
     Some(mem::replace(place, value))

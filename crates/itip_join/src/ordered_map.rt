@@ -72,7 +72,8 @@ impl<K: Ord, V> OrderedMap<K, V> {
         K: Drop,
         V: Drop,
         ensures old { IfOk result (λ old. old ≡ value_at K.cmp self.old key) }
-        ensures updates { OnOk result ((q : K) → value_at K.cmp self.new q ≡ cond (is_eq (K.cmp key q)) (Some value) (value_at K.cmp self.old q)) }
+        ensures updates { OnOk result ((q : K) →
+            value_at K.cmp self.new q ≡ cond (is_eq (K.cmp key q)) (Some value) (value_at K.cmp self.old q)) }
         ensures entries { OnOk result (self.new ≡ insert_entry K.cmp self.old key value) }
         ensures ordered { IsStrictlySortedBy K.cmp (keys_of self.new) }
         ensures absent { OnErr result (value_at K.cmp self.old key ≡ None) }
@@ -120,23 +121,27 @@ impl<K: Exact, V: Join> OrderedMap<K, V> {
         })
     }
 
-    /// Joins `theirs` in at `key`: this copies nothing of what stands there. Where nothing stands there, copies of both are put in. A refusal changes nothing.
+    /// Joins `theirs` in at `key`: this copies nothing of what stands there. Where nothing stands there, copies of both
+    /// are put in. A refusal changes nothing.
     pub(crate) fn join_one(&mut self, key: &K, theirs: &V) -> Result<(), NoMemory>
         requires { IsStrictlySortedBy K.cmp (keys_of self.old) }
         ensures ordered { IsStrictlySortedBy K.cmp (keys_of self.new) }
-        ensures joined { OnOk result (IsJoinOf (IsBelowAt V.le) (value_at K.cmp self.old key.now) (Some theirs.now) (value_at K.cmp self.new key.now)) }
+        ensures joined { OnOk result (IsJoinOf (IsBelowAt V.le) (value_at K.cmp self.old key.now) (Some theirs.now)
+            (value_at K.cmp self.new key.now)) }
         ensures others { (q : K) → is_eq (K.cmp key.now q) ≡ false → value_at K.cmp self.new q ≡ value_at K.cmp self.old q }
         ensures err { OnErr result (self.new ≡ self.old) }
     {
         merge::join_one(&mut self.map, key, theirs, &())
     }
 
-    /// Puts `value` in the place of what stands at `key`, and gives that. Where nothing stands there, nothing changes, and `value` is dropped. It takes no memory.
+    /// Puts `value` in the place of what stands at `key`, and gives that. Where nothing stands there, nothing changes,
+    /// and `value` is dropped. It takes no memory.
     pub(crate) fn replace(&mut self, key: &K, value: V) -> Option<V>
         requires { IsStrictlySortedBy K.cmp (keys_of self.old) }
         ensures ordered { IsStrictlySortedBy K.cmp (keys_of self.new) }
         ensures before { result ≡ value_at K.cmp self.old key.now }
-        ensures with { (q : K) → value_at K.cmp self.new q ≡ cond (is_eq (K.cmp key.now q)) (replaced (value_at K.cmp self.old key.now) value) (value_at K.cmp self.old q) }
+        ensures with { (q : K) → value_at K.cmp self.new q ≡ cond (is_eq (K.cmp key.now q))
+            (replaced (value_at K.cmp self.old key.now) value) (value_at K.cmp self.old q) }
     {
         merge::replace(&mut self.map, key, value)
     }

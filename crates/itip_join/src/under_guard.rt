@@ -46,5 +46,6 @@ pub trait UnderGuard<S: Join>: Join {
     ghost transitive_under: { (s t : S) (l m n : Self) → S.le s t → le_under s l m → le_under t m n → le_under t l n };
 
     /// With no dead entry in either, two values at most each other are the same.
-    ghost antisymmetric_under: { (s : S) (m n : Self) → are_alive s m ≡ true → are_alive s n ≡ true → le_under s m n → le_under s n m → m ≡ n };
+    ghost antisymmetric_under: { (s : S) (m n : Self) → are_alive s m ≡ true → are_alive s n ≡ true → le_under s m n → le_under s n m →
+        m ≡ n };
 }

@@ -5,10 +5,11 @@ use Rattle.std.specs.List.{AllByRecursion}
 use Rattle.std.proofs.lemmas.List.{append_cancel_left}
 use Rattle.std.proofs.lemmas.List.Elements.{All-append, All-cons, All-nil}
 use Rattle.std.proofs.lemmas.Bool.Decides.{eqb_tells}
-use Rattle.itip_lines.specs.Cutting.{Break, Piece, IsPiece, IsCutting, HasNoLf, break_bytes, joined, stretches, unfolded, without_empty, lines_of, numbered, numbered_lines_of, with_octets}
+use Rattle.itip_lines.specs.Cutting.{Break, Piece, IsPiece, IsCutting, HasNoLf, break_bytes, joined, stretches, unfolded, without_empty}
+use Rattle.itip_lines.specs.Cutting.{lines_of, numbered, numbered_lines_of, with_octets}
 use Rattle.itip_lines.specs.Cutting.Break.{lf, crlf}
 use Rattle.itip_lines.specs.Parts.{begins}
-use Rattle.itip_lines.specs.Scan.{stretches_of, onto_stretches, lines_onto, numbered_stretches, texts_onto}
+use Rattle.itip_lines.specs.Stretches.{stretches_of, onto_stretches, lines_onto, numbered_stretches, texts_onto}
 use Rattle.itip_lines.proofs.Stretches.{stretches_of_break, stretches_of_last}
 
 -- ---- there is a cutting
@@ -24,7 +25,8 @@ no_lf_cons b text n h = All-cons (λ x. x ≢ 10) b text n h
 no_lf_nil : HasNoLf []
 no_lf_nil = All-nil (λ x. x ≢ 10)
 
-cr_end_tail : (b : ℕ) (text front : List ℕ) → b ∷ text ≡ front ++ 13 ∷ [] → ((text ≡ []) × (b ≡ 13)) ⊎ ((f : List ℕ) × (text ≡ f ++ 13 ∷ []))
+cr_end_tail : (b : ℕ) (text front : List ℕ) → b ∷ text ≡ front ++ 13 ∷ [] → ((text ≡ []) × (b ≡ 13)) ⊎
+    ((f : List ℕ) × (text ≡ f ++ 13 ∷ []))
 cr_end_tail b text [] e = inl (cc, cc)
 cr_end_tail b text (x ∷ f) e = inr (f, cc)
 
@@ -41,7 +43,8 @@ onto_cutting b bs [] l n cut = record {
 }
 onto_cutting b bs (p ∷ ps) l n cut = onto p.text p.end cut.each.0 cut.whole
   where
-    onto : (text : List ℕ) (end : Break) → IsPiece (record { text = text; end = end }) → bs ≡ text ++ (break_bytes end ++ joined ps l) → HasCutting (b ∷ bs)
+    onto : (text : List ℕ) (end : Break) → IsPiece (record { text = text; end = end }) → bs ≡ text ++ (break_bytes end ++ joined ps l) →
+        HasCutting (b ∷ bs)
     onto text crlf is whole = record {
       pieces = record { text = b ∷ text; end = crlf } ∷ ps;
       last = l;
@@ -59,7 +62,8 @@ onto_cutting b bs (p ∷ ps) l n cut = onto p.text p.end cut.each.0 cut.whole
         each = (
           record {
             no_lf = no_lf_cons b (c ∷ text) n is.no_lf;
-            bare = λ e front is_cr. elim (cr_end_tail b (c ∷ text) front is_cr) [ inl k ↦ absurd (let h = k.0 in cc) | inr k ↦ is.bare refl k.0 k.1 ];
+            bare = λ e front is_cr. elim (cr_end_tail b (c ∷ text) front is_cr)
+                [ inl k ↦ absurd (let h = k.0 in cc) | inr k ↦ is.bare refl k.0 k.1 ];
           },
           cut.each.1,
         );
@@ -113,32 +117,40 @@ cutting_of (b ∷ bs) =
 
 -- ---- it is the only one
 
-piece_first : (text : List ℕ) (end : Break) (rest : List ℕ) → IsPiece (record { text = text; end = end }) → stretches_of (text ++ (break_bytes end ++ rest)) ≡ text ∷ stretches_of rest
+piece_first : (text : List ℕ) (end : Break) (rest : List ℕ) → IsPiece (record { text = text; end = end }) →
+    stretches_of (text ++ (break_bytes end ++ rest)) ≡ text ∷ stretches_of rest
 piece_first text lf rest is = stretches_of_break _ text text rest is.no_lf refl (inr (refl, is.bare refl))
 piece_first text crlf rest is =
-    stretches_of_break _ (text ++ 13 ∷ []) text rest (All-append (λ x. x ≢ 10) text (13 ∷ []) is.no_lf (no_lf_cons 13 [] (λ e. absurd (omega arith)) no_lf_nil)) (sym (append_assoc text (13 ∷ []) (10 ∷ rest))) (inl refl)
+    stretches_of_break _ (text ++ 13 ∷ []) text rest
+    (All-append (λ x. x ≢ 10) text (13 ∷ []) is.no_lf (no_lf_cons 13 [] (λ e. absurd (omega arith)) no_lf_nil))
+    (sym (append_assoc text (13 ∷ []) (10 ∷ rest))) (inl refl)
 
 stretches_of_joined : (ps : List Piece) (l : List ℕ) → AllByRecursion IsPiece ps → HasNoLf l → stretches_of (joined ps l) ≡ stretches ps l
 stretches_of_joined [] l each h = stretches_of_last l h
-stretches_of_joined (p ∷ ps) l each h = piece_first p.text p.end (joined ps l) each.0 ∙ ap (λ cs. p.text ∷ cs) (stretches_of_joined ps l each.1 h)
+stretches_of_joined (p ∷ ps) l each h = piece_first p.text p.end (joined ps l) each.0 ∙
+    ap (λ cs. p.text ∷ cs) (stretches_of_joined ps l each.1 h)
 
 -- the stretches of a cutting are those of the scan
 pub stretches_of_cut : (bytes : List ℕ) (ps : List Piece) (l : List ℕ) → IsCutting bytes ps l → stretches_of bytes ≡ stretches ps l
 stretches_of_cut bytes ps l cut = ap stretches_of cut.whole ∙ stretches_of_joined ps l cut.each cut.last_stretch
 
 -- the lines of a cutting are those of the scan
-pub lines_of_cut : (bytes : List ℕ) (ps : List Piece) (l : List ℕ) → IsCutting bytes ps l → lines_of ps l ≡ without_empty (lines_onto [] bytes)
+pub lines_of_cut : (bytes : List ℕ) (ps : List Piece) (l : List ℕ) → IsCutting bytes ps l →
+    lines_of ps l ≡ without_empty (lines_onto [] bytes)
 unfolding lines_onto
-lines_of_cut bytes ps l cut = ap without_empty (from_start (stretches ps l) ∙ ap (onto_stretches []) (sym (stretches_of_cut bytes ps l cut)))
+lines_of_cut bytes ps l cut =
+    ap without_empty (from_start (stretches ps l) ∙ ap (onto_stretches []) (sym (stretches_of_cut bytes ps l cut)))
   where
     from_start : (cs : List (List ℕ)) → unfolded cs ≡ onto_stretches [] cs
     from_start [] = refl
     from_start (c ∷ cs) = refl
 
 -- and so are the numbered ones
-pub numbered_of_cut : (bytes : List ℕ) (ps : List Piece) (l : List ℕ) → IsCutting bytes ps l → numbered_lines_of ps l ≡ with_octets (texts_onto 1 [] 1 bytes)
+pub numbered_of_cut : (bytes : List ℕ) (ps : List Piece) (l : List ℕ) → IsCutting bytes ps l →
+    numbered_lines_of ps l ≡ with_octets (texts_onto 1 [] 1 bytes)
 unfolding texts_onto
-numbered_of_cut bytes ps l cut = ap with_octets (from_start (stretches ps l) ∙ ap (numbered_stretches 1 [] 1) (sym (stretches_of_cut bytes ps l cut)))
+numbered_of_cut bytes ps l cut =
+    ap with_octets (from_start (stretches ps l) ∙ ap (numbered_stretches 1 [] 1) (sym (stretches_of_cut bytes ps l cut)))
   where
     from_start : (cs : List (List ℕ)) → numbered cs ≡ numbered_stretches 1 [] 1 cs
     from_start [] = refl

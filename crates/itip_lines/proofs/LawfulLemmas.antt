@@ -10,5 +10,11 @@ lawful_without_params name params value h = record {
   each_param = tt;
   octets = h.octets;
   utf8 = h.utf8;
-  short = omega (arith, h.short, length-append name (params_text params ++ 58 ∷ value), length-append (params_text params) (58 ∷ value), length-append name (58 ∷ value));
+  short = omega (
+    arith,
+    h.short,
+    length-append name (params_text params ++ 58 ∷ value),
+    length-append (params_text params) (58 ∷ value),
+    length-append name (58 ∷ value),
+  );
 }

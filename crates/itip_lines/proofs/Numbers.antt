@@ -1,13 +1,15 @@
 -- Numbered lines without their numbers are the lines.
 use Rattle.std.proofs.Common.{◌≡◌, ◌∙◌, ap, refl, ℕ, ◌+◌, true, false, cond, List, [], ◌∷◌, ◌++◌}
-use Rattle.itip_lines.specs.Cutting.{Piece, NumberedText, text_at, texts_of, has_octets, with_octets, stretches, unfolded, unfolded_onto, numbered, numbered_onto, is_blank, without_empty, lines_of, numbered_lines_of}
-use Rattle.itip_lines.specs.Scan.{stretches_of, lines_onto, onto_stretches, numbered_stretches, texts_onto}
+use Rattle.itip_lines.specs.Cutting.{Piece, NumberedText, text_at, texts_of, has_octets, with_octets, stretches, unfolded, unfolded_onto}
+use Rattle.itip_lines.specs.Cutting.{numbered, numbered_onto, is_blank, without_empty, lines_of, numbered_lines_of}
+use Rattle.itip_lines.specs.Stretches.{stretches_of, lines_onto, onto_stretches, numbered_stretches, texts_onto}
 
 onto_plain : (at : ℕ) (line : List ℕ) (next : ℕ) (cs : List (List ℕ)) → texts_of (numbered_onto at line next cs) ≡ unfolded_onto line cs
 onto_plain at line next [] = refl
 onto_plain at line next ([] ∷ cs) = ap (λ ls. line ∷ ls) (onto_plain next [] (next + 1) cs)
 onto_plain at line next ((b ∷ c) ∷ cs) =
-    elim (is_blank b) as (λ v. texts_of (cond v (numbered_onto at (line ++ c) (next + 1) cs) (text_at at line ∷ numbered_onto next (b ∷ c) (next + 1) cs)) ≡ cond v (unfolded_onto (line ++ c) cs) (line ∷ unfolded_onto (b ∷ c) cs)) [
+    elim (is_blank b) as (λ v. texts_of (cond v (numbered_onto at (line ++ c) (next + 1) cs) (text_at at line ∷
+    numbered_onto next (b ∷ c) (next + 1) cs)) ≡ cond v (unfolded_onto (line ++ c) cs) (line ∷ unfolded_onto (b ∷ c) cs)) [
       | true ↦ onto_plain at (line ++ c) (next + 1) cs
       | false ↦ ap (λ ls. line ∷ ls) (onto_plain next (b ∷ c) (next + 1) cs)
     ]
@@ -17,7 +19,8 @@ octets_plain : (ts : List NumberedText) → texts_of (with_octets ts) ≡ withou
 octets_plain [] = refl
 octets_plain (t ∷ ts) = first t.number t.text (with_octets ts) (texts_of ts) (octets_plain ts)
   where
-    first : (n : ℕ) (text : List ℕ) (kept : List NumberedText) (ls : List (List ℕ)) → texts_of kept ≡ without_empty ls → texts_of (cond (has_octets text) (text_at n text ∷ kept) kept) ≡ without_empty (text ∷ ls)
+    first : (n : ℕ) (text : List ℕ) (kept : List NumberedText) (ls : List (List ℕ)) → texts_of kept ≡ without_empty ls →
+        texts_of (cond (has_octets text) (text_at n text ∷ kept) kept) ≡ without_empty (text ∷ ls)
     first n [] kept ls e = e
     first n (b ∷ text) kept ls e = ap (λ xs. (b ∷ text) ∷ xs) e
 
@@ -38,11 +41,14 @@ texts_plain at line here text = all (stretches_of text)
     all (c ∷ cs) = onto_plain at (line ++ c) (here + 1) cs
 
 -- a line has the number of the stretch in which it began
-pub begins_at : (at : ℕ) (line : List ℕ) (next : ℕ) (cs : List (List ℕ)) → (first : List ℕ) × (others : List NumberedText) × (numbered_onto at line next cs ≡ text_at at first ∷ others)
+pub begins_at : (at : ℕ) (line : List ℕ) (next : ℕ) (cs : List (List ℕ)) → (first : List ℕ) × (others : List NumberedText) ×
+    (numbered_onto at line next cs ≡ text_at at first ∷ others)
 begins_at at line next [] = (line, [], refl)
 begins_at at line next ([] ∷ cs) = (line, numbered_onto next [] (next + 1) cs, refl)
 begins_at at line next ((b ∷ c) ∷ cs) =
-    elim (is_blank b) as (λ v. (first : List ℕ) × (others : List NumberedText) × (cond v (numbered_onto at (line ++ c) (next + 1) cs) (text_at at line ∷ numbered_onto next (b ∷ c) (next + 1) cs) ≡ text_at at first ∷ others)) [
+    elim (is_blank b) as (λ v. (first : List ℕ) × (others : List NumberedText) ×
+    (cond v (numbered_onto at (line ++ c) (next + 1) cs) (text_at at line ∷ numbered_onto next (b ∷ c) (next + 1) cs) ≡ text_at at
+    first ∷ others)) [
       | true ↦ begins_at at (line ++ c) (next + 1) cs
       | false ↦ (line, numbered_onto next (b ∷ c) (next + 1) cs, refl)
     ]

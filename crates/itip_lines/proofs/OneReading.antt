@@ -3,7 +3,8 @@ use Rattle.std.proofs.Common.{◌≡◌, ◌∙◌, sym, ap, refl, ℕ, ◌+◌,
 use Rattle.std.specs.Prelude.{◌↔◌, Option, Some, None}
 use Rattle.itip_lines.specs.Cutting.{Piece, IsCutting, NumberedText, numbered_lines_of}
 use Rattle.itip_lines.specs.Lawful.{line_limit}
-use Rattle.itip_lines.specs.Reading.{count_limit, IsWithinLimits, IsGood, plain_lines, AreLines, HasCause, HasRefusal, FirstRefusal, Reads, ReadsLines, Refused}
+use Rattle.itip_lines.specs.Reading.{count_limit, IsWithinLimits, IsGood, plain_lines, AreLines, HasCause, HasRefusal, FirstRefusal, Reads}
+use Rattle.itip_lines.specs.Reading.{ReadsLines, Refused}
 use Rattle.itip_lines.specs.declared.line.Line.{Line}
 use Rattle.itip_lines.specs.declared.line.NumberedLine.{NumberedLine}
 use Rattle.itip_lines.specs.declared.error.LineCause.{LineCause}
@@ -25,7 +26,8 @@ same_lines n [] (l ∷ ls) ms h k = absurd h
 same_lines n (t ∷ ts) [] ms h k = absurd h
 same_lines n (t ∷ ts) (l ∷ ls) [] h k = absurd k
 same_lines n (t ∷ ts) (l ∷ ls) (m ∷ ms) h k =
-    ap (λ (x : NumberedLine). x ∷ ls) (same_numbered l m (h.0 ∙ sym k.0) (one_good n t.text l.line m.line h.1 k.1)) ∙ ap (λ (xs : List NumberedLine). m ∷ xs) (same_lines (n + 1) ts ls ms h.2 k.2)
+    ap (λ (x : NumberedLine). x ∷ ls) (same_numbered l m (h.0 ∙ sym k.0) (one_good n t.text l.line m.line h.1 k.1)) ∙
+    ap (λ (xs : List NumberedLine). m ∷ xs) (same_lines (n + 1) ts ls ms h.2 k.2)
 
 beyond : (n : ℕ) (text : List ℕ) → IsWithinLimits n text → ((count_limit < n) ⊎ (line_limit < length text)) → ⊥
 beyond n text within (inl h) = absurd (omega (arith, h, within.few))
@@ -69,13 +71,15 @@ one_first n (t ∷ ts) r s (inr h) (inl k) = absurd (good_cause n t.text h.0.0 s
 one_first n (t ∷ ts) r s (inr h) (inr k) = one_first (n + 1) ts r s h.1 k.1
 
 -- the lines of two cuttings of one text
-same_cut : (bytes : List ℕ) (ps : List Piece) (l : List ℕ) (qs : List Piece) (m : List ℕ) → IsCutting bytes ps l → IsCutting bytes qs m → numbered_lines_of ps l ≡ numbered_lines_of qs m
+same_cut : (bytes : List ℕ) (ps : List Piece) (l : List ℕ) (qs : List Piece) (m : List ℕ) → IsCutting bytes ps l → IsCutting bytes qs m →
+    numbered_lines_of ps l ≡ numbered_lines_of qs m
 same_cut bytes ps l qs m h k = numbered_of_cut bytes ps l h ∙ sym (numbered_of_cut bytes qs m k)
 
 -- a text is read as one list of lines
 pub one_reading : (bytes : List ℕ) (lines others : List NumberedLine) → Reads bytes lines → Reads bytes others → lines ≡ others
 one_reading bytes lines others h k =
-    same_lines 1 _ lines others h.lines_are (subst (λ (ts : List NumberedText). AreLines 1 ts others) (same_cut bytes k.pieces k.last h.pieces h.last k.cut h.cut) k.lines_are)
+    same_lines 1 _ lines others h.lines_are (subst (λ (ts : List NumberedText). AreLines 1 ts others)
+    (same_cut bytes k.pieces k.last h.pieces h.last k.cut h.cut) k.lines_are)
 
 pub one_plain_reading : (bytes : List ℕ) (lines others : List Line) → ReadsLines bytes lines → ReadsLines bytes others → lines ≡ others
 one_plain_reading bytes lines others h k = sym h.1 ∙ ap plain_lines (one_reading bytes h.0 k.0 h.2 k.2) ∙ k.1
@@ -84,7 +88,8 @@ one_plain_reading bytes lines others h k = sym h.1 ∙ ap plain_lines (one_readi
 pub reading_apart : (bytes : List ℕ) (lines : List NumberedLine) (refusal : LineRefusal) → Reads bytes lines → Refused bytes refusal → ⊥
 reading_apart bytes lines refusal h (inl k) = absurd (omega (arith, h.short, k.1))
 reading_apart bytes lines refusal h (inr k) =
-    apart_lines 1 _ lines refusal h.lines_are (subst (λ (ts : List NumberedText). FirstRefusal 1 ts refusal) (same_cut bytes k.pieces k.last h.pieces h.last k.cut h.cut) k.first)
+    apart_lines 1 _ lines refusal h.lines_are (subst (λ (ts : List NumberedText). FirstRefusal 1 ts refusal)
+    (same_cut bytes k.pieces k.last h.pieces h.last k.cut h.cut) k.first)
 
 -- a text has one refusal
 pub one_refusal : (bytes : List ℕ) (refusal other : LineRefusal) → Refused bytes refusal → Refused bytes other → refusal ≡ other
@@ -92,7 +97,8 @@ one_refusal bytes refusal other (inl h) (inl k) = h.0 ∙ sym k.0
 one_refusal bytes refusal other (inl h) (inr k) = absurd (omega (arith, h.1, k.short))
 one_refusal bytes refusal other (inr h) (inl k) = absurd (omega (arith, k.1, h.short))
 one_refusal bytes refusal other (inr h) (inr k) =
-    one_first 1 _ refusal other h.first (subst (λ (ts : List NumberedText). FirstRefusal 1 ts other) (same_cut bytes k.pieces k.last h.pieces h.last k.cut h.cut) k.first)
+    one_first 1 _ refusal other h.first (subst (λ (ts : List NumberedText). FirstRefusal 1 ts other)
+    (same_cut bytes k.pieces k.last h.pieces h.last k.cut h.cut) k.first)
 
 -- a line is named unless the text has too many octets
 some_is_not_none : (n : ℕ) (line : Option ℕ) → line ≡ Some n → line ≡ None → ⊥
@@ -100,7 +106,8 @@ some_is_not_none n line p q = let e : Some n ≡ None = sym p ∙ q in cc
 
 first_named : (n : ℕ) (ts : List NumberedText) (r : LineRefusal) → FirstRefusal n ts r → (r.line ≡ None) ↔ (r.cause ≡ TooLong)
 first_named n [] r h = absurd h
-first_named n (t ∷ ts) r (inl h) = (λ e. absurd (some_is_not_none t.number r.line h.0 e), λ e. absurd (subst (λ (cause : LineCause). HasCause n t.text cause) e h.1))
+first_named n (t ∷ ts) r (inl h) =
+    (λ e. absurd (some_is_not_none t.number r.line h.0 e), λ e. absurd (subst (λ (cause : LineCause). HasCause n t.text cause) e h.1))
 first_named n (t ∷ ts) r (inr h) = first_named (n + 1) ts r h.1
 
 pub refusal_place : (bytes : List ℕ) (refusal : LineRefusal) → Refused bytes refusal → (refusal.line ≡ None) ↔ (refusal.cause ≡ TooLong)

@@ -1,5 +1,6 @@
 -- What was written is read again.
-use Rattle.std.proofs.Common.{◌≡◌, ◌∙◌, sym, ap, refl, ℕ, ◌+◌, ◌*◌, ◌≤◌, ◌<◌, Bool, true, false, cond, not, List, [], ◌∷◌, ◌++◌, length, map, arith, subst, inl, inr, append_assoc, length-append}
+use Rattle.std.proofs.Common.{◌≡◌, ◌∙◌, sym, ap, refl, ℕ, ◌+◌, ◌*◌, ◌≤◌, ◌<◌, Bool, true, false, cond, not, List, [], ◌∷◌, ◌++◌, length}
+use Rattle.std.proofs.Common.{map, arith, subst, inl, inr, append_assoc, length-append}
 use Rattle.std.specs.Prelude.{IsTrue}
 use Rattle.std.specs.Char.{to_ascii_uppercase}
 use Rattle.std.specs.Str.{IsUtf8}
@@ -17,7 +18,7 @@ use Rattle.itip_lines.specs.declared.line.Line.{Line}
 use Rattle.itip_lines.specs.declared.line.NumberedLine.{NumberedLine}
 use Rattle.itip_lines.specs.Cutting.{NumberedText, text_at, texts_of, with_octets, without_empty, numbered_lines_of}
 use Rattle.itip_lines.specs.Reading.{text_limit, count_limit, IsGood, line_at, plain_lines, AreLines, Reads, ReadsLines}
-use Rattle.itip_lines.specs.Scan.{LacksBlank, stretches_of, lines_onto, numbered_stretches, texts_onto}
+use Rattle.itip_lines.specs.Stretches.{LacksBlank, stretches_of, lines_onto, numbered_stretches, texts_onto}
 use Rattle.itip_lines.specs.Writing.{fits, folded, unfolded_text, written, all_written}
 use Rattle.itip_lines.proofs.OctetLemmas.{upper_is_name, upper_same, name_value, quotable_value}
 use Rattle.itip_lines.proofs.Utf8Parts.{utf8_name}
@@ -40,12 +41,19 @@ upper_name_same (b ∷ bs) h =
     ap (λ x. x ∷ map to_ascii_uppercase bs) (upper_same b p.0) ∙ ap (λ xs. b ∷ xs) (upper_name_same bs p.1)
 
 name_spells : (name : List ℕ) → IsName name → SpellsName name name
-name_spells name h = record { some = h.some; octets = all_weaker is_upper_name_octet is_name_octet upper_is_name name h.upper; name_is = sym (upper_name_same name h.upper) }
+name_spells name h =
+    record {
+      some = h.some;
+      octets = all_weaker is_upper_name_octet is_name_octet upper_is_name name h.upper;
+      name_is =
+          sym (upper_name_same name h.upper);
+    }
 
 plain_from : (b : ℕ) → is_quotable_octet b ≡ true → is_separator b ≡ false → is_plain_octet b ≡ true
 plain_from b h k = and_from _ _ h (ap not k)
 
-plain_without : (value : List ℕ) → list_all is_quotable_octet value ≡ true → list_any is_separator value ≡ false → list_all is_plain_octet value ≡ true
+plain_without : (value : List ℕ) → list_all is_quotable_octet value ≡ true → list_any is_separator value ≡ false →
+    list_all is_plain_octet value ≡ true
 plain_without [] h k = refl
 plain_without (b ∷ bs) h k =
     let p = and_parts _ _ h in
@@ -54,17 +62,21 @@ plain_without (b ∷ bs) h k =
 
 value_spells : (value rest : List ℕ) → list_all is_quotable_octet value ≡ true → ValueThen (value_text value ++ rest) value rest
 value_spells value rest h =
-    elim (list_any is_separator value) as (λ v. list_any is_separator value ≡ v → ValueThen (cond v (34 ∷ (value ++ 34 ∷ [])) value ++ rest) value rest) [
+    elim (list_any is_separator value) as (λ v. list_any is_separator value ≡ v →
+    ValueThen (cond v (34 ∷ (value ++ 34 ∷ [])) value ++ rest) value rest) [
       | true ↦ λ e. inl (h, ap (λ t. 34 ∷ t) (append_assoc value (34 ∷ []) rest))
       | false ↦ λ e. inr (plain_without value h e, refl)
     ] refl
 
-values_spell : (vs : List (List ℕ)) (rest : List ℕ) → 0 < length vs → AllByRecursion IsParamValue vs → ValuesThen (values_text vs ++ rest) vs rest
+values_spell : (vs : List (List ℕ)) (rest : List ℕ) → 0 < length vs → AllByRecursion IsParamValue vs →
+    ValuesThen (values_text vs ++ rest) vs rest
 values_spell [] rest some h = absurd (omega arith)
 values_spell (v ∷ []) rest some h = value_spells v rest h.0.octets
 values_spell (v ∷ (w ∷ vs)) rest some h = (
   values_text (w ∷ vs) ++ rest,
-  subst (λ (t : List ℕ). ValueThen t v (44 ∷ (values_text (w ∷ vs) ++ rest))) (sym (append_assoc (value_text v) (44 ∷ values_text (w ∷ vs)) rest)) (value_spells v (44 ∷ (values_text (w ∷ vs) ++ rest)) h.0.octets),
+  subst (λ (t : List ℕ). ValueThen t v (44 ∷ (values_text (w ∷ vs) ++ rest)))
+      (sym (append_assoc (value_text v) (44 ∷ values_text (w ∷ vs)) rest))
+      (value_spells v (44 ∷ (values_text (w ∷ vs) ++ rest)) h.0.octets),
   values_spell (w ∷ vs) rest (omega arith) h.1,
 )
 
@@ -80,7 +92,8 @@ param_spells p rest h = record {
 param_then : (p : Param) (rest : List ℕ) → param_text p ++ rest ≡ 59 ∷ (p.name ++ 61 ∷ (values_text p.values ++ rest))
 param_then p rest = ap (λ t. 59 ∷ t) (append_assoc p.name (61 ∷ values_text p.values) rest)
 
-tail_spells : (ps : List Param) (value : List ℕ) → AllByRecursion IsLawfulParam ps → IsTrue (list_all is_value_octet value) → IsTail (params_text ps ++ 58 ∷ value) ps value
+tail_spells : (ps : List Param) (value : List ℕ) → AllByRecursion IsLawfulParam ps → IsTrue (list_all is_value_octet value) →
+    IsTail (params_text ps ++ 58 ∷ value) ps value
 tail_spells [] value h k = (refl, k)
 tail_spells (p ∷ ps) value h k = (
   p.name ++ 61 ∷ (values_text p.values ++ (params_text ps ++ 58 ∷ value)),
@@ -122,7 +135,8 @@ clean_name name h =
 
 clean_value : (value : List ℕ) → IsParamValue value → IsClean (value_text value)
 clean_value value h =
-    let inside : IsClean value = record { octets = all_weaker is_quotable_octet is_value_octet quotable_value value h.octets; utf8 = h.utf8 } in
+    let inside : IsClean value =
+    record { octets = all_weaker is_quotable_octet is_value_octet quotable_value value h.octets; utf8 = h.utf8 } in
     elim (list_any is_separator value) as (λ v. IsClean (cond v (34 ∷ (value ++ 34 ∷ [])) value)) [
       | true ↦ both (34 ∷ []) (value ++ 34 ∷ []) (mark 34 refl (omega arith)) (both value (34 ∷ []) inside (mark 34 refl (omega arith)))
       | false ↦ inside
@@ -132,12 +146,14 @@ clean_values : (vs : List (List ℕ)) → AllByRecursion IsParamValue vs → IsC
 clean_values [] h = clean_nil
 clean_values (v ∷ []) h = clean_value v h.0
 clean_values (v ∷ (w ∷ vs)) h =
-    both (value_text v) (44 ∷ values_text (w ∷ vs)) (clean_value v h.0) (both (44 ∷ []) (values_text (w ∷ vs)) (mark 44 refl (omega arith)) (clean_values (w ∷ vs) h.1))
+    both (value_text v) (44 ∷ values_text (w ∷ vs)) (clean_value v h.0)
+    (both (44 ∷ []) (values_text (w ∷ vs)) (mark 44 refl (omega arith)) (clean_values (w ∷ vs) h.1))
 
 clean_param : (p : Param) → IsLawfulParam p → IsClean (param_text p)
 clean_param p h =
     both (59 ∷ []) (p.name ++ 61 ∷ values_text p.values) (mark 59 refl (omega arith))
-    (both p.name (61 ∷ values_text p.values) (clean_name p.name h.named) (both (61 ∷ []) (values_text p.values) (mark 61 refl (omega arith)) (clean_values p.values h.values)))
+    (both p.name (61 ∷ values_text p.values) (clean_name p.name h.named)
+    (both (61 ∷ []) (values_text p.values) (mark 61 refl (omega arith)) (clean_values p.values h.values)))
 
 clean_params : (ps : List Param) → AllByRecursion IsLawfulParam ps → IsClean (params_text ps)
 clean_params [] h = clean_nil
@@ -189,27 +205,34 @@ same_texts : (a b : List ℕ) (more others : List (List ℕ)) → a ∷ more ≡
 same_texts a b more others e = (cc, cc)
 
 -- texts of lines are these lines, whatever their numbers
-good_lines : (n : ℕ) (ts : List NumberedText) (lines : List Line) → texts_of ts ≡ map unfolded_text lines → n + length lines ≤ count_limit + 1 → (numbered : List NumberedLine) × (plain_lines numbered ≡ lines) × AreLines n ts numbered
+good_lines : (n : ℕ) (ts : List NumberedText) (lines : List Line) → texts_of ts ≡ map unfolded_text lines →
+    n + length lines ≤ count_limit + 1 → (numbered : List NumberedLine) × (plain_lines numbered ≡ lines) × AreLines n ts numbered
 good_lines n [] [] e h = ([], refl, tt)
 good_lines n [] (l ∷ ls) e h = absurd cc
 good_lines n (t ∷ ts) [] e h = absurd cc
 good_lines n (t ∷ ts) (l ∷ ls) e h =
     let parts = same_texts t.text (unfolded_text l) (texts_of ts) (map unfolded_text ls) e in
-    let more = good_lines (n + 1) ts ls parts.1 (omega arith) in
-    (line_at t.number l ∷ more.0, ap (λ xs. l ∷ xs) more.1, (refl, subst (λ (text : List ℕ). IsGood n text l) (sym parts.0) (good_line n l (omega arith)), more.2))
+    let more = good_lines (n + 1) ts ls parts.1 (omega arith) in (
+      line_at t.number l ∷ more.0,
+      ap (λ xs. l ∷ xs) more.1,
+      (refl, subst (λ (text : List ℕ). IsGood n text l) (sym parts.0) (good_line n l (omega arith)), more.2),
+    )
 
 -- what was written of some lines is read as these lines, within the limits of a text
-pub reads_written : (lines : List Line) → length lines ≤ count_limit → length (all_written lines) ≤ text_limit → ReadsLines (all_written lines) lines
+pub reads_written : (lines : List Line) → length lines ≤ count_limit → length (all_written lines) ≤ text_limit →
+    ReadsLines (all_written lines) lines
 reads_written lines few short =
     let cutting = cutting_of (all_written lines) in
-    let texts = lines_plain cutting.pieces cutting.last ∙ lines_of_cut (all_written lines) cutting.pieces cutting.last cutting.cut ∙ lines_written lines in
+    let texts = lines_plain cutting.pieces cutting.last ∙ lines_of_cut (all_written lines) cutting.pieces cutting.last cutting.cut ∙
+    lines_written lines in
     let good = good_lines 1 (numbered_lines_of cutting.pieces cutting.last) lines texts (omega arith) in
     (good.0, good.1, record { pieces = cutting.pieces; last = cutting.last; short = short; cut = cutting.cut; lines_are = good.2 })
 
 folded_short : (used : ℕ) (bs : List ℕ) → length (folded used bs) ≤ 4 * length bs + 2
 folded_short used [] = omega arith
 folded_short used (b ∷ bs) =
-    elim (fits used b) as (λ v. length (cond v (b ∷ folded (used + 1) bs) (13 ∷ (10 ∷ (32 ∷ (b ∷ folded 2 bs))))) ≤ 4 * length (b ∷ bs) + 2) [
+    elim (fits used b) as (λ v. length (cond v (b ∷ folded (used + 1) bs) (13 ∷ (10 ∷ (32 ∷ (b ∷ folded 2 bs))))) ≤ 4 * length (b ∷ bs) +
+    2) [
       | true ↦ omega (arith, folded_short (used + 1) bs)
       | false ↦ omega (arith, folded_short 2 bs)
     ]
@@ -223,7 +246,8 @@ first_text : (text : List ℕ) → (first : List ℕ) × (others : List Numbered
 unfolding texts_onto
 first_text text = first (stretches_of text) (stretches_of_some text)
   where
-    first : (cs : List (List ℕ)) → 0 < length cs → (first : List ℕ) × (others : List NumberedText) × (numbered_stretches 1 [] 1 cs ≡ text_at 1 first ∷ others)
+    first : (cs : List (List ℕ)) → 0 < length cs → (first : List ℕ) × (others : List NumberedText) ×
+        (numbered_stretches 1 [] 1 cs ≡ text_at 1 first ∷ others)
     first [] h = absurd (omega arith)
     first (c ∷ cs) h = begins_at 1 c (1 + 1) cs
 
@@ -231,13 +255,17 @@ one_numbered : (l : Line) → ReadsLines (written l ++ []) (l ∷ []) → Reads 
 one_numbered l (numbered, plain, reads) =
     let at = first_text (written l ++ []) in
     let texts = sym (ap texts_of at.2) ∙ texts_plain 1 [] 1 (written l ++ []) ∙ unfolds_written l [] (λ b t e. absurd cc) in
-    let are = subst (λ (ts : List NumberedText). AreLines 1 ts numbered) (numbered_of_cut (written l ++ []) reads.pieces reads.last reads.cut ∙ ap with_octets at.2) reads.lines_are in
-    subst (λ (ls : List NumberedLine). Reads (written l ++ []) ls) (only at.0 at.1 numbered (same_texts at.0 (unfolded_text l) (texts_of at.1) (lines_onto [] []) texts).0 are plain) reads
+    let are = subst (λ (ts : List NumberedText). AreLines 1 ts numbered)
+    (numbered_of_cut (written l ++ []) reads.pieces reads.last reads.cut ∙ ap with_octets at.2) reads.lines_are in
+    subst (λ (ls : List NumberedLine). Reads (written l ++ []) ls)
+    (only at.0 at.1 numbered (same_texts at.0 (unfolded_text l) (texts_of at.1) (lines_onto [] []) texts).0 are plain) reads
   where
-    only : (first : List ℕ) (others : List NumberedText) (ls : List NumberedLine) → first ≡ unfolded_text l → AreLines 1 (with_octets (text_at 1 first ∷ others)) ls → plain_lines ls ≡ l ∷ [] → ls ≡ line_at 1 l ∷ []
+    only : (first : List ℕ) (others : List NumberedText) (ls : List NumberedLine) → first ≡ unfolded_text l →
+        AreLines 1 (with_octets (text_at 1 first ∷ others)) ls → plain_lines ls ≡ l ∷ [] → ls ≡ line_at 1 l ∷ []
     only [] others ls e are plain = absurd (omega (arith, ap length e, line_some l))
     only (b ∷ first) others [] e are plain = absurd are
-    only (b ∷ first) others (m ∷ []) e are plain = ap (λ (x : NumberedLine). x ∷ []) (same_numbered m (line_at 1 l) are.0 (same_first m.line plain))
+    only (b ∷ first) others (m ∷ []) e are plain =
+        ap (λ (x : NumberedLine). x ∷ []) (same_numbered m (line_at 1 l) are.0 (same_first m.line plain))
       where
         same_first : (x : Line) → x ∷ [] ≡ l ∷ [] → x ≡ l
         same_first x p = cc

@@ -1,15 +1,18 @@
 -- The longest front of a text that passes a test.
-use Rattle.std.proofs.Common.{◌≡◌, ◌∙◌, sym, ap, refl, suc, ℕ, ◌+◌, ◌≤◌, ◌<◌, Bool, true, false, cond, ◌&&◌, List, [], ◌∷◌, ◌++◌, length, take, drop, arith, subst}
+use Rattle.std.proofs.Common.{◌≡◌, ◌∙◌, sym, ap, refl, suc, ℕ, ◌+◌, ◌≤◌, ◌<◌, Bool, true, false, cond, ◌&&◌, List, [], ◌∷◌, ◌++◌, length}
+use Rattle.std.proofs.Common.{take, drop, arith, subst}
 use Rattle.std.specs.List.{list_all, prefix_len}
 use Rattle.std.specs.Prelude.{◌==◌}
 use Rattle.std.proofs.lemmas.Bool.{and_parts}
 use Rattle.std.proofs.lemmas.Bool.Decides.{nat_tests}
 use Rattle.itip_lines.specs.Parts.{IsRun, begins}
 
-pub run_of_prefix : (test : ℕ → Bool) (text : List ℕ) → IsRun test text (take (prefix_len test text) text) (drop (prefix_len test text) text)
+pub run_of_prefix : (test : ℕ → Bool) (text : List ℕ) →
+    IsRun test text (take (prefix_len test text) text) (drop (prefix_len test text) text)
 run_of_prefix test [] = record { whole = refl; passes = refl; stops = refl }
 run_of_prefix test (b ∷ bs) =
-    elim (test b) as (λ v. test b ≡ v → IsRun test (b ∷ bs) (take (cond v (1 + prefix_len test bs) 0) (b ∷ bs)) (drop (cond v (1 + prefix_len test bs) 0) (b ∷ bs))) [
+    elim (test b) as (λ v. test b ≡ v → IsRun test (b ∷ bs) (take (cond v (1 + prefix_len test bs) 0) (b ∷ bs))
+    (drop (cond v (1 + prefix_len test bs) 0) (b ∷ bs))) [
       | true ↦ λ h. passed h (run_of_prefix test bs)
       | false ↦ λ h. record { whole = refl; passes = refl; stops = h }
     ] refl
@@ -32,10 +35,13 @@ first_same x y a b e = cc
 pub one_run : (test : ℕ → Bool) (text a r b s : List ℕ) → IsRun test text a r → IsRun test text b s → (a ≡ b) × (r ≡ s)
 one_run test text a r b s h k = same a r b s (sym h.whole ∙ k.whole) h.passes h.stops k.passes k.stops
   where
-    same : (a r b s : List ℕ) → a ++ r ≡ b ++ s → list_all test a ≡ true → begins test r ≡ false → list_all test b ≡ true → begins test s ≡ false → (a ≡ b) × (r ≡ s)
+    same : (a r b s : List ℕ) → a ++ r ≡ b ++ s → list_all test a ≡ true → begins test r ≡ false → list_all test b ≡ true →
+        begins test s ≡ false → (a ≡ b) × (r ≡ s)
     same [] r [] s e p q u w = (refl, e)
-    same [] r (y ∷ b) s e p q u w = absurd (let t : begins test (y ∷ (b ++ s)) ≡ false = subst (λ (x : List ℕ). begins test x ≡ false) e q in grind (arith, t, u))
-    same (x ∷ a) r [] s e p q u w = absurd (let t : begins test (x ∷ (a ++ r)) ≡ false = subst (λ (y : List ℕ). begins test y ≡ false) (sym e) w in grind (arith, t, p))
+    same [] r (y ∷ b) s e p q u w =
+        absurd (let t : begins test (y ∷ (b ++ s)) ≡ false = subst (λ (x : List ℕ). begins test x ≡ false) e q in grind (arith, t, u))
+    same (x ∷ a) r [] s e p q u w =
+        absurd (let t : begins test (x ∷ (a ++ r)) ≡ false = subst (λ (y : List ℕ). begins test y ≡ false) (sym e) w in grind (arith, t, p))
     same (x ∷ a) r (y ∷ b) s e p q u w =
         let rest : a ++ r ≡ b ++ s = cc in
         let i = same a r b s rest (and_parts _ _ p).1 q (and_parts _ _ u).1 w in

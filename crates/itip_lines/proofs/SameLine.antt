@@ -21,7 +21,8 @@ pub same_numbered : (l m : NumberedLine) → l.number ≡ m.number → l.line �
 same_numbered l m p q = λ i. record { number = p i; line = q i }
 
 -- what is equal to the parts of a line is lawful
-pub lawful_copy : (l : Line) (name : List ℕ) (params : List Param) (value : List ℕ) → name ≡ l.name → params ≡ l.params → value ≡ l.value → IsLawful name params value
+pub lawful_copy : (l : Line) (name : List ℕ) (params : List Param) (value : List ℕ) → name ≡ l.name → params ≡ l.params → value ≡ l.value →
+    IsLawful name params value
 lawful_copy l name params value p q r =
     subst (λ (v : List ℕ). IsLawful name params v) (sym r)
     (subst (λ (ps : List Param). IsLawful name ps l.value) (sym q) (subst (λ (n : List ℕ). IsLawful n l.params l.value) (sym p) l.lawful))

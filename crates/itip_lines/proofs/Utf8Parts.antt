@@ -5,7 +5,8 @@ use Rattle.std.specs.Str.{IsUtf8, IsAscii}
 use Rattle.std.specs.List.{list_all}
 use Rattle.std.proofs.lemmas.Bool.{and_parts}
 use Rattle.std.proofs.lemmas.List.{take_at, drop_at, get_or_at, append-nil}
-use Rattle.std.proofs.lemmas.Str.{IsUtf8-take, IsUtf8-drop, IsUtf8-from_ascii, IsUtf8-nil, IsCharBoundary-before_ascii, IsCharBoundary-after_ascii}
+use Rattle.std.proofs.lemmas.Str.{IsUtf8-take, IsUtf8-drop, IsUtf8-from_ascii, IsUtf8-nil, IsCharBoundary-before_ascii}
+use Rattle.std.proofs.lemmas.Str.{IsCharBoundary-after_ascii}
 use Rattle.std.proofs.lemmas.Str.Ascii.{IsAscii-nil, IsAscii-cons}
 use Rattle.itip_lines.specs.Octets.{is_name_octet, is_plain_octet}
 use Rattle.itip_lines.specs.Parts.{begins, CutsValue}
@@ -17,14 +18,16 @@ pub utf8_before : (a : List ℕ) (b : ℕ) (c : List ℕ) → IsUtf8 (a ++ b ∷
 utf8_before a b c u h =
     subst IsUtf8 (take_at a (b ∷ c) (length a) refl)
     (IsUtf8-take (a ++ b ∷ c) (length a) u
-    (IsCharBoundary-before_ascii (a ++ b ∷ c) (length a) (omega (arith, length-append a (b ∷ c))) (subst (λ (x : ℕ). x < 128) (sym (get_or_at a b c 0 (length a) refl)) h)))
+    (IsCharBoundary-before_ascii (a ++ b ∷ c) (length a) (omega (arith, length-append a (b ∷ c)))
+    (subst (λ (x : ℕ). x < 128) (sym (get_or_at a b c 0 (length a) refl)) h)))
 
 -- the part that begins with an ASCII octet
 pub utf8_from : (a : List ℕ) (b : ℕ) (c : List ℕ) → IsUtf8 (a ++ b ∷ c) → b < 128 → IsUtf8 (b ∷ c)
 utf8_from a b c u h =
     subst IsUtf8 (drop_at a (b ∷ c) (length a) refl)
     (IsUtf8-drop (a ++ b ∷ c) (length a) u
-    (IsCharBoundary-before_ascii (a ++ b ∷ c) (length a) (omega (arith, length-append a (b ∷ c))) (subst (λ (x : ℕ). x < 128) (sym (get_or_at a b c 0 (length a) refl)) h)))
+    (IsCharBoundary-before_ascii (a ++ b ∷ c) (length a) (omega (arith, length-append a (b ∷ c)))
+    (subst (λ (x : ℕ). x < 128) (sym (get_or_at a b c 0 (length a) refl)) h)))
 
 -- the part behind an ASCII octet
 pub utf8_behind : (b : ℕ) (c : List ℕ) → IsUtf8 (b ∷ c) → b < 128 → IsUtf8 c

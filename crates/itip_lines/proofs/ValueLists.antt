@@ -1,5 +1,6 @@
 -- The values of a parameter, read one after another.
-use Rattle.std.proofs.Common.{◌≡◌, ◌∙◌, sym, ap, refl, ℕ, ◌≤◌, true, false, List, [], ◌∷◌, ◌++◌, length, arith, subst, append_assoc, length-append}
+use Rattle.std.proofs.Common.{◌≡◌, ◌∙◌, sym, ap, refl, ℕ, ◌≤◌, true, false, List, [], ◌∷◌, ◌++◌, length, arith, subst, append_assoc}
+use Rattle.std.proofs.Common.{length-append}
 use Rattle.std.specs.Str.{IsUtf8}
 use Rattle.itip_lines.specs.Spelling.{ValueThen, ValuesThen}
 use Rattle.itip_lines.specs.Parts.{begins, ends_param, EndsValue, EndsParam, CutsValue, LacksValue, LacksValues, ReadsValues}
@@ -14,7 +15,8 @@ param_ends_value (b ∷ rest) e = rw e refl
 -- `done` are the first values of the text, with the commas behind them, and `rest` is left
 pub record HasValues (text : List ℕ) (done : List (List ℕ)) (rest : List ℕ) : Type 0 where
   pub onward : (vs : List (List ℕ)) (out : List ℕ) → ValuesThen rest vs out → ValuesThen text (done ++ vs) out
-  pub back : (vs : List (List ℕ)) (out : List ℕ) → ValuesThen text vs out → EndsParam out → (us : List (List ℕ)) × (vs ≡ done ++ us) × ValuesThen rest us out
+  pub back : (vs : List (List ℕ)) (out : List ℕ) → ValuesThen text vs out → EndsParam out → (us : List (List ℕ)) × (vs ≡ done ++ us) ×
+      ValuesThen rest us out
   pub utf8 : IsUtf8 rest
   pub shorter : length rest ≤ length text
 
@@ -26,9 +28,11 @@ cut_shorter text value rest (quoted q e) = omega (arith, ap length e, length-app
 cut_shorter text value rest (plain r n) = omega (arith, ap length r.whole, length-append value rest)
 
 -- one more value, with a comma behind it
-pub more_values : (text : List ℕ) (done : List (List ℕ)) (rest value behind more : List ℕ) → HasValues text done rest → CutsValue rest value behind → behind ≡ 44 ∷ more → HasValues text (done ++ value ∷ []) more
+pub more_values : (text : List ℕ) (done : List (List ℕ)) (rest value behind more : List ℕ) → HasValues text done rest →
+    CutsValue rest value behind → behind ≡ 44 ∷ more → HasValues text (done ++ value ∷ []) more
 more_values text done rest value behind more has cut comma = record {
-  onward = λ vs out h. subst (λ (ws : List (List ℕ)). ValuesThen text ws out) (sym (append_assoc done (value ∷ []) vs)) (has.onward (value ∷ vs) out (on vs out h));
+  onward = λ vs out h. subst (λ (ws : List (List ℕ)). ValuesThen text ws out) (sym (append_assoc done (value ∷ []) vs))
+      (has.onward (value ∷ vs) out (on vs out h));
   back = λ vs out h ends. off vs out (has.back vs out h ends) ends;
   utf8 = utf8_behind 44 more (subst IsUtf8 comma (utf8_value rest value behind has.utf8 cut).1) (omega arith);
   shorter = omega (arith, has.shorter, cut_shorter rest value behind cut, ap length comma);
@@ -38,18 +42,23 @@ more_values text done rest value behind more has cut comma = record {
     on [] out h = absurd h
     on (v ∷ vs) out h = (more, subst (λ (b : List ℕ). ValueThen rest value b) comma (then_from_cuts rest value behind cut), h)
 
-    off : (vs : List (List ℕ)) (out : List ℕ) → ((us : List (List ℕ)) × (vs ≡ done ++ us) × ValuesThen rest us out) → EndsParam out → (us : List (List ℕ)) × (vs ≡ done ++ value ∷ [] ++ us) × ValuesThen more us out
+    off : (vs : List (List ℕ)) (out : List ℕ) → ((us : List (List ℕ)) × (vs ≡ done ++ us) × ValuesThen rest us out) → EndsParam out →
+        (us : List (List ℕ)) × (vs ≡ done ++ value ∷ [] ++ us) × ValuesThen more us out
     off vs out ([], e, h) ends = absurd h
     off vs out (u ∷ [], e, h) ends =
         let one = one_value rest value behind u out cut h (param_ends_value out ends) in
         absurd (let f : false ≡ true = subst (λ (b : List ℕ). begins ends_param b ≡ true) (sym one.1 ∙ comma) ends in cc)
     off vs out (u ∷ (w ∷ us), e, h) ends =
         let one = one_value rest value behind u (44 ∷ h.0) cut h.1 refl in
-        let same : more ≡ h.0 = (let both : 44 ∷ more ≡ 44 ∷ h.0 = sym comma ∙ one.1 in cc) in
-        (w ∷ us, e ∙ ap (λ (x : List ℕ). done ++ x ∷ (w ∷ us)) (sym one.0) ∙ sym (append_assoc done (value ∷ []) (w ∷ us)), subst (λ (b : List ℕ). ValuesThen b (w ∷ us) out) (sym same) h.2)
+        let same : more ≡ h.0 = (let both : 44 ∷ more ≡ 44 ∷ h.0 = sym comma ∙ one.1 in cc) in (
+          w ∷ us,
+          e ∙ ap (λ (x : List ℕ). done ++ x ∷ (w ∷ us)) (sym one.0) ∙ sym (append_assoc done (value ∷ []) (w ∷ us)),
+          subst (λ (b : List ℕ). ValuesThen b (w ∷ us) out) (sym same) h.2,
+        )
 
 -- the last value
-pub all_values : (text : List ℕ) (done : List (List ℕ)) (rest value behind : List ℕ) → HasValues text done rest → CutsValue rest value behind → EndsParam behind → ReadsValues text (done ++ value ∷ []) behind
+pub all_values : (text : List ℕ) (done : List (List ℕ)) (rest value behind : List ℕ) → HasValues text done rest →
+    CutsValue rest value behind → EndsParam behind → ReadsValues text (done ++ value ∷ []) behind
 all_values text done rest value behind has cut ends = record {
   are = has.onward (value ∷ []) behind (then_from_cuts rest value behind cut);
   ends = ends;
@@ -67,7 +76,8 @@ lacks_next text done rest has lacks = λ vs out h ends. none out (has.back vs ou
     none out (u ∷ (w ∷ us), e, h) ends = lacks u (44 ∷ h.0) h.1 refl
 
 -- what may follow a value does not follow it
-pub lacks_end : (text : List ℕ) (done : List (List ℕ)) (rest value behind : List ℕ) → HasValues text done rest → CutsValue rest value behind → ((more : List ℕ) → behind ≡ 44 ∷ more → ⊥) → begins ends_param behind ≡ false → LacksValues text
+pub lacks_end : (text : List ℕ) (done : List (List ℕ)) (rest value behind : List ℕ) → HasValues text done rest →
+    CutsValue rest value behind → ((more : List ℕ) → behind ≡ 44 ∷ more → ⊥) → begins ends_param behind ≡ false → LacksValues text
 lacks_end text done rest value behind has cut no_comma no_end = λ vs out h ends. none out (has.back vs out h ends) ends
   where
     none : {vs : List (List ℕ)} (out : List ℕ) → ((us : List (List ℕ)) × (vs ≡ done ++ us) × ValuesThen rest us out) → EndsParam out → ⊥
@@ -78,20 +88,24 @@ lacks_end text done rest value behind has cut no_comma no_end = λ vs out h ends
     none out (u ∷ (w ∷ us), e, h) ends = no_comma h.0 (one_value rest value behind u (44 ∷ h.0) cut h.1 refl).1
 
 -- the values of a parameter are the only ones
-pub one_values : (text : List ℕ) (vs : List (List ℕ)) (r : List ℕ) (ws : List (List ℕ)) (s : List ℕ) → ValuesThen text vs r → EndsParam r → ValuesThen text ws s → EndsParam s → (vs ≡ ws) × (r ≡ s)
+pub one_values : (text : List ℕ) (vs : List (List ℕ)) (r : List ℕ) (ws : List (List ℕ)) (s : List ℕ) → ValuesThen text vs r → EndsParam r →
+    ValuesThen text ws s → EndsParam s → (vs ≡ ws) × (r ≡ s)
 one_values text [] r ws s h e k f = absurd h
 one_values text (v ∷ vs) r [] s h e k f = absurd k
 one_values text (v ∷ []) r (w ∷ []) s h e k f =
     let one = one_cut text v r w s (cuts_from_then text v r h (param_ends_value r e)) (cuts_from_then text w s k (param_ends_value s f)) in
     (ap (λ x. x ∷ []) one.0, one.1)
 one_values text (v ∷ []) r (w ∷ (x ∷ ws)) s h e k f =
-    let one = one_cut text v r w (44 ∷ k.0) (cuts_from_then text v r h (param_ends_value r e)) (cuts_from_then text w (44 ∷ k.0) k.1 refl) in
+    let one = one_cut text v r w (44 ∷ k.0) (cuts_from_then text v r h (param_ends_value r e)) (cuts_from_then text w (44 ∷ k.0) k.1 refl)
+    in
     absurd (let g : false ≡ true = subst (λ (b : List ℕ). begins ends_param b ≡ true) one.1 e in cc)
 one_values text (v ∷ (u ∷ vs)) r (w ∷ []) s h e k f =
-    let one = one_cut text v (44 ∷ h.0) w s (cuts_from_then text v (44 ∷ h.0) h.1 refl) (cuts_from_then text w s k (param_ends_value s f)) in
+    let one = one_cut text v (44 ∷ h.0) w s (cuts_from_then text v (44 ∷ h.0) h.1 refl) (cuts_from_then text w s k (param_ends_value s f))
+    in
     absurd (let g : false ≡ true = subst (λ (b : List ℕ). begins ends_param b ≡ true) (sym one.1) f in cc)
 one_values text (v ∷ (u ∷ vs)) r (w ∷ (x ∷ ws)) s h e k f =
-    let one = one_cut text v (44 ∷ h.0) w (44 ∷ k.0) (cuts_from_then text v (44 ∷ h.0) h.1 refl) (cuts_from_then text w (44 ∷ k.0) k.1 refl) in
+    let one = one_cut text v (44 ∷ h.0) w (44 ∷ k.0) (cuts_from_then text v (44 ∷ h.0) h.1 refl)
+    (cuts_from_then text w (44 ∷ k.0) k.1 refl) in
     let same : k.0 ≡ h.0 = (let both : 44 ∷ h.0 ≡ 44 ∷ k.0 = one.1 in cc) in
     let more = one_values h.0 (u ∷ vs) r (x ∷ ws) s h.2 e (subst (λ (t : List ℕ). ValuesThen t (x ∷ ws) s) same k.2) f in
     (ap (λ y. y ∷ (u ∷ vs)) one.0 ∙ ap (λ ys. w ∷ ys) more.0, more.1)

@@ -21,7 +21,8 @@ ends_plain [] e = refl
 ends_plain (b ∷ rest) e = separator_not_plain b e
 
 -- what stands before the closing quote
-quoted_run : (inside value rest : List ℕ) → IsTrue (list_all is_quotable_octet value) → inside ≡ value ++ 34 ∷ rest → IsRun is_quotable_octet inside value (34 ∷ rest)
+quoted_run : (inside value rest : List ℕ) → IsTrue (list_all is_quotable_octet value) → inside ≡ value ++ 34 ∷ rest →
+    IsRun is_quotable_octet inside value (34 ∷ rest)
 quoted_run inside value rest q e = record { whole = e; passes = q; stops = refl }
 
 pub cuts_from_then : (text value rest : List ℕ) → ValueThen text value rest → EndsValue rest → CutsValue text value rest
@@ -35,12 +36,14 @@ then_from_cuts text value rest (quoted q e) = inl (q, e)
 then_from_cuts text value rest (plain r n) = inr (r.passes, r.whole)
 
 quote_clash : (text inside : List ℕ) → text ≡ 34 ∷ inside → begins (λ b. b == 34) text ≡ false → ⊥
-quote_clash text inside e n = let f : begins (λ b. b == 34) (34 ∷ inside) ≡ false = subst (λ (t : List ℕ). begins (λ b. b == 34) t ≡ false) e n in cc
+quote_clash text inside e n = let f : begins (λ b. b == 34) (34 ∷ inside) ≡ false =
+    subst (λ (t : List ℕ). begins (λ b. b == 34) t ≡ false) e n in cc
 
 pub one_cut : (text v r w s : List ℕ) → CutsValue text v r → CutsValue text w s → (v ≡ w) × (r ≡ s)
 one_cut text v r w s (quoted q e) (quoted p f) =
     let inside : v ++ 34 ∷ r ≡ w ++ 34 ∷ s = (let both : 34 ∷ (v ++ 34 ∷ r) ≡ 34 ∷ (w ++ 34 ∷ s) = sym e ∙ f in cc) in
-    let one : (v ≡ w) × (34 ∷ r ≡ 34 ∷ s) = one_run is_quotable_octet _ v (34 ∷ r) w (34 ∷ s) (quoted_run _ v r q refl) (quoted_run _ w s p inside) in
+    let one : (v ≡ w) × (34 ∷ r ≡ 34 ∷ s) =
+    one_run is_quotable_octet _ v (34 ∷ r) w (34 ∷ s) (quoted_run _ v r q refl) (quoted_run _ w s p inside) in
     let rests : 34 ∷ r ≡ 34 ∷ s = one.1 in
     (one.0, cc)
 one_cut text v r w s (quoted q e) (plain k n) = absurd (quote_clash text _ e n)
@@ -51,7 +54,8 @@ pub one_value : (text v r w s : List ℕ) → CutsValue text v r → ValueThen t
 one_value text v r w s c h e = one_cut text v r w s c (cuts_from_then text w s h e)
 
 -- a quote that is not closed
-pub lacks_quote : (text inside value behind : List ℕ) → text ≡ 34 ∷ inside → IsRun is_quotable_octet inside value behind → ((rest : List ℕ) → behind ≡ 34 ∷ rest → ⊥) → LacksValue text
+pub lacks_quote : (text inside value behind : List ℕ) → text ≡ 34 ∷ inside → IsRun is_quotable_octet inside value behind →
+    ((rest : List ℕ) → behind ≡ 34 ∷ rest → ⊥) → LacksValue text
 lacks_quote text inside value behind e run unclosed = λ w s h ends. refuse w s (cuts_from_then text w s h ends)
   where
     refuse : (w s : List ℕ) → CutsValue text w s → ⊥

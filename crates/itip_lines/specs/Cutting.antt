@@ -76,7 +76,8 @@ text_at number text = record { number = number; text = text }
 abbrev pub numbered_onto : ℕ → List ℕ → ℕ → List (List ℕ) → List NumberedText
 numbered_onto at line next [] = text_at at line ∷ []
 numbered_onto at line next ([] ∷ cs) = text_at at line ∷ numbered_onto next [] (next + 1) cs
-numbered_onto at line next ((b ∷ c) ∷ cs) = cond (is_blank b) (numbered_onto at (line ++ c) (next + 1) cs) (text_at at line ∷ numbered_onto next (b ∷ c) (next + 1) cs)
+numbered_onto at line next ((b ∷ c) ∷ cs) =
+    cond (is_blank b) (numbered_onto at (line ++ c) (next + 1) cs) (text_at at line ∷ numbered_onto next (b ∷ c) (next + 1) cs)
 
 abbrev pub numbered : List (List ℕ) → List NumberedText
 numbered [] = []

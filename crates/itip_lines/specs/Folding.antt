@@ -18,7 +18,8 @@ abbrev pub AreFoldedPieces : List ℕ → List ℕ → List (List ℕ) → Type 
 AreFoldedPieces lead text [] = ⊥
 AreFoldedPieces lead text (p ∷ []) = (p ≡ lead ++ text) × IsFoldedPiece p
 AreFoldedPieces lead text (p ∷ (q ∷ qs)) =
-    (front : List ℕ) × (rest : List ℕ) × (text ≡ front ++ rest) × (p ≡ lead ++ front) × IsFoldedPiece p × IsFull p rest × AreFoldedPieces (32 ∷ []) rest (q ∷ qs)
+    (front : List ℕ) × (rest : List ℕ) × (text ≡ front ++ rest) × (p ≡ lead ++ front) × IsFoldedPiece p × IsFull p rest ×
+    AreFoldedPieces (32 ∷ []) rest (q ∷ qs)
 
 -- the pieces in a row, each with CRLF behind it
 abbrev pub with_breaks : List (List ℕ) → List ℕ

@@ -4,7 +4,7 @@ pub mod Spelling
 pub mod Cutting
 pub mod Reading
 pub mod Parts
-pub mod Scan
-pub mod Scanned
+pub mod Stretches
+pub mod ScanSteps
 pub mod Writing
 pub mod Folding

@@ -60,7 +60,8 @@ HasRefusal count t refusal = (refusal.line ≡ Some t.number) × HasCause count 
 -- the refusal is that of the first of these texts with which anything is wrong
 abbrev pub FirstRefusal : ℕ → List NumberedText → LineRefusal → Type 0
 FirstRefusal count [] refusal = ⊥
-FirstRefusal count (t ∷ ts) refusal = HasRefusal count t refusal ⊎ (((l : Line) × IsGood count t.text l) × FirstRefusal (count + 1) ts refusal)
+FirstRefusal count (t ∷ ts) refusal = HasRefusal count t refusal ⊎
+    (((l : Line) × IsGood count t.text l) × FirstRefusal (count + 1) ts refusal)
 
 -- these bytes are these lines, each numbered by the physical line in which it begins
 pub record Reads (bytes : List ℕ) (lines : List NumberedLine) : Type 0 where

@@ -26,6 +26,7 @@ pub enum LineCause {
 /// Why a text is refused: what is wrong, and where.
 #[derive(Clone, Copy, PartialEq, Eq, Debug)]
 pub struct LineRefusal {
+    /// What is wrong.
     pub cause: LineCause,
     /// The number, from 1, of the physical line in which the first faulty line begins, folded and empty ones counted.
     /// `None` exactly for `TooLong`.
@@ -50,7 +51,7 @@ impl std::error::Error for LineRefusal {}
 /// Why no lines were given.
 #[derive(Debug, Drop, Error)]
 pub enum LineError {
-    /// Memory was refused.
+    /// An allocation failed.
     #[error("no memory to read lines")]
     NoMemory,
     /// The text is not one of content lines.

@@ -5,7 +5,8 @@ ghost use Rattle.std.specs.Str.{IsUtf8, str_to_ascii_uppercase};
 ghost use Rattle.itip_lines.specs.Octets.{is_name_octet, is_value_octet, is_separator};
 ghost use Rattle.itip_lines.specs.Lawful.{line_limit};
 ghost use Rattle.itip_lines.specs.Spelling.{IsTail, Spells};
-ghost use Rattle.itip_lines.specs.Parts.{is_of, begins, ends_param, IsRun, CutsValue, LacksValue, LacksValues, ReadsValues, LacksParam, ReadsParam, LacksTail, LacksLine};
+ghost use Rattle.itip_lines.specs.Parts.{is_of, begins, ends_param, IsRun, CutsValue, LacksValue, LacksValues, ReadsValues, LacksParam};
+ghost use Rattle.itip_lines.specs.Parts.{ReadsParam, LacksTail, LacksLine};
 
 use crate::line::{Line, Param};
 use crate::list::ListOf;

@@ -24,5 +24,5 @@ pub use read::read_lines;
 pub use text::Text;
 pub use write::{write_line, write_property};
 
-/// Memory was refused.
+/// An allocation failed.
 pub type NoMemory = std::alloc::AllocError;

@@ -1,7 +1,8 @@
 //! A list of values, as a clause sees it.
 ghost use Rattle.std.specs.Prelude.{◌≡◌, ◌↔◌, IsTrue, [], length};
 ghost use Rattle.std.specs.List.{AllZip};
-ghost use Rattle.std.specs.Cmp.Lexicographic.{pointwise, slice_cmp, slice_partial_cmp, lists_equiv, lists_agrees, lists_total, lists_ties, lists_po, lists_per};
+ghost use Rattle.std.specs.Cmp.Lexicographic.{pointwise, slice_cmp, slice_partial_cmp, lists_equiv, lists_agrees, lists_total, lists_ties};
+ghost use Rattle.std.specs.Cmp.Lexicographic.{lists_po, lists_per};
 
 use std::alloc::{AllocError, Global};
 use std::cmp::Ordering;

@@ -2,7 +2,7 @@
 ghost use Rattle.std.specs.Prelude.{◌≡◌, ◌+◌, ◌<◌, ◌≤◌, OnOk, IfOk, IfErr, Some, length};
 ghost use Rattle.itip_lines.specs.Cutting.{text_at};
 ghost use Rattle.itip_lines.specs.Reading.{Reads, Refused, IfRefused, HasRefusal};
-ghost use Rattle.itip_lines.specs.Scanned.{PushesLine, ReadsNext, HasNextRefusal, last_number, number_limit};
+ghost use Rattle.itip_lines.specs.ScanSteps.{PushesLine, ReadsNext, HasNextRefusal, last_number, number_limit};
 ghost use Rattle.itip_lines.specs.declared.error.LineError.TheVariants as error;
 
 use crate::error::{LineCause, LineError, LineRefusal};

@@ -1,9 +1,9 @@
 //! From a text to its unfolded lines.
 ghost use Rattle.std.specs.Prelude.{◌≡◌, ◌+◌, ◌<◌, ◌≤◌, ◌++◌, ◌∷◌, IfOk, MatchOption, List, ℕ, length};
 ghost use Rattle.itip_lines.specs.Cutting.{HasNoLf, text_at};
-ghost use Rattle.itip_lines.specs.Scan.{StripsCr, LacksBlank, BeginsWithBlank};
-ghost use Rattle.itip_lines.specs.Scan.{stretches_of, stretches_behind, length_behind, texts_onto, texts_behind};
-ghost use Rattle.itip_lines.specs.Scanned.{texts_by, left_behind, left_by, last_number, last_behind, last_by, number_limit};
+ghost use Rattle.itip_lines.specs.Stretches.{StripsCr, LacksBlank, BeginsWithBlank};
+ghost use Rattle.itip_lines.specs.Stretches.{stretches_of, stretches_behind, length_behind, texts_onto, texts_behind};
+ghost use Rattle.itip_lines.specs.ScanSteps.{texts_by, left_behind, left_by, last_number, last_behind, last_by, number_limit};
 
 use std::alloc::{AllocError, Global};
 

@@ -1,5 +1,6 @@
 -- What the scan finds is what the octets are cut into.
-use Rattle.std.proofs.Common.{◌≡◌, ◌≢◌, ◌∙◌, sym, ap, refl, ℕ, zero, suc, ◌<◌, ◌+◌, Bool, true, false, cond, not, List, [], ◌∷◌, ◌++◌, length, arith, subst, inl, inr, append_assoc, append-nil}
+use Rattle.std.proofs.Common.{◌≡◌, ◌≢◌, ◌∙◌, sym, ap, refl, ℕ, zero, suc, ◌<◌, ◌+◌, Bool, true, false, cond, not, List, [], ◌∷◌, ◌++◌}
+use Rattle.std.proofs.Common.{length, arith, subst, inl, inr, append_assoc, append-nil}
 use Rattle.std.specs.Prelude.{◌⊎◌, ◌==◌, ◌&&◌, ◌||◌, map}
 use Rattle.std.specs.Char.{to_ascii_uppercase}
 use Rattle.std.specs.List.{concat, list_all, onto_first, AllByRecursion}
@@ -8,12 +9,13 @@ use Rattle.std.proofs.lemmas.Bool.Decides.{eqb_tells}
 use Rattle.std.proofs.lemmas.List.{append_cancel_right, length-append, map-append}
 use Rattle.std.proofs.lemmas.List.Elements.{All-head, All-tail}
 use Rattle.itip_lines.specs.Cutting.{Piece, IsCutting, HasNoLf, break_bytes, joined, unfolded, without_empty, lines_of, is_blank}
-use Rattle.itip_lines.specs.Scan.{LacksBlank, lines_onto}
+use Rattle.itip_lines.specs.Stretches.{LacksBlank, lines_onto}
 use Rattle.itip_lines.proofs.Cuttings.{HasCutting, cutting_of, lines_of_cut}
 use Rattle.itip_todo.specs.Participation.{same_text}
 use Rattle.itip_message.specs.Cutting.{is_calendar_end, EndNoCalendar, IsCalendar, IsRest, unless_empty, IsCutInto}
 use Rattle.itip_message.specs.Scanned as scan
-use Rattle.itip_message.specs.Scanned.{begins_blank, is_return, said, said_behind, is_empty, ends_calendar, groups_of, texts_of, messages_of}
+use Rattle.itip_message.specs.Scanned.{begins_blank, is_return, said, said_behind, is_empty, ends_calendar, groups_of, texts_of}
+use Rattle.itip_message.specs.Scanned.{messages_of}
 use Rattle.itip_message.proofs.Unfolding.{feed_ends, feed_folds, return_past, octet_goes_on, no_octets, lines_of_cutting, lines_then}
 use Rattle.itip_message.proofs.Messages.{concat_push, texts_end, not_empty, groups_none, none_ends_more}
 
@@ -69,7 +71,8 @@ blank_is b h = elim (eqb_tells b 32) [
   | inl e ↦ (ap (λ x. x == 10) e.1, ap (λ x. x == 13) e.1)
   | inr n ↦ elim (eqb_tells b 9) [
     | inl e ↦ (ap (λ x. x == 10) e.1, ap (λ x. x == 13) e.1)
-    | inr m ↦ absurd (let k : (false || false) ≡ true = subst (λ (v : Bool). (v || false) ≡ true) n.0 (subst (λ (v : Bool). ((b == 32) || v) ≡ true) m.0 h) in cc)
+    | inr m ↦ absurd (let k : (false || false) ≡ true =
+        subst (λ (v : Bool). (v || false) ≡ true) n.0 (subst (λ (v : Bool). ((b == 32) || v) ≡ true) m.0 h) in cc)
   ]
 ]
 
@@ -78,7 +81,8 @@ no_return b [] h = refl
 no_return b (c ∷ t) h = ap (λ (v : Bool). v && c == 10) h
 
 -- whether an octet is the CR of a break is told by the line alone
-same_return : (b : ℕ) (bytes raw after : List ℕ) → bytes ≡ raw ++ after → 0 < length raw → (t : List ℕ) → is_return b (raw ++ t) ≡ is_return b bytes
+same_return : (b : ℕ) (bytes raw after : List ℕ) → bytes ≡ raw ++ after → 0 < length raw → (t : List ℕ) →
+    is_return b (raw ++ t) ≡ is_return b bytes
 same_return b bytes [] after whole some t = absurd (omega arith)
 same_return b bytes (c ∷ raw) after whole some t = ap (is_return b) (sym whole)
 
@@ -88,14 +92,16 @@ goes_on line b raw = append_assoc line (b ∷ []) raw
 -- an octet that is in no break, before a line
 octet_before : (b : ℕ) (bytes : List ℕ) → (b == 10) ≡ false → is_return b bytes ≡ false → HasFirst bytes → HasFirst (b ∷ bytes)
 octet_before b bytes feed ret first =
-    let raw_return : (t : List ℕ) → is_return b (first.raw ++ t) ≡ false = λ t. same_return b bytes first.raw first.after first.whole first.some t ∙ ret in
+    let raw_return : (t : List ℕ) → is_return b (first.raw ++ t) ≡ false =
+    λ t. same_return b bytes first.raw first.after first.whole first.some t ∙ ret in
     let alone_return : is_return b first.raw ≡ false = ap (is_return b) (sym (append-nil first.raw)) ∙ raw_return [] in
     let says : said (b ∷ first.raw) ≡ b ∷ said first.raw = octet_said b first.raw feed alone_return in
     record {
       raw = b ∷ first.raw;
       after = first.after;
       whole = ap (λ x. b ∷ x) first.whole;
-      lines = ap (λ (v : Bool). cond (v && not (begins_blank bytes)) ((b ∷ []) ∷ scan.lines_of bytes) (onto_first b (scan.lines_of bytes))) feed ∙ ap (onto_first b) first.lines;
+      lines = ap (λ (v : Bool). cond (v && not (begins_blank bytes)) ((b ∷ []) ∷ scan.lines_of bytes) (onto_first b (scan.lines_of bytes)))
+          feed ∙ ap (onto_first b) first.lines;
       some = omega arith;
       ends = elim first.ends [
         | inl c ↦ inl (record {
@@ -106,7 +112,8 @@ octet_before b bytes feed ret first =
           feed = ap (λ x. b ∷ x) c.feed;
         })
         | inr o ↦ inr (
-          λ line. octet_goes_on line b first.raw feed alone_return ∙ o.0 (line ++ b ∷ []) ∙ ap (λ l. l ∷ []) (goes_on line b (said first.raw) ∙ ap (λ s. line ++ s) (sym says)),
+          λ line. octet_goes_on line b first.raw feed alone_return ∙ o.0 (line ++ b ∷ []) ∙
+              ap (λ l. l ∷ []) (goes_on line b (said first.raw) ∙ ap (λ s. line ++ s) (sym says)),
           o.1,
         )
       ];
@@ -116,11 +123,13 @@ octet_before b bytes feed ret first =
 return_before : (t : List ℕ) → HasFirst (10 ∷ t) → HasFirst (13 ∷ (10 ∷ t))
 return_before t first = put first.raw first.whole first.lines first.some first.ends
   where
-    put : (raw : List ℕ) → 10 ∷ t ≡ raw ++ first.after → scan.lines_of (10 ∷ t) ≡ raw ∷ scan.lines_of first.after → 0 < length raw → Closes raw first.after ⊎ (IsOpen raw × (first.after ≡ [])) → HasFirst (13 ∷ (10 ∷ t))
+    put : (raw : List ℕ) → 10 ∷ t ≡ raw ++ first.after → scan.lines_of (10 ∷ t) ≡ raw ∷ scan.lines_of first.after → 0 < length raw →
+        Closes raw first.after ⊎ (IsOpen raw × (first.after ≡ [])) → HasFirst (13 ∷ (10 ∷ t))
     put [] whole lines some ends = absurd (omega arith)
     put (c ∷ raw) whole lines some ends =
         let feed : 10 ≡ c = first_is 10 c t (raw ++ first.after) whole in
-        let pass : (line x : List ℕ) → lines_onto line (13 ∷ (c ∷ x)) ≡ lines_onto line (c ∷ x) = λ line x. subst (λ (d : ℕ). lines_onto line (13 ∷ (d ∷ x)) ≡ lines_onto line (d ∷ x)) feed (return_past line x) in
+        let pass : (line x : List ℕ) → lines_onto line (13 ∷ (c ∷ x)) ≡ lines_onto line (c ∷ x) =
+        λ line x. subst (λ (d : ℕ). lines_onto line (13 ∷ (d ∷ x)) ≡ lines_onto line (d ∷ x)) feed (return_past line x) in
         let says : said (13 ∷ (c ∷ raw)) ≡ said (c ∷ raw) = subst (λ (d : ℕ). said (13 ∷ (d ∷ raw)) ≡ said (d ∷ raw)) feed refl in
         record {
           raw = 13 ∷ (c ∷ raw);
@@ -158,7 +167,8 @@ feed_only t plain = record {
 fold_lines : (b : ℕ) (t : List ℕ) → is_blank b ≡ true → scan.lines_of (10 ∷ (b ∷ t)) ≡ onto_first 10 (onto_first b (scan.lines_of t))
 fold_lines b t blank =
     ap (λ (v : Bool). cond (not v) ((10 ∷ []) ∷ scan.lines_of (b ∷ t)) (onto_first 10 (scan.lines_of (b ∷ t)))) blank
-    ∙ ap (λ (v : Bool). onto_first 10 (cond (v && not (begins_blank t)) ((b ∷ []) ∷ scan.lines_of t) (onto_first b (scan.lines_of t)))) (blank_is b blank).0
+    ∙ ap (λ (v : Bool). onto_first 10 (cond (v && not (begins_blank t)) ((b ∷ []) ∷ scan.lines_of t) (onto_first b (scan.lines_of t))))
+    (blank_is b blank).0
 
 -- a fold, before the end
 fold_last : (b : ℕ) → is_blank b ≡ true → HasFirst (10 ∷ (b ∷ []))
@@ -168,13 +178,18 @@ fold_last b blank = record {
   whole = refl;
   lines = fold_lines b [] blank;
   some = omega arith;
-  ends = inr (λ line. feed_folds line b [] blank ∙ no_octets line ∙ ap (λ l. l ∷ []) (sym (ap (λ s. line ++ s) (fold_said b [] blank (blank_is b blank).0 refl) ∙ append-nil line)), refl);
+  ends = inr (
+    λ line. feed_folds line b [] blank ∙ no_octets line ∙
+        ap (λ l. l ∷ []) (sym (ap (λ s. line ++ s) (fold_said b [] blank (blank_is b blank).0 refl) ∙ append-nil line)),
+    refl,
+  );
 }
 
 -- a fold, before more of the line
 fold_before : (b : ℕ) (t : List ℕ) → is_blank b ≡ true → HasFirst t → HasFirst (10 ∷ (b ∷ t))
 fold_before b t blank first =
-    let says : said (10 ∷ (b ∷ first.raw)) ≡ said first.raw = fold_said b first.raw blank (blank_is b blank).0 (no_return b first.raw (blank_is b blank).1) in
+    let says : said (10 ∷ (b ∷ first.raw)) ≡ said first.raw =
+    fold_said b first.raw blank (blank_is b blank).0 (no_return b first.raw (blank_is b blank).1) in
     record {
       raw = 10 ∷ (b ∷ first.raw);
       after = first.after;
@@ -183,7 +198,8 @@ fold_before b t blank first =
       some = omega arith;
       ends = elim first.ends [
         | inl c ↦ inl (record {
-          closed = λ line x lacks. feed_folds line b (first.raw ++ x) blank ∙ c.closed line x lacks ∙ ap (λ s. (line ++ s) ∷ lines_onto [] x) (sym says);
+          closed = λ line x lacks. feed_folds line b (first.raw ++ x) blank ∙ c.closed line x lacks ∙
+              ap (λ s. (line ++ s) ∷ lines_onto [] x) (sym says);
           apart = c.apart;
           before = 10 ∷ (b ∷ c.before);
           feed = ap (λ x. 10 ∷ (b ∷ x)) c.feed;
@@ -199,7 +215,11 @@ octet_last b feed = record {
   whole = refl;
   lines = ap (λ (v : Bool). cond (v && true) ((b ∷ []) ∷ []) ((b ∷ []) ∷ [])) feed;
   some = omega arith;
-  ends = inr (λ line. octet_goes_on line b [] feed refl ∙ no_octets (line ++ b ∷ []) ∙ ap (λ s. (line ++ s) ∷ []) (sym (octet_said b [] feed refl)), refl);
+  ends = inr (
+    λ line. octet_goes_on line b [] feed refl ∙ no_octets (line ++ b ∷ []) ∙
+        ap (λ s. (line ++ s) ∷ []) (sym (octet_said b [] feed refl)),
+    refl,
+  );
 }
 
 is_number : (b n : ℕ) → (b == n) ≡ true → b ≡ n
@@ -211,7 +231,8 @@ before_fold c t blank (inr more) = fold_before c t blank more
 
 before_feed : (c : ℕ) (t : List ℕ) → (t ≡ []) ⊎ HasFirst t → HasFirst (10 ∷ (c ∷ t))
 before_feed c t later =
-    elim (is_blank c) as (λ v. is_blank c ≡ v → HasFirst (10 ∷ (c ∷ t))) [ true ↦ λ e. before_fold c t e later | false ↦ λ e. feed_only (c ∷ t) e ] refl
+    elim (is_blank c) as (λ v. is_blank c ≡ v → HasFirst (10 ∷ (c ∷ t)))
+    [ true ↦ λ e. before_fold c t e later | false ↦ λ e. feed_only (c ∷ t) e ] refl
 
 before_octet : (b c : ℕ) (t : List ℕ) → (b == 10) ≡ false → HasFirst (c ∷ t) → HasFirst (b ∷ (c ∷ t))
 before_octet b c t plain next =
@@ -261,12 +282,14 @@ not_none (p ∷ ps) r e = cc
 
 lacks_also : (raw after t : List ℕ) → 0 < length raw → LacksBlank (raw ++ after) → LacksBlank (raw ++ t)
 lacks_also [] after t some lacks = absurd (omega arith)
-lacks_also (b ∷ raw) after t some lacks = λ c more e. subst (λ (x : ℕ). is_blank x ≡ false) (first_is b c (raw ++ t) more e) (lacks b (raw ++ after) refl)
+lacks_also (b ∷ raw) after t some lacks =
+    λ c more e. subst (λ (x : ℕ). is_blank x ≡ false) (first_is b c (raw ++ t) more e) (lacks b (raw ++ after) refl)
 
 module _ (bytes rest : List ℕ) (passed : List (List ℕ)) (so_far : Scans bytes rest passed) (first : HasFirst rest) where
   passed_whole : bytes ≡ concat (passed ++ first.raw ∷ []) ++ first.after
   passed_whole =
-      so_far.whole ∙ ap (λ x. concat passed ++ x) first.whole ∙ sym (append_assoc (concat passed) first.raw first.after) ∙ ap (λ x. x ++ first.after) (sym (concat_push passed first.raw))
+      so_far.whole ∙ ap (λ x. concat passed ++ x) first.whole ∙ sym (append_assoc (concat passed) first.raw first.after) ∙
+      ap (λ x. x ++ first.after) (sym (concat_push passed first.raw))
 
   passed_lines : scan.lines_of bytes ≡ passed ++ first.raw ∷ scan.lines_of first.after
   passed_lines = so_far.lines ∙ ap (λ ls. passed ++ ls) first.lines
@@ -278,11 +301,13 @@ module _ (bytes rest : List ℕ) (passed : List (List ℕ)) (so_far : Scans byte
   ]
 
   -- the unfolded lines of what was passed, with one line more
-  more_closed : Closes first.raw first.after → (t : List ℕ) → LacksBlank t → lines_onto [] (concat (passed ++ first.raw ∷ []) ++ t) ≡ map said (passed ++ first.raw ∷ []) ++ lines_onto [] t
+  more_closed : Closes first.raw first.after → (t : List ℕ) → LacksBlank t →
+      lines_onto [] (concat (passed ++ first.raw ∷ []) ++ t) ≡ map said (passed ++ first.raw ∷ []) ++ lines_onto [] t
   more_closed c t lacks =
       ap (λ x. lines_onto [] (x ++ t)) (concat_push passed first.raw) ∙ ap (lines_onto []) (append_assoc (concat passed) first.raw t)
       ∙ so_far.closed (first.raw ++ t) (next_apart t) ∙ ap (λ ls. map said passed ++ ls) (c.closed [] t lacks)
-      ∙ sym (append_assoc (map said passed) (said first.raw ∷ []) (lines_onto [] t)) ∙ ap (λ ls. ls ++ lines_onto [] t) (sym (map-append said passed (first.raw ∷ [])))
+      ∙ sym (append_assoc (map said passed) (said first.raw ∷ []) (lines_onto [] t)) ∙
+      ap (λ ls. ls ++ lines_onto [] t) (sym (map-append said passed (first.raw ∷ [])))
 
   one_more : Closes first.raw first.after → ends_calendar first.raw ≡ false → Scans bytes first.after (passed ++ first.raw ∷ [])
   one_more c not = record {
@@ -297,7 +322,8 @@ module _ (bytes rest : List ℕ) (passed : List (List ℕ)) (so_far : Scans byte
   open_lines : IsOpen first.raw → first.after ≡ [] → lines_onto [] bytes ≡ map said passed ++ said first.raw ∷ []
   open_lines o last =
       ap (lines_onto []) (so_far.whole ∙ ap (λ x. concat passed ++ x) (first.whole ∙ ap (λ x. first.raw ++ x) last))
-      ∙ so_far.closed (first.raw ++ []) (next_apart []) ∙ ap (λ x. map said passed ++ lines_onto [] x) (append-nil first.raw) ∙ ap (λ ls. map said passed ++ ls) (o [])
+      ∙ so_far.closed (first.raw ++ []) (next_apart []) ∙ ap (λ x. map said passed ++ lines_onto [] x) (append-nil first.raw) ∙
+      ap (λ ls. map said passed ++ ls) (o [])
 
 none_said : (raws : List (List ℕ)) → NoneEnds raws → EndNoCalendar (map said raws)
 none_said [] h = tt
@@ -308,7 +334,8 @@ none_said (r ∷ raws) h = (h.0, none_said raws h.1)
 joined_then : (ps : List Piece) (last : List ℕ) → joined ps last ≡ joined ps [] ++ last
 joined_then [] last = refl
 joined_then (p ∷ ps) last =
-    ap (λ x. p.text ++ (break_bytes p.end ++ x)) (joined_then ps last) ∙ ap (λ x. p.text ++ x) (sym (append_assoc (break_bytes p.end) (joined ps []) last))
+    ap (λ x. p.text ++ (break_bytes p.end ++ x)) (joined_then ps last) ∙
+    ap (λ x. p.text ++ x) (sym (append_assoc (break_bytes p.end) (joined ps []) last))
     ∙ sym (append_assoc p.text (break_bytes p.end ++ joined ps []) last)
 
 -- the last octet, or this where there is none
@@ -331,15 +358,19 @@ nothing_last : (ps : List Piece) (last before : List ℕ) → HasNoLf last → b
 unfolding end_of
 nothing_last ps [] before h e = refl
 nothing_last ps (x ∷ xs) before h e =
-    absurd (no_feed_last x xs h (sym (end_behind 0 (joined ps []) x xs) ∙ ap (end_of 0) (sym (joined_then ps (x ∷ xs))) ∙ ap (end_of 0) (sym e) ∙ end_behind 0 before 10 []))
+    absurd (no_feed_last x xs h (sym (end_behind 0 (joined ps []) x xs) ∙ ap (end_of 0) (sym (joined_then ps (x ∷ xs))) ∙
+    ap (end_of 0) (sym e) ∙ end_behind 0 before 10 []))
 
 feed_some : (before : List ℕ) → before ++ 10 ∷ [] ≡ [] → ⊥
 feed_some [] e = cc
 feed_some (b ∷ before) e = cc
 
 -- a text that ends with the break of a line that ends a calendar, and of which no other does
-calendar_of : (text before : List ℕ) (front : List (List ℕ)) (line : List ℕ) → text ≡ before ++ 10 ∷ [] → lines_onto [] (text ++ []) ≡ (front ++ line ∷ []) ++ lines_onto [] [] → EndNoCalendar front → is_calendar_end line ≡ true → IsCalendar text
-calendar_of text before front line feed lines none ends = made cutting.pieces (subst (λ (l : List ℕ). IsCutting text cutting.pieces l) nothing cutting.cut)
+calendar_of : (text before : List ℕ) (front : List (List ℕ)) (line : List ℕ) → text ≡ before ++ 10 ∷ [] →
+    lines_onto [] (text ++ []) ≡ (front ++ line ∷ []) ++ lines_onto [] [] → EndNoCalendar front → is_calendar_end line ≡ true →
+    IsCalendar text
+calendar_of text before front line feed lines none ends =
+    made cutting.pieces (subst (λ (l : List ℕ). IsCutting text cutting.pieces l) nothing cutting.cut)
   where
     cutting : HasCutting text
     cutting = cutting_of text
@@ -363,10 +394,12 @@ calendar_of text before front line feed lines none ends = made cutting.pieces (s
 -- ---- the messages
 
 -- a text is one message, unless all its lines are empty
-empty_told : (text : List ℕ) (raws tail : List (List ℕ)) → without_empty tail ≡ [] → unless_empty text (without_empty (map said raws ++ tail)) ≡ cond (list_all is_empty raws) [] (text ∷ [])
+empty_told : (text : List ℕ) (raws tail : List (List ℕ)) → without_empty tail ≡ [] →
+    unless_empty text (without_empty (map said raws ++ tail)) ≡ cond (list_all is_empty raws) [] (text ∷ [])
 empty_told text [] tail h = ap (unless_empty text) h
 empty_told text (r ∷ raws) tail h =
-    elim (said r) as (λ s. unless_empty text (without_empty (s ∷ (map said raws ++ tail))) ≡ cond (same_text (map to_ascii_uppercase s) [] && list_all is_empty raws) [] (text ∷ [])) [
+    elim (said r) as (λ s. unless_empty text (without_empty (s ∷ (map said raws ++ tail))) ≡ cond
+    (same_text (map to_ascii_uppercase s) [] && list_all is_empty raws) [] (text ∷ [])) [
       | [] ↦ empty_told text raws tail h
       | b ∷ s ↦ refl
     ]
@@ -378,15 +411,27 @@ none_texts (r ∷ raws) none = ap texts_of (groups_none r raws none)
 
 -- the first message, or what is left
 data HasNext (bytes : List ℕ) : Type 0 where
-  calendar : (message after : List ℕ) → IsCalendar message → LacksBlank after → bytes ≡ message ++ after → messages_of bytes ≡ message ∷ messages_of after → length after < length bytes → HasNext bytes
+  calendar : (message after : List ℕ) → IsCalendar message → LacksBlank after → bytes ≡ message ++ after → messages_of bytes ≡ message ∷
+      messages_of after → length after < length bytes → HasNext bytes
   left : (is : IsRest bytes) → messages_of bytes ≡ unless_empty bytes (lines_of is.pieces is.last) → HasNext bytes
 
 -- what is left has these lines
-left_of : (bytes : List ℕ) (raws tail front : List (List ℕ)) (line : List ℕ) → lines_onto [] bytes ≡ map said raws ++ tail → without_empty tail ≡ [] → lines_onto [] bytes ≡ front ++ line ∷ [] → EndNoCalendar front
+left_of : (bytes : List ℕ) (raws tail front : List (List ℕ)) (line : List ℕ) → lines_onto [] bytes ≡ map said raws ++ tail →
+    without_empty tail ≡ [] → lines_onto [] bytes ≡ front ++ line ∷ [] → EndNoCalendar front
     → messages_of bytes ≡ cond (list_all is_empty raws) [] (bytes ∷ []) → HasNext bytes
 left_of bytes raws tail front line said_so no_tail lines none messages = left
-    (record { pieces = cutting.pieces; last = cutting.last; cut = cutting.cut; front = front; line = line; lines = lines_of_cutting bytes cutting.pieces cutting.last cutting.cut ∙ lines; none_before = none })
-    (messages ∙ sym (empty_told bytes raws tail no_tail) ∙ ap (λ ls. unless_empty bytes (without_empty ls)) (sym said_so) ∙ ap (unless_empty bytes) (sym (lines_of_cut bytes cutting.pieces cutting.last cutting.cut)))
+    (record {
+      pieces = cutting.pieces;
+      last = cutting.last;
+      cut = cutting.cut;
+      front = front;
+      line = line;
+      lines =
+          lines_of_cutting bytes cutting.pieces cutting.last cutting.cut ∙ lines;
+      none_before = none;
+    })
+    (messages ∙ sym (empty_told bytes raws tail no_tail) ∙ ap (λ ls. unless_empty bytes (without_empty ls)) (sym said_so) ∙
+    ap (unless_empty bytes) (sym (lines_of_cut bytes cutting.pieces cutting.last cutting.cut)))
   where
     cutting : HasCutting bytes
     cutting = cutting_of bytes
@@ -399,27 +444,34 @@ all_passed bytes passed so_far =
     let lines : lines_onto [] bytes ≡ map said passed ++ [] ∷ [] =
     ap (lines_onto []) so_far.whole ∙ so_far.closed [] (inr lacks_nothing) ∙ ap (λ ls. map said passed ++ ls) (no_octets []) in
     left_of bytes passed ([] ∷ []) (map said passed) [] lines refl lines (none_said passed so_far.none_ends)
-    (ap (λ ls. texts_of (groups_of ls)) (so_far.lines ∙ append-nil passed) ∙ none_texts passed so_far.none_ends ∙ ap (λ x. cond (list_all is_empty passed) [] (x ∷ [])) text)
+    (ap (λ ls. texts_of (groups_of ls)) (so_far.lines ∙ append-nil passed) ∙ none_texts passed so_far.none_ends ∙
+    ap (λ x. cond (list_all is_empty passed) [] (x ∷ [])) text)
 
 module _ (bytes rest : List ℕ) (passed : List (List ℕ)) (so_far : Scans bytes rest passed) (first : HasFirst rest) where
   -- where the last line has no break
   last_text : first.after ≡ [] → concat (passed ++ first.raw ∷ []) ≡ bytes
-  last_text last = sym (append-nil (concat (passed ++ first.raw ∷ []))) ∙ ap (λ x. concat (passed ++ first.raw ∷ []) ++ x) (sym last) ∙ sym (passed_whole bytes rest passed so_far first)
+  last_text last = sym (append-nil (concat (passed ++ first.raw ∷ []))) ∙ ap (λ x. concat (passed ++ first.raw ∷ []) ++ x) (sym last) ∙
+      sym (passed_whole bytes rest passed so_far first)
 
   last_lines : first.after ≡ [] → scan.lines_of bytes ≡ passed ++ first.raw ∷ []
   last_lines last = passed_lines bytes rest passed so_far first ∙ ap (λ x. passed ++ first.raw ∷ scan.lines_of x) last
 
-  no_break : IsOpen first.raw → first.after ≡ [] → texts_of (groups_of (passed ++ first.raw ∷ [])) ≡ cond (list_all is_empty (passed ++ first.raw ∷ [])) [] (concat (passed ++ first.raw ∷ []) ∷ []) → HasNext bytes
+  no_break : IsOpen first.raw → first.after ≡ [] →
+      texts_of (groups_of (passed ++ first.raw ∷ [])) ≡ cond (list_all is_empty (passed ++ first.raw ∷ [])) []
+      (concat (passed ++ first.raw ∷ []) ∷ []) → HasNext bytes
   unfolding messages_of
   no_break o last texts =
       let lines : lines_onto [] bytes ≡ map said passed ++ said first.raw ∷ [] = open_lines bytes rest passed so_far first o last in
       left_of bytes (passed ++ first.raw ∷ []) [] (map said passed) (said first.raw)
-      (lines ∙ sym (map-append said passed (first.raw ∷ [])) ∙ sym (append-nil (map said (passed ++ first.raw ∷ [])))) refl lines (none_said passed so_far.none_ends)
-      (ap (λ ls. texts_of (groups_of ls)) (last_lines last) ∙ texts ∙ ap (λ x. cond (list_all is_empty (passed ++ first.raw ∷ [])) [] (x ∷ [])) (last_text last))
+      (lines ∙ sym (map-append said passed (first.raw ∷ [])) ∙ sym (append-nil (map said (passed ++ first.raw ∷ [])))) refl lines
+      (none_said passed so_far.none_ends)
+      (ap (λ ls. texts_of (groups_of ls)) (last_lines last) ∙ texts ∙
+      ap (λ x. cond (list_all is_empty (passed ++ first.raw ∷ [])) [] (x ∷ [])) (last_text last))
 
   ends_open : IsOpen first.raw → first.after ≡ [] → ends_calendar first.raw ≡ true → HasNext bytes
   ends_open o last ends =
-      no_break o last (texts_end passed first.raw [] so_far.none_ends ends ∙ ap (λ (v : Bool). cond v [] (concat (passed ++ first.raw ∷ []) ∷ [])) (sym (not_empty passed first.raw ends)))
+      no_break o last (texts_end passed first.raw [] so_far.none_ends ends ∙
+      ap (λ (v : Bool). cond v [] (concat (passed ++ first.raw ∷ []) ∷ [])) (sym (not_empty passed first.raw ends)))
 
   passes_open : IsOpen first.raw → first.after ≡ [] → ends_calendar first.raw ≡ false → HasNext bytes
   passes_open o last not = no_break o last (none_texts (passed ++ first.raw ∷ []) (none_ends_more passed first.raw so_far.none_ends not))
@@ -429,15 +481,20 @@ module _ (bytes rest : List ℕ) (passed : List (List ℕ)) (so_far : Scans byte
   unfolding messages_of
   ends_closed c ends =
       let message : List ℕ = concat (passed ++ first.raw ∷ []) in
-      let feed : message ≡ (concat passed ++ c.before) ++ 10 ∷ [] = concat_push passed first.raw ∙ ap (λ x. concat passed ++ x) c.feed ∙ sym (append_assoc (concat passed) c.before (10 ∷ [])) in
+      let feed : message ≡ (concat passed ++ c.before) ++ 10 ∷ [] = concat_push passed first.raw ∙ ap (λ x. concat passed ++ x) c.feed ∙
+      sym (append_assoc (concat passed) c.before (10 ∷ [])) in
       let lines : lines_onto [] (message ++ []) ≡ (map said passed ++ said first.raw ∷ []) ++ lines_onto [] [] =
-      more_closed bytes rest passed so_far first c [] lacks_nothing ∙ ap (λ ls. ls ++ lines_onto [] []) (map-append said passed (first.raw ∷ [])) in
+      more_closed bytes rest passed so_far first c [] lacks_nothing ∙
+      ap (λ ls. ls ++ lines_onto [] []) (map-append said passed (first.raw ∷ [])) in
       let whole : bytes ≡ message ++ first.after = passed_whole bytes rest passed so_far first in
       let long : length bytes ≡ length message + length first.after = ap length whole ∙ length-append message first.after in
-      let front : length message ≡ length (concat passed) + length first.raw = ap length (concat_push passed first.raw) ∙ length-append (concat passed) first.raw in
+      let front : length message ≡ length (concat passed) + length first.raw = ap length (concat_push passed first.raw) ∙
+      length-append (concat passed) first.raw in
       let some : 0 < length first.raw = first.some in
-      calendar message first.after (calendar_of message (concat passed ++ c.before) (map said passed) (said first.raw) feed lines (none_said passed so_far.none_ends) ends) c.apart whole
-      (ap (λ ls. texts_of (groups_of ls)) (passed_lines bytes rest passed so_far first) ∙ texts_end passed first.raw (scan.lines_of first.after) so_far.none_ends ends)
+      calendar message first.after (calendar_of message (concat passed ++ c.before) (map said passed) (said first.raw) feed lines
+      (none_said passed so_far.none_ends) ends) c.apart whole
+      (ap (λ ls. texts_of (groups_of ls)) (passed_lines bytes rest passed so_far first) ∙
+      texts_end passed first.raw (scan.lines_of first.after) so_far.none_ends ends)
       (omega arith)
 
 next : (fuel : ℕ) (bytes rest : List ℕ) (passed : List (List ℕ)) → Scans bytes rest passed → length rest < fuel → HasNext bytes
@@ -446,10 +503,15 @@ next (suc fuel) bytes [] passed so_far h = all_passed bytes passed so_far
 next (suc fuel) bytes (b ∷ rest) passed so_far h =
     let first = has_first b rest in
     elim (ends_calendar first.raw) as (λ v. ends_calendar first.raw ≡ v → HasNext bytes) [
-      | true ↦ λ e. elim first.ends [ inl c ↦ ends_closed bytes (b ∷ rest) passed so_far first c e | inr o ↦ ends_open bytes (b ∷ rest) passed so_far first o.0 o.1 e ]
+      | true ↦ λ e. elim first.ends [
+        | inl c ↦ ends_closed bytes (b ∷ rest) passed so_far first c e
+        | inr o ↦ ends_open bytes (b ∷ rest)
+            passed so_far first o.0 o.1 e
+      ]
       | false ↦ λ e. elim first.ends [
         | inl c ↦ next fuel bytes first.after (passed ++ first.raw ∷ []) (one_more bytes (b ∷ rest) passed so_far first c e)
-            (let long : length (b ∷ rest) ≡ length first.raw + length first.after = ap length first.whole ∙ length-append first.raw first.after in let some : 0 < length first.raw = first.some in omega arith)
+            (let long : length (b ∷ rest) ≡ length first.raw + length first.after = ap length first.whole ∙
+            length-append first.raw first.after in let some : 0 < length first.raw = first.some in omega arith)
         | inr o ↦ passes_open bytes (b ∷ rest) passed so_far first o.0 o.1 e
       ]
     ] refl
@@ -469,7 +531,16 @@ cut_on (suc fuel) bytes h =
             rest_is = more.rest_is;
             messages_are = messages ∙ ap (λ ms. message ∷ ms) more.messages_are;
           }
-      | left is messages ↦ record { calendars = []; rest = bytes; whole = refl; each = tt; apart = tt; rest_is = is; messages_are = messages }
+      | left is messages ↦ record {
+        calendars = [];
+        rest = bytes;
+        whole = refl;
+        each = tt;
+        apart = tt;
+        rest_is = is;
+        messages_are =
+            messages;
+      }
     ]
 
 -- the octets are cut into the messages that the scan finds

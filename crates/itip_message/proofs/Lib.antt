@@ -11,6 +11,7 @@ pub mod Placing
 pub mod Plain
 pub mod Properties
 pub mod ReadAgain
+pub mod RefusalPlaces
 pub mod Searches
 pub mod SomeMessage
 pub mod Stages

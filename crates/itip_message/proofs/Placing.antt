@@ -1,5 +1,6 @@
 -- The lines of a canonical form are framed, have a head, and hold one to-do.
-use Rattle.std.proofs.Common.{◌≡◌, ◌∙◌, sym, ap, refl, ℕ, Bool, true, false, List, [], ◌∷◌, ◌++◌, length, map, append-nil, append_assoc, subst, Option, Some, None, Ok, IsTrue}
+use Rattle.std.proofs.Common.{◌≡◌, ◌∙◌, sym, ap, refl, ℕ, Bool, true, false, List, [], ◌∷◌, ◌++◌, length, map, append-nil, append_assoc}
+use Rattle.std.proofs.Common.{subst, Option, Some, None, Ok, IsTrue}
 use Rattle.std.specs.Prelude.{Result, not, ◌||◌, codes}
 use Rattle.std.specs.List.{AllByRecursion, list_all}
 use Rattle.std.proofs.lemmas.Bool.{and_parts}
@@ -23,7 +24,10 @@ use Rattle.itip_items.specs.declared.kind.Kind.{Kind}
 use Rattle.itip_items.specs.declared.kind.Kind.TheVariants as kind
 use Rattle.itip_message.specs.declared.error.MessageRefusal.{MessageRefusal}
 use Rattle.itip_todo.proofs.ContentLines.{lines_from, contents_of}
-use Rattle.itip_items.proofs.Pieces.{base_of, rid_of, start_of, due_of, status_of, percent_of, priority_of, summary_of, organizer_of, attendees_of, rule_of, rdates_of, exdates_of, others_of, from_rid, from_start, from_due, from_status, from_percent, from_priority, from_summary, from_organizer, from_attendees, from_rule, from_rdates, from_exdates}
+use Rattle.itip_items.proofs.Pieces.{base_of, rid_of, start_of, due_of, status_of, percent_of, priority_of, summary_of, organizer_of}
+use Rattle.itip_items.proofs.Pieces.{attendees_of, rule_of, rdates_of, exdates_of, others_of, from_rid, from_start, from_due, from_status}
+use Rattle.itip_items.proofs.Pieces.{from_percent, from_priority, from_summary, from_organizer, from_attendees, from_rule, from_rdates}
+use Rattle.itip_items.proofs.Pieces.{from_exdates}
 
 -- contents that neither begin nor end a component
 
@@ -91,8 +95,10 @@ neither true e h = absurd (cc)
 neither false true h = absurd (cc)
 neither false false h = (refl, refl)
 
-one_placed : (line : NumberedLine) (lines : List NumberedLine) (rest : List Placed) → IsTrue (is_property line.line) → place inside lines ≡ Ok rest → place inside (line ∷ lines) ≡ Ok (TodoLine line ∷ rest)
-one_placed line lines rest h e = let p = neither (is_begin line.line) (is_end line.line) h in rw (p.0, p.1) (ap (λ (r : Result (List Placed) MessageRefusal). with_front (TodoLine line ∷ []) r) e)
+one_placed : (line : NumberedLine) (lines : List NumberedLine) (rest : List Placed) → IsTrue (is_property line.line) →
+    place inside lines ≡ Ok rest → place inside (line ∷ lines) ≡ Ok (TodoLine line ∷ rest)
+one_placed line lines rest h e = let p = neither (is_begin line.line) (is_end line.line) h in
+    rw (p.0, p.1) (ap (λ (r : Result (List Placed) MessageRefusal). with_front (TodoLine line ∷ []) r) e)
 
 abbrev line_of : (c : Content) → IsLawfulContent c → Line
 line_of c h = record { name = c.name; params = c.params; value = c.value; lawful = h }
@@ -107,7 +113,15 @@ record Begins (ns : List NumberedLine) (line : Line) (lines : List Line) : Type 
 
 begins : (ns : List NumberedLine) (line : Line) (lines : List Line) → plain_lines ns ≡ line ∷ lines → Begins ns line lines
 begins [] line lines e = absurd cc
-begins (n ∷ ns) line lines e = record { first = n; others = ns; whole = refl; is = (let same : n.line ≡ line = cc in same); are = (let same : plain_lines ns ≡ lines = cc in same) }
+begins (n ∷ ns) line lines e =
+    record {
+      first = n;
+      others = ns;
+      whole = refl;
+      is = (let same : n.line ≡ line = cc in same);
+      are =
+          (let same : plain_lines ns ≡ lines = cc in same);
+    }
 
 no_more : (ns : List NumberedLine) → plain_lines ns ≡ [] → ns ≡ []
 no_more [] e = refl
@@ -119,15 +133,18 @@ record InTodo (cs : List Content) (h : AllByRecursion IsLawfulContent (cs ++ end
   placed : place inside ns ≡ Ok (map TodoLine inner)
   are : plain_lines inner ≡ lines_from cs (front cs ends h)
 
-ended : (h : AllByRecursion IsLawfulContent ends) (a b : NumberedLine) → a.line ≡ line_of (bare (codes "END") (codes "VTODO")) h.0 → b.line ≡ line_of (bare (codes "END") (codes "VCALENDAR")) h.1.0
+ended : (h : AllByRecursion IsLawfulContent ends) (a b : NumberedLine) → a.line ≡ line_of (bare (codes "END") (codes "VTODO")) h.0 →
+    b.line ≡ line_of (bare (codes "END") (codes "VCALENDAR")) h.1.0
     → place inside (a ∷ b ∷ []) ≡ Ok []
 ended h a b x y = λ i. place inside (line_at a.number (x i) ∷ line_at b.number (y i) ∷ [])
 
-todo_placed : (cs : List Content) (h : AllByRecursion IsLawfulContent (cs ++ ends)) → AreProperties cs → (ns : List NumberedLine) → plain_lines ns ≡ lines_from (cs ++ ends) h → InTodo cs h ns
+todo_placed : (cs : List Content) (h : AllByRecursion IsLawfulContent (cs ++ ends)) → AreProperties cs → (ns : List NumberedLine) →
+    plain_lines ns ≡ lines_from (cs ++ ends) h → InTodo cs h ns
 todo_placed [] h k ns e =
     let a = begins ns _ _ e in
     let b = begins a.others _ _ a.are in
-    let all : ns ≡ a.first ∷ b.first ∷ [] = a.whole ∙ ap (λ (ls : List NumberedLine). a.first ∷ ls) (b.whole ∙ ap (λ (ls : List NumberedLine). b.first ∷ ls) (no_more b.others b.are)) in
+    let all : ns ≡ a.first ∷ b.first ∷ [] = a.whole ∙
+    ap (λ (ls : List NumberedLine). a.first ∷ ls) (b.whole ∙ ap (λ (ls : List NumberedLine). b.first ∷ ls) (no_more b.others b.are)) in
     record { inner = []; placed = ap (place inside) all ∙ ended h a.first b.first a.is b.is; are = refl }
 todo_placed (c ∷ cs) h k ns e =
     let a = begins ns _ _ e in
@@ -148,7 +165,8 @@ with_lines first lines = record { begins = first.begins; lines = first.lines ++ 
 
 one_todo : (first : Component) (lines : List NumberedLine) → todos_from first (map TodoLine lines) ≡ with_lines first lines ∷ []
 one_todo first [] = ap (λ (all : List NumberedLine). record { begins = first.begins; lines = all } ∷ []) (sym (append-nil first.lines))
-one_todo first (line ∷ lines) = one_todo (with_lines first (line ∷ [])) lines ∙ ap (λ (all : List NumberedLine). record { begins = first.begins; lines = all } ∷ []) (append_assoc first.lines (line ∷ []) lines)
+one_todo first (line ∷ lines) = one_todo (with_lines first (line ∷ [])) lines ∙
+    ap (λ (all : List NumberedLine). record { begins = first.begins; lines = all } ∷ []) (append_assoc first.lines (line ∷ []) lines)
 
 -- the lines of the canonical form of parts
 pub record IsFramed (k : Kind) (p : Parts) (lines : List NumberedLine) : Type 0 where
@@ -168,8 +186,10 @@ version = bare (codes "VERSION") (codes "2.0")
 abbrev method_line : Kind → Content
 method_line k = bare (codes "METHOD") (method_text (method_of k))
 
-head_is : (k : Kind) (l m n : ℕ) (a : IsLawfulContent product) (b : IsLawfulContent version) (c : IsLawfulContent (method_line k)) (todo : Component)
-    → head_of (line_at l (line_of product a) ∷ line_at m (line_of version b) ∷ line_at n (line_of (method_line k) c) ∷ []) (todo ∷ []) ≡ Ok (method_of k)
+head_is : (k : Kind) (l m n : ℕ) (a : IsLawfulContent product) (b : IsLawfulContent version) (c : IsLawfulContent (method_line k))
+    (todo : Component)
+    → head_of (line_at l (line_of product a) ∷ line_at m (line_of version b) ∷ line_at n (line_of (method_line k) c) ∷ []) (todo ∷ []) ≡ Ok
+    (method_of k)
 head_is kind.Request l m n a b c todo = refl
 head_is kind.Add l m n a b c todo = refl
 head_is kind.Remove l m n a b c todo = refl
@@ -180,16 +200,26 @@ head_is kind.Refresh l m n a b c todo = refl
 -- the five lines before those of the to-do, where each has some number
 module _ (k : Kind) (p : Parts) (h : AllByRecursion IsLawfulContent (canonical_contents k p)) where
   abbrev before : ℕ → ℕ → ℕ → ℕ → List Placed
-  before l m n o = CalendarLine (line_at l (line_of product h.1.0)) ∷ CalendarLine (line_at m (line_of version h.1.1.0)) ∷ CalendarLine (line_at n (line_of (method_line k) h.1.1.1.0)) ∷ TodoBegins o ∷ []
+  before l m n o = CalendarLine (line_at l (line_of product h.1.0)) ∷ CalendarLine (line_at m (line_of version h.1.1.0)) ∷
+      CalendarLine (line_at n (line_of (method_line k) h.1.1.1.0)) ∷ TodoBegins o ∷ []
 
   framed_so : (a b c d e : NumberedLine) (rest inner : List NumberedLine)
-      → a.line ≡ line_of (bare (codes "BEGIN") (codes "VCALENDAR")) h.0 → b.line ≡ line_of product h.1.0 → c.line ≡ line_of version h.1.1.0 → d.line ≡ line_of (method_line k) h.1.1.1.0 → e.line ≡ line_of (bare (codes "BEGIN") (codes "VTODO")) h.1.1.1.1.0
-      → place inside rest ≡ Ok (map TodoLine inner) → frame (a ∷ b ∷ c ∷ d ∷ e ∷ rest) ≡ Ok (before b.number c.number d.number e.number ++ map TodoLine inner)
+      → a.line ≡ line_of (bare (codes "BEGIN") (codes "VCALENDAR")) h.0 → b.line ≡ line_of product h.1.0 →
+      c.line ≡ line_of version h.1.1.0 → d.line ≡ line_of (method_line k) h.1.1.1.0 →
+      e.line ≡ line_of (bare (codes "BEGIN") (codes "VTODO")) h.1.1.1.1.0
+      → place inside rest ≡ Ok (map TodoLine inner) →
+      frame (a ∷ b ∷ c ∷ d ∷ e ∷ rest) ≡ Ok (before b.number c.number d.number e.number ++ map TodoLine inner)
   framed_so a b c d e rest inner x y z u v placed =
-      (λ i. frame (line_at a.number (x i) ∷ line_at b.number (y i) ∷ line_at c.number (z i) ∷ line_at d.number (u i) ∷ line_at e.number (v i) ∷ rest))
-      ∙ ap (λ (r : Result (List Placed) MessageRefusal). with_front (CalendarLine (line_at b.number (line_of product h.1.0)) ∷ []) (with_front (CalendarLine (line_at c.number (line_of version h.1.1.0)) ∷ []) (with_front (CalendarLine (line_at d.number (line_of (method_line k) h.1.1.1.0)) ∷ []) (with_front (TodoBegins e.number ∷ []) r)))) placed
+      (λ i. frame (line_at a.number (x i) ∷ line_at b.number (y i) ∷ line_at c.number (z i) ∷ line_at d.number (u i) ∷
+      line_at e.number (v i) ∷ rest))
+      ∙ ap (λ (r : Result (List Placed) MessageRefusal). with_front (CalendarLine (line_at b.number (line_of product h.1.0)) ∷ [])
+      (with_front (CalendarLine (line_at c.number (line_of version h.1.1.0)) ∷ [])
+      (with_front (CalendarLine (line_at d.number (line_of (method_line k) h.1.1.1.0)) ∷ [])
+      (with_front (TodoBegins e.number ∷ []) r)))) placed
 
-pub canonical_framed : (k : Kind) (p : Parts) (h : AllByRecursion IsLawfulContent (canonical_contents k p)) → IsTrue (list_all is_property p.others) → (ns : List NumberedLine) → plain_lines ns ≡ lines_from (canonical_contents k p) h → IsFramed k p ns
+pub canonical_framed : (k : Kind) (p : Parts) (h : AllByRecursion IsLawfulContent (canonical_contents k p)) →
+    IsTrue (list_all is_property p.others) → (ns : List NumberedLine) → plain_lines ns ≡ lines_from (canonical_contents k p) h →
+    IsFramed k p ns
 canonical_framed k p h others ns e =
     let cs : List Content = parts_contents p in
     let a = begins ns _ _ e in
@@ -200,12 +230,16 @@ canonical_framed k p h others ns e =
     let rest = todo_placed cs h.1.1.1.1.1 (parts_properties p others) f.others f.are in
     let first : Component = begun f.first.number in
     let all : ns ≡ a.first ∷ b.first ∷ c.first ∷ d.first ∷ f.first ∷ f.others =
-    a.whole ∙ ap (λ (ls : List NumberedLine). a.first ∷ ls) (b.whole ∙ ap (λ (ls : List NumberedLine). b.first ∷ ls) (c.whole ∙ ap (λ (ls : List NumberedLine). c.first ∷ ls) (d.whole ∙ ap (λ (ls : List NumberedLine). d.first ∷ ls) f.whole))) in
+    a.whole ∙ ap (λ (ls : List NumberedLine). a.first ∷ ls) (b.whole ∙
+    ap (λ (ls : List NumberedLine). b.first ∷ ls) (c.whole ∙
+    ap (λ (ls : List NumberedLine). c.first ∷ ls) (d.whole ∙ ap (λ (ls : List NumberedLine). d.first ∷ ls) f.whole))) in
     record {
       placed = before k p h b.first.number c.first.number d.first.number f.first.number ++ map TodoLine rest.inner;
       inner = with_lines first rest.inner;
-      framed = ap frame all ∙ framed_so k p h a.first b.first c.first d.first f.first f.others rest.inner a.is b.is c.is d.is f.is rest.placed;
-      headed = (λ i. head_of (line_at b.first.number (line_of product h.1.0) ∷ line_at c.first.number (line_of version h.1.1.0) ∷ line_at d.first.number (line_of (method_line k) h.1.1.1.0) ∷ none_calendar rest.inner i) (one_todo first rest.inner i))
+      framed = ap frame all ∙ framed_so k p h a.first b.first c.first d.first f.first f.others rest.inner a.is b.is c.is d.is f.is
+          rest.placed;
+      headed = (λ i. head_of (line_at b.first.number (line_of product h.1.0) ∷ line_at c.first.number (line_of version h.1.1.0) ∷
+          line_at d.first.number (line_of (method_line k) h.1.1.1.0) ∷ none_calendar rest.inner i) (one_todo first rest.inner i))
           ∙ head_is k b.first.number c.first.number d.first.number h.1.0 h.1.1.0 h.1.1.1.0 (with_lines first rest.inner);
       todos_are = one_todo first rest.inner;
       contents = ap (map content_of) rest.are ∙ contents_of cs (front cs ends h.1.1.1.1.1);

@@ -18,7 +18,10 @@ use Rattle.itip_todo.specs.Written.{Content, content_of, parts_contents, propert
 use Rattle.itip_todo.specs.declared.property_name.PropertyName.TheVariants as name
 use Rattle.itip_todo.specs.Participation.{same_text}
 use Rattle.itip_items.specs.Needs.{is_property}
-use Rattle.itip_items.proofs.Pieces.{base_of, rid_of, start_of, due_of, status_of, percent_of, priority_of, summary_of, organizer_of, attendees_of, rule_of, rdates_of, exdates_of, others_of, from_rid, from_start, from_due, from_status, from_percent, from_priority, from_summary, from_organizer, from_attendees, from_rule, from_rdates, from_exdates}
+use Rattle.itip_items.proofs.Pieces.{base_of, rid_of, start_of, due_of, status_of, percent_of, priority_of, summary_of, organizer_of}
+use Rattle.itip_items.proofs.Pieces.{attendees_of, rule_of, rdates_of, exdates_of, others_of, from_rid, from_start, from_due, from_status}
+use Rattle.itip_items.proofs.Pieces.{from_percent, from_priority, from_summary, from_organizer, from_attendees, from_rule, from_rdates}
+use Rattle.itip_items.proofs.Pieces.{from_exdates}
 
 -- ---- octets
 
@@ -30,7 +33,8 @@ both : (a b : List ℕ) → list_all is_value_octet a ≡ true → list_all is_v
 both a b h k = list_all-append is_value_octet a b ∙ rw h k
 
 clean_name : (name : List ℕ) → IsName name → list_all is_value_octet name ≡ true
-clean_name name h = all_weaker is_name_octet is_value_octet name_value name (all_weaker is_upper_name_octet is_name_octet upper_is_name name h.upper)
+clean_name name h = all_weaker is_name_octet is_value_octet name_value name
+    (all_weaker is_upper_name_octet is_name_octet upper_is_name name h.upper)
 
 clean_value : (value : List ℕ) → IsParamValue value → list_all is_value_octet (value_text value) ≡ true
 clean_value value h =
@@ -43,10 +47,14 @@ clean_value value h =
 clean_values : (vs : List (List ℕ)) → AllByRecursion IsParamValue vs → list_all is_value_octet (values_text vs) ≡ true
 clean_values [] h = refl
 clean_values (v ∷ []) h = clean_value v h.0
-clean_values (v ∷ (w ∷ vs)) h = both (value_text v) (44 ∷ values_text (w ∷ vs)) (clean_value v h.0) (both (44 ∷ []) (values_text (w ∷ vs)) refl (clean_values (w ∷ vs) h.1))
+clean_values (v ∷ (w ∷ vs)) h =
+    both (value_text v) (44 ∷ values_text (w ∷ vs)) (clean_value v h.0)
+    (both (44 ∷ []) (values_text (w ∷ vs)) refl (clean_values (w ∷ vs) h.1))
 
 clean_param : (p : Param) → IsLawfulParam p → list_all is_value_octet (param_text p) ≡ true
-clean_param p h = both (59 ∷ []) (p.name ++ 61 ∷ values_text p.values) refl (both p.name (61 ∷ values_text p.values) (clean_name p.name h.named) (both (61 ∷ []) (values_text p.values) refl (clean_values p.values h.values)))
+clean_param p h = both (59 ∷ []) (p.name ++ 61 ∷ values_text p.values) refl
+    (both p.name (61 ∷ values_text p.values) (clean_name p.name h.named)
+    (both (61 ∷ []) (values_text p.values) refl (clean_values p.values h.values)))
 
 clean_params : (ps : List Param) → AllByRecursion IsLawfulParam ps → list_all is_value_octet (params_text ps) ≡ true
 clean_params [] h = refl
@@ -85,7 +93,8 @@ of_list line (a ∷ list) h = (h a, of_list line list h)
 
 of_others : (lines : List Line) → IsTrue (list_all is_property lines) → AllByRecursion IsNotEnd (map content_of lines)
 of_others [] h = tt
-of_others (line ∷ lines) h = let p = and_parts _ _ h in (none_of (same_text line.name (codes "BEGIN")) (same_text line.name (codes "END")) p.0, of_others lines p.1)
+of_others (line ∷ lines) h = let p = and_parts _ _ h in
+    (none_of (same_text line.name (codes "BEGIN")) (same_text line.name (codes "END")) p.0, of_others lines p.1)
 
 -- no line of a to-do has the name END, where none of the others has
 pub parts_not_end : (p : Parts) → IsTrue (list_all is_property p.others) → AllByRecursion IsNotEnd (parts_contents p)
@@ -139,10 +148,12 @@ unfolding tail_of
 third_mark [] value word = refl
 third_mark (p ∷ ps) value word = refl
 
-named_apart : (n : List ℕ) (params : List Param) (value : List ℕ) → IsName n → same_text n (codes "END") ≡ false → same_text (map to_ascii_uppercase (n ++ tail_of params value)) (codes "END:VCALENDAR") ≡ false
+named_apart : (n : List ℕ) (params : List Param) (value : List ℕ) → IsName n → same_text n (codes "END") ≡ false →
+    same_text (map to_ascii_uppercase (n ++ tail_of params value)) (codes "END:VCALENDAR") ≡ false
 named_apart [] params value named other = absurd (omega (arith, named.some))
 named_apart (a ∷ []) params value named other =
-    ap (λ (t : Bool). (to_ascii_uppercase a == 69) && t) (second_mark params value (codes "D:VCALENDAR")) ∙ and_false (to_ascii_uppercase a == 69)
+    ap (λ (t : Bool). (to_ascii_uppercase a == 69) && t) (second_mark params value (codes "D:VCALENDAR")) ∙
+    and_false (to_ascii_uppercase a == 69)
 named_apart (a ∷ (b ∷ [])) params value named other =
     ap (λ (t : Bool). (to_ascii_uppercase a == 69) && ((to_ascii_uppercase b == 78) && t)) (third_mark params value (codes ":VCALENDAR"))
     ∙ ap (λ (t : Bool). (to_ascii_uppercase a == 69) && t) (and_false (to_ascii_uppercase b == 78)) ∙ and_false (to_ascii_uppercase a == 69)
@@ -167,10 +178,12 @@ named_apart (a ∷ (b ∷ (c ∷ (d ∷ n)))) params value named other =
     let third = and_parts (is_upper_name_octet c) (list_all is_upper_name_octet (d ∷ n)) second.1 in
     let fourth = and_parts (is_upper_name_octet d) (list_all is_upper_name_octet n) third.1 in
     let rest : Bool = same_text (map to_ascii_uppercase (n ++ tail_of params value)) (codes "VCALENDAR") in
-    ap (λ (t : Bool). (to_ascii_uppercase a == 69) && ((to_ascii_uppercase b == 78) && ((to_ascii_uppercase c == 68) && (t && rest)))) (upper_no_colon d fourth.0)
+    ap (λ (t : Bool). (to_ascii_uppercase a == 69) && ((to_ascii_uppercase b == 78) && ((to_ascii_uppercase c == 68) && (t && rest))))
+    (upper_no_colon d fourth.0)
     ∙ ap (λ (t : Bool). (to_ascii_uppercase a == 69) && ((to_ascii_uppercase b == 78) && t)) (and_false (to_ascii_uppercase c == 68))
     ∙ ap (λ (t : Bool). (to_ascii_uppercase a == 69) && t) (and_false (to_ascii_uppercase b == 78)) ∙ and_false (to_ascii_uppercase a == 69)
 
-pub text_apart : (c : Content) → IsLawfulContent c → IsNotEnd c → same_text (map to_ascii_uppercase (line_text c.name c.params c.value)) (codes "END:VCALENDAR") ≡ false
+pub text_apart : (c : Content) → IsLawfulContent c → IsNotEnd c →
+    same_text (map to_ascii_uppercase (line_text c.name c.params c.value)) (codes "END:VCALENDAR") ≡ false
 unfolding tail_of
 text_apart c lawful other = named_apart c.name c.params c.value lawful.named other

@@ -37,8 +37,10 @@ sound_both : (a b : List Placed) → AreSound a → AreSound b → AreSound (a +
 sound_both [] b h k = k
 sound_both (x ∷ a) b h k = (h.0, sound_both a b h.1 k)
 
-sound_front : (front : List Placed) (r : Result (List Placed) MessageRefusal) → AreSound front → ((placed : List Placed) → r ≡ Ok placed → AreSound placed) → (placed : List Placed) → with_front front r ≡ Ok placed → AreSound placed
-sound_front front (Ok rest) h k placed e = let same : front ++ rest ≡ placed = cc in subst AreSound same (sound_both front rest h (k rest refl))
+sound_front : (front : List Placed) (r : Result (List Placed) MessageRefusal) → AreSound front →
+    ((placed : List Placed) → r ≡ Ok placed → AreSound placed) → (placed : List Placed) → with_front front r ≡ Ok placed → AreSound placed
+sound_front front (Ok rest) h k placed e = let same : front ++ rest ≡ placed = cc in
+    subst AreSound same (sound_both front rest h (k rest refl))
 sound_front front (Err f) h k placed e = absurd (cc)
 
 sound_opening : (inside : List (List ℕ)) (name : List ℕ) (number : ℕ) → AreSound (opening inside name number)
@@ -66,7 +68,8 @@ err_sound f placed e = absurd (cc)
 none_sound : GivesSound (Ok [])
 none_sound placed e = let same : [] ≡ placed = cc in subst AreSound same tt
 
-cond_sound : (b : Bool) (r s : Result (List Placed) MessageRefusal) → (b ≡ true → GivesSound r) → (b ≡ false → GivesSound s) → GivesSound (cond b r s)
+cond_sound : (b : Bool) (r s : Result (List Placed) MessageRefusal) → (b ≡ true → GivesSound r) → (b ≡ false → GivesSound s) →
+    GivesSound (cond b r s)
 cond_sound true r s h k = h refl
 cond_sound false r s h k = k refl
 
@@ -77,25 +80,33 @@ sound_place [] (line ∷ lines) = err_sound _
 sound_place (name ∷ inside) (line ∷ lines) =
     cond_sound (is_begin line.line) _ _
     (λ begins. cond_sound (nat_lt (length (name ∷ inside)) 32) _ _
-    (λ fits. sound_front (opening (name ∷ inside) (component_name line.line) line.number) (place (component_name line.line ∷ name ∷ inside) lines) (sound_opening (name ∷ inside) (component_name line.line) line.number) (sound_place (component_name line.line ∷ name ∷ inside) lines))
+    (λ fits. sound_front (opening (name ∷ inside) (component_name line.line) line.number)
+    (place (component_name line.line ∷ name ∷ inside) lines) (sound_opening (name ∷ inside) (component_name line.line) line.number)
+    (sound_place (component_name line.line ∷ name ∷ inside) lines))
     (λ deep. err_sound _))
     (λ no_begin. cond_sound (is_end line.line) _ _
     (λ ends. cond_sound (same_text (component_name line.line) name) _ _ (λ right. sound_place inside lines) (λ wrong. err_sound _))
-    (λ no_end. sound_front (property (name ∷ inside) line) (place (name ∷ inside) lines) (sound_property (name ∷ inside) line (neither line.line no_begin no_end)) (sound_place (name ∷ inside) lines)))
+    (λ no_end. sound_front (property (name ∷ inside) line) (place (name ∷ inside) lines)
+    (sound_property (name ∷ inside) line (neither line.line no_begin no_end)) (sound_place (name ∷ inside) lines)))
 
 sound_frame : (lines : List NumberedLine) → GivesSound (frame lines)
 sound_frame [] = err_sound _
-sound_frame (line ∷ lines) = cond_sound (is_begin line.line && same_text (component_name line.line) (codes "VCALENDAR")) _ _ (λ begins. sound_place (codes "VCALENDAR" ∷ []) lines) (λ other. err_sound _)
+sound_frame (line ∷ lines) =
+    cond_sound (is_begin line.line && same_text (component_name line.line) (codes "VCALENDAR")) _ _
+    (λ begins. sound_place (codes "VCALENDAR" ∷ []) lines) (λ other. err_sound _)
 
 and_true : (a b : Bool) → a ≡ true → b ≡ true → (a && b) ≡ true
 and_true true b h k = k
 and_true false b h k = absurd (cc)
 
-properties_more : (lines : List NumberedLine) (line : NumberedLine) → AreProperties (plain_lines lines) → IsTrue (is_property line.line) → AreProperties (plain_lines (lines ++ line ∷ []))
+properties_more : (lines : List NumberedLine) (line : NumberedLine) → AreProperties (plain_lines lines) → IsTrue (is_property line.line) →
+    AreProperties (plain_lines (lines ++ line ∷ []))
 properties_more [] line h k = and_true (is_property line.line) true k refl
-properties_more (x ∷ lines) line h k = let p = and_parts _ _ h in and_true (is_property x.line) (list_all is_property (plain_lines (lines ++ line ∷ []))) p.0 (properties_more lines line p.1 k)
+properties_more (x ∷ lines) line h k = let p = and_parts _ _ h in
+    and_true (is_property x.line) (list_all is_property (plain_lines (lines ++ line ∷ []))) p.0 (properties_more lines line p.1 k)
 
-sound_from : (first : Component) (placed : List Placed) → HasProperties first → AreSound placed → AllByRecursion HasProperties (todos_from first placed)
+sound_from : (first : Component) (placed : List Placed) → HasProperties first → AreSound placed →
+    AllByRecursion HasProperties (todos_from first placed)
 sound_from first [] h k = (h, tt)
 sound_from first (TodoLine line ∷ placed) h k = sound_from (with_line first line) placed (properties_more first.lines line h k.0) k.1
 sound_from first (TodoBegins number ∷ placed) h k = (h, sound_from (begun number) placed refl k.1)
@@ -112,17 +123,22 @@ filtered test [] h = refl
 filtered test (line ∷ lines) h =
     let p = and_parts _ _ h in
     let rest = filtered test lines p.1 in
-    elim (test line) as (λ b. AreProperties (cond b (line ∷ filter test lines) (filter test lines))) [ true ↦ and_true (is_property line) (list_all is_property (filter test lines)) p.0 rest | false ↦ rest ]
+    elim (test line) as (λ b. AreProperties (cond b (line ∷ filter test lines) (filter test lines)))
+    [ true ↦ and_true (is_property line) (list_all is_property (filter test lines)) p.0 rest | false ↦ rest ]
 
-suits : (m : Method) (component : Component) (todo : Todo) → ReadsComponent m component todo → HasProperties component → Suits m (parts_of todo)
-suits m component todo h k = record { fits = h.fits; others = subst AreProperties (sym h.reads.others) (filtered _ (plain_lines component.lines) k) }
+suits : (m : Method) (component : Component) (todo : Todo) → ReadsComponent m component todo → HasProperties component →
+    Suits m (parts_of todo)
+suits m component todo h k =
+    record { fits = h.fits; others = subst AreProperties (sym h.reads.others) (filtered _ (plain_lines component.lines) k) }
 
-all_suit : (m : Method) (components : List Component) (all : List Todo) → AreComponents m components all → AllByRecursion HasProperties components → AllByRecursion (Suits m) (map parts_of all)
+all_suit : (m : Method) (components : List Component) (all : List Todo) → AreComponents m components all →
+    AllByRecursion HasProperties components → AllByRecursion (Suits m) (map parts_of all)
 all_suit m [] [] h k = tt
 all_suit m [] (todo ∷ all) h k = absurd h
 all_suit m (component ∷ components) [] h k = tt
 all_suit m (component ∷ components) (todo ∷ all) h k = (suits m component todo h.0 k.0, all_suit m components all h.1 k.1)
 
 -- the to-dos of a framed message may be sent alone
-pub framed_suit : (m : Method) (lines : List NumberedLine) (placed : List Placed) (all : List Todo) → frame lines ≡ Ok placed → AreComponents m (todos placed) all → AllByRecursion (Suits m) (map parts_of all)
+pub framed_suit : (m : Method) (lines : List NumberedLine) (placed : List Placed) (all : List Todo) → frame lines ≡ Ok placed →
+    AreComponents m (todos placed) all → AllByRecursion (Suits m) (map parts_of all)
 framed_suit m lines placed all h k = all_suit m (todos placed) all k (sound_todos placed (sound_frame lines placed h))

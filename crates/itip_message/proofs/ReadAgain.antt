@@ -32,7 +32,8 @@ fits : (item : Item) → method_cause (method_of item.kind) (parts_of item.todo)
 fits item = stable (told_none _) (∥∥₁_map item.canonical (λ (is : Is item). is.is_canonical.suits.fits))
 
 others : (item : Item) → IsTrue (list_all is_property item.todo.others)
-others item = ∥∥₁_elim item.canonical (Bool-set (list_all is_property item.todo.others) true) (λ (is : Is item). is.is_canonical.suits.others)
+others item = ∥∥₁_elim item.canonical (Bool-set (list_all is_property item.todo.others) true)
+    (λ (is : Is item). is.is_canonical.suits.others)
 
 item_of_draft : (item : Item) → IsItemOf (draft item) item
 item_of_draft item = record {
@@ -49,7 +50,9 @@ pub reads_again : (item : Item) → ReadsMessage item.bytes (item ∷ [])
 reads_again item =
     let parts : Parts = parts_of item.todo in
     let lawful : AllByRecursion IsLawfulContent (contents item) = canonical_lawful item.kind parts item.todo.lawful.lines in
-    let numbered : ReadsLines item.bytes (lines_from (contents item) lawful) = subst (λ bytes. ReadsLines bytes (lines_from (contents item) lawful)) (sym (bytes_are item)) (reads_contents (contents item) lawful (few_lines item) (few_octets item)) in
+    let numbered : ReadsLines item.bytes (lines_from (contents item) lawful) =
+    subst (λ bytes. ReadsLines bytes (lines_from (contents item) lawful)) (sym (bytes_are item))
+    (reads_contents (contents item) lawful (few_lines item) (few_octets item)) in
     let is : IsFramed item.kind parts numbered.0 = canonical_framed item.kind parts lawful (others item) numbered.0 numbered.1 in
     let within : IsWithinLimits (draft item) = record { octets = few_octets item; lines = few_lines item } in
     record {

@@ -1,5 +1,6 @@
 -- A text is a message, or it is refused.
-use Rattle.std.proofs.Common.{◌≡◌, refl, ℕ, suc, ◌+◌, ◌≤◌, List, [], ◌∷◌, ◌++◌, length, map, arith, inl, inr, ◌⊎◌, true, Option, Some, None, Ok, Err}
+use Rattle.std.proofs.Common.{◌≡◌, refl, ℕ, suc, ◌+◌, ◌≤◌, List, [], ◌∷◌, ◌++◌, length, map, arith, inl, inr, ◌⊎◌, true, Option, Some, None}
+use Rattle.std.proofs.Common.{Ok, Err}
 use Rattle.std.specs.Prelude.{Result}
 use Rattle.std.specs.List.{AllByRecursion, Any}
 use Rattle.std.proofs.lemmas.Bool.Decides.{leb_tells}
@@ -17,14 +18,17 @@ use Rattle.itip_todo.specs.declared.todo.Todo.{Todo}
 use Rattle.itip_todo.proofs.SameTodo.{todo_of}
 use Rattle.itip_todo.proofs.SomeTodo.{some_todo}
 use Rattle.itip_message.specs.Refusals.{of_lines, of_todo, in_todo, large_form}
-use Rattle.itip_message.specs.Places.{place_of}
+use Rattle.itip_message.specs.CauseLines.{line_of_cause}
 use Rattle.itip_message.specs.Frame.{frame, todos}
 use Rattle.itip_message.specs.Head.{head}
-use Rattle.itip_items.specs.Items.{ItemDraft, drafts, drafts_of, task_draft, add_drafts, attendee_draft, only_of, kind_of, raised, series_sequence, is_task, canonical_base, canonical_contents, canonical_octets, Sends, IsCanonical, IsWithinLimits}
+use Rattle.itip_items.specs.Items.{ItemDraft, drafts, drafts_of, task_draft, add_drafts, attendee_draft, only_of, kind_of, raised}
+use Rattle.itip_items.specs.Items.{series_sequence, is_task, canonical_base, canonical_contents, canonical_octets, Sends, IsCanonical}
+use Rattle.itip_items.specs.Items.{IsWithinLimits}
 use Rattle.itip_items.specs.Needs.{method_cause, Suits}
 use Rattle.itip_items.specs.declared.error.MethodCause.{MethodCause}
-use Rattle.itip_message.specs.Message.{ReadsComponent, RefusesComponent, AreComponents, FirstRefused, HasHead, ReadsMessage, RefusesMessage, at_lines, at_frame, at_head, at_component, at_canonical_form}
-use Rattle.itip_items.specs.Given.{IsItemOf, AreItemsOf, IsOver, FirstOver, drafts_among, drafts_each}
+use Rattle.itip_message.specs.Message.{ReadsComponent, RefusesComponent, AreComponents, FirstRefused, HasHead, ReadsMessage, RefusesMessage}
+use Rattle.itip_message.specs.Message.{at_lines, at_frame, at_head, at_component, at_canonical_form}
+use Rattle.itip_items.specs.Given.{IsItemOf, AreItemsOf, IsOver, FirstOver, drafts_each}
 use Rattle.itip_message.specs.declared.sort.Component.{Component}
 use Rattle.itip_message.specs.declared.frame.Placed.{Placed}
 use Rattle.itip_items.specs.declared.item.Item.{Item}
@@ -34,24 +38,29 @@ use Rattle.itip_items.specs.declared.kind.Method.{Method}
 use Rattle.itip_items.specs.declared.kind.Method.TheVariants as method
 use Rattle.itip_message.specs.declared.error.MessageRefusal.{MessageRefusal}
 use Rattle.itip_message.specs.declared.error.MessageCause.TheVariants as causes
+use Rattle.itip_items.proofs.Adding.{drafts_among, within_both}
 use Rattle.itip_items.proofs.Drafting.{sends, series_canonical, instance_canonical, add_canonical, attendee_canonical}
 use Rattle.itip_items.proofs.Lawfulness.{base_lawful, raised_small, canonical_small, series_small, only_each}
 use Rattle.itip_message.proofs.Properties.{framed_suit}
 
 -- ---- components
 
-decide_component : (m : Method) (n : ℕ) (c : Component) → ((todo : Todo) × ReadsComponent m c todo) ⊎ ((f : MessageRefusal) × RefusesComponent m n c f)
+decide_component : (m : Method) (n : ℕ) (c : Component) → ((todo : Todo) × ReadsComponent m c todo) ⊎
+    ((f : MessageRefusal) × RefusesComponent m n c f)
 decide_component m n c =
     elim (some_todo c.lines) [
       | inr refused ↦ inr (of_todo n refused.0, inl (refused.0, refused.1, refl))
       | inl read ↦ fitting read.0 read.1 (method_cause m (parts_of read.0)) refl
     ]
   where
-    fitting : (todo : Todo) → ReadsTodo (plain_lines c.lines) todo → (o : Option MethodCause) → method_cause m (parts_of todo) ≡ o → ((t : Todo) × ReadsComponent m c t) ⊎ ((f : MessageRefusal) × RefusesComponent m n c f)
+    fitting : (todo : Todo) → ReadsTodo (plain_lines c.lines) todo → (o : Option MethodCause) → method_cause m (parts_of todo) ≡ o →
+        ((t : Todo) × ReadsComponent m c t) ⊎ ((f : MessageRefusal) × RefusesComponent m n c f)
     fitting todo reads None e = inl (todo, record { reads = reads; fits = e })
-    fitting todo reads (Some cause) e = inr (in_todo n (causes.Misfit cause) (place_of cause c.lines), inr (todo, cause, reads, e, refl))
+    fitting todo reads (Some cause) e =
+        inr (in_todo n (causes.Misfit cause) (line_of_cause cause c.lines), inr (todo, cause, reads, e, refl))
 
-decide_components : (m : Method) (n : ℕ) (all : List Component) → ((todos : List Todo) × AreComponents m all todos) ⊎ ((f : MessageRefusal) × FirstRefused m n all f)
+decide_components : (m : Method) (n : ℕ) (all : List Component) → ((todos : List Todo) × AreComponents m all todos) ⊎
+    ((f : MessageRefusal) × FirstRefused m n all f)
 decide_components m n [] = inl ([], tt)
 decide_components m n (c ∷ all) =
     elim (decide_component m n c) [
@@ -88,11 +97,8 @@ some_drafts (d ∷ ds) =
 decide_drafts : (ds : List ItemDraft) → AllByRecursion IsWithinLimits ds ⊎ IsOver ds
 decide_drafts ds = elim (some_drafts ds) [ inl within ↦ inl within | inr over ↦ inr (record { over = over }) ]
 
-within_both : (ds es : List ItemDraft) → AllByRecursion IsWithinLimits ds → AllByRecursion IsWithinLimits es → AllByRecursion IsWithinLimits (ds ++ es)
-within_both [] es h k = k
-within_both (d ∷ ds) es h k = (h.0, within_both ds es h.1 k)
-
-decide_each : (n : ℕ) (m : Method) (all rest : List Parts) → AllByRecursion IsWithinLimits (drafts_among m all rest) ⊎ ((todo : ℕ) × FirstOver n (drafts_each m all rest) todo)
+decide_each : (n : ℕ) (m : Method) (all rest : List Parts) → AllByRecursion IsWithinLimits (drafts_among m all rest) ⊎
+    ((todo : ℕ) × FirstOver n (drafts_each m all rest) todo)
 decide_each n m all [] = inl tt
 decide_each n m all (parts ∷ rest) =
     elim (decide_drafts _) [
@@ -118,17 +124,21 @@ sound_both (d ∷ ds) es h k = (h.0, sound_both ds es h.1 k)
 
 module _ (p : Parts) (above : ℕ) (small : above ≤ 2147483647) (lawful : IsLawful p) where
   based : IsLawful (record p { base = canonical_base p.seq (raised p above) })
-  based = base_lawful p (canonical_base p.seq (raised p above)) lawful (canonical_small p.seq (raised p above) (raised_small p above lawful small))
+  based = base_lawful p (canonical_base p.seq (raised p above)) lawful
+      (canonical_small p.seq (raised p above) (raised_small p above lawful small))
 
-  task_sound : (k : Kind) → Sends k p → is_task k ≡ true → (r : Option Moment) → p.rid ≡ r → AreSound (task_draft k (raised p above) r p ∷ [])
-  task_sound k h task None e = (record { canonical = series_canonical k p h task e; lawful = base_lawful p None lawful (λ n same. absurd cc) }, tt)
+  task_sound : (k : Kind) → Sends k p → is_task k ≡ true → (r : Option Moment) → p.rid ≡ r →
+      AreSound (task_draft k (raised p above) r p ∷ [])
+  task_sound k h task None e =
+      (record { canonical = series_canonical k p h task e; lawful = base_lawful p None lawful (λ n same. absurd cc) }, tt)
   task_sound k h task (Some id) e = (record { canonical = instance_canonical k p id above h task e; lawful = based }, tt)
 
   add_sound : Suits (method.Add) p → (s : Option Moment) → p.start ≡ s → AreSound (add_drafts (raised p above) s p)
   add_sound h None e = tt
   add_sound h (Some id) e = (record { canonical = add_canonical p id above h e; lawful = based }, tt)
 
-  attendees_sound : (k : Kind) → ((a : Property) → IsCanonical (attendee_draft k p a)) → (list : List Property) → AllByRecursion (λ a. IsLawful (only_of a p)) list → AreSound (map (attendee_draft k p) list)
+  attendees_sound : (k : Kind) → ((a : Property) → IsCanonical (attendee_draft k p a)) → (list : List Property) →
+      AllByRecursion (λ a. IsLawful (only_of a p)) list → AreSound (map (attendee_draft k p) list)
   attendees_sound k canonical [] h = tt
   attendees_sound k canonical (a ∷ list) h = (record { canonical = canonical a; lawful = h.0 }, attendees_sound k canonical list h.1)
 
@@ -136,16 +146,22 @@ module _ (p : Parts) (above : ℕ) (small : above ≤ 2147483647) (lawful : IsLa
   drafts_sound kind.Request h = task_sound kind.Request h refl p.rid refl
   drafts_sound kind.Cancel h = task_sound kind.Cancel h refl p.rid refl
   drafts_sound kind.Add h = add_sound h.suits p.start refl
-  drafts_sound kind.Remove h = attendees_sound kind.Remove (λ a. attendee_canonical kind.Remove p a h refl (λ e. cc)) p.attendees (only_each p lawful)
-  drafts_sound kind.Reply h = attendees_sound kind.Reply (λ a. attendee_canonical kind.Reply p a h refl (λ e. cc)) p.attendees (only_each p lawful)
-  drafts_sound kind.Refresh h = attendees_sound kind.Refresh (λ a. attendee_canonical kind.Refresh p a h refl (λ e. cc)) p.attendees (only_each p lawful)
+  drafts_sound kind.Remove h =
+      attendees_sound kind.Remove (λ a. attendee_canonical kind.Remove p a h refl (λ e. cc)) p.attendees (only_each p lawful)
+  drafts_sound kind.Reply h =
+      attendees_sound kind.Reply (λ a. attendee_canonical kind.Reply p a h refl (λ e. cc)) p.attendees (only_each p lawful)
+  drafts_sound kind.Refresh h =
+      attendees_sound kind.Refresh (λ a. attendee_canonical kind.Refresh p a h refl (λ e. cc)) p.attendees (only_each p lawful)
 
-among_sound : (m : Method) (all rest : List Todo) → AllByRecursion (Suits m) (map parts_of rest) → AreSound (drafts_among m (map parts_of all) (map parts_of rest))
+among_sound : (m : Method) (all rest : List Todo) → AllByRecursion (Suits m) (map parts_of rest) →
+    AreSound (drafts_among m (map parts_of all) (map parts_of rest))
 among_sound m all [] h = tt
 among_sound m all (todo ∷ rest) h =
     let above : ℕ = series_sequence m todo.uid (map parts_of all) in
-    sound_both (drafts_of (kind_of m (parts_of todo)) (raised (parts_of todo) above) (parts_of todo)) (drafts_among m (map parts_of all) (map parts_of rest))
-    (drafts_sound (parts_of todo) above (series_small m todo.uid all) todo.lawful (kind_of m (parts_of todo)) (sends m (parts_of todo) h.0)) (among_sound m all rest h.1)
+    sound_both (drafts_of (kind_of m (parts_of todo)) (raised (parts_of todo) above) (parts_of todo))
+    (drafts_among m (map parts_of all) (map parts_of rest))
+    (drafts_sound (parts_of todo) above (series_small m todo.uid all) todo.lawful (kind_of m (parts_of todo))
+    (sends m (parts_of todo) h.0)) (among_sound m all rest h.1)
 
 item_of : (d : ItemDraft) → IsSound d → IsWithinLimits d → (item : Item) × IsItemOf d item
 item_of d h within = (
@@ -173,19 +189,38 @@ abbrev ReadOrRefused : List ℕ → Type 0
 ReadOrRefused bytes = ((items : List Item) × ReadsMessage bytes items) ⊎ ((f : MessageRefusal) × RefusesMessage bytes f)
 
 module _ (bytes : List ℕ) (content : List NumberedLine) (reads : lines.Reads bytes content) where
-  with_components : (placed : List Placed) (m : Method) (all : List Todo) → frame content ≡ Ok placed → HasHead bytes m (todos placed) → AreComponents m (todos placed) all → ReadOrRefused bytes
+  with_components : (placed : List Placed) (m : Method) (all : List Todo) → frame content ≡ Ok placed → HasHead bytes m (todos placed) →
+      AreComponents m (todos placed) all → ReadOrRefused bytes
   with_components placed m all framed has are =
       elim (decide_each 1 m (map parts_of all) (map parts_of all)) [
-        | inr over ↦ inr (large_form over.0, at_canonical_form over.0 (record { method_is = m; components = todos placed; all = all; begins = has; read = are; over = over.1 }))
+        | inr over ↦ inr (
+          large_form over.0,
+          at_canonical_form over.0
+              (record { method_is = m; components = todos placed; all = all; begins = has; read = are; over = over.1 }),
+        )
         | inl within ↦
-            let items = items_of (drafts m (map parts_of all)) (among_sound m all all (framed_suit m content placed all framed are)) within in
-            inl (items.0, record { method_is = m; components = todos placed; all = all; begins = has; read = are; within = within; items_are = items.1 })
+            let items = items_of (drafts m (map parts_of all)) (among_sound m all all (framed_suit m content placed all framed are)) within
+            in
+            inl (
+              items.0,
+              record {
+                method_is = m;
+                components = todos placed;
+                all = all;
+                begins = has;
+                read = are;
+                within = within;
+                items_are = items.1;
+              },
+            )
       ]
 
-  with_head : (placed : List Placed) → frame content ≡ Ok placed → (r : Result Method MessageRefusal) → head placed ≡ r → ReadOrRefused bytes
+  with_head : (placed : List Placed) → frame content ≡ Ok placed → (r : Result Method MessageRefusal) → head placed ≡ r →
+      ReadOrRefused bytes
   with_head placed framed (Err f) e = inr (f, at_head content placed f reads framed e)
   with_head placed framed (Ok m) e =
-      let has : HasHead bytes m (todos placed) = record { content = content; placed = placed; reads = reads; framed = framed; headed = e; components_are = refl } in
+      let has : HasHead bytes m (todos placed) =
+      record { content = content; placed = placed; reads = reads; framed = framed; headed = e; components_are = refl } in
       elim (decide_components m 1 (todos placed)) [
         | inr refused ↦ inr (refused.0, at_component m (todos placed) refused.0 has refused.1)
         | inl read ↦ with_components placed m read.0 framed has read.1

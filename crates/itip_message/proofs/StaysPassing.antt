@@ -1,5 +1,6 @@
 -- Lines that are passed whatever octets come behind them.
-use Rattle.std.proofs.Common.{◌≡◌, ◌∙◌, sym, ap, refl, ℕ, zero, suc, ◌<◌, ◌≤◌, ◌-◌, ◌+◌, Bool, true, false, cond, ◌&&◌, List, [], ◌∷◌, ◌++◌, length, take, drop, arith, subst}
+use Rattle.std.proofs.Common.{◌≡◌, ◌∙◌, sym, ap, refl, ℕ, zero, suc, ◌<◌, ◌≤◌, ◌-◌, ◌+◌, Bool, true, false, cond, ◌&&◌, List, [], ◌∷◌, ◌++◌}
+use Rattle.std.proofs.Common.{length, take, drop, arith, subst}
 use Rattle.std.proofs.lemmas.List.{length-append}
 use Rattle.itip_message.specs.Scanned.{line_length, ends_line, ends_calendar, is_empty, CutsMessage, StaysCut}
 use Rattle.itip_message.specs.Passing.{IsFirstLine, StaysFirstLine, StaysPassing}
@@ -9,10 +10,12 @@ use Rattle.itip_message.proofs.Messages.{start_passing, pass_line, message_ends}
 length_stays : (bytes more : List ℕ) → line_length bytes < length bytes → line_length (bytes ++ more) ≡ line_length bytes
 length_stays [] more within = absurd (omega (arith, within))
 length_stays (b ∷ []) more within =
-    let one : ◌≡◌ {A = ℕ} (line_length (b ∷ [])) 1 = elim (ends_line b []) as (λ (t : Bool). ◌≡◌ {A = ℕ} (cond t 1 1) 1) [ true ↦ refl | false ↦ refl ] in
+    let one : ◌≡◌ {A = ℕ} (line_length (b ∷ [])) 1 =
+    elim (ends_line b []) as (λ (t : Bool). ◌≡◌ {A = ℕ} (cond t 1 1) 1) [ true ↦ refl | false ↦ refl ] in
     absurd (omega (arith, within, one))
 length_stays (b ∷ (c ∷ bytes)) more within =
-    elim (ends_line b (c ∷ bytes)) as (λ (t : Bool). cond t 1 (suc (line_length (c ∷ bytes))) < suc (length (c ∷ bytes)) → cond t 1 (suc (line_length ((c ∷ bytes) ++ more))) ≡ cond t 1 (suc (line_length (c ∷ bytes)))) [
+    elim (ends_line b (c ∷ bytes)) as (λ (t : Bool). cond t 1 (suc (line_length (c ∷ bytes))) < suc (length (c ∷ bytes)) →
+    cond t 1 (suc (line_length ((c ∷ bytes) ++ more))) ≡ cond t 1 (suc (line_length (c ∷ bytes)))) [
       | true ↦ λ h. refl
       | false ↦ λ h. ap suc (length_stays (c ∷ bytes) more (omega (arith, h)))
     ] within
@@ -32,7 +35,8 @@ pub line_stays : (bytes : List ℕ) (n : ℕ) → n ≡ line_length bytes → n 
 line_stays bytes n is within = λ more.
     let inside : line_length bytes < length bytes = omega (arith, is, within) in
     let long : length (bytes ++ more) ≡ length bytes + length more = length-append bytes more in
-    let first : IsFirstLine (bytes ++ more) (take (line_length (bytes ++ more)) (bytes ++ more)) (drop (line_length (bytes ++ more)) (bytes ++ more)) =
+    let first : IsFirstLine (bytes ++ more) (take (line_length (bytes ++ more)) (bytes ++ more))
+    (drop (line_length (bytes ++ more)) (bytes ++ more)) =
     is_first_line (bytes ++ more) (omega (arith, long, within)) in
     let same : line_length (bytes ++ more) ≡ n = length_stays bytes more inside ∙ sym is in
     let at : IsFirstLine (bytes ++ more) (take n (bytes ++ more)) (drop n (bytes ++ more)) =
@@ -43,13 +47,15 @@ line_stays bytes n is within = λ more.
 pub stays_begin : (bytes : List ℕ) → StaysPassing bytes bytes
 stays_begin bytes = λ more. (true, start_passing (bytes ++ more))
 
-pub stays_more : (bytes rest line after : List ℕ) → StaysPassing bytes rest → StaysFirstLine rest line after → ends_calendar line ≡ false → StaysPassing bytes after
+pub stays_more : (bytes rest line after : List ℕ) → StaysPassing bytes rest → StaysFirstLine rest line after → ends_calendar line ≡ false →
+    StaysPassing bytes after
 stays_more bytes rest line after so_far first not = λ more.
     let passed = so_far more in
     (passed.0 && is_empty line, pass_line (bytes ++ more) (rest ++ more) line (after ++ more) passed.0 passed.1 (first more) not)
 
 -- with a line that ends a calendar the message ends
-pub stays_end : (bytes rest line after message : List ℕ) → StaysPassing bytes rest → StaysFirstLine rest line after → ends_calendar line ≡ true → length after ≤ length bytes
+pub stays_end : (bytes rest line after message : List ℕ) → StaysPassing bytes rest → StaysFirstLine rest line after →
+    ends_calendar line ≡ true → length after ≤ length bytes
     → message ≡ take (length bytes - length after) bytes → StaysCut bytes message after
 stays_end bytes rest line after message so_far first ends within is = λ more.
     let passed = so_far more in

@@ -1,9 +1,10 @@
--- The messages of a delta: its lines (RFC 5545 3.1) in pieces, each up to a line that ends a calendar (RFC 5545 3.4; that deltas are cut so is our own rule).
+-- The messages of a delta: its lines (RFC 5545 3.1) in pieces, each up to a line that ends a calendar (RFC 5545 3.4;
+-- that deltas are cut so is our own rule).
 use Rattle.std.specs.Prelude.{◌≡◌, ℕ, Bool, false, IsTrue, List, [], ◌∷◌, ◌++◌, map, codes}
 use Rattle.std.specs.List.{concat, AllByRecursion}
 use Rattle.std.specs.Str.{str_to_ascii_uppercase}
 use Rattle.itip_lines.specs.Cutting.{Piece, IsCutting, stretches, unfolded, lines_of}
-use Rattle.itip_lines.specs.Scan.{LacksBlank}
+use Rattle.itip_lines.specs.Stretches.{LacksBlank}
 use Rattle.itip_todo.specs.Participation.{same_text}
 
 -- an unfolded line is END:VCALENDAR, without regard to case

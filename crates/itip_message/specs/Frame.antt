@@ -54,7 +54,8 @@ place [] (line ∷ lines) = nested (Some line.number)
 place (name ∷ open_names) (line ∷ lines) =
     cond (is_begin line.line)
     (cond (nat_lt (length (name ∷ open_names)) depth_limit)
-    (with_front (opening (name ∷ open_names) (component_name line.line) line.number) (place (component_name line.line ∷ name ∷ open_names) lines))
+    (with_front (opening (name ∷ open_names) (component_name line.line) line.number)
+    (place (component_name line.line ∷ name ∷ open_names) lines))
     (nested (Some line.number)))
     (cond (is_end line.line)
     (cond (same_text (component_name line.line) name) (place open_names lines) (nested (Some line.number)))
@@ -64,7 +65,8 @@ place (name ∷ open_names) (line ∷ lines) =
 abbrev pub frame : List NumberedLine → Result (List Placed) MessageRefusal
 frame [] = Err (at_line NoCalendar None)
 frame (line ∷ lines) =
-    cond (is_begin line.line && same_text (component_name line.line) (codes "VCALENDAR")) (place (codes "VCALENDAR" ∷ []) lines) (Err (at_line NoCalendar (Some line.number)))
+    cond (is_begin line.line && same_text (component_name line.line) (codes "VCALENDAR")) (place (codes "VCALENDAR" ∷ []) lines)
+    (Err (at_line NoCalendar (Some line.number)))
 
 -- the properties directly in the VCALENDAR
 abbrev pub calendar_lines : List Placed → List NumberedLine

@@ -53,7 +53,8 @@ counted components line (Some m) =
     cond (nat_lt todo_limit (length components)) (Err (at_line cause.ManyTodos (first_begins (drop todo_limit components))))
     (cond (nat_lt 0 (length components)) (Ok m) (Err (at_line cause.NoTodo None)))
 
--- the method of a message with these properties directly in the VCALENDAR and these to-dos: VERSION is looked at first, then METHOD, then the number of to-dos
+-- the method of a message with these properties directly in the VCALENDAR and these to-dos: VERSION is looked at first,
+-- then METHOD, then the number of to-dos
 abbrev pub head_of : List NumberedLine → List Component → Result Method MessageRefusal
 head_of calendar components =
     cond (is_version (only_value (named (codes "VERSION") calendar)))

@@ -2,9 +2,9 @@ pub mod Refusals
 pub mod Frame
 pub mod Head
 pub mod Sorting
-pub mod Places
+pub mod CauseLines
 pub mod Message
-pub mod Numbers
+pub mod RefusalNumbers
 pub mod Cutting
 pub mod Scanned
 pub mod Passing

@@ -17,7 +17,7 @@ use Rattle.itip_items.specs.declared.item.Item.{Item}
 use Rattle.itip_items.specs.declared.kind.Method.{Method}
 use Rattle.itip_message.specs.Frame.{frame, todos}
 use Rattle.itip_message.specs.Head.{head}
-use Rattle.itip_message.specs.Places.{place_of}
+use Rattle.itip_message.specs.CauseLines.{line_of_cause}
 use Rattle.itip_message.specs.Refusals.{of_lines, of_todo, in_todo, large_form}
 pub use Rattle.itip_message.specs.Refusals.{IfRefused}
 use Rattle.itip_message.specs.declared.frame.Placed.{Placed}
@@ -35,7 +35,7 @@ abbrev pub RefusesComponent : Method → ℕ → Component → MessageRefusal �
 RefusesComponent m number component refusal =
     ((of : TodoRefusal) × RefusesTodo component.lines of × (refusal ≡ of_todo number of))
     ⊎ ((todo : Todo) × (cause : MethodCause) × ReadsTodo (plain_lines component.lines) todo × (method_cause m (parts_of todo) ≡ Some cause)
-    × (refusal ≡ in_todo number (causes.Misfit cause) (place_of cause component.lines)))
+    × (refusal ≡ in_todo number (causes.Misfit cause) (line_of_cause cause component.lines)))
 
 -- these components are these to-dos
 abbrev pub AreComponents : Method → List Component → List Todo → Type 0
@@ -48,7 +48,8 @@ AreComponents m (component ∷ components) (todo ∷ todos) = ReadsComponent m c
 abbrev pub FirstRefused : Method → ℕ → List Component → MessageRefusal → Type 0
 FirstRefused m number [] refusal = ⊥
 FirstRefused m number (component ∷ components) refusal =
-    RefusesComponent m number component refusal ⊎ (((todo : Todo) × ReadsComponent m component todo) × FirstRefused m (number + 1) components refusal)
+    RefusesComponent m number component refusal ⊎
+    (((todo : Todo) × ReadsComponent m component todo) × FirstRefused m (number + 1) components refusal)
 
 -- the octets are lines, framed and with a head
 pub record HasHead (bytes : List ℕ) (m : Method) (components : List Component) : Type 0 where
@@ -81,7 +82,10 @@ pub record IsTooLarge (bytes : List ℕ) (todo : ℕ) : Type 0 where
 -- the octets are no message, for this cause: the first, in the order of the stages
 pub data RefusesMessage (bytes : List ℕ) : MessageRefusal → Type 0 where
   at_lines : (of : LineRefusal) → lines.Refused bytes of → RefusesMessage bytes (of_lines of)
-  at_frame : (content : List NumberedLine) (refusal : MessageRefusal) → lines.Reads bytes content → frame content ≡ Err refusal → RefusesMessage bytes refusal
-  at_head : (content : List NumberedLine) (placed : List Placed) (refusal : MessageRefusal) → lines.Reads bytes content → frame content ≡ Ok placed → head placed ≡ Err refusal → RefusesMessage bytes refusal
-  at_component : (m : Method) (components : List Component) (refusal : MessageRefusal) → HasHead bytes m components → FirstRefused m 1 components refusal → RefusesMessage bytes refusal
+  at_frame : (content : List NumberedLine) (refusal : MessageRefusal)
+      → lines.Reads bytes content → frame content ≡ Err refusal → RefusesMessage bytes refusal
+  at_head : (content : List NumberedLine) (placed : List Placed) (refusal : MessageRefusal)
+      → lines.Reads bytes content → frame content ≡ Ok placed → head placed ≡ Err refusal → RefusesMessage bytes refusal
+  at_component : (m : Method) (components : List Component) (refusal : MessageRefusal)
+      → HasHead bytes m components → FirstRefused m 1 components refusal → RefusesMessage bytes refusal
   at_canonical_form : (todo : ℕ) → IsTooLarge bytes todo → RefusesMessage bytes (large_form todo)

@@ -1,5 +1,6 @@
 -- The messages of a delta as one scan finds them: its lines as they came, in groups up to each line that ends a calendar (our own form).
-use Rattle.std.specs.Prelude.{◌≡◌, ◌<◌, ℕ, suc, Bool, true, false, ◌&&◌, ◌||◌, not, ◌==◌, List, [], ◌∷◌, ◌++◌, length, map, if◌then◌else◌, codes}
+use Rattle.std.specs.Prelude.{◌≡◌, ◌<◌, ℕ, suc, Bool, true, false, ◌&&◌, ◌||◌, not, ◌==◌, List, [], ◌∷◌, ◌++◌, length, map, if◌then◌else◌}
+use Rattle.std.specs.Prelude.{codes}
 use Rattle.std.specs.List.{onto_first, concat, list_all}
 use Rattle.std.specs.Char.{to_ascii_uppercase}
 use Rattle.itip_lines.specs.Cutting.{is_blank}

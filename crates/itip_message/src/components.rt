@@ -2,8 +2,8 @@
 ghost use Rattle.std.specs.Prelude.{IfOk, IfErr};
 ghost use Rattle.itip_message.specs.Message.{IfRefused, ReadsComponent, RefusesComponent, AreComponents, FirstRefused};
 
+use crate::cause_lines::line_of_cause;
 use crate::error::{MessageCause, MessageRefusal, ReadError, todo_gives};
-use crate::places::place_of;
 use crate::sort::Component;
 use itip_items::{Method, method_cause};
 use itip_todo::{Todo, read_todo};
@@ -44,7 +44,7 @@ fn read_component(
         Some(cause) => Err(ReadError::Refused(MessageRefusal {
             cause: MessageCause::Misfit(cause),
             todo: Some(number),
-            line: place_of(cause, lines),
+            line: line_of_cause(cause, lines),
         })),
         None => Ok(todo),
     }

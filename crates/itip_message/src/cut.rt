@@ -1,6 +1,7 @@
 //! Cutting a delta into messages. Nothing is copied: each message is a slice of the delta.
 ghost use Rattle.std.specs.Prelude.{◌≡◌, ◌<◌, ◌≤◌, [], length, MatchOption, IfSome};
-ghost use Rattle.itip_message.specs.Scanned.{begins_blank, ends_line, line_length, is_return, says, said, is_empty, ends_calendar, messages_of, CutsMessage, StaysCut};
+ghost use Rattle.itip_message.specs.Scanned.{begins_blank, ends_line, line_length, is_return, says, said, is_empty, ends_calendar};
+ghost use Rattle.itip_message.specs.Scanned.{messages_of, CutsMessage, StaysCut};
 ghost use Rattle.itip_message.specs.Passing.{IsFirstLine, StaysFirstLine, SaysFirst, is_left_out};
 ghost use Rattle.itip_lines.specs.Cutting.{is_blank};
 

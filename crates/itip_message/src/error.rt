@@ -1,12 +1,12 @@
 //! Why a text is no message, and where.
 ghost use Rattle.std.specs.Prelude.{◌≡◌};
 ghost use Rattle.itip_message.specs.declared.error.ReadError.TheVariants.{NoMemory};
-ghost use Rattle.itip_message.specs.Numbers.{line_number, todo_number, method_number};
+ghost use Rattle.itip_message.specs.RefusalNumbers.{line_number, todo_number, method_number};
 ghost use Rattle.itip_message.specs.Refusals.{line_gives, todo_gives, form_gives, of_lines, of_todo};
 
 use itip_items::{FormError, MethodCause};
 use itip_lines::{LineCause, LineError, LineRefusal};
-use itip_todo::{PropertyName, TodoCause, TodoError, TodoRefusal};
+use itip_todo::{TodoCause, TodoError, TodoRefusal};
 use std::alloc::{AllocError, AllocFailed};
 use std::fmt;
 use thiserror::Error;
@@ -47,7 +47,7 @@ pub enum MessageCause {
 }
 
 impl MessageCause {
-    ghost use Rattle.itip_message.specs.Numbers.{number_of_cause};
+    ghost use Rattle.itip_message.specs.RefusalNumbers.{number_of_cause};
 
     /// The number under which the refusal is shown, 1 to 15.
     pub fn number(self) -> u32
@@ -63,26 +63,6 @@ impl MessageCause {
             MessageCause::Todo(cause) => todo_number(cause),
             MessageCause::Misfit(cause) => method_number(cause),
             MessageCause::ManyTodos | MessageCause::LargeForm => 14,
-        }
-    }
-
-    /// The property that is at fault, where it is that of one.
-    pub fn property(self) -> Option<PropertyName> {
-        match self {
-            MessageCause::Todo(
-                TodoCause::Missing(property)
-                | TodoCause::Twice(property)
-                | TodoCause::BadValue(property),
-            ) => Some(property),
-            MessageCause::Misfit(MethodCause::Missing(property) | MethodCause::Twice(property)) =>
-                Some(property),
-            MessageCause::Todo(TodoCause::Range) | MessageCause::Misfit(MethodCause::Range) => {
-                Some(PropertyName::RecurrenceId)
-            }
-            MessageCause::Todo(TodoCause::TooMany | TodoCause::SameAttendee) => {
-                Some(PropertyName::Attendee)
-            }
-            _ => None,
         }
     }
 }
@@ -125,6 +105,7 @@ fn method_number(cause: MethodCause) -> u32
 /// Why a text is no message: what is wrong, and where.
 #[derive(Clone, Copy, PartialEq, Eq, Debug)]
 pub struct MessageRefusal {
+    /// What is wrong.
     pub cause: MessageCause,
     /// The number of the to-do, from 1, where the cause is that of one.
     pub todo: Option<usize>,
@@ -133,7 +114,7 @@ pub struct MessageRefusal {
 }
 
 impl MessageRefusal {
-    ghost use Rattle.itip_message.specs.Numbers.{number_of};
+    ghost use Rattle.itip_message.specs.RefusalNumbers.{number_of};
     ghost use Rattle.itip_message.specs.Refusals.{at_line};
 
     /// The refusal for this cause in a line, or in none.

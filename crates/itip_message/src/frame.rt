@@ -88,8 +88,10 @@ fn place_line(
     line: NumberedLine,
 ) -> Result<Option<Placed>, ReadError>
     ensures placed { IfOk result (λ placed. (lines : List NumberedLine)
-        → place (innermost_first inside.old.items) (line ∷ lines) ≡ with_front (option_to_list placed) (place (innermost_first inside.new.items) lines)) }
-    ensures fault { IfErr result (λ e. IfRefused e (λ f. (lines : List NumberedLine) → place (innermost_first inside.old.items) (line ∷ lines) ≡ Err f)) }
+        → place (innermost_first inside.old.items) (line ∷ lines)
+        ≡ with_front (option_to_list placed) (place (innermost_first inside.new.items) lines)) }
+    ensures fault { IfErr result (λ e. IfRefused e (λ f. (lines : List NumberedLine)
+        → place (innermost_first inside.old.items) (line ∷ lines) ≡ Err f)) }
 {
     if inside.is_empty() {
         let number = line.number;
@@ -117,8 +119,10 @@ fn place_begin(
 ) -> Result<Option<Placed>, ReadError>
     requires { (is_begin line.now.line ≡ true) × (0 < length inside.old.items) }
     ensures placed { IfOk result (λ placed. (lines : List NumberedLine)
-        → place (innermost_first inside.old.items) (line.now ∷ lines) ≡ with_front (option_to_list placed) (place (innermost_first inside.new.items) lines)) }
-    ensures fault { IfErr result (λ e. IfRefused e (λ f. (lines : List NumberedLine) → place (innermost_first inside.old.items) (line.now ∷ lines) ≡ Err f)) }
+        → place (innermost_first inside.old.items) (line.now ∷ lines)
+        ≡ with_front (option_to_list placed) (place (innermost_first inside.new.items) lines)) }
+    ensures fault { IfErr result (λ e. IfRefused e (λ f. (lines : List NumberedLine)
+        → place (innermost_first inside.old.items) (line.now ∷ lines) ≡ Err f)) }
 {
     if inside.len() >= DEPTH_LIMIT {
         return Err(nested(Some(line.number)));
@@ -137,8 +141,10 @@ fn place_end(
 ) -> Result<Option<Placed>, ReadError>
     requires { (is_begin line.now.line ≡ false) × (is_end line.now.line ≡ true) × (0 < length inside.old.items) }
     ensures placed { IfOk result (λ placed. (lines : List NumberedLine)
-        → place (innermost_first inside.old.items) (line.now ∷ lines) ≡ with_front (option_to_list placed) (place (innermost_first inside.new.items) lines)) }
-    ensures fault { IfErr result (λ e. IfRefused e (λ f. (lines : List NumberedLine) → place (innermost_first inside.old.items) (line.now ∷ lines) ≡ Err f)) }
+        → place (innermost_first inside.old.items) (line.now ∷ lines)
+        ≡ with_front (option_to_list placed) (place (innermost_first inside.new.items) lines)) }
+    ensures fault { IfErr result (λ e. IfRefused e (λ f. (lines : List NumberedLine)
+        → place (innermost_first inside.old.items) (line.now ∷ lines) ≡ Err f)) }
 {
     let name = component_name(alloc, &line.line)?;
     let ended = end(inside, &name);

@@ -18,7 +18,8 @@ const TODO_LIMIT: usize = 1000;
 
 /// The method of a message with these properties in its VCALENDAR and these to-dos.
 ///
-/// VERSION is looked at first, then METHOD, then the number of to-dos. The place of a wrong VERSION or METHOD is the second of its lines, or the only one.
+/// VERSION is looked at first, then METHOD, then the number of to-dos. The place of a wrong VERSION or METHOD is the
+/// second of its lines, or the only one.
 pub(crate) fn read_head(
     alloc: Global,
     calendar: &[NumberedLine],

@@ -1,20 +1,21 @@
-//! Messages (RFC 5546 3.4): octets are cut into messages, and a message is read into items. The canonical octets of an item are read as that one item.
+//! Messages (RFC 5546 3.4): octets are cut into messages, and a message is read into items. The canonical octets of an
+//! item are read as that one item.
 #![tactic(auto)]
 
+mod cause_lines;
 mod components;
 mod cut;
 mod error;
 mod frame;
 mod head;
 mod laws;
-mod many;
-mod places;
 mod read;
+mod read_all;
 mod sort;
 
 pub use cut::{next_message, whole_message};
 pub use error::{MessageCause, MessageRefusal, ReadError};
 pub use laws::{message_cutting, one_reading, read_again};
-pub use many::read_all;
 pub use read::read_message;
+pub use read_all::read_all;
 pub use std::alloc::AllocError as NoMemory;

@@ -14,8 +14,8 @@ use std::alloc::Global;
 
 /// The items of a message (RFC 5546 3.4), by to-do and then by ATTENDEE line, or the first cause why there are none.
 ///
-/// The causes come in the order of reading: length, lines, frame, head, components, canonical forms. Want of
-/// memory is answered only where a growth was refused.
+/// The causes come in the order of reading: length, lines, frame, head, components, canonical forms. It is
+/// `NoMemory` only if an allocation failed.
 pub fn read_message(alloc: Global, text: &[u8]) -> Result<Vec<Item>, ReadError>
     ensures found { IfOk result (λ items. ReadsMessage text.now items.items) }
     ensures fault { IfErr result (λ e. IfRefused e (RefusesMessage text.now)) }

@@ -1,14 +1,17 @@
 -- The dates from 0000-01-01 on, one after another, against the day numbers of the calendar.
-use Rattle.std.proofs.Common.{◌≡◌, ℕ, zero, suc, ◌+◌, ◌<◌, ◌≤◌, true, false, cond, nat_lt, refl, sym, ap, ◌∙◌, arith, ℤ, pos, negsuc, ◌+ℤ◌, ◌-ℤ◌, ◌≤ℤ◌, unsigned_abs, subst}
+use Rattle.std.proofs.Common.{◌≡◌, ℕ, zero, suc, ◌+◌, ◌<◌, ◌≤◌, true, false, cond, nat_lt, refl, sym, ap, ◌∙◌, arith, ℤ, pos, negsuc, ◌+ℤ◌}
+use Rattle.std.proofs.Common.{◌-ℤ◌, ◌≤ℤ◌, unsigned_abs, subst}
 use Rattle.std.proofs.lemmas.Int.{by_lt_z}
 use borrow.Author.Tests.{ltb-true, ltb-false}
 use Rattle.jiff.specs.Types.{Date as CalendarDate}
 use Rattle.jiff.specs.Words.{epoch_day, days_in_month, IsYmd}
 use Rattle.jiff_core.specs.Calendar.{day_count, days_from_civil}
 use Rattle.jiff_core.proofs.SignedLemmas.{signed_arith}
-use Rattle.jiff_core.proofs.CalendarLemmas.{days_from_civil-day_count, days_in_month_bounds, day_count-day_of_year, day_count-later_year, day_count-next_year, day_count-end, day_count-epoch}
+use Rattle.jiff_core.proofs.CalendarLemmas.{days_from_civil-day_count, days_in_month_bounds, day_count-day_of_year, day_count-later_year}
+use Rattle.jiff_core.proofs.CalendarLemmas.{day_count-next_year, day_count-end, day_count-epoch}
 use Rattle.jiff_core.proofs.MarchLemmas.{day_count-early}
-use Rattle.jiff_core.proofs.DateLemmas.{epoch_day_range, epoch_day_injective, days_from_civil-day, days_from_civil-next_month, days_from_civil-next_year}
+use Rattle.jiff_core.proofs.DateLemmas.{epoch_day_range, epoch_day_injective, days_from_civil-day, days_from_civil-next_month}
+use Rattle.jiff_core.proofs.DateLemmas.{days_from_civil-next_year}
 use Rattle.itip_moment.specs.Years.{IsDayNumber}
 use Rattle.itip_moment.specs.Written.{YearMonthDay, next_date, nth_date, date_of}
 
@@ -32,7 +35,8 @@ pub record IsDateAt (d : YearMonthDay) (number : ℤ) : Type 0 where
   pub day_in : (1 ≤ d.day) × (d.day ≤ days_in_month (pos d.year) d.month)
   pub number_is : days_from_civil (pos d.year) d.month d.day ≡ number
 
-later_day : (d : YearMonthDay) (z : ℤ) → IsDateAt d z → d.day < days_in_month (pos d.year) d.month → IsDateAt (record d { day = d.day + 1 }) (z +ℤ pos 1)
+later_day : (d : YearMonthDay) (z : ℤ) → IsDateAt d z → d.day < days_in_month (pos d.year) d.month →
+    IsDateAt (record d { day = d.day + 1 }) (z +ℤ pos 1)
 later_day d z h lt =
     let step = days_from_civil-day (pos d.year) d.month (d.day + 1) d.day (omega arith) h.day_in.0 in
     record {
@@ -41,16 +45,19 @@ later_day d z h lt =
       number_is = omega (arith, signed_arith, h.number_is);
     }
 
-next_month : (d : YearMonthDay) (z : ℤ) → IsDateAt d z → days_in_month (pos d.year) d.month ≤ d.day → d.month < 12 → IsDateAt (record { year = d.year; month = d.month + 1; day = 1 }) (z +ℤ pos 1)
+next_month : (d : YearMonthDay) (z : ℤ) → IsDateAt d z → days_in_month (pos d.year) d.month ≤ d.day → d.month < 12 →
+    IsDateAt (record { year = d.year; month = d.month + 1; day = 1 }) (z +ℤ pos 1)
 next_month d z h last lt =
     let long = days_in_month_bounds (pos d.year) (d.month + 1) in
     record {
       month_in = (omega arith, omega arith);
       day_in = (omega arith, omega (arith, long));
-      number_is = days_from_civil-next_month (pos d.year) d.month d.day h.month_in.0 (omega (arith, h.day_in)) ∙ ap (λ n. n +ℤ pos 1) h.number_is;
+      number_is = days_from_civil-next_month (pos d.year) d.month d.day h.month_in.0 (omega (arith, h.day_in)) ∙
+          ap (λ n. n +ℤ pos 1) h.number_is;
     }
 
-next_year : (d : YearMonthDay) (z : ℤ) → IsDateAt d z → days_in_month (pos d.year) d.month ≤ d.day → 12 ≤ d.month → IsDateAt (record { year = d.year + 1; month = 1; day = 1 }) (z +ℤ pos 1)
+next_year : (d : YearMonthDay) (z : ℤ) → IsDateAt d z → days_in_month (pos d.year) d.month ≤ d.day → 12 ≤ d.month →
+    IsDateAt (record { year = d.year + 1; month = 1; day = 1 }) (z +ℤ pos 1)
 next_year d z h last top =
     let long = days_in_month_bounds (pos (d.year + 1)) 1 in
     let month : d.month ≡ 12 = omega arith in
@@ -60,15 +67,21 @@ next_year d z h last top =
     record {
       month_in = (omega arith, omega arith);
       day_in = (omega arith, omega (arith, long));
-      number_is = days_from_civil-next_year (pos d.year) (pos (d.year + 1)) (omega (arith, signed_arith)) (omega (arith, signed_arith)) ∙ ap (λ n. n +ℤ pos 1) here;
+      number_is = days_from_civil-next_year (pos d.year) (pos (d.year + 1)) (omega (arith, signed_arith)) (omega (arith, signed_arith)) ∙
+          ap (λ n. n +ℤ pos 1) here;
     }
 
 next_date-IsDateAt : (d : YearMonthDay) (z : ℤ) → IsDateAt d z → IsDateAt (next_date d) (z +ℤ pos 1)
 next_date-IsDateAt d z h =
-    elim (nat_lt d.day (days_in_month (pos d.year) d.month)) as (λ b. nat_lt d.day (days_in_month (pos d.year) d.month) ≡ b → IsDateAt (cond b (record d { day = d.day + 1 }) (cond (nat_lt d.month 12) (record { year = d.year; month = d.month + 1; day = 1 }) (record { year = d.year + 1; month = 1; day = 1 }))) (z +ℤ pos 1)) [
+    elim (nat_lt d.day (days_in_month (pos d.year) d.month)) as (λ b. nat_lt d.day (days_in_month (pos d.year) d.month) ≡ b →
+    IsDateAt (cond b (record d { day = d.day + 1 })
+    (cond (nat_lt d.month 12) (record { year = d.year; month = d.month + 1; day = 1 })
+    (record { year = d.year + 1; month = 1; day = 1 }))) (z +ℤ pos 1)) [
       | true ↦ λ lt. later_day d z h (omega (arith, ltb-true))
       | false ↦ λ ge.
-          elim (nat_lt d.month 12) as (λ b. nat_lt d.month 12 ≡ b → IsDateAt (cond b (record { year = d.year; month = d.month + 1; day = 1 }) (record { year = d.year + 1; month = 1; day = 1 })) (z +ℤ pos 1)) [
+          elim (nat_lt d.month 12) as (λ b. nat_lt d.month 12 ≡ b →
+          IsDateAt (cond b (record { year = d.year; month = d.month + 1; day = 1 }) (record { year = d.year + 1; month = 1; day = 1 }))
+          (z +ℤ pos 1)) [
             | true ↦ λ lt. next_month d z h (omega (arith, ltb-false)) (omega (arith, ltb-true))
             | false ↦ λ top. next_year d z h (omega (arith, ltb-false)) (omega (arith, ltb-false))
           ] refl
@@ -76,7 +89,13 @@ next_date-IsDateAt d z h =
 
 nth_date-IsDateAt : (n : ℕ) → IsDateAt (nth_date n) (pos n -ℤ pos 719_528)
 unfolding nth_date
-nth_date-IsDateAt zero = record { month_in = (omega arith, omega arith); day_in = (omega arith, omega arith); number_is = omega (arith, signed_arith, days_from_civil-day_count (pos 0) 1 1, day_count-zero) }
+nth_date-IsDateAt zero =
+    record {
+      month_in = (omega arith, omega arith);
+      day_in = (omega arith, omega arith);
+      number_is =
+          omega (arith, signed_arith, days_from_civil-day_count (pos 0) 1 1, day_count-zero);
+    }
 nth_date-IsDateAt (suc n) =
     let e : (pos n -ℤ pos 719_528) +ℤ pos 1 ≡ pos (suc n) -ℤ pos 719_528 = omega (arith, signed_arith) in
     subst (IsDateAt (next_date (nth_date n))) e (next_date-IsDateAt (nth_date n) (pos n -ℤ pos 719_528) (nth_date-IsDateAt n))
@@ -114,7 +133,15 @@ pub calendar_date : (day : ℤ) → IsDayNumber day → (date : CalendarDate) ×
 calendar_date day h =
     let at = date_of-IsDateAt day h in
     let bound = year-bound (date_of day) day at h in (
-      record { year = pos (date_of day).year; month = (date_of day).month; day = (date_of day).day; year_in = (omega (arith, signed_arith), omega (arith, signed_arith)); month_in = at.month_in; day_in = at.day_in },
+      record {
+        year = pos (date_of day).year;
+        month = (date_of day).month;
+        day = (date_of day).day;
+        year_in =
+            (omega (arith, signed_arith), omega (arith, signed_arith));
+        month_in = at.month_in;
+        day_in = at.day_in;
+      },
       record { year = refl; month = refl; day_of_month = refl; number = at.number_is },
     )
 

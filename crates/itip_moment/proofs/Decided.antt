@@ -1,5 +1,6 @@
 -- Each text spells a date, a stamp or a moment, or it spells none.
-use Rattle.std.proofs.Common.{◌≡◌, ◌≢◌, ◌∙◌, sym, ap, refl, subst, ℕ, ◌+◌, ◌-◌, ◌*◌, ◌/◌, ◌%◌, ◌<◌, ◌≤◌, List, [], ◌∷◌, ◌++◌, length, take, drop, get_or, arith, inl, inr, ◌⊎◌, Option, Some, None, ℤ, pos, min, length-append, take-append-drop}
+use Rattle.std.proofs.Common.{◌≡◌, ◌≢◌, ◌∙◌, sym, ap, refl, subst, ℕ, ◌+◌, ◌-◌, ◌*◌, ◌/◌, ◌%◌, ◌<◌, ◌≤◌, List, [], ◌∷◌, ◌++◌, length, take}
+use Rattle.std.proofs.Common.{drop, get_or, arith, inl, inr, ◌⊎◌, Option, Some, None, ℤ, pos, min, length-append, take-append-drop}
 use Rattle.std.specs.Prelude.{unwrap_or}
 use Rattle.std.proofs.lemmas.Bool.Decides.{leb_tells, eqb_tells}
 use Rattle.std.proofs.lemmas.List.{drop_more, drop_all, get_or_at}
@@ -43,7 +44,11 @@ decide_two a b =
           | inl below ↦
               let tens : 48 + (a - 48) ≡ a = omega (arith, high.1) in
               let ones : 48 + (b - 48) ≡ b = omega (arith, above.1) in
-              inl ((a - 48) * 10 + (b - 48), sym (two_are (a - 48) (b - 48) (omega (arith, above.1, below.1)) ∙ (λ i. tens i ∷ ones i ∷ [])))
+              inl (
+                (a - 48) * 10 + (b - 48),
+                sym (two_are (a - 48) (b - 48) (omega (arith, above.1, below.1)) ∙
+                    (λ i. tens i ∷ ones i ∷ [])),
+              )
         ]
       ]
     ]
@@ -63,7 +68,17 @@ decide_day y m d =
             | inl first ↦ elim (leb_tells d (days_in_month (pos y) m)) [
               | inr over ↦ inr (λ n is. too_late is.date is.parts.0 (same_number is.parts.1) (same_number is.parts.2) over.1)
               | inl last ↦
-                  let date : CalendarDate = record { year = pos y; month = m; day = d; year_in = (omega (arith, signed_arith, year.1), omega (arith, signed_arith, year.1)); month_in = (low.1, high.1); day_in = (first.1, last.1) } in
+                  let date : CalendarDate =
+                  record {
+                    year = pos y;
+                    month = m;
+                    day = d;
+                    year_in =
+                        (omega (arith, signed_arith, year.1), omega (arith, signed_arith, year.1));
+                    month_in = (low.1, high.1);
+                    day_in =
+                        (first.1, last.1);
+                  } in
                   inl (epoch_day date, record { date = date; parts = (refl, refl, refl); number_is = refl })
             ]
           ]
@@ -76,7 +91,10 @@ decide_day y m d =
 
     too_late : (date : CalendarDate) → date.year ≡ pos y → date.month ≡ m → date.day ≡ d → days_in_month (pos y) m < d → ⊥
     too_late date year month day over =
-        let within : d ≤ days_in_month (pos y) m = subst (λ (k : ℕ). k ≤ days_in_month (pos y) m) day (subst (λ (k : ℕ). date.day ≤ days_in_month (pos y) k) month (subst (λ (z : ℤ). date.day ≤ days_in_month z date.month) year date.day_in.1)) in
+        let within : d ≤ days_in_month (pos y) m =
+        subst (λ (k : ℕ). k ≤ days_in_month (pos y) m) day
+        (subst (λ (k : ℕ). date.day ≤ days_in_month (pos y) k) month
+        (subst (λ (z : ℤ). date.day ≤ days_in_month z date.month) year date.day_in.1)) in
         omega (arith, over, within)
 
 module _ (text : List ℕ) (c y m d : ℕ) (digits : AreDateDigits text c y m d) where
@@ -104,8 +122,19 @@ decide_date text =
             | inl month ↦ elim (decide_two (get_or text 6 0) (get_or text 7 0)) [
               | inr none ↦ inr (λ n is. none is.day_of_month (ap (λ t. get_or t 6 0 ∷ get_or t 7 0 ∷ []) is.spelt))
               | inl day ↦ elim (leb_tells 100 year.0) [
-                | inl over ↦ inr (λ n is. let below = below_hundred year.0 is.year (sym year.1 ∙ ap (λ t. get_or t 2 0 ∷ get_or t 3 0 ∷ []) is.spelt) in omega (arith, over.1, below))
-                | inr small ↦ dated text century.0 year.0 month.0 day.0 (record { eight_long = long.1; century_is = century.1; year_is = year.1; month_is = month.1; day_is = day.1; year_in = small.1 })
+                | inl over ↦ inr (λ n is. let below =
+                    below_hundred year.0 is.year (sym year.1 ∙ ap (λ t. get_or t 2 0 ∷ get_or t 3 0 ∷ []) is.spelt) in
+                    omega (arith, over.1, below))
+                | inr small ↦ dated text century.0 year.0 month.0 day.0
+                    (record {
+                      eight_long = long.1;
+                      century_is = century.1;
+                      year_is = year.1;
+                      month_is = month.1;
+                      day_is = day.1;
+                      year_in =
+                          small.1;
+                    })
               ]
             ]
           ]
@@ -115,7 +144,8 @@ decide_date text =
 
 -- ---- times
 
-six : (xs : List ℕ) → length xs ≡ 6 → xs ≡ get_or xs 0 0 ∷ get_or xs 1 0 ∷ get_or xs 2 0 ∷ get_or xs 3 0 ∷ get_or xs 4 0 ∷ get_or xs 5 0 ∷ []
+six : (xs : List ℕ) → length xs ≡ 6 → xs ≡ get_or xs 0 0 ∷ get_or xs 1 0 ∷ get_or xs 2 0 ∷ get_or xs 3 0 ∷ get_or xs 4 0 ∷ get_or xs 5 0 ∷
+    []
 six (a ∷ b ∷ c ∷ d ∷ e ∷ f ∷ []) len = refl
 six [] len = absurd (omega arith)
 six (a ∷ []) len = absurd (omega arith)
@@ -128,17 +158,33 @@ six (a ∷ b ∷ c ∷ d ∷ e ∷ f ∷ g ∷ xs) len = absurd (omega arith)
 decide_hour : (text : List ℕ) (h m s : ℕ) → text ≡ clock_digits h m s → Decided (IsClockText text)
 decide_hour text h m s spelt =
     elim (leb_tells h 23) [
-      | inr over ↦ inr (λ n is. let same = clock_digits-one h m s is.hour is.minute is.second_of_minute (sym spelt ∙ is.spelt) in omega (arith, over.1, same.0, is.hour_in))
+      | inr over ↦ inr (λ n is. let same = clock_digits-one h m s is.hour is.minute is.second_of_minute (sym spelt ∙ is.spelt) in
+          omega (arith, over.1, same.0, is.hour_in))
       | inl hour ↦ elim (leb_tells m 59) [
-        | inr over ↦ inr (λ n is. let same = clock_digits-one h m s is.hour is.minute is.second_of_minute (sym spelt ∙ is.spelt) in omega (arith, over.1, same.1, is.minute_in))
+        | inr over ↦ inr (λ n is. let same = clock_digits-one h m s is.hour is.minute is.second_of_minute (sym spelt ∙ is.spelt) in
+            omega (arith, over.1, same.1, is.minute_in))
         | inl minute ↦ elim (leb_tells s 60) [
-          | inr over ↦ inr (λ n is. let same = clock_digits-one h m s is.hour is.minute is.second_of_minute (sym spelt ∙ is.spelt) in omega (arith, over.1, same.2, is.second_in))
-          | inl second ↦ inl (3600 * h + 60 * m + min s 59, record { hour = h; minute = m; second_of_minute = s; hour_in = omega (arith, hour.1); minute_in = omega (arith, minute.1); second_in = second.1; spelt = spelt; number = refl })
+          | inr over ↦ inr (λ n is. let same = clock_digits-one h m s is.hour is.minute is.second_of_minute (sym spelt ∙ is.spelt) in
+              omega (arith, over.1, same.2, is.second_in))
+          | inl second ↦ inl (
+            3600 * h + 60 * m + min s 59,
+            record {
+              hour = h;
+              minute = m;
+              second_of_minute = s;
+              hour_in = omega (arith, hour.1);
+              minute_in = omega (arith, minute.1);
+              second_in = second.1;
+              spelt = spelt;
+              number = refl;
+            },
+          )
         ]
       ]
     ]
 
-six_digits : (text : List ℕ) (h m s : ℕ) → length text ≡ 6 → get_or text 0 0 ∷ get_or text 1 0 ∷ [] ≡ two_digits h → get_or text 2 0 ∷ get_or text 3 0 ∷ [] ≡ two_digits m → get_or text 4 0 ∷ get_or text 5 0 ∷ [] ≡ two_digits s
+six_digits : (text : List ℕ) (h m s : ℕ) → length text ≡ 6 → get_or text 0 0 ∷ get_or text 1 0 ∷ [] ≡ two_digits h → get_or text 2 0 ∷
+    get_or text 3 0 ∷ [] ≡ two_digits m → get_or text 4 0 ∷ get_or text 5 0 ∷ [] ≡ two_digits s
     → text ≡ clock_digits h m s
 six_digits text h m s long hour minute second = let all = six text long in cc
 
@@ -152,7 +198,8 @@ decide_clock text =
           | inr none ↦ inr (λ n is. none is.minute (ap (λ t. get_or t 2 0 ∷ get_or t 3 0 ∷ []) is.spelt))
           | inl minute ↦ elim (decide_two (get_or text 4 0) (get_or text 5 0)) [
             | inr none ↦ inr (λ n is. none is.second_of_minute (ap (λ t. get_or t 4 0 ∷ get_or t 5 0 ∷ []) is.spelt))
-            | inl second ↦ decide_hour text hour.0 minute.0 second.0 (six_digits text hour.0 minute.0 second.0 long.1 hour.1 minute.1 second.1)
+            | inl second ↦ decide_hour text hour.0 minute.0 second.0
+                (six_digits text hour.0 minute.0 second.0 long.1 hour.1 minute.1 second.1)
           ]
         ]
       ]
@@ -187,11 +234,19 @@ decide_local text =
         | inl mark ↦ elim (decide_date (take 8 text)) [
           | inr none ↦ inr (λ day second is. none day (IsLocalText-date text day second is))
           | inl date ↦ elim (decide_clock (drop 9 text)) [
-            | inr none ↦ inr (λ day second is. none second (subst (λ (t : List ℕ). IsClockText t second) (sym (local-clock text day second is)) is.clock_is))
+            | inr none ↦ inr (λ day second is. none second
+                (subst (λ (t : List ℕ). IsClockText t second) (sym (local-clock text day second is)) is.clock_is))
             | inl clock ↦ inl (record {
               day = date.0;
               second = clock.0;
-              is = record { date = take 8 text; clock = drop 9 text; parts = local_parts text (omega (arith, long.1)) mark.1; date_is = date.1; clock_is = clock.1 };
+              is = record {
+                date = take 8 text;
+                clock = drop 9 text;
+                parts = local_parts text (omega (arith, long.1)) mark.1;
+                date_is =
+                    date.1;
+                clock_is = clock.1;
+              };
             })
           ]
         ]
@@ -230,7 +285,12 @@ decide_utc text =
         | inr other ↦ inr (λ day second is. other.1 (utc_mark text day second is))
         | inl mark ↦ elim (decide_local (take (length text - 1) text)) [
           | inr none ↦ inr (λ day second is. none day second (IsUtcText-local text day second is))
-          | inl local ↦ inl (record { day = local.day; second = local.second; is = record { local = take (length text - 1) text; marked = utc_parts text (omega (arith, some.1)) mark.1; local_is = local.is } })
+          | inl local ↦ inl (record {
+            day = local.day;
+            second = local.second;
+            is =
+                record { local = take (length text - 1) text; marked = utc_parts text (omega (arith, some.1)) mark.1; local_is = local.is };
+          })
         ]
       ]
     ]
@@ -244,7 +304,14 @@ second_in_day : (text : List ℕ) (second : ℕ) → IsClockText text second →
 second_in_day text second is = omega (arith, is.number, is.hour_in, is.minute_in)
 
 stamp_at : (text : List ℕ) (day : ℤ) (second : ℕ) → IsLocalText text day second → Stamp
-stamp_at text day second is = record { day = day; second = second; in_years = day_in_years is.date day is.date_is; in_day = second_in_day is.clock second is.clock_is }
+stamp_at text day second is =
+    record {
+      day = day;
+      second = second;
+      in_years = day_in_years is.date day is.date_is;
+      in_day =
+          second_in_day is.clock second is.clock_is;
+    }
 
 pub decide_stamp : (text : List ℕ) → Decided (λ (s : Stamp). IsStampText text s)
 unfolding NoUtc stamp_at
@@ -258,7 +325,8 @@ local_moment : (text : List ℕ) (tzid : Option (List ℕ)) → IsLocal text →
 unfolding stamp_at
 local_moment text None local = (Floating (stamp_at text local.day local.second local.is), (local.is, refl))
 local_moment text (Some []) local = (Floating (stamp_at text local.day local.second local.is), (local.is, refl))
-local_moment text (Some (b ∷ zone)) local = (Zoned (record { bytes = b ∷ zone; not_empty = λ e. cc }) (stamp_at text local.day local.second local.is), (local.is, refl))
+local_moment text (Some (b ∷ zone)) local =
+    (Zoned (record { bytes = b ∷ zone; not_empty = λ e. cc }) (stamp_at text local.day local.second local.is), (local.is, refl))
 
 pub decide_moment : (text : List ℕ) (tzid : Option (List ℕ)) → Decided (MomentText text tzid)
 unfolding NoLocal NoUtc stamp_at

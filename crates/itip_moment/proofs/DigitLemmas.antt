@@ -3,7 +3,8 @@ use Rattle.std.proofs.Common.{◌≡◌, ℕ, ◌+◌, ◌*◌, ◌/◌, ◌%◌
 use Rattle.itip_moment.specs.Digits.{two_digits, date_digits, clock_digits}
 use Rattle.itip_moment.specs.Spelling.{IsDayOf, IsDateText}
 
-eight : (xs : List ℕ) → length xs ≡ 8 → xs ≡ get_or xs 0 0 ∷ get_or xs 1 0 ∷ get_or xs 2 0 ∷ get_or xs 3 0 ∷ get_or xs 4 0 ∷ get_or xs 5 0 ∷ get_or xs 6 0 ∷ get_or xs 7 0 ∷ []
+eight : (xs : List ℕ) → length xs ≡ 8 → xs ≡ get_or xs 0 0 ∷ get_or xs 1 0 ∷ get_or xs 2 0 ∷ get_or xs 3 0 ∷ get_or xs 4 0 ∷
+    get_or xs 5 0 ∷ get_or xs 6 0 ∷ get_or xs 7 0 ∷ []
 eight (a ∷ b ∷ c ∷ d ∷ e ∷ f ∷ g ∷ h ∷ []) len = refl
 eight [] len = absurd (omega arith)
 eight (a ∷ []) len = absurd (omega arith)
@@ -31,7 +32,8 @@ date_digits-spelt text c y m d h =
     let low : (c * 100 + y) % 100 ≡ y = omega arith in
     rw (high, low) (let all = eight text h.eight_long in cc)
 
-pub date_text-found : (text : List ℕ) (c y m d : ℕ) → AreDateDigits text c y m d → (number : ℤ) → IsDayOf (c * 100 + y) m d number → IsDateText text number
+pub date_text-found : (text : List ℕ) (c y m d : ℕ) → AreDateDigits text c y m d → (number : ℤ) → IsDayOf (c * 100 + y) m d number →
+    IsDateText text number
 date_text-found text c y m d h number is =
     record { year = c * 100 + y; month = m; day_of_month = d; spelt = date_digits-spelt text c y m d h; day_is = is }
 
@@ -58,7 +60,9 @@ clock_digits-one h m s h' m' s' e =
     let s2 : 48 + s % 10 ≡ 48 + s' % 10 = cc in
     (omega arith, omega arith, omega arith)
 
-pub date_text-only : (text : List ℕ) (c y m d : ℕ) → AreDateDigits text c y m d → (number : ℤ) → IsDateText text number → IsDayOf (c * 100 + y) m d number
+pub date_text-only : (text : List ℕ) (c y m d : ℕ) → AreDateDigits text c y m d → (number : ℤ) → IsDateText text number →
+    IsDayOf (c * 100 + y) m d number
 date_text-only text c y m d h number is =
     let same = date_digits-one _ _ _ _ _ _ (sym is.spelt ∙ date_digits-spelt text c y m d h) in
-    subst (λ (n : ℕ). IsDayOf n m d number) same.0 (subst (λ (n : ℕ). IsDayOf is.year n d number) same.1 (subst (λ (n : ℕ). IsDayOf is.year is.month n number) same.2 is.day_is))
+    subst (λ (n : ℕ). IsDayOf n m d number) same.0
+    (subst (λ (n : ℕ). IsDayOf is.year n d number) same.1 (subst (λ (n : ℕ). IsDayOf is.year is.month n number) same.2 is.day_is))

@@ -57,7 +57,8 @@ Some-one : {x y : ℕ} → Some x ≡ Some y → x ≡ y
 Some-one e = cc
 
 -- moments of one form with the same day, second and zone are one moment
-pub same_moment : (m n : Moment) → moment_day m ≡ moment_day n → moment_second m ≡ moment_second n → form_rank (moment_form m) ≡ form_rank (moment_form n) → moment_zone m ≡ moment_zone n → m ≡ n
+pub same_moment : (m n : Moment) → moment_day m ≡ moment_day n → moment_second m ≡ moment_second n →
+    form_rank (moment_form m) ≡ form_rank (moment_form n) → moment_zone m ≡ moment_zone n → m ≡ n
 same_moment (Date a) (Date b) d s f z = ap Date (same_day a b d)
 same_moment (Floating a) (Floating b) d s f z = ap Floating (same_stamp a b d (Some-one s))
 same_moment (Utc a) (Utc b) d s f z = ap Utc (same_stamp a b d (Some-one s))
@@ -84,7 +85,8 @@ moment_equal m n e =
 
 -- what `==` answers, for callers
 
-eq_by_cmp-iff : {K : Type 0} {R : K → K → Ordering} → IsTotalOrder R → CmpEqualImpliesEq R → (x y : K) (b : Bool) → b ≡ eq_by_cmp R x y → IsTrue b ↔ (x ≡ y)
+eq_by_cmp-iff : {K : Type 0} {R : K → K → Ordering} → IsTotalOrder R → CmpEqualImpliesEq R → (x y : K) (b : Bool) → b ≡ eq_by_cmp R x y →
+    IsTrue b ↔ (x ≡ y)
 eq_by_cmp-iff {K} {R} total exact x y b e = (
   λ same. tells_apart exact x y (sym e ∙ same),
   λ same. e ∙ ap is_eq (ap (R x) (sym same) ∙ tied_itself total x),

@@ -1,5 +1,6 @@
 -- What is written is read back, a text spells one value, and a sum is one moment.
-use Rattle.std.proofs.Common.{◌≡◌, ℕ, ◌/◌, ◌%◌, ◌<◌, ℤ, pos, List, [], ◌∷◌, ◌++◌, length, refl, sym, ap, ap₂, subst, ◌∙◌, arith, length-append, Option, Some, None, unwrap_or, IfSome, IfNone}
+use Rattle.std.proofs.Common.{◌≡◌, ℕ, ◌/◌, ◌%◌, ◌<◌, ℤ, pos, List, [], ◌∷◌, ◌++◌, length, refl, sym, ap, ap₂, subst, ◌∙◌, arith}
+use Rattle.std.proofs.Common.{length-append, Option, Some, None, unwrap_or, IfSome, IfNone}
 use Rattle.jiff_core.proofs.SignedLemmas.{signed_arith}
 use Rattle.itip_moment.specs.declared.day.Day.{Day}
 use Rattle.itip_moment.specs.declared.stamp.Stamp.{Stamp}
@@ -75,7 +76,9 @@ day_one y m d a b p q =
 pub date_text-one : (text : List ℕ) (a b : ℤ) → IsDateText text a → IsDateText text b → a ≡ b
 date_text-one text a b p q =
     let same = date_digits-one _ _ _ _ _ _ (sym p.spelt ∙ q.spelt) in
-    day_one q.year q.month q.day_of_month a b (subst (λ (n : ℕ). IsDayOf n q.month q.day_of_month a) same.0 (subst (λ (n : ℕ). IsDayOf p.year n q.day_of_month a) same.1 (subst (λ (n : ℕ). IsDayOf p.year p.month n a) same.2 p.day_is))) q.day_is
+    day_one q.year q.month q.day_of_month a b (subst (λ (n : ℕ). IsDayOf n q.month q.day_of_month a) same.0
+    (subst (λ (n : ℕ). IsDayOf p.year n q.day_of_month a) same.1 (subst (λ (n : ℕ). IsDayOf p.year p.month n a) same.2 p.day_is)))
+    q.day_is
 
 pub clock_text-one : (text : List ℕ) (a b : ℕ) → IsClockText text a → IsClockText text b → a ≡ b
 clock_text-one text a b p q =
@@ -125,22 +128,34 @@ same_zone tzid x y p q = same_name x y (Some-one (sym p ∙ q))
 
 pub moment_text-one : (text : List ℕ) (tzid : Option (List ℕ)) (m n : Moment) → MomentText text tzid m → MomentText text tzid n → m ≡ n
 moment_text-one text tzid (Date a) (Date b) p q = ap Date (same_day a b (date_text-one text a.number b.number p q))
-moment_text-one text tzid (Date a) (Floating b) p q = absurd (omega (arith, date_text-length text a.number p, local_text-length text b.day b.second q.0))
-moment_text-one text tzid (Date a) (Utc b) p q = absurd (omega (arith, date_text-length text a.number p, utc_text-length text b.day b.second q))
-moment_text-one text tzid (Date a) (Zoned y b) p q = absurd (omega (arith, date_text-length text a.number p, local_text-length text b.day b.second q.0))
-moment_text-one text tzid (Floating a) (Date b) p q = absurd (omega (arith, local_text-length text a.day a.second p.0, date_text-length text b.number q))
-moment_text-one text tzid (Floating a) (Floating b) p q = ap Floating (let same = local_text-one text a.day b.day a.second b.second p.0 q.0 in same_stamp a b same.0 same.1)
-moment_text-one text tzid (Floating a) (Utc b) p q = absurd (omega (arith, local_text-length text a.day a.second p.0, utc_text-length text b.day b.second q))
+moment_text-one text tzid (Date a) (Floating b) p q =
+    absurd (omega (arith, date_text-length text a.number p, local_text-length text b.day b.second q.0))
+moment_text-one text tzid (Date a) (Utc b) p q =
+    absurd (omega (arith, date_text-length text a.number p, utc_text-length text b.day b.second q))
+moment_text-one text tzid (Date a) (Zoned y b) p q =
+    absurd (omega (arith, date_text-length text a.number p, local_text-length text b.day b.second q.0))
+moment_text-one text tzid (Floating a) (Date b) p q =
+    absurd (omega (arith, local_text-length text a.day a.second p.0, date_text-length text b.number q))
+moment_text-one text tzid (Floating a) (Floating b) p q =
+    ap Floating (let same = local_text-one text a.day b.day a.second b.second p.0 q.0 in same_stamp a b same.0 same.1)
+moment_text-one text tzid (Floating a) (Utc b) p q =
+    absurd (omega (arith, local_text-length text a.day a.second p.0, utc_text-length text b.day b.second q))
 moment_text-one text tzid (Floating a) (Zoned y b) p q = absurd (no_zone tzid y p.1 q.1)
-moment_text-one text tzid (Utc a) (Date b) p q = absurd (omega (arith, utc_text-length text a.day a.second p, date_text-length text b.number q))
-moment_text-one text tzid (Utc a) (Floating b) p q = absurd (omega (arith, utc_text-length text a.day a.second p, local_text-length text b.day b.second q.0))
+moment_text-one text tzid (Utc a) (Date b) p q =
+    absurd (omega (arith, utc_text-length text a.day a.second p, date_text-length text b.number q))
+moment_text-one text tzid (Utc a) (Floating b) p q =
+    absurd (omega (arith, utc_text-length text a.day a.second p, local_text-length text b.day b.second q.0))
 moment_text-one text tzid (Utc a) (Utc b) p q = ap Utc (stamp_text-one text a b p q)
-moment_text-one text tzid (Utc a) (Zoned y b) p q = absurd (omega (arith, utc_text-length text a.day a.second p, local_text-length text b.day b.second q.0))
-moment_text-one text tzid (Zoned x a) (Date b) p q = absurd (omega (arith, local_text-length text a.day a.second p.0, date_text-length text b.number q))
+moment_text-one text tzid (Utc a) (Zoned y b) p q =
+    absurd (omega (arith, utc_text-length text a.day a.second p, local_text-length text b.day b.second q.0))
+moment_text-one text tzid (Zoned x a) (Date b) p q =
+    absurd (omega (arith, local_text-length text a.day a.second p.0, date_text-length text b.number q))
 moment_text-one text tzid (Zoned x a) (Floating b) p q = absurd (no_zone tzid x q.1 p.1)
-moment_text-one text tzid (Zoned x a) (Utc b) p q = absurd (omega (arith, local_text-length text a.day a.second p.0, utc_text-length text b.day b.second q))
+moment_text-one text tzid (Zoned x a) (Utc b) p q =
+    absurd (omega (arith, local_text-length text a.day a.second p.0, utc_text-length text b.day b.second q))
 moment_text-one text tzid (Zoned x a) (Zoned y b) p q =
-    ap₂ Zoned (same_zone tzid x y p.1 q.1) (let same = local_text-one text a.day b.day a.second b.second p.0 q.0 in same_stamp a b same.0 same.1)
+    ap₂ Zoned (same_zone tzid x y p.1 q.1) (let same = local_text-one text a.day b.day a.second b.second p.0 q.0 in
+    same_stamp a b same.0 same.1)
 
 -- a sum is one moment
 
@@ -153,7 +168,8 @@ second_below (Floating stamp) = stamp.in_day
 second_below (Utc stamp) = stamp.in_day
 second_below (Zoned zone stamp) = stamp.in_day
 
-second_of_form : (m n : Moment) → moment_form m ≡ moment_form n → unwrap_or (moment_second m) 0 ≡ unwrap_or (moment_second n) 0 → moment_second m ≡ moment_second n
+second_of_form : (m n : Moment) → moment_form m ≡ moment_form n → unwrap_or (moment_second m) 0 ≡ unwrap_or (moment_second n) 0 →
+    moment_second m ≡ moment_second n
 second_of_form (Date a) (Date b) f e = refl
 second_of_form (Date a) (Floating b) f e = absurd cc
 second_of_form (Date a) (Utc b) f e = absurd cc
@@ -179,14 +195,17 @@ shifted-one old days seconds a b p q =
 
 -- what a reader found is what was spelt
 
-pub date_found : (r : Option Day) (text : List ℕ) (day : Day) → IfSome r (λ d. IsDateText text d.number) → IfNone r ((d : ℤ) → IsDateText text d → ⊥) → IsDateText text day.number → r ≡ Some day
+pub date_found : (r : Option Day) (text : List ℕ) (day : Day) → IfSome r (λ d. IsDateText text d.number) →
+    IfNone r ((d : ℤ) → IsDateText text d → ⊥) → IsDateText text day.number → r ≡ Some day
 date_found (Some d) text day some none is = ap Some (same_day d day (date_text-one text d.number day.number some is))
 date_found None text day some none is = absurd (none day.number is)
 
-pub stamp_found : (r : Option Stamp) (text : List ℕ) (stamp : Stamp) → IfSome r (IsStampText text) → IfNone r ((s : Stamp) → IsStampText text s → ⊥) → IsStampText text stamp → r ≡ Some stamp
+pub stamp_found : (r : Option Stamp) (text : List ℕ) (stamp : Stamp) → IfSome r (IsStampText text) →
+    IfNone r ((s : Stamp) → IsStampText text s → ⊥) → IsStampText text stamp → r ≡ Some stamp
 stamp_found (Some s) text stamp some none is = ap Some (stamp_text-one text s stamp some is)
 stamp_found None text stamp some none is = absurd (none stamp is)
 
-pub moment_found : (r : Option Moment) (text : List ℕ) (tzid : Option (List ℕ)) (moment : Moment) → IfSome r (MomentText text tzid) → IfNone r ((m : Moment) → MomentText text tzid m → ⊥) → MomentText text tzid moment → r ≡ Some moment
+pub moment_found : (r : Option Moment) (text : List ℕ) (tzid : Option (List ℕ)) (moment : Moment) → IfSome r (MomentText text tzid) →
+    IfNone r ((m : Moment) → MomentText text tzid m → ⊥) → MomentText text tzid moment → r ≡ Some moment
 moment_found (Some m) text tzid moment some none is = ap Some (moment_text-one text tzid m moment some is)
 moment_found None text tzid moment some none is = absurd (none moment is)

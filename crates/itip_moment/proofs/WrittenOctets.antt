@@ -1,5 +1,6 @@
 -- The octets of a written stamp: digits, T and Z.
-use Rattle.std.proofs.Common.{◌≡◌, ℕ, ◌+◌, ◌/◌, ◌%◌, ◌<◌, Bool, true, false, ◌&&◌, ◌||◌, ◌==◌, List, [], ◌∷◌, ◌++◌, length, length-append, ℤ, refl, ap, ◌∙◌, arith}
+use Rattle.std.proofs.Common.{◌≡◌, ℕ, ◌+◌, ◌/◌, ◌%◌, ◌<◌, Bool, true, false, ◌&&◌, ◌||◌, ◌==◌, List, [], ◌∷◌, ◌++◌, length, length-append}
+use Rattle.std.proofs.Common.{ℤ, refl, ap, ◌∙◌, arith}
 use Rattle.std.specs.Prelude.{nat_le}
 use Rattle.std.specs.List.{list_all}
 use Rattle.std.proofs.lemmas.Bool.Decides.{nat_tests}
@@ -15,9 +16,11 @@ use Rattle.itip_moment.proofs.ValueLaws.{stamp_text-IsStampText}
 abbrev pub is_stamp_octet : ℕ → Bool
 is_stamp_octet b = (nat_le 48 b && nat_le b 57) || (b == 84 || b == 90)
 
-all_append : (xs ys : List ℕ) → list_all is_stamp_octet xs ≡ true → list_all is_stamp_octet ys ≡ true → list_all is_stamp_octet (xs ++ ys) ≡ true
+all_append : (xs ys : List ℕ) → list_all is_stamp_octet xs ≡ true → list_all is_stamp_octet ys ≡ true →
+    list_all is_stamp_octet (xs ++ ys) ≡ true
 all_append [] ys p q = q
-all_append (x ∷ xs) ys p q = let parts = both (is_stamp_octet x) (list_all is_stamp_octet xs) p in both_hold (is_stamp_octet x) (list_all is_stamp_octet (xs ++ ys)) parts.0 (all_append xs ys parts.1 q)
+all_append (x ∷ xs) ys p q = let parts = both (is_stamp_octet x) (list_all is_stamp_octet xs) p in
+    both_hold (is_stamp_octet x) (list_all is_stamp_octet (xs ++ ys)) parts.0 (all_append xs ys parts.1 q)
   where
     both : (a b : Bool) → (a && b) ≡ true → (a ≡ true) × (b ≡ true)
     both true b e = (refl, e)
@@ -45,10 +48,15 @@ date_octets : (y m d : ℕ) → y < 10000 → m < 100 → d < 100 → list_all i
 date_octets y m d hy hm hd =
     let century : y / 100 < 100 = omega arith in
     let year : y % 100 < 100 = omega arith in
-    all_append (four_digits y ++ two_digits m) (two_digits d) (all_append (four_digits y) (two_digits m) (all_append (two_digits (y / 100)) (two_digits (y % 100)) (two_octets (y / 100) century) (two_octets (y % 100) year)) (two_octets m hm)) (two_octets d hd)
+    all_append (four_digits y ++ two_digits m) (two_digits d)
+    (all_append (four_digits y) (two_digits m)
+    (all_append (two_digits (y / 100)) (two_digits (y % 100)) (two_octets (y / 100) century) (two_octets (y % 100) year))
+    (two_octets m hm)) (two_octets d hd)
 
 clock_octets : (h m s : ℕ) → h < 100 → m < 100 → s < 100 → list_all is_stamp_octet (clock_digits h m s) ≡ true
-clock_octets h m s hh hm hs = all_append (two_digits h ++ two_digits m) (two_digits s) (all_append (two_digits h) (two_digits m) (two_octets h hh) (two_octets m hm)) (two_octets s hs)
+clock_octets h m s hh hm hs =
+    all_append (two_digits h ++ two_digits m) (two_digits s) (all_append (two_digits h) (two_digits m) (two_octets h hh) (two_octets m hm))
+    (two_octets s hs)
 
 -- a text of a date is eight digits
 date_text_octets : (text : List ℕ) (day : ℤ) → IsDateText text day → (list_all is_stamp_octet text ≡ true) × (length text ≡ 8)
@@ -74,9 +82,11 @@ stamp_text_octets stamp =
     let local = is.local_is in
     let date = date_text_octets local.date stamp.day local.date_is in
     let clock = clock_text_octets local.clock stamp.second local.clock_is in (
-      ap (list_all is_stamp_octet) (is.marked ∙ ap (λ front. front ++ 90 ∷ []) local.parts) ∙ all_append (local.date ++ 84 ∷ local.clock) (90 ∷ []) (all_append local.date (84 ∷ local.clock) date.0 clock.0) refl,
+      ap (list_all is_stamp_octet) (is.marked ∙ ap (λ front. front ++ 90 ∷ []) local.parts) ∙
+          all_append (local.date ++ 84 ∷ local.clock) (90 ∷ []) (all_append local.date (84 ∷ local.clock) date.0 clock.0) refl,
       ap length (is.marked ∙ ap (λ front. front ++ 90 ∷ []) local.parts) ∙ long local.date local.clock date.1 clock.1,
     )
   where
     long : (d c : List ℕ) → length d ≡ 8 → length c ≡ 6 → length ((d ++ 84 ∷ c) ++ 90 ∷ []) ≡ 16
-    long d c hd hc = length-append (d ++ 84 ∷ c) (90 ∷ []) ∙ ap (λ n. n + 1) (length-append d (84 ∷ c)) ∙ (let a : length d + length (84 ∷ c) ≡ 15 = omega (arith, hd, hc) in ap (λ n. n + 1) a)
+    long d c hd hc = length-append (d ++ 84 ∷ c) (90 ∷ []) ∙ ap (λ n. n + 1) (length-append d (84 ∷ c)) ∙
+        (let a : length d + length (84 ∷ c) ≡ 15 = omega (arith, hd, hc) in ap (λ n. n + 1) a)

@@ -38,7 +38,10 @@ impl Join for Limit {
 
     ghost transitive = { λ x y z. IsUpTo-trans nat_cmp_total x.value y.value z.value };
 
-    ghost antisymmetric = { λ x y p q. λ i. record { value = exact_unsigned x.value y.value (IsUpTo-tie nat_cmp_total x.value y.value p q) i } };
+    ghost antisymmetric = { λ x y p q. λ i. record {
+      value =
+          exact_unsigned x.value y.value (IsUpTo-tie nat_cmp_total x.value y.value p q) i;
+    } };
 
     fn join(&mut self, other: &Limit) -> Result<(), NoMemory> {
         if self.value < other.value {

@@ -9,9 +9,11 @@ use Rattle.itip_recur.specs.Occurrences.{IfTooMany}
 use Rattle.itip_recur.specs.Adding.{Adds, Exceeds, Gains, IsStep}
 
 pub Adds-none : (limit : ℕ) (P : Moment → Type 0) (old : List Moment) → ((m : Moment) → P m → ⊥) → Adds limit P old old
-Adds-none limit P old none = record { exactly = λ m. (λ h. inl h, λ h. elim h [ inl there ↦ there | inr is ↦ absurd (none m is) ]); small = λ h. h }
+Adds-none limit P old none =
+    record { exactly = λ m. (λ h. inl h, λ h. elim h [ inl there ↦ there | inr is ↦ absurd (none m is) ]); small = λ h. h }
 
-pub Adds-like : (limit : ℕ) (P Q : Moment → Type 0) (old new : List Moment) → ((m : Moment) → P m ↔ Q m) → Adds limit P old new → Adds limit Q old new
+pub Adds-like : (limit : ℕ) (P Q : Moment → Type 0) (old new : List Moment) → ((m : Moment) → P m ↔ Q m) → Adds limit P old new →
+    Adds limit Q old new
 Adds-like limit P Q old new like adds =
     record {
       exactly = λ m. (
@@ -21,7 +23,8 @@ Adds-like limit P Q old new like adds =
       small = adds.small;
     }
 
-pub Exceeds-like : (limit : ℕ) (P Q : Moment → Type 0) (old new : List Moment) → ((m : Moment) → P m → Q m) → Exceeds limit P old new → Exceeds limit Q old new
+pub Exceeds-like : (limit : ℕ) (P Q : Moment → Type 0) (old new : List Moment) → ((m : Moment) → P m → Q m) → Exceeds limit P old new →
+    Exceeds limit Q old new
 Exceeds-like limit P Q old new like over =
     record {
       ascending = over.ascending;
@@ -29,7 +32,8 @@ Exceeds-like limit P Q old new like over =
       many = over.many;
     }
 
-pub Adds-both : (limit : ℕ) (P Q : Moment → Type 0) (a b c : List Moment) → Adds limit P a b → Adds limit Q b c → Adds limit (λ m. P m ⊎ Q m) a c
+pub Adds-both : (limit : ℕ) (P Q : Moment → Type 0) (a b c : List Moment) → Adds limit P a b → Adds limit Q b c →
+    Adds limit (λ m. P m ⊎ Q m) a c
 Adds-both limit P Q a b c first second =
     record {
       exactly = λ m. (
@@ -45,7 +49,8 @@ Adds-both limit P Q a b c first second =
       small = λ h. second.small (first.small h);
     }
 
-pub Exceeds-after : (limit : ℕ) (P Q : Moment → Type 0) (a b c : List Moment) → Adds limit P a b → Exceeds limit Q b c → Exceeds limit (λ m. P m ⊎ Q m) a c
+pub Exceeds-after : (limit : ℕ) (P Q : Moment → Type 0) (a b c : List Moment) → Adds limit P a b → Exceeds limit Q b c →
+    Exceeds limit (λ m. P m ⊎ Q m) a c
 Exceeds-after limit P Q a b c first over =
     record {
       ascending = over.ascending;
@@ -56,22 +61,29 @@ Exceeds-after limit P Q a b c first over =
       many = over.many;
     }
 
-pub IsStep-like : {T : Type 0} (limit : ℕ) (P Q : Moment → Type 0) (old new : List Moment) (r : Result T RecurError) → ((m : Moment) → P m ↔ Q m) → IsStep limit P old new r → IsStep limit Q old new r
+pub IsStep-like : {T : Type 0} (limit : ℕ) (P Q : Moment → Type 0) (old new : List Moment) (r : Result T RecurError) →
+    ((m : Moment) → P m ↔ Q m) → IsStep limit P old new r → IsStep limit Q old new r
 IsStep-like limit P Q old new (Ok x) like h = Adds-like limit P Q old new like h
 IsStep-like limit P Q old new (Err TooMany) like h = Exceeds-like limit P Q old new (λ m. (like m).0) h
 IsStep-like limit P Q old new (Err NoMemory) like h = tt
 
 -- a step after another, where both together add Q
-pub IsStep-after : {T : Type 0} (limit : ℕ) (P R Q : Moment → Type 0) (a b c : List Moment) (r : Result T RecurError) → ((m : Moment) → (P m ⊎ R m) ↔ Q m) → Adds limit P a b → IsStep limit R b c r → IsStep limit Q a c r
+pub IsStep-after : {T : Type 0} (limit : ℕ) (P R Q : Moment → Type 0) (a b c : List Moment) (r : Result T RecurError) →
+    ((m : Moment) → (P m ⊎ R m) ↔ Q m) → Adds limit P a b → IsStep limit R b c r → IsStep limit Q a c r
 IsStep-after limit P R Q a b c (Ok x) like first h = Adds-like limit (λ m. P m ⊎ R m) Q a c like (Adds-both limit P R a b c first h)
-IsStep-after limit P R Q a b c (Err TooMany) like first h = Exceeds-like limit (λ m. P m ⊎ R m) Q a c (λ m. (like m).0) (Exceeds-after limit P R a b c first h)
+IsStep-after limit P R Q a b c (Err TooMany) like first h =
+    Exceeds-like limit (λ m. P m ⊎ R m) Q a c (λ m. (like m).0) (Exceeds-after limit P R a b c first h)
 IsStep-after limit P R Q a b c (Err NoMemory) like first h = tt
 
 -- a moment put to the end
 push_gains : (old : List Moment) (moment : Moment) → Gains (λ m. m ≡ moment) old (old ++ moment ∷ [])
 push_gains old moment m = (
   λ h. elim (Contains-push_cases old moment m h) [ inl there ↦ inl there | inr same ↦ inr (sym same) ],
-  λ h. elim h [ inl there ↦ Contains-append_left old (moment ∷ []) m there | inr same ↦ subst (Contains (old ++ moment ∷ [])) (sym same) (Contains-push old moment) ],
+  λ h. elim h [
+    | inl there ↦ Contains-append_left old (moment ∷ []) m there
+    | inr same ↦ subst (Contains (old ++ moment ∷ [])) (sym same)
+        (Contains-push old moment)
+  ],
 )
 
 pub Gains-push : (old new : List Moment) (moment : Moment) → new ≡ old ++ moment ∷ [] → Gains (λ m. m ≡ moment) old new

@@ -7,7 +7,8 @@ use Rattle.itip_recur.specs.Calendar.{year_number, month_of_year, day_of_month, 
 use Rattle.itip_recur.specs.Pattern.{IsYearDay}
 use Rattle.itip_recur.specs.Waits.{IsFirst}
 
-module _ (year month day : ℕ) (start from stop : ℤ) (from_in : IsDayNumber from) (stop_in : IsDayOrEnd stop) (in_year : (x : ℤ) → from ≤ℤ x → x <ℤ stop → year_number x ≡ year) (month_is : month ≡ month_of_year start) (day_is : day ≡ day_of_month start) where
+module _ (year month day : ℕ) (start from stop : ℤ) (from_in : IsDayNumber from) (stop_in : IsDayOrEnd stop) (in_year : (x : ℤ) →
+    from ≤ℤ x → x <ℤ stop → year_number x ≡ year) (month_is : month ≡ month_of_year start) (day_is : day ≡ day_of_month start) where
   -- a selected day of the year has the date
   has_date : (x : ℤ) → from ≤ℤ x → x <ℤ stop → IsYearDay OfStart start x → HasDate year month day x
   has_date x low high p = record { year_is = in_year x low high; month_is = p.0 ∙ sym month_is; day_is = p.1 ∙ sym day_is }
@@ -21,5 +22,7 @@ module _ (year month day : ℕ) (start from stop : ℤ) (from_in : IsDayNumber f
         not_before = low;
         before_stop = high;
         is = (is.has_date.month_is ∙ month_is, is.has_date.day_is ∙ day_is);
-        first = λ x ge lt p. let same = is.one x (in_years x ge (omega (arith, signed_arith))) (has_date x ge (omega (arith, signed_arith)) p) in omega (arith, signed_arith, same);
+        first = λ x ge lt p. let same =
+            is.one x (in_years x ge (omega (arith, signed_arith))) (has_date x ge (omega (arith, signed_arith)) p) in
+            omega (arith, signed_arith, same);
       }

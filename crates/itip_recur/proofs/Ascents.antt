@@ -1,5 +1,6 @@
 -- Moments in ascending order: one is found by halves, and a later one goes to the end.
-use Rattle.std.proofs.Common.{◌≡◌, ℕ, ◌+◌, ◌↔◌, Bool, true, false, not, if◌then◌else◌, inl, inr, refl, sym, subst, ap, ◌∙◌, arith, ◌<ℤ◌, List, [], ◌∷◌, ◌++◌, length, get_or, IsTrue, Result, Ok, Err}
+use Rattle.std.proofs.Common.{◌≡◌, ℕ, ◌+◌, ◌↔◌, Bool, true, false, not, if◌then◌else◌, inl, inr, refl, sym, subst, ap, ◌∙◌, arith, ◌<ℤ◌}
+use Rattle.std.proofs.Common.{List, [], ◌∷◌, ◌++◌, length, get_or, IsTrue, Result, Ok, Err}
 use Rattle.std.specs.List.{Contains, AllByRecursion}
 use Rattle.std.specs.List.Sorted.{IsSorted, IsStrictlySortedBy, IsBinarySearchResult, IsSearchInRange}
 use Rattle.std.specs.Ordering.{is_lt, ordering_reverse}
@@ -21,24 +22,30 @@ all_push : (P : Moment → Type 0) (xs : List Moment) (x : Moment) → AllByRecu
 all_push P [] x all here = (here, tt)
 all_push P (y ∷ ys) x all here = (all.0, all_push P ys x all.1 here)
 
-sorted_push : (xs : List Moment) (x : Moment) → IsStrictlySortedBy moment_cmp xs → ((y : Moment) → Contains xs y → moment_cmp y x ≡ Less) → IsStrictlySortedBy moment_cmp (xs ++ x ∷ [])
+sorted_push : (xs : List Moment) (x : Moment) → IsStrictlySortedBy moment_cmp xs → ((y : Moment) → Contains xs y → moment_cmp y x ≡ Less) →
+    IsStrictlySortedBy moment_cmp (xs ++ x ∷ [])
 unfolding IsStrictlySortedBy
 sorted_push [] x s below = (tt, tt)
-sorted_push (y ∷ ys) x s below =
-    (all_push (λ z. moment_cmp y z ≡ Less) ys x s.0 (below y (Contains-get_or (y ∷ ys) 0 y (omega arith))), sorted_push ys x s.1 (λ z h. below z (Contains-append_right (y ∷ []) ys z h)))
+sorted_push (y ∷ ys) x s below = (
+  all_push (λ z. moment_cmp y z ≡ Less) ys x s.0 (below y (Contains-get_or (y ∷ ys) 0 y (omega arith))),
+  sorted_push ys x s.1 (λ z h. below z (Contains-append_right (y ∷ []) ys z h)),
+)
 
 -- a moment of a later day than all goes to the end
-pub later_push : (xs : List Moment) (x : Moment) → IsStrictlySortedBy moment_cmp xs → ((y : Moment) → Contains xs y → moment_day y <ℤ moment_day x) → IsStrictlySortedBy moment_cmp (xs ++ x ∷ [])
+pub later_push : (xs : List Moment) (x : Moment) → IsStrictlySortedBy moment_cmp xs →
+    ((y : Moment) → Contains xs y → moment_day y <ℤ moment_day x) → IsStrictlySortedBy moment_cmp (xs ++ x ∷ [])
 later_push xs x s later = sorted_push xs x s (λ y h. moment_cmp-Less y x (later y h))
 
 ascends : (xs : List Moment) → IsStrictlySortedBy moment_cmp xs → IsSorted moment_cmp xs
 ascends xs s k d low high =
     let less = Less-from_sorted moment_cmp xs k (k + 1) d s (omega arith) high in
-    let flip : moment_cmp (get_or xs (k + 1) d) (get_or xs k d) ≡ Greater = moment_total.antisymm (get_or xs (k + 1) d) (get_or xs k d) ∙ ap ordering_reverse less in
+    let flip : moment_cmp (get_or xs (k + 1) d) (get_or xs k d) ≡ Greater = moment_total.antisymm (get_or xs (k + 1) d) (get_or xs k d) ∙
+    ap ordering_reverse less in
     ap is_lt flip
 
 -- a search by halves finds exactly what is there
-pub sought : (xs : List Moment) (x : Moment) (r : Result ℕ ℕ) → IsStrictlySortedBy moment_cmp xs → IsSearchInRange r (length xs) → IsBinarySearchResult (λ y. moment_cmp y x) xs r → IsTrue (is_ok r) ↔ Contains xs x
+pub sought : (xs : List Moment) (x : Moment) (r : Result ℕ ℕ) → IsStrictlySortedBy moment_cmp xs → IsSearchInRange r (length xs) →
+    IsBinarySearchResult (λ y. moment_cmp y x) xs r → IsTrue (is_ok r) ↔ Contains xs x
 sought xs x (Ok i) s bound at = (λ h. Contains-from_at xs x (i, bound, λ d. moment_equal (get_or xs i d) x (at d)), λ h. refl)
 sought xs x (Err i) s bound parted = (
   λ h. absurd (let no : false ≡ true = h in cc),
@@ -52,7 +59,8 @@ sought xs x (Err i) s bound parted = (
 )
 
 -- as it is after a push that may have been refused
-pub pushed : (b : Bool) (old new : List Moment) (x : Moment) → new ≡ (if b then old ++ x ∷ [] else old) → IsStrictlySortedBy moment_cmp old → ((y : Moment) → Contains old y → moment_day y <ℤ moment_day x) → IsStrictlySortedBy moment_cmp new
+pub pushed : (b : Bool) (old new : List Moment) (x : Moment) → new ≡ (if b then old ++ x ∷ [] else old) →
+    IsStrictlySortedBy moment_cmp old → ((y : Moment) → Contains old y → moment_day y <ℤ moment_day x) → IsStrictlySortedBy moment_cmp new
 pushed true old new x is s later = subst (IsStrictlySortedBy moment_cmp) (sym is) (later_push old x s later)
 pushed false old new x is s later = subst (IsStrictlySortedBy moment_cmp) (sym is) s
 

@@ -42,7 +42,8 @@ pub record IsFirst (month : ℕ) (date : Date) (z : ℤ) : Type 0 where
 pub IsFirst-in_years : (month : ℕ) (date : Date) (z : ℤ) → IsFirst month date z → IsDayNumber z
 IsFirst-in_years month date z h = subst IsDayNumber (sym h.number) (epoch_day-in_years date ((month - 1) / 12) h.year_is)
 
-pub IsFirst-before : (month : ℕ) (date : Date) (z : ℤ) → IsFirst month date z → (day : ℤ) → IsDayNumber day → (day <ℤ z) ↔ (month_number day < month)
+pub IsFirst-before : (month : ℕ) (date : Date) (z : ℤ) → IsFirst month date z → (day : ℤ) → IsDayNumber day → (day <ℤ z) ↔
+    (month_number day < month)
 IsFirst-before month date z h =
     let z_in = IsFirst-in_years month date z h in
     let is = date_is date z z_in (sym h.number) in
@@ -69,13 +70,19 @@ no_date year month day long x x_in has =
     omega (arith, high, same_day)
 
 -- the number of a date is the one day that has it
-pub is_day_of_date : (year month day : ℕ) (date : Date) (z : ℤ) → date.year ≡ pos year → date.month ≡ month → date.day ≡ day → z ≡ epoch_day date → IsDayOfDate year month day z
+pub is_day_of_date : (year month day : ℕ) (date : Date) (z : ℤ) → date.year ≡ pos year → date.month ≡ month → date.day ≡ day →
+    z ≡ epoch_day date → IsDayOfDate year month day z
 is_day_of_date year month day date z year_is month_is day_is number =
     let z_in = subst IsDayNumber (sym number) (epoch_day-in_years date year year_is) in
     let is = date_is date z z_in (sym number) in
     record {
       in_years = z_in;
-      has_date = record { year_is = omega (arith, signed_arith, is.year, year_is); month_is = sym is.month ∙ month_is; day_is = sym is.day_of_month ∙ day_is };
+      has_date = record {
+        year_is = omega (arith, signed_arith, is.year, year_is);
+        month_is = sym is.month ∙ month_is;
+        day_is =
+            sym is.day_of_month ∙ day_is;
+      };
       one = λ x x_in has.
           let at = a_date x x_in in
           let same_year : at.0.year ≡ date.year = at.1.year ∙ (ap pos has.year_is ∙ sym year_is) in

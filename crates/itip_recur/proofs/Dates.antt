@@ -1,5 +1,6 @@
 -- Later days have later dates, and a month's days are those before the next.
-use Rattle.std.proofs.Common.{◌≡◌, ℕ, zero, suc, ◌+◌, ◌*◌, ◌<◌, ◌≤◌, ◌⊎◌, inl, inr, ◌↔◌, true, false, cond, nat_lt, refl, sym, subst, arith, ℤ, pos, negsuc, ◌+ℤ◌, ◌<ℤ◌, ◌≤ℤ◌, unsigned_abs}
+use Rattle.std.proofs.Common.{◌≡◌, ℕ, zero, suc, ◌+◌, ◌*◌, ◌<◌, ◌≤◌, ◌⊎◌, inl, inr, ◌↔◌, true, false, cond, nat_lt, refl, sym, subst, arith}
+use Rattle.std.proofs.Common.{ℤ, pos, negsuc, ◌+ℤ◌, ◌<ℤ◌, ◌≤ℤ◌, unsigned_abs}
 use Rattle.std.proofs.lemmas.Int.{by_lt_z}
 use Rattle.std.proofs.lemmas.Bool.{cases_lt, ltb-false}
 use borrow.Author.Tests.{ltb-true}
@@ -17,10 +18,14 @@ pub record IsPlain (d : YearMonthDay) : Type 0 where
 
 next_date-IsPlain : (d : YearMonthDay) → IsPlain d → IsPlain (next_date d)
 next_date-IsPlain d h =
-    elim (nat_lt d.day (days_in_month (pos d.year) d.month)) as (λ b. IsPlain (cond b (record d { day = d.day + 1 }) (cond (nat_lt d.month 12) (record { year = d.year; month = d.month + 1; day = 1 }) (record { year = d.year + 1; month = 1; day = 1 })))) [
+    elim (nat_lt d.day (days_in_month (pos d.year) d.month)) as (λ b. IsPlain
+    (cond b (record d { day = d.day + 1 })
+    (cond (nat_lt d.month 12) (record { year = d.year; month = d.month + 1; day = 1 })
+    (record { year = d.year + 1; month = 1; day = 1 })))) [
       | true ↦ record { month_low = h.month_low; month_high = h.month_high; day_low = omega arith }
       | false ↦
-          elim (nat_lt d.month 12) as (λ b. nat_lt d.month 12 ≡ b → IsPlain (cond b (record { year = d.year; month = d.month + 1; day = 1 }) (record { year = d.year + 1; month = 1; day = 1 }))) [
+          elim (nat_lt d.month 12) as (λ b. nat_lt d.month 12 ≡ b → IsPlain
+          (cond b (record { year = d.year; month = d.month + 1; day = 1 }) (record { year = d.year + 1; month = 1; day = 1 }))) [
             | true ↦ λ lt. record { month_low = omega arith; month_high = omega (arith, ltb-true); day_low = omega arith }
             | false ↦ λ ge. record { month_low = omega arith; month_high = omega arith; day_low = omega arith }
           ] refl
@@ -50,10 +55,14 @@ later_still a b c (inr p) (inr q) = inr (omega arith, omega arith)
 
 next_date-later : (d : YearMonthDay) → IsPlain d → IsLaterDate d (next_date d)
 next_date-later d h =
-    elim (nat_lt d.day (days_in_month (pos d.year) d.month)) as (λ b. IsLaterDate d (cond b (record d { day = d.day + 1 }) (cond (nat_lt d.month 12) (record { year = d.year; month = d.month + 1; day = 1 }) (record { year = d.year + 1; month = 1; day = 1 })))) [
+    elim (nat_lt d.day (days_in_month (pos d.year) d.month)) as
+    (λ b. IsLaterDate d (cond b (record d { day = d.day + 1 })
+    (cond (nat_lt d.month 12) (record { year = d.year; month = d.month + 1; day = 1 })
+    (record { year = d.year + 1; month = 1; day = 1 })))) [
       | true ↦ inr (refl, omega arith)
       | false ↦
-          elim (nat_lt d.month 12) as (λ b. IsLaterDate d (cond b (record { year = d.year; month = d.month + 1; day = 1 }) (record { year = d.year + 1; month = 1; day = 1 }))) [
+          elim (nat_lt d.month 12) as (λ b. IsLaterDate d
+          (cond b (record { year = d.year; month = d.month + 1; day = 1 }) (record { year = d.year + 1; month = 1; day = 1 }))) [
             | true ↦ inl (omega arith)
             | false ↦ inl (let high = h.month_high in omega arith)
           ]
@@ -78,7 +87,8 @@ unfolding days_from_zero
 pos-days_from_zero day in_years = pos-unsigned_abs (day +ℤ pos 719_528) (omega (arith, signed_arith))
 
 pub later_date : (a b : ℤ) → IsDayNumber a → IsDayNumber b → a <ℤ b → IsLaterDate (date_of a) (date_of b)
-later_date a b a_in b_in lt = nth_date-later (days_from_zero a) (days_from_zero b) (omega (arith, signed_arith, pos-days_from_zero a a_in, pos-days_from_zero b b_in))
+later_date a b a_in b_in lt =
+    nth_date-later (days_from_zero a) (days_from_zero b) (omega (arith, signed_arith, pos-days_from_zero a a_in, pos-days_from_zero b b_in))
 
 -- the next date lies in the same month and year, or in the next
 record IsNear (d e : YearMonthDay) : Type 0 where
@@ -87,12 +97,18 @@ record IsNear (d e : YearMonthDay) : Type 0 where
 
 next_date-near : (d : YearMonthDay) → IsPlain d → IsNear d (next_date d)
 next_date-near d h =
-    elim (nat_lt d.day (days_in_month (pos d.year) d.month)) as (λ b. IsNear d (cond b (record d { day = d.day + 1 }) (cond (nat_lt d.month 12) (record { year = d.year; month = d.month + 1; day = 1 }) (record { year = d.year + 1; month = 1; day = 1 })))) [
+    elim (nat_lt d.day (days_in_month (pos d.year) d.month)) as
+    (λ b. IsNear d (cond b (record d { day = d.day + 1 })
+    (cond (nat_lt d.month 12) (record { year = d.year; month = d.month + 1; day = 1 })
+    (record { year = d.year + 1; month = 1; day = 1 })))) [
       | true ↦ record { month = omega arith; year = omega arith }
       | false ↦
-          elim (nat_lt d.month 12) as (λ b. nat_lt d.month 12 ≡ b → IsNear d (cond b (record { year = d.year; month = d.month + 1; day = 1 }) (record { year = d.year + 1; month = 1; day = 1 }))) [
+          elim (nat_lt d.month 12) as (λ b. nat_lt d.month 12 ≡ b →
+          IsNear d (cond b (record { year = d.year; month = d.month + 1; day = 1 })
+          (record { year = d.year + 1; month = 1; day = 1 }))) [
             | true ↦ λ e. record { month = omega arith; year = omega arith }
-            | false ↦ λ e. let high : 12 ≤ d.month = omega (arith, ltb-false d.month 12 e) in record { month = omega arith; year = omega arith }
+            | false ↦ λ e. let high : 12 ≤ d.month = omega (arith, ltb-false d.month 12 e) in
+                record { month = omega arith; year = omega arith }
           ] refl
     ]
 
@@ -104,7 +120,9 @@ nth_date-near n (suc m) e =
     subst (λ (k : ℕ). IsNear (nth_date k) (next_date (nth_date m))) same (next_date-near (nth_date m) (nth_date-IsPlain m))
 
 near : (x y : ℤ) → IsDayNumber x → IsDayNumber y → y ≡ x +ℤ pos 1 → IsNear (date_of x) (date_of y)
-near x y x_in y_in next = nth_date-near (days_from_zero x) (days_from_zero y) (omega (arith, signed_arith, pos-days_from_zero x x_in, pos-days_from_zero y y_in, next))
+near x y x_in y_in next =
+    nth_date-near (days_from_zero x) (days_from_zero y)
+    (omega (arith, signed_arith, pos-days_from_zero x x_in, pos-days_from_zero y y_in, next))
 
 pub month_near : (x y : ℤ) → IsDayNumber x → IsDayNumber y → y ≡ x +ℤ pos 1 → month_number y ≤ month_number x + 1
 month_near x y x_in y_in next = (near x y x_in y_in next).month
@@ -113,7 +131,8 @@ pub year_near : (x y : ℤ) → IsDayNumber x → IsDayNumber y → y ≡ x +ℤ
 year_near x y x_in y_in next = (near x y x_in y_in next).year
 
 -- the days before the first of a month lie in earlier months
-pub first_of_month : (first : ℤ) (month : ℕ) → IsDayNumber first → month_number first ≡ month → day_of_month first ≡ 1 → (day : ℤ) → IsDayNumber day → (day <ℤ first) ↔ (month_number day < month)
+pub first_of_month : (first : ℤ) (month : ℕ) → IsDayNumber first → month_number first ≡ month → day_of_month first ≡ 1 → (day : ℤ) →
+    IsDayNumber day → (day <ℤ first) ↔ (month_number day < month)
 first_of_month first month first_in same one day day_in = (
   λ before. elim (later_date day first day_in first_in before) [
     | inl lt ↦ omega arith
@@ -122,7 +141,8 @@ first_of_month first month first_in same one day day_in = (
   λ lt. by_lt_z day first (λ before. before)
       (λ after. by_lt_z first day
       (λ later. elim (later_date first day first_in day_in later) [ inl gt ↦ absurd (omega arith) | inr at ↦ absurd (omega arith) ])
-      (λ not_later. let equal : day ≡ first = omega (arith, signed_arith) in absurd (let e : month_number day ≡ month = subst (λ (z : ℤ). month_number z ≡ month) (sym equal) same in omega arith))),
+      (λ not_later. let equal : day ≡ first = omega (arith, signed_arith) in
+      absurd (let e : month_number day ≡ month = subst (λ (z : ℤ). month_number z ≡ month) (sym equal) same in omega arith))),
 )
 
 pub year_of_month : (day : ℤ) (year : ℕ) → (month_number day < 12 * year + 1) ↔ (year_number day < year)

@@ -1,5 +1,6 @@
 -- The days of a month stand side by side.
-use Rattle.std.proofs.Common.{◌≡◌, ℕ, zero, suc, ◌+◌, ◌-◌, ◌*◌, ◌<◌, ◌≤◌, true, false, cond, nat_lt, refl, sym, subst, ◌∙◌, arith, ℤ, pos, ◌+ℤ◌, ◌<ℤ◌, ◌≤ℤ◌}
+use Rattle.std.proofs.Common.{◌≡◌, ℕ, zero, suc, ◌+◌, ◌-◌, ◌*◌, ◌<◌, ◌≤◌, true, false, cond, nat_lt, refl, sym, subst, ◌∙◌, arith, ℤ, pos}
+use Rattle.std.proofs.Common.{◌+ℤ◌, ◌<ℤ◌, ◌≤ℤ◌}
 use Rattle.std.proofs.lemmas.Bool.{lt-ltb, ltb-false}
 use borrow.Author.Tests.{ltb-true}
 use Rattle.jiff.specs.Words.{days_in_month}
@@ -15,17 +16,23 @@ record IsAfter (d e : YearMonthDay) (k : ℕ) : Type 0 where
   month : e.month ≡ d.month
   day : e.day ≡ d.day + k
 
-same_length : (d e : YearMonthDay) → e.year ≡ d.year → e.month ≡ d.month → days_in_month (pos e.year) e.month ≡ days_in_month (pos d.year) d.month
+same_length : (d e : YearMonthDay) → e.year ≡ d.year → e.month ≡ d.month →
+    days_in_month (pos e.year) e.month ≡ days_in_month (pos d.year) d.month
 same_length d e year month = rw (year, month) refl
 
 next_in_month : (d : YearMonthDay) → d.day < days_in_month (pos d.year) d.month → IsAfter d (next_date d) 1
 next_in_month d lt =
-    elim (nat_lt d.day (days_in_month (pos d.year) d.month)) as (λ b. nat_lt d.day (days_in_month (pos d.year) d.month) ≡ b → IsAfter d (cond b (record d { day = d.day + 1 }) (cond (nat_lt d.month 12) (record { year = d.year; month = d.month + 1; day = 1 }) (record { year = d.year + 1; month = 1; day = 1 }))) 1) [
+    elim (nat_lt d.day (days_in_month (pos d.year) d.month)) as (λ b. nat_lt d.day (days_in_month (pos d.year) d.month) ≡ b →
+    IsAfter d (cond b (record d { day = d.day + 1 })
+    (cond (nat_lt d.month 12) (record { year = d.year; month = d.month + 1; day = 1 })
+    (record { year = d.year + 1; month = 1; day = 1 }))) 1) [
       | true ↦ λ e. record { year = refl; month = refl; day = refl }
-      | false ↦ λ e. absurd (let t : nat_lt d.day (days_in_month (pos d.year) d.month) ≡ true = lt-ltb d.day (days_in_month (pos d.year) d.month) lt in cc)
+      | false ↦ λ e. absurd (let t : nat_lt d.day (days_in_month (pos d.year) d.month) ≡ true =
+          lt-ltb d.day (days_in_month (pos d.year) d.month) lt in cc)
     ] refl
 
-stays : (n k m : ℕ) → m ≡ n + k → (nth_date n).day + k ≤ days_in_month (pos (nth_date n).year) (nth_date n).month → IsAfter (nth_date n) (nth_date m) k
+stays : (n k m : ℕ) → m ≡ n + k → (nth_date n).day + k ≤ days_in_month (pos (nth_date n).year) (nth_date n).month →
+    IsAfter (nth_date n) (nth_date m) k
 unfolding nth_date
 stays n zero m e le =
     let same : m ≡ n = omega arith in
@@ -53,7 +60,8 @@ pub in_month : (day x : ℤ) → IsDayNumber day → day ≤ℤ x → x <ℤ (da
 in_month day x day_in low high =
     let n = pos-days_from_zero day day_in in
     let m = pos-days_from_zero-low x (omega (arith, signed_arith, day_in)) in
-    let after = stays (days_from_zero day) (days_from_zero x - days_from_zero day) (days_from_zero x) (omega (arith, signed_arith, n, m)) (omega (arith, signed_arith, n, m)) in
+    let after = stays (days_from_zero day) (days_from_zero x - days_from_zero day) (days_from_zero x) (omega (arith, signed_arith, n, m))
+    (omega (arith, signed_arith, n, m)) in
     record {
       year = after.year;
       month = after.month;
@@ -69,16 +77,23 @@ pub record IsFirstBehind (d e : YearMonthDay) : Type 0 where
 
 next_from_last : (d : YearMonthDay) → IsPlain d → days_in_month (pos d.year) d.month ≤ d.day → IsFirstBehind d (next_date d)
 next_from_last d h last =
-    elim (nat_lt d.day (days_in_month (pos d.year) d.month)) as (λ b. nat_lt d.day (days_in_month (pos d.year) d.month) ≡ b → IsFirstBehind d (cond b (record d { day = d.day + 1 }) (cond (nat_lt d.month 12) (record { year = d.year; month = d.month + 1; day = 1 }) (record { year = d.year + 1; month = 1; day = 1 })))) [
+    elim (nat_lt d.day (days_in_month (pos d.year) d.month)) as (λ b. nat_lt d.day (days_in_month (pos d.year) d.month) ≡ b →
+    IsFirstBehind d (cond b (record d { day = d.day + 1 })
+    (cond (nat_lt d.month 12) (record { year = d.year; month = d.month + 1; day = 1 })
+    (record { year = d.year + 1; month = 1; day = 1 })))) [
       | true ↦ λ e. absurd (let lt = ltb-true d.day (days_in_month (pos d.year) d.month) e in omega arith)
       | false ↦ λ _.
-          elim (nat_lt d.month 12) as (λ b. nat_lt d.month 12 ≡ b → IsFirstBehind d (cond b (record { year = d.year; month = d.month + 1; day = 1 }) (record { year = d.year + 1; month = 1; day = 1 }))) [
+          elim (nat_lt d.month 12) as (λ b. nat_lt d.month 12 ≡ b →
+          IsFirstBehind d (cond b (record { year = d.year; month = d.month + 1; day = 1 })
+          (record { year = d.year + 1; month = 1; day = 1 }))) [
             | true ↦ λ e. record { month = omega arith; day = refl }
-            | false ↦ λ e. let high : 12 ≤ d.month = omega (arith, ltb-false d.month 12 e) in record { month = omega (arith, h.month_high); day = refl }
+            | false ↦ λ e. let high : 12 ≤ d.month = omega (arith, ltb-false d.month 12 e) in
+                record { month = omega (arith, h.month_high); day = refl }
           ] refl
     ] refl
 
-turns : (n k m : ℕ) → m ≡ n + k + 1 → (nth_date n).day + k ≡ days_in_month (pos (nth_date n).year) (nth_date n).month → IsFirstBehind (nth_date n) (nth_date m)
+turns : (n k m : ℕ) → m ≡ n + k + 1 → (nth_date n).day + k ≡ days_in_month (pos (nth_date n).year) (nth_date n).month →
+    IsFirstBehind (nth_date n) (nth_date m)
 unfolding nth_date
 turns n k zero e last = absurd (omega arith)
 turns n k (suc m) e last =
@@ -88,14 +103,18 @@ turns n k (suc m) e last =
     record { month = omega (arith, step.month, at.year, at.month); day = step.day }
 
 -- behind the last day of a month comes the first of the next
-pub first_of_next : (day x : ℤ) → IsDayNumber day → day_of_month day ≤ month_length day → x ≡ day +ℤ pos (month_length day + 1 - day_of_month day) → IsFirstBehind (date_of day) (date_of x)
+pub first_of_next : (day x : ℤ) → IsDayNumber day → day_of_month day ≤ month_length day →
+    x ≡ day +ℤ pos (month_length day + 1 - day_of_month day) → IsFirstBehind (date_of day) (date_of x)
 first_of_next day x day_in le is =
     let n = pos-days_from_zero day day_in in
     let m = pos-days_from_zero-low x (omega (arith, signed_arith, day_in, is)) in
-    turns (days_from_zero day) (month_length day - day_of_month day) (days_from_zero x) (omega (arith, signed_arith, n, m, is)) (omega (arith, le))
+    turns (days_from_zero day) (month_length day - day_of_month day) (days_from_zero x) (omega (arith, signed_arith, n, m, is))
+    (omega (arith, le))
 
 -- its year and its month, where they are counted over all years
-pub parts_behind : (day x : ℤ) (y m year month : ℕ) → IsFirstBehind (date_of day) (date_of x) → y ≡ year_number day → m ≡ month_of_year day → 12 * year + month ≡ 12 * y + m + 1 → (1 ≤ month) × (month ≤ 12) → (year ≡ year_number x) × (month ≡ month_of_year x)
+pub parts_behind : (day x : ℤ) (y m year month : ℕ) → IsFirstBehind (date_of day) (date_of x) → y ≡ year_number day →
+    m ≡ month_of_year day → 12 * year + month ≡ 12 * y + m + 1 → (1 ≤ month) × (month ≤ 12) → (year ≡ year_number x) ×
+    (month ≡ month_of_year x)
 parts_behind day x y m year month at year_is month_is counted within =
     let plain = nth_date-IsPlain (days_from_zero x) in
     let count = at.month in

@@ -117,7 +117,8 @@ candidate_time rule start m (inr repeat) = repeat.same_time
 abbrev pub IsBefore : Rule → Moment → Moment → Moment → Type 0
 IsBefore rule start m e = IsCandidate rule start e × (moment_cmp e m ≡ Less)
 
-pub AreFewer-from_days : (rule : Rule) (start m : Moment) (n : ℕ) → HasTimeOf start m → AreFewerDays (IsEarlier rule (moment_day start) (moment_day m)) n → AreFewer (IsBefore rule start m) n
+pub AreFewer-from_days : (rule : Rule) (start m : Moment) (n : ℕ) → HasTimeOf start m →
+    AreFewerDays (IsEarlier rule (moment_day start) (moment_day m)) n → AreFewer (IsBefore rule start m) n
 unfolding day_of
 AreFewer-from_days rule start m n time days =
     record {
@@ -126,15 +127,19 @@ AreFewer-from_days rule start m n time days =
           let e_time = candidate_time rule start e h.0 in
           let lt = earlier_day start e m e_time time h.1 in
           let there = days.each (day_of e) (by_candidate e h.0, lt) in
-          subst (Contains (map (on_day start) days.all)) (one_moment start (on_day start (day_of e)) e (on_day-time start (day_of e)) e_time (on_day-day start (day_of e))) (Contains-map (on_day start) days.all (day_of e) there);
+          subst (Contains (map (on_day start) days.all))
+          (one_moment start (on_day start (day_of e)) e (on_day-time start (day_of e)) e_time (on_day-day start (day_of e)))
+          (Contains-map (on_day start) days.all (day_of e) there);
       few = omega (arith, length-map days.all (on_day start), days.few);
     }
   where
-    by_candidate : (e : Moment) → IsCandidate rule start e → (moment_day e ≡ moment_day start) ⊎ IsLaterDay rule (moment_day start) (moment_day e)
+    by_candidate : (e : Moment) → IsCandidate rule start e → (moment_day e ≡ moment_day start) ⊎
+        IsLaterDay rule (moment_day start) (moment_day e)
     by_candidate e (inl same) = inl (ap moment_day same)
     by_candidate e (inr repeat) = inr repeat.day
 
-pub AreFewerDays-from_moments : (rule : Rule) (start m : Moment) (n : ℕ) → AreFewer (IsBefore rule start m) n → AreFewerDays (IsEarlier rule (moment_day start) (moment_day m)) n
+pub AreFewerDays-from_moments : (rule : Rule) (start m : Moment) (n : ℕ) → AreFewer (IsBefore rule start m) n →
+    AreFewerDays (IsEarlier rule (moment_day start) (moment_day m)) n
 AreFewerDays-from_moments rule start m n fewer =
     record {
       all = map day_of fewer.all;
@@ -146,23 +151,31 @@ AreFewerDays-from_moments rule start m n fewer =
       few = omega (arith, length-map fewer.all day_of, fewer.few);
     }
   where
-    candidate : (d : Day) → (d.number ≡ moment_day start) ⊎ IsLaterDay rule (moment_day start) d.number → IsCandidate rule start (on_day start d)
-    candidate d (inl same) = inl (one_moment start (on_day start d) start (on_day-time start d) (HasTimeOf-itself start) (on_day-day start d ∙ same))
-    candidate d (inr later) = inr (record { same_time = on_day-time start d; day = subst (IsLaterDay rule (moment_day start)) (sym (on_day-day start d)) later })
+    candidate : (d : Day) → (d.number ≡ moment_day start) ⊎ IsLaterDay rule (moment_day start) d.number →
+        IsCandidate rule start (on_day start d)
+    candidate d (inl same) =
+        inl (one_moment start (on_day start d) start (on_day-time start d) (HasTimeOf-itself start) (on_day-day start d ∙ same))
+    candidate d (inr later) =
+        inr (record { same_time = on_day-time start d; day = subst (IsLaterDay rule (moment_day start)) (sym (on_day-day start d)) later })
 
 -- of the repeats before `end`, those before `last` are within COUNT
-pub within_count : (rule : Rule) (start m : Moment) (n : ℕ) (end last : ℤ) → IsEndOfCount rule (moment_day start) n end last → IsRepeat rule start m → moment_day m <ℤ end → AreFewer (IsBefore rule start m) n ↔ ((moment_day m <ℤ last) × Unit {0})
+pub within_count : (rule : Rule) (start m : Moment) (n : ℕ) (end last : ℤ) → IsEndOfCount rule (moment_day start) n end last →
+    IsRepeat rule start m → moment_day m <ℤ end → AreFewer (IsBefore rule start m) n ↔ ((moment_day m <ℤ last) × Unit {0})
 within_count rule start m n end last ends repeat before = (
   λ fewer. (
-    by_lt_z (moment_day m) last (λ lt. lt) (λ ge. absurd (ends.outside (moment_day m) repeat.day before ge (AreFewerDays-from_moments rule start m n fewer))),
+    by_lt_z (moment_day m) last (λ lt. lt) (λ ge. absurd
+        (ends.outside (moment_day m) repeat.day before ge (AreFewerDays-from_moments rule start m n fewer))),
     tt,
   ),
   λ h. AreFewer-from_days rule start m n repeat.same_time (ends.inside (moment_day m) repeat.day before h.0),
 )
 
-pub within_end-Count : (rule : Rule) (start : Moment) (n : ℕ) (end last : ℤ) → rule.end ≡ Count n → IsEndOfCount rule (moment_day start) n end last → (m : Moment) → IsRepeat rule start m → moment_day m <ℤ end → IsWithinEnd rule.end (IsCandidate rule start) m ↔ ((moment_day m <ℤ last) × IsUpTo rule.end m)
+pub within_end-Count : (rule : Rule) (start : Moment) (n : ℕ) (end last : ℤ) → rule.end ≡ Count n →
+    IsEndOfCount rule (moment_day start) n end last → (m : Moment) → IsRepeat rule start m → moment_day m <ℤ end →
+    IsWithinEnd rule.end (IsCandidate rule start) m ↔ ((moment_day m <ℤ last) × IsUpTo rule.end m)
 within_end-Count rule start n end last is ends m repeat before =
-    subst (λ (e : End). IsWithinEnd e (IsCandidate rule start) m ↔ ((moment_day m <ℤ last) × IsUpTo e m)) (sym is) (within_count rule start m n end last ends repeat before)
+    subst (λ (e : End). IsWithinEnd e (IsCandidate rule start) m ↔ ((moment_day m <ℤ last) × IsUpTo e m)) (sym is)
+    (within_count rule start m n end last ends repeat before)
 
 -- a moment that isn't after another has no later day
 pub day_up_to : (m last : Moment) → moment_cmp m last ≢ Greater → moment_day m ≤ℤ moment_day last

@@ -7,6 +7,7 @@ use Rattle.itip_recur.specs.declared.rule.MonthWeekday.TheVariants.{Every, Nth}
 use Rattle.itip_recur.specs.RuleText.{IsMonthWeekdayText}
 use Rattle.itip_recur.proofs.Numbers.{weekday_two, AreNthParts, AreNthParts-of}
 
-pub by_parts : (text : List ℕ) → 2 < length text → ((place : Place) (w : Weekday) → AreNthParts text place w → ⊥) → (m : MonthWeekday) → IsMonthWeekdayText text m → ⊥
+pub by_parts : (text : List ℕ) → 2 < length text → ((place : Place) (w : Weekday) → AreNthParts text place w → ⊥) → (m : MonthWeekday) →
+    IsMonthWeekdayText text m → ⊥
 by_parts text long none (Every w) is = omega (arith, weekday_two text w is)
 by_parts text long none (Nth place w) is = none place w (AreNthParts-of text place w is)

@@ -1,5 +1,6 @@
 -- A text is one rule, and a to-do repeats us one series.
-use Rattle.std.proofs.Common.{◌≡◌, ◌≤◌, ◌+◌, ◌-◌, ◌*◌, ℕ, nat_eq, cond, List, [], ◌∷◌, length, take, get_or, refl, sym, ◌∙◌, ap, subst, inl, inr, arith, Option, Some, None}
+use Rattle.std.proofs.Common.{◌≡◌, ◌≤◌, ◌+◌, ◌-◌, ◌*◌, ℕ, nat_eq, cond, List, [], ◌∷◌, length, take, get_or, refl, sym, ◌∙◌, ap, subst, inl}
+use Rattle.std.proofs.Common.{inr, arith, Option, Some, None}
 use Rattle.std.specs.Prelude.{codes, map}
 use Rattle.std.specs.List.{AllZip}
 use Rattle.std.specs.Char.{to_ascii_lowercase}
@@ -13,7 +14,9 @@ use Rattle.jiff_core.specs.declared.civil.weekday.Weekday.{Weekday}
 use Rattle.jiff_core.specs.declared.civil.weekday.Weekday.TheVariants.{Monday, Tuesday, Wednesday, Thursday, Friday, Saturday, Sunday}
 use Rattle.itip_moment.specs.declared.moment.Moment.{Moment}
 use Rattle.itip_todo.specs.declared.todo.Todo.{Todo}
-use Rattle.itip_recur.specs.RuleText.{IsWord, IsGiven, IsAbsent, IsWeekdayText, weekday_word, IsNumberText, IsPlaceText, IsNthText, IsMonthWeekdayText, IsWeekPart, AreMonthParts, AreYearParts, IsFrequencyOf, IsInterval, IsWeekStart, RuleText, rule_parts, value_of, elements}
+use Rattle.itip_recur.specs.RuleText.{IsWord, IsGiven, IsAbsent, IsWeekdayText, weekday_word, IsNumberText, IsPlaceText, IsNthText}
+use Rattle.itip_recur.specs.RuleText.{IsMonthWeekdayText, IsWeekPart, AreMonthParts, AreYearParts, IsFrequencyOf, IsInterval, IsWeekStart}
+use Rattle.itip_recur.specs.RuleText.{RuleText, rule_parts, value_of, elements}
 use Rattle.itip_recur.specs.ToDoShape.{IsRuleOf, IsSeriesOf}
 use Rattle.itip_recur.specs.declared.rule.Rule.{Rule}
 use Rattle.itip_recur.specs.declared.rule.Frequency.{Frequency}
@@ -59,7 +62,8 @@ weekday_one : (text : List ℕ) (v w : Weekday) → IsWeekdayText text v → IsW
 weekday_one text v w p q = same_word v w (sym p ∙ q)
 
 -- ---- lists of elements, and parts
-zip_one : {A B : Type 0} (R : A → B → Type 0) → ((x : A) (a b : B) → R x a → R x b → a ≡ b) → (xs : List A) (us bs : List B) → AllZip R xs us → AllZip R xs bs → us ≡ bs
+zip_one : {A B : Type 0} (R : A → B → Type 0) → ((x : A) (a b : B) → R x a → R x b → a ≡ b) → (xs : List A) (us bs : List B) →
+    AllZip R xs us → AllZip R xs bs → us ≡ bs
 zip_one R one [] [] [] p q = refl
 zip_one R one [] [] (b ∷ bs) p q = absurd q
 zip_one R one [] (a ∷ us) bs p q = absurd p
@@ -67,7 +71,8 @@ zip_one R one (x ∷ xs) [] bs p q = absurd p
 zip_one R one (x ∷ xs) (a ∷ us) [] p q = absurd q
 zip_one R one (x ∷ xs) (a ∷ us) (b ∷ bs) p q = λ i. one x a b p.0 q.0 i ∷ zip_one R one xs us bs p.1 q.1 i
 
-given_one : {B : Type 0} (R : List ℕ → B → Type 0) → ((v : List ℕ) (a b : B) → R v a → R v b → a ≡ b) → (part : Option (List ℕ)) (a b : B) → IsGiven (λ v. R v a) part → IsGiven (λ v. R v b) part → a ≡ b
+given_one : {B : Type 0} (R : List ℕ → B → Type 0) → ((v : List ℕ) (a b : B) → R v a → R v b → a ≡ b) →
+    (part : Option (List ℕ)) (a b : B) → IsGiven (λ v. R v a) part → IsGiven (λ v. R v b) part → a ≡ b
 given_one R one None a b p q = absurd p
 given_one R one (Some v) a b p q = one v a b p q
 
@@ -91,14 +96,17 @@ same_tail a b xs ys e = cc
 other_sign : (xs ys : List ℕ) → 43 ∷ xs ≡ 45 ∷ ys → ⊥
 other_sign xs ys e = let x : 43 ≡ 45 = ap (λ zs. get_or zs 0 0) e in omega (arith, x)
 
-behind_sign : (limit : ℕ) (text : List ℕ) (sign : ℕ) (xs ys : List ℕ) (m n : ℕ) → text ≡ sign ∷ xs → text ≡ sign ∷ ys → IsNumberText limit xs m → IsNumberText limit ys n → m ≡ n
-behind_sign limit text sign xs ys m n e f p q = number_one limit ys m n (subst (λ zs. IsNumberText limit zs m) (same_tail sign sign xs ys (sym e ∙ f)) p) q
+behind_sign : (limit : ℕ) (text : List ℕ) (sign : ℕ) (xs ys : List ℕ) (m n : ℕ) → text ≡ sign ∷ xs → text ≡ sign ∷ ys →
+    IsNumberText limit xs m → IsNumberText limit ys n → m ≡ n
+behind_sign limit text sign xs ys m n e f p q =
+    number_one limit ys m n (subst (λ zs. IsNumberText limit zs m) (same_tail sign sign xs ys (sym e ∙ f)) p) q
 
 place_one : (limit : ℕ) (text : List ℕ) (a b : Place) → IsPlaceText limit text a → IsPlaceText limit text b → a ≡ b
 place_one limit text (FromFirst m) (FromFirst n) (inl p) (inl q) = ap FromFirst (number_one limit text m n p q)
 place_one limit text (FromFirst m) (FromFirst n) (inl p) (inr (rest, e, q)) = absurd (no_plus limit text rest m e p)
 place_one limit text (FromFirst m) (FromFirst n) (inr (rest, e, p)) (inl q) = absurd (no_plus limit text rest n e q)
-place_one limit text (FromFirst m) (FromFirst n) (inr (xs, e, p)) (inr (ys, f, q)) = ap FromFirst (behind_sign limit text 43 xs ys m n e f p q)
+place_one limit text (FromFirst m) (FromFirst n) (inr (xs, e, p)) (inr (ys, f, q)) =
+    ap FromFirst (behind_sign limit text 43 xs ys m n e f p q)
 place_one limit text (FromFirst m) (FromLast n) (inl p) (rest, e, q) = absurd (no_minus limit text rest m e p)
 place_one limit text (FromFirst m) (FromLast n) (inr (xs, e, p)) (ys, f, q) = absurd (other_sign xs ys (sym e ∙ f))
 place_one limit text (FromLast m) (FromFirst n) (rest, e, p) (inl q) = absurd (no_minus limit text rest n e q)
@@ -128,34 +136,41 @@ month_weekday_one text (Nth place v) (Nth other w) p q =
     λ i. Nth (places i) (weekdays i)
 
 -- ---- the days that a rule selects
-weekdays_one : (value : List ℕ) (a b : List Weekday) → AllZip IsWeekdayText (elements value) a → AllZip IsWeekdayText (elements value) b → a ≡ b
+weekdays_one : (value : List ℕ) (a b : List Weekday) → AllZip IsWeekdayText (elements value) a → AllZip IsWeekdayText (elements value) b →
+    a ≡ b
 weekdays_one value = zip_one IsWeekdayText weekday_one (elements value)
 
-places_one : (value : List ℕ) (a b : List Place) → AllZip (IsPlaceText 31) (elements value) a → AllZip (IsPlaceText 31) (elements value) b → a ≡ b
+places_one : (value : List ℕ) (a b : List Place) → AllZip (IsPlaceText 31) (elements value) a →
+    AllZip (IsPlaceText 31) (elements value) b → a ≡ b
 places_one value = zip_one (IsPlaceText 31) (place_one 31) (elements value)
 
-months_one : (value : List ℕ) (a b : List ℕ) → AllZip (IsNumberText 12) (elements value) a → AllZip (IsNumberText 12) (elements value) b → a ≡ b
+months_one : (value : List ℕ) (a b : List ℕ) → AllZip (IsNumberText 12) (elements value) a → AllZip (IsNumberText 12) (elements value) b →
+    a ≡ b
 months_one value = zip_one (IsNumberText 12) (number_one 12) (elements value)
 
-month_weekdays_one : (value : List ℕ) (a b : List MonthWeekday) → AllZip IsMonthWeekdayText (elements value) a → AllZip IsMonthWeekdayText (elements value) b → a ≡ b
+month_weekdays_one : (value : List ℕ) (a b : List MonthWeekday) → AllZip IsMonthWeekdayText (elements value) a →
+    AllZip IsMonthWeekdayText (elements value) b → a ≡ b
 month_weekdays_one value = zip_one IsMonthWeekdayText month_weekday_one (elements value)
 
 week_one : (part : Option (List ℕ)) (a b : WeekDays) → IsWeekPart part a → IsWeekPart part b → a ≡ b
 week_one part week.OfStart week.OfStart p q = refl
 week_one part week.OfStart (week.Listed bs) p q = absurd (given_absent _ part q p)
 week_one part (week.Listed us) week.OfStart p q = absurd (given_absent _ part p q)
-week_one part (week.Listed us) (week.Listed bs) p q = ap week.Listed (given_one (λ v ds. AllZip IsWeekdayText (elements v) ds) weekdays_one part us bs p q)
+week_one part (week.Listed us) (week.Listed bs) p q =
+    ap week.Listed (given_one (λ v ds. AllZip IsWeekdayText (elements v) ds) weekdays_one part us bs p q)
 
 month_one : (days weekdays : Option (List ℕ)) (a b : MonthDays) → AreMonthParts days weekdays a → AreMonthParts days weekdays b → a ≡ b
 month_one days weekdays month.OfStart month.OfStart p q = refl
 month_one days weekdays month.OfStart (month.Listed bs) p q = absurd (given_absent _ days q.0 p.0)
 month_one days weekdays month.OfStart (month.Weekdays bs) p q = absurd (given_absent _ weekdays q.1 p.1)
 month_one days weekdays (month.Listed us) month.OfStart p q = absurd (given_absent _ days p.0 q.0)
-month_one days weekdays (month.Listed us) (month.Listed bs) p q = ap month.Listed (given_one (λ v ds. AllZip (IsPlaceText 31) (elements v) ds) places_one days us bs p.0 q.0)
+month_one days weekdays (month.Listed us) (month.Listed bs) p q =
+    ap month.Listed (given_one (λ v ds. AllZip (IsPlaceText 31) (elements v) ds) places_one days us bs p.0 q.0)
 month_one days weekdays (month.Listed us) (month.Weekdays bs) p q = absurd (given_absent _ days p.0 q.0)
 month_one days weekdays (month.Weekdays us) month.OfStart p q = absurd (given_absent _ weekdays p.1 q.1)
 month_one days weekdays (month.Weekdays us) (month.Listed bs) p q = absurd (given_absent _ days q.0 p.0)
-month_one days weekdays (month.Weekdays us) (month.Weekdays bs) p q = ap month.Weekdays (given_one (λ v ds. AllZip IsMonthWeekdayText (elements v) ds) month_weekdays_one weekdays us bs p.1 q.1)
+month_one days weekdays (month.Weekdays us) (month.Weekdays bs) p q =
+    ap month.Weekdays (given_one (λ v ds. AllZip IsMonthWeekdayText (elements v) ds) month_weekdays_one weekdays us bs p.1 q.1)
 
 year_one : (months days : Option (List ℕ)) (a b : YearDays) → AreYearParts months days a → AreYearParts months days b → a ≡ b
 year_one months days year.OfStart year.OfStart p q = refl
@@ -167,11 +182,13 @@ year_one months days (year.Listed us bs) (year.Listed cs ds) p q =
     λ i. year.Listed (same i) (also i)
 
 -- ---- the rule
-two_words : (a b : List ℕ) (part : Option (List ℕ)) → IsGiven (IsWord a) part → IsGiven (IsWord b) part → map to_ascii_lowercase a ≡ map to_ascii_lowercase b
+two_words : (a b : List ℕ) (part : Option (List ℕ)) → IsGiven (IsWord a) part → IsGiven (IsWord b) part →
+    map to_ascii_lowercase a ≡ map to_ascii_lowercase b
 two_words a b None p q = absurd p
 two_words a b (Some v) p q = sym p ∙ q
 
-first_letter : (a b : List ℕ) (part : Option (List ℕ)) → IsGiven (IsWord a) part → IsGiven (IsWord b) part → get_or (map to_ascii_lowercase a) 0 0 ≡ get_or (map to_ascii_lowercase b) 0 0
+first_letter : (a b : List ℕ) (part : Option (List ℕ)) → IsGiven (IsWord a) part → IsGiven (IsWord b) part →
+    get_or (map to_ascii_lowercase a) 0 0 ≡ get_or (map to_ascii_lowercase b) 0 0
 first_letter a b part p q = ap (λ xs. get_or xs 0 0) (two_words a b part p q)
 
 module _ (parts : List (List ℕ)) where
@@ -207,12 +224,14 @@ module _ (parts : List (List ℕ)) where
   frequency_one (Weekly a) (Yearly b) p q = absurd (weekly_yearly p.0 q.0)
   frequency_one (Monthly a) Daily p q = absurd (daily_monthly q.0 p.0)
   frequency_one (Monthly a) (Weekly b) p q = absurd (weekly_monthly q.0 p.0)
-  frequency_one (Monthly a) (Monthly b) p q = ap Monthly (month_one (value_of (codes "BYMONTHDAY") parts) (value_of (codes "BYDAY") parts) a b p.1 q.1)
+  frequency_one (Monthly a) (Monthly b) p q =
+      ap Monthly (month_one (value_of (codes "BYMONTHDAY") parts) (value_of (codes "BYDAY") parts) a b p.1 q.1)
   frequency_one (Monthly a) (Yearly b) p q = absurd (monthly_yearly p.0 q.0)
   frequency_one (Yearly a) Daily p q = absurd (daily_yearly q.0 p.0)
   frequency_one (Yearly a) (Weekly b) p q = absurd (weekly_yearly q.0 p.0)
   frequency_one (Yearly a) (Monthly b) p q = absurd (monthly_yearly q.0 p.0)
-  frequency_one (Yearly a) (Yearly b) p q = ap Yearly (year_one (value_of (codes "BYMONTH") parts) (value_of (codes "BYMONTHDAY") parts) a b p.1 q.1)
+  frequency_one (Yearly a) (Yearly b) p q =
+      ap Yearly (year_one (value_of (codes "BYMONTH") parts) (value_of (codes "BYMONTHDAY") parts) a b p.1 q.1)
 
 interval_one : (part : Option (List ℕ)) (m n : ℕ) → IsInterval part m → IsInterval part n → m ≡ n
 interval_one None m n p q = p ∙ sym q
@@ -225,9 +244,11 @@ week_start_one (Some value) v w p q = weekday_one value v w p q
 rule_one : (text : List ℕ) (r s : Rule) → RuleText text r → RuleText text s → r ≡ s
 rule_one text r s p q =
     let frequency : r.frequency ≡ s.frequency = frequency_one (rule_parts text) r.frequency s.frequency p.frequency q.frequency in
-    let interval : r.interval ≡ s.interval = interval_one (value_of (codes "INTERVAL") (rule_parts text)) r.interval s.interval p.interval q.interval in
+    let interval : r.interval ≡ s.interval =
+    interval_one (value_of (codes "INTERVAL") (rule_parts text)) r.interval s.interval p.interval q.interval in
     let end : r.end ≡ s.end = rule_end_one text r s p q in
-    let week_start : r.week_start ≡ s.week_start = week_start_one (value_of (codes "WKST") (rule_parts text)) r.week_start s.week_start p.week_start q.week_start in
+    let week_start : r.week_start ≡ s.week_start =
+    week_start_one (value_of (codes "WKST") (rule_parts text)) r.week_start s.week_start p.week_start q.week_start in
     λ i. record {
       frequency = frequency i;
       interval = interval i;
@@ -264,5 +285,6 @@ series_one todo s t p q =
       rule = rule i;
       rdates = rdates i;
       exdates = exdates i;
-      exdates_ascend = is_prop→PathP (λ j. IsStrictlySortedBy moment_cmp (exdates j)) (λ j. IsStrictlySortedBy-prop moment_cmp (exdates j)) s.exdates_ascend t.exdates_ascend i;
+      exdates_ascend = is_prop→PathP (λ j. IsStrictlySortedBy moment_cmp (exdates j)) (λ j. IsStrictlySortedBy-prop moment_cmp (exdates j))
+          s.exdates_ascend t.exdates_ascend i;
     }

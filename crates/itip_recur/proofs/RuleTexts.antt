@@ -1,5 +1,6 @@
 -- Which properties a to-do has, and the texts of its rule.
-use Rattle.std.proofs.Common.{◌≡◌, ◌≢◌, ◌↔◌, ◌⊎◌, inl, inr, ℕ, refl, sym, subst, ap, ◌∙◌, arith, true, not, ◌==◌, List, [], ◌∷◌, length, get_or, Option, Some, None}
+use Rattle.std.proofs.Common.{◌≡◌, ◌≢◌, ◌↔◌, ◌⊎◌, inl, inr, ℕ, refl, sym, subst, ap, ◌∙◌, arith, true, not, ◌==◌, List, [], ◌∷◌, length}
+use Rattle.std.proofs.Common.{get_or, Option, Some, None}
 use Rattle.std.proofs.lemmas.Bool.Decides.{nat_tests}
 use Rattle.itip_lines.specs.declared.line.Line.{Line}
 use Rattle.itip_moment.specs.declared.moment.Moment.{Moment}
@@ -12,7 +13,8 @@ use Rattle.itip_recur.specs.Given.{are_given}
 some_is : {A : Type 0} (x : A) (xs : List A) → not (length (x ∷ xs) == 0) ≡ true
 some_is x xs = grind (arith, nat_tests)
 
-pub given_is : (rules : List (List ℕ)) (rdates exdates : List Moment) (lines : List Line) → (are_given rules rdates exdates lines ≡ true) ↔ ((rules ≢ []) ⊎ ((rdates ≢ []) ⊎ ((exdates ≢ []) ⊎ (has_period lines ≡ true))))
+pub given_is : (rules : List (List ℕ)) (rdates exdates : List Moment) (lines : List Line) → (are_given rules rdates exdates lines ≡ true) ↔
+    ((rules ≢ []) ⊎ ((rdates ≢ []) ⊎ ((exdates ≢ []) ⊎ (has_period lines ≡ true))))
 given_is (rule ∷ rules) rdates exdates lines = (λ h. inl (λ e. cc), λ h. rw (some_is rule rules))
 given_is [] (moment ∷ rdates) exdates lines = (λ h. inr (inl (λ e. cc)), λ h. rw (some_is moment rdates))
 given_is [] [] (moment ∷ exdates) lines = (λ h. inr (inr (inl (λ e. cc))), λ h. rw (some_is moment exdates))

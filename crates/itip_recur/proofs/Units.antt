@@ -17,7 +17,8 @@ month_number-rises a b a_in b_in le =
     (λ lt. elim (later_date a b a_in b_in lt) [ inl later ↦ omega arith | inr same ↦ omega arith ])
     (λ ge. let same : a ≡ b = omega (arith, signed_arith) in omega (arith, ap month_number same))
 
-pub unit_number-rises : (f : Frequency) (w : Weekday) (a b : ℤ) → IsDayNumber a → IsDayNumber b → a ≤ℤ b → unit_number f w a ≤ unit_number f w b
+pub unit_number-rises : (f : Frequency) (w : Weekday) (a b : ℤ) → IsDayNumber a → IsDayNumber b → a ≤ℤ b →
+    unit_number f w a ≤ unit_number f w b
 unit_number-rises Daily w a b a_in b_in le = omega (arith, signed_arith, pos-days_from_zero a a_in, pos-days_from_zero b b_in)
 unit_number-rises (Weekly d) w a b a_in b_in le =
     let days : days_from_zero a ≤ days_from_zero b = omega (arith, signed_arith, pos-days_from_zero a a_in, pos-days_from_zero b b_in) in
@@ -30,10 +31,12 @@ unit_number-rises (Yearly d) w a b a_in b_in le =
     omega arith
 
 -- no unit is left out
-pub unit_number-near : (f : Frequency) (w : Weekday) (x y : ℤ) → IsDayNumber x → IsDayNumber y → y ≡ x +ℤ pos 1 → unit_number f w y ≤ unit_number f w x + 1
+pub unit_number-near : (f : Frequency) (w : Weekday) (x y : ℤ) → IsDayNumber x → IsDayNumber y → y ≡ x +ℤ pos 1 →
+    unit_number f w y ≤ unit_number f w x + 1
 unit_number-near Daily w x y x_in y_in next = omega (arith, signed_arith, pos-days_from_zero x x_in, pos-days_from_zero y y_in)
 unit_number-near (Weekly d) w x y x_in y_in next =
-    let days : days_from_zero y ≡ days_from_zero x + 1 = omega (arith, signed_arith, pos-days_from_zero x x_in, pos-days_from_zero y y_in) in
+    let days : days_from_zero y ≡ days_from_zero x + 1 =
+    omega (arith, signed_arith, pos-days_from_zero x x_in, pos-days_from_zero y y_in) in
     omega arith
 unit_number-near (Monthly d) w x y x_in y_in next = month_near x y x_in y_in next
 unit_number-near (Yearly d) w x y x_in y_in next = year_near x y x_in y_in next

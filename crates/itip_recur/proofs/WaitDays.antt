@@ -17,18 +17,21 @@ one_day P day not =
     }
 
 -- the rest of a month of which no day is P
-pub in_rest : (P : ℤ → Type 0) (day r : ℤ) → IsDayNumber day → pos 1 ≤ℤ r → r ≡ pos (month_length day + 1 - day_of_month day) → ((x : ℤ) → IsInMonth day x → day ≤ℤ x → P x → ⊥) → IsWait P day r
+pub in_rest : (P : ℤ → Type 0) (day r : ℤ) → IsDayNumber day → pos 1 ≤ℤ r → r ≡ pos (month_length day + 1 - day_of_month day) →
+    ((x : ℤ) → IsInMonth day x → day ≤ℤ x → P x → ⊥) → IsWait P day r
 in_rest P day r day_in low is none =
     record {
       here = λ e. absurd (omega (arith, signed_arith));
       none = λ x ge lt p. none x (in_month day x day_in ge (omega (arith, signed_arith, is))) ge p;
     }
 
-pub for_day : (day : ℤ) (d wanted : ℕ) → IsDayNumber day → d ≡ day_of_month day → d ≤ wanted → wanted ≤ month_length day → IsWait (λ x. day_of_month x ≡ wanted) day (pos (wanted - d))
+pub for_day : (day : ℤ) (d wanted : ℕ) → IsDayNumber day → d ≡ day_of_month day → d ≤ wanted → wanted ≤ month_length day →
+    IsWait (λ x. day_of_month x ≡ wanted) day (pos (wanted - d))
 for_day day d wanted day_in is le high =
     record {
       here = λ e. omega (arith, signed_arith, is, e);
-      none = λ x ge lt same. let at = in_month day x day_in ge (omega (arith, signed_arith, is)) in omega (arith, signed_arith, at.at, is, same);
+      none = λ x ge lt same. let at = in_month day x day_in ge (omega (arith, signed_arith, is)) in
+          omega (arith, signed_arith, at.at, is, same);
     }
 
 -- the rest of a month has no day of the month that is past
@@ -53,7 +56,8 @@ and_behind P day wait not low none =
 pub none_behind : (P : ℤ → Type 0) (day : ℤ) → IsNone P (day +ℤ pos 1) (day +ℤ pos 1)
 none_behind P day x low high p = omega (arith, signed_arith)
 
-pub no_weekday : (w d : ℕ) (day : ℤ) → w ≤ 6 → d ≡ weekday_number day → IsDayNumber day → IsNone (λ x. weekday_number x ≡ w) (day +ℤ pos 1) (day +ℤ pos ((w + 6 - d) % 7 + 1))
+pub no_weekday : (w d : ℕ) (day : ℤ) → w ≤ 6 → d ≡ weekday_number day → IsDayNumber day →
+    IsNone (λ x. weekday_number x ≡ w) (day +ℤ pos 1) (day +ℤ pos ((w + 6 - d) % 7 + 1))
 no_weekday w d day small is day_in x low high on =
     let here = pos-days_from_zero day day_in in
     let there = pos-days_from_zero-low x (omega (arith, signed_arith, day_in)) in

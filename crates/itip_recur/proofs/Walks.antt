@@ -9,11 +9,13 @@ use Rattle.itip_recur.specs.Walk.{IsNoDay}
 pub IsNoDay-none : (rule : Rule) (start from : ℤ) → IsNoDay rule start from from
 IsNoDay-none rule start from = λ x low high in_pattern. omega (arith, signed_arith)
 
-pub IsNoDay-skipped : (rule : Rule) (start from day next : ℤ) → IsNoDay rule start from day → IsNoDay rule start day next → IsNoDay rule start from next
+pub IsNoDay-skipped : (rule : Rule) (start from day next : ℤ) → IsNoDay rule start from day → IsNoDay rule start day next →
+    IsNoDay rule start from next
 IsNoDay-skipped rule start from day next none skipped =
     λ x low high in_pattern. by_lt_z x day (λ lt. none x low lt in_pattern) (λ ge. skipped x ge high in_pattern)
 
-pub IsNoDay-more : (rule : Rule) (start from day : ℤ) → IsNoDay rule start from day → (InPattern rule start day → ⊥) → IsNoDay rule start from (day +ℤ pos 1)
+pub IsNoDay-more : (rule : Rule) (start from day : ℤ) → IsNoDay rule start from day → (InPattern rule start day → ⊥) →
+    IsNoDay rule start from (day +ℤ pos 1)
 IsNoDay-more rule start from day none here =
     λ x low high in_pattern.
     by_lt_z x day (λ lt. none x low lt in_pattern)

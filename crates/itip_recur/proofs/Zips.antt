@@ -23,11 +23,17 @@ module _ {B : Type 0} (R : List ℕ → B → Type 0) (items : List (Bor (List �
   here : i < length items → text ≡ (get_or items i b).now → get_or (map (λ e. e.now) items) i [] ≡ text
   here lt is = get_or-map (λ e. e.now) items i b [] lt ∙ sym is
 
-  pub texts_more : i < length items → text ≡ (get_or items i b).now → (list : List B) (y : B) → R text y → AllZip R (take i (map (λ e. e.now) items)) list → AllZip R (take (i + 1) (map (λ e. e.now) items)) (list ++ y ∷ [])
+  pub texts_more : i < length items → text ≡ (get_or items i b).now → (list : List B) (y : B) → R text y →
+      AllZip R (take i (map (λ e. e.now) items)) list → AllZip R (take (i + 1) (map (λ e. e.now) items)) (list ++ y ∷ [])
   texts_more lt is list y r so_far =
-      subst (λ (xs : List (List ℕ)). AllZip R xs (list ++ y ∷ [])) (sym (take_more (map (λ e. e.now) items) i [] (omega (arith, length-map items (λ e. e.now))) ∙ ap (λ t. take i (map (λ e. e.now) items) ++ t ∷ []) (here lt is)))
+      subst (λ (xs : List (List ℕ)). AllZip R xs (list ++ y ∷ []))
+      (sym (take_more (map (λ e. e.now) items) i [] (omega (arith, length-map items (λ e. e.now))) ∙
+      ap (λ t. take i (map (λ e. e.now) items) ++ t ∷ []) (here lt is)))
       (zip_push R (take i (map (λ e. e.now) items)) list text y so_far r)
 
-  pub texts_refused : i < length items → text ≡ (get_or items i b).now → ((y : B) → R text y → ⊥) → (es : List (List ℕ)) → map (λ e. e.now) items ≡ es → (list : List B) → AllZip R es list → ⊥
+  pub texts_refused : i < length items → text ≡ (get_or items i b).now → ((y : B) → R text y → ⊥) → (es : List (List ℕ)) →
+      map (λ e. e.now) items ≡ es → (list : List B) → AllZip R es list → ⊥
   texts_refused lt is none es same list zip =
-      zip_refused R (map (λ e. e.now) items) i [] (omega (arith, length-map items (λ e. e.now))) (λ y r. none y (subst (λ (t : List ℕ). R t y) (here lt is) r)) list (subst (λ (xs : List (List ℕ)). AllZip R xs list) (sym same) zip)
+      zip_refused R (map (λ e. e.now) items) i [] (omega (arith, length-map items (λ e. e.now)))
+      (λ y r. none y (subst (λ (t : List ℕ). R t y) (here lt is) r)) list
+      (subst (λ (xs : List (List ℕ)). AllZip R xs list) (sym same) zip)

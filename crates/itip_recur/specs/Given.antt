@@ -6,4 +6,5 @@ use Rattle.itip_todo.specs.Table.{has_period}
 
 -- one of these lists has a value, or a period is among the lines
 abbrev pub are_given : List (List ℕ) → List Moment → List Moment → List Line → Bool
-are_given rules rdates exdates lines = not (length rules == 0) || (not (length rdates == 0) || (not (length exdates == 0) || has_period lines))
+are_given rules rdates exdates lines = not (length rules == 0) ||
+    (not (length rdates == 0) || (not (length exdates == 0) || has_period lines))

@@ -16,7 +16,8 @@ use Rattle.itip_recur.specs.declared.rule.Place.{Place}
 use Rattle.itip_recur.specs.declared.rule.Place.TheVariants.{FromFirst, FromLast}
 use Rattle.itip_recur.specs.declared.rule.MonthWeekday.{MonthWeekday}
 use Rattle.itip_recur.specs.declared.rule.MonthWeekday.TheVariants.{Every, Nth}
-use Rattle.itip_recur.specs.Calendar.{days_from_zero, weekday_number, week_number, year_number, month_of_year, month_number, day_of_month, month_length}
+use Rattle.itip_recur.specs.Calendar.{days_from_zero, weekday_number, week_number, year_number, month_of_year, month_number, day_of_month}
+use Rattle.itip_recur.specs.Calendar.{month_length}
 
 -- the number of the day, week, month or year that a day lies in
 abbrev pub unit_number : Frequency → Weekday → ℤ → ℕ
@@ -72,7 +73,8 @@ IsSelected (Yearly days) start day = IsYearDay days start day
 
 -- the numbers of the two units are congruent modulo INTERVAL, and the day is selected
 pub record InPattern (rule : Rule) (start day : ℤ) : Type 0 where
-  pub congruent : unit_number rule.frequency rule.week_start day % rule.interval ≡ unit_number rule.frequency rule.week_start start % rule.interval
+  pub congruent : unit_number rule.frequency rule.week_start day % rule.interval ≡ unit_number rule.frequency rule.week_start start %
+      rule.interval
   pub selected : IsSelected rule.frequency start day
 
 -- a later day of the pattern

@@ -1,5 +1,6 @@
 -- Which text is which rule: the profile of RFC 5545 3.3.10 that is expanded (the choice of its parts is our own).
-use Rattle.std.specs.Prelude.{◌≡◌, ℕ, ◌≤◌, ◌⊎◌, ◌==◌, ◌&&◌, nat_lt, nat_le, if◌then◌else◌, length, map, List, [], ◌∷◌, ◌++◌, IsTrue, Bool, Option, Some, None, MatchOption, codes, count_by}
+use Rattle.std.specs.Prelude.{◌≡◌, ℕ, ◌≤◌, ◌⊎◌, ◌==◌, ◌&&◌, nat_lt, nat_le, if◌then◌else◌, length, map, List, [], ◌∷◌, ◌++◌, IsTrue, Bool}
+use Rattle.std.specs.Prelude.{Option, Some, None, MatchOption, codes, count_by}
 use Rattle.std.specs.Char.{to_ascii_lowercase}
 use Rattle.std.specs.Cmp.Lexicographic.{pointwise}
 use Rattle.std.specs.List.{AllZip, slice_split, position_or_len, before_first, after_first, find, list_all, list_any}
@@ -36,11 +37,13 @@ elements value = slice_split (λ c. c == 44) value
 
 -- the names that a part may have
 abbrev pub part_names : List (List ℕ)
-part_names = codes "FREQ" ∷ codes "INTERVAL" ∷ codes "COUNT" ∷ codes "UNTIL" ∷ codes "WKST" ∷ codes "BYDAY" ∷ codes "BYMONTHDAY" ∷ codes "BYMONTH" ∷ []
+part_names = codes "FREQ" ∷ codes "INTERVAL" ∷ codes "COUNT" ∷ codes "UNTIL" ∷ codes "WKST" ∷ codes "BYDAY" ∷ codes "BYMONTHDAY" ∷
+    codes "BYMONTH" ∷ []
 
 -- what stands before the first '=' of the part is the name, in letters of either case
 abbrev pub has_name : List ℕ → List ℕ → Bool
-has_name name part = nat_lt (position_or_len (λ c. c == 61) part) (length part) && pointwise nat_eq (map to_ascii_lowercase (before_first (λ c. c == 61) part)) (map to_ascii_lowercase name)
+has_name name part = nat_lt (position_or_len (λ c. c == 61) part) (length part) &&
+    pointwise nat_eq (map to_ascii_lowercase (before_first (λ c. c == 61) part)) (map to_ascii_lowercase name)
 
 -- what stands behind the first '=' of a part, where it has one
 abbrev pub part_value : List ℕ → Option (List ℕ)
@@ -130,19 +133,23 @@ AreMonthParts by_month_day by_day (month.Weekdays days) = IsAbsent by_month_day 
 -- BYMONTH and BYMONTHDAY of a yearly rule: both or none
 abbrev pub AreYearParts : Option (List ℕ) → Option (List ℕ) → YearDays → Type 0
 AreYearParts by_month by_month_day year.OfStart = IsAbsent by_month × IsAbsent by_month_day
-AreYearParts by_month by_month_day (year.Listed months days) = IsGiven (λ value. AreMonths value months) by_month × IsGiven (λ value. AreMonthDays value days) by_month_day
+AreYearParts by_month by_month_day (year.Listed months days) = IsGiven (λ value. AreMonths value months) by_month ×
+    IsGiven (λ value. AreMonthDays value days) by_month_day
 
 -- FREQ, and the parts that it allows
 abbrev pub IsFrequencyOf : List (List ℕ) → Frequency → Type 0
 IsFrequencyOf parts Daily =
     IsGiven (IsWord (codes "DAILY")) (value_of (codes "FREQ") parts)
-    × IsAbsent (value_of (codes "BYDAY") parts) × IsAbsent (value_of (codes "BYMONTHDAY") parts) × IsAbsent (value_of (codes "BYMONTH") parts)
+    × IsAbsent (value_of (codes "BYDAY") parts) × IsAbsent (value_of (codes "BYMONTHDAY") parts) ×
+    IsAbsent (value_of (codes "BYMONTH") parts)
 IsFrequencyOf parts (Weekly days) =
     IsGiven (IsWord (codes "WEEKLY")) (value_of (codes "FREQ") parts)
-    × IsWeekPart (value_of (codes "BYDAY") parts) days × IsAbsent (value_of (codes "BYMONTHDAY") parts) × IsAbsent (value_of (codes "BYMONTH") parts)
+    × IsWeekPart (value_of (codes "BYDAY") parts) days × IsAbsent (value_of (codes "BYMONTHDAY") parts) ×
+    IsAbsent (value_of (codes "BYMONTH") parts)
 IsFrequencyOf parts (Monthly days) =
     IsGiven (IsWord (codes "MONTHLY")) (value_of (codes "FREQ") parts)
-    × AreMonthParts (value_of (codes "BYMONTHDAY") parts) (value_of (codes "BYDAY") parts) days × IsAbsent (value_of (codes "BYMONTH") parts)
+    × AreMonthParts (value_of (codes "BYMONTHDAY") parts) (value_of (codes "BYDAY") parts) days ×
+    IsAbsent (value_of (codes "BYMONTH") parts)
 IsFrequencyOf parts (Yearly days) =
     IsGiven (IsWord (codes "YEARLY")) (value_of (codes "FREQ") parts)
     × AreYearParts (value_of (codes "BYMONTH") parts) (value_of (codes "BYMONTHDAY") parts) days × IsAbsent (value_of (codes "BYDAY") parts)

@@ -3,7 +3,8 @@ ghost use Rattle.std.specs.Prelude.{◌≡◌, ◌<◌, ◌≤◌, ◌↔◌, �
 ghost use Rattle.itip_moment.specs.Years.{IsDayNumber};
 ghost use Rattle.std.specs.Int.{IsInRange};
 ghost use Rattle.jiff.specs.Words.{monday_zero, days_in_month};
-ghost use Rattle.itip_recur.specs.Calendar.{days_from_zero, weekday_number, week_number, year_number, month_of_year, month_number, day_of_month, month_length, IsDayOrEnd, IsNoDate, IsDayOfDate};
+ghost use Rattle.itip_recur.specs.Calendar.{days_from_zero, weekday_number, week_number, year_number, month_of_year, month_number};
+ghost use Rattle.itip_recur.specs.Calendar.{day_of_month, month_length, IsDayOrEnd, IsNoDate, IsDayOfDate};
 
 use crate::Weekday;
 use itip_moment::Day;

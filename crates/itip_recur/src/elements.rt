@@ -132,7 +132,8 @@ pub(crate) fn read_list<T: Element>(
     alloc: Global,
     value: &str,
 ) -> Result<Option<ListOf<T>>, NoMemory>
-    ensures { IfOk result (λ r. MatchOption r ((list : List T) → AllZip T.spells (elements value.now) list → ⊥) (AllZip T.spells (elements value.now))) }
+    ensures { IfOk result (λ r. MatchOption r ((list : List T) → AllZip T.spells (elements value.now) list → ⊥)
+        (AllZip T.spells (elements value.now))) }
 {
     let elements = split_elements(alloc, value)?;
     let mut list = Vec::new(alloc);

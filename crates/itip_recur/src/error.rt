@@ -11,7 +11,7 @@ pub enum RecurError {
     /// There are more than 100,000 occurrences in the window (our own limit).
     #[error("more than 100,000 occurrences")]
     TooMany,
-    /// Memory was refused.
+    /// An allocation failed.
     #[error("no memory to list occurrences")]
     NoMemory,
 }

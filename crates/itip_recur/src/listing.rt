@@ -2,7 +2,8 @@
 ghost use Rattle.std.specs.Prelude.{◌≡◌, ◌≤◌, ◌↔◌, length, [], ℤ, pos, ◌+ℤ◌, ◌≤ℤ◌, ◌<ℤ◌, IsTrue, IfOk, IfErr, OnOk};
 ghost use Rattle.itip_moment.specs.Moment.{moment_day};
 ghost use Rattle.itip_moment.specs.Years.{IsDayNumber};
-ghost use Rattle.itip_recur.specs.Adding.{AreBefore, Gains, IsStep, IsGrown, IsKept, IsThis, IsStart, IsRepeatOf, IsBetween, IsOnDay, IsOneOf, IsMemberIn};
+ghost use Rattle.itip_recur.specs.Adding.{AreBefore, Gains, IsStep, IsGrown, IsKept, IsThis, IsStart, IsRepeatOf, IsBetween, IsOnDay};
+ghost use Rattle.itip_recur.specs.Adding.{IsOneOf, IsMemberIn};
 ghost use Rattle.itip_recur.specs.Calendar.{IsDayOrEnd};
 ghost use Rattle.itip_recur.specs.Members.{IsRuleMember};
 ghost use Rattle.itip_recur.specs.Occurrences.{AreOccurrences, AreOver, IfTooMany, occurrence_limit};

@@ -70,7 +70,8 @@ pub(crate) fn end_of_days(rule: &Rule, start: &Moment, end: i32) -> i32
     requires { IsDayOrEnd end }
     ensures bounds { IsDayOrEnd result }
     ensures exact { (m : Moment) → IsRepeat rule.now start.now m
-        → ((moment_day m <ℤ end) × IsWithinEnd rule.now.end (IsCandidate rule.now start.now) m) ↔ ((moment_day m <ℤ result) × IsUpTo rule.now.end m) }
+        → ((moment_day m <ℤ end) × IsWithinEnd rule.now.end (IsCandidate rule.now start.now) m) ↔
+        ((moment_day m <ℤ result) × IsUpTo rule.now.end m) }
 {
     let last = end_of_rule(rule, start, end);
     if last < end { last } else { end }

@@ -3,7 +3,8 @@ ghost use Rattle.std.specs.Prelude.{◌≡◌, ◌↔◌, ◌<◌, ◌≤◌, �
 ghost use Rattle.itip_moment.specs.Years.{IsDayNumber};
 ghost use Rattle.std.specs.List.{Any};
 ghost use Rattle.itip_recur.specs.Calendar.{IsDayOrEnd, month_of_year};
-ghost use Rattle.itip_recur.specs.Pattern.{unit_number, counted, ordinal, IsAtPlace, IsInSeven, IsMonthWeekday, IsWeekDay, IsMonthDay, IsYearDay, IsSelected, InPattern, IsRuleDay};
+ghost use Rattle.itip_recur.specs.Pattern.{unit_number, counted, ordinal, IsAtPlace, IsInSeven, IsMonthWeekday, IsWeekDay, IsMonthDay};
+ghost use Rattle.itip_recur.specs.Pattern.{IsYearDay, IsSelected, InPattern, IsRuleDay};
 
 use crate::calendar::{
     CalendarDay, day_at, days_from_zero, first_of_month, first_of_week, first_of_year, week_number,

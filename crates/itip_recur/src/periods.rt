@@ -18,7 +18,8 @@ pub(crate) fn passed_periods(walk: &Walk<'_>, count: u32, end: i32) -> Passed
     requires end_in { IsDayOrEnd end }
     ensures fits { 1 + result.seen < 2 ^ 32 }
     ensures bounds { IsDayOrEnd (walk.now.start.number +ℤ pos 1 +ℤ pos result.days) }
-    ensures counted { Counted walk.now.rule.now walk.now.start.number count (1 + result.seen) (walk.now.start.number +ℤ pos 1 +ℤ pos result.days) }
+    ensures counted { Counted walk.now.rule.now walk.now.start.number count (1 + result.seen)
+        (walk.now.start.number +ℤ pos 1 +ℤ pos result.days) }
 {
     let none = Passed { seen: 0, days: 0 };
     let first = walk.start.number + 1;

@@ -7,7 +7,8 @@ ghost use Rattle.itip_recur.specs.declared.rule.Frequency.{Frequency};
 ghost use Rattle.itip_recur.specs.declared.rule.WeekDays.{WeekDays};
 ghost use Rattle.itip_recur.specs.declared.rule.MonthDays.{MonthDays};
 ghost use Rattle.itip_recur.specs.declared.rule.YearDays.{YearDays};
-ghost use Rattle.itip_recur.specs.RuleText.{IsInterval, IsWeekStart, IsEndOf, IsWeekPart, AreMonthParts, AreYearParts, IsFrequencyOf, IsRuleOfParts};
+ghost use Rattle.itip_recur.specs.RuleText.{IsInterval, IsWeekStart, IsEndOf, IsWeekPart, AreMonthParts, AreYearParts, IsFrequencyOf};
+ghost use Rattle.itip_recur.specs.RuleText.{IsRuleOfParts};
 ghost use Rattle.itip_recur.specs.Reads.{IsReading};
 
 use crate::elements::{read_list, read_number, read_weekday};
@@ -23,7 +24,7 @@ pub enum Reading {
     /// A rule of the profile.
     Plain(Rule),
     /// Any other text.
-    Opaque,
+    OutsideProfile,
 }
 
 /// The rule that a text is (the value of RRULE, RFC 5545 3.3.10).
@@ -37,7 +38,7 @@ pub fn read_rule(alloc: Global, text: &str) -> Result<Reading, NoMemory>
     let parts = split_parts(alloc, text)?;
     match read_parts(alloc, parts.as_slice())? {
         Some(rule) => Ok(Reading::Plain(rule)),
-        None => Ok(Reading::Opaque),
+        None => Ok(Reading::OutsideProfile),
     }
 }
 
@@ -92,7 +93,8 @@ fn read_end(
     count: Option<&str>,
     until: Option<&str>,
 ) -> Result<Option<End>, NoMemory>
-    ensures { IfOk result (λ r. MatchOption r ((e : End) → IsEndOf (option_copied count.entry) (option_copied until.entry) e → ⊥) (IsEndOf (option_copied count.entry) (option_copied until.entry))) }
+    ensures { IfOk result (λ r. MatchOption r ((e : End) → IsEndOf (option_copied count.entry) (option_copied until.entry) e → ⊥)
+        (IsEndOf (option_copied count.entry) (option_copied until.entry))) }
 {
     match (count, until) {
         (None, None) => Ok(Some(End::Never)),
@@ -141,7 +143,8 @@ fn read_frequency(alloc: Global, parts: &[&str]) -> Result<Option<Frequency>, No
 }
 
 fn read_weekly(alloc: Global, by_day: Option<&str>) -> Result<Option<WeekDays>, NoMemory>
-    ensures { IfOk result (λ r. MatchOption r ((d : WeekDays) → IsWeekPart (option_copied by_day.entry) d → ⊥) (IsWeekPart (option_copied by_day.entry))) }
+    ensures { IfOk result (λ r. MatchOption r ((d : WeekDays) → IsWeekPart (option_copied by_day.entry) d → ⊥)
+        (IsWeekPart (option_copied by_day.entry))) }
 {
     let Some(value) = by_day else {
         return Ok(Some(WeekDays::OfStart));
@@ -154,7 +157,9 @@ fn read_monthly(
     by_month_day: Option<&str>,
     by_day: Option<&str>,
 ) -> Result<Option<MonthDays>, NoMemory>
-    ensures { IfOk result (λ r. MatchOption r ((d : MonthDays) → AreMonthParts (option_copied by_month_day.entry) (option_copied by_day.entry) d → ⊥) (AreMonthParts (option_copied by_month_day.entry) (option_copied by_day.entry))) }
+    ensures { IfOk result (λ r. MatchOption r ((d : MonthDays) →
+        AreMonthParts (option_copied by_month_day.entry) (option_copied by_day.entry) d → ⊥)
+        (AreMonthParts (option_copied by_month_day.entry) (option_copied by_day.entry))) }
 {
     match (by_month_day, by_day) {
         (None, None) => Ok(Some(MonthDays::OfStart)),
@@ -169,7 +174,9 @@ fn read_yearly(
     by_month: Option<&str>,
     by_month_day: Option<&str>,
 ) -> Result<Option<YearDays>, NoMemory>
-    ensures { IfOk result (λ r. MatchOption r ((d : YearDays) → AreYearParts (option_copied by_month.entry) (option_copied by_month_day.entry) d → ⊥) (AreYearParts (option_copied by_month.entry) (option_copied by_month_day.entry))) }
+    ensures { IfOk result (λ r. MatchOption r ((d : YearDays) →
+        AreYearParts (option_copied by_month.entry) (option_copied by_month_day.entry) d → ⊥)
+        (AreYearParts (option_copied by_month.entry) (option_copied by_month_day.entry))) }
 {
     match (by_month, by_month_day) {
         (None, None) => Ok(Some(YearDays::OfStart)),

@@ -90,7 +90,8 @@ impl<'a> Walk<'a> {
         requires day_in { IsDayNumber unit.day }
         requires next_in { IsDayOrEnd next }
         requires number { unit_number self.now.rule.now.frequency self.now.rule.now.week_start unit.day ≡ unit.number }
-        requires congruent { unit.number % self.now.rule.now.interval ≡ unit_number self.now.rule.now.frequency self.now.rule.now.week_start self.now.start.number % self.now.rule.now.interval }
+        requires congruent { unit.number % self.now.rule.now.interval ≡ unit_number self.now.rule.now.frequency
+            self.now.rule.now.week_start self.now.start.number % self.now.rule.now.interval }
         requires small { unit.number < 2 ^ 22 }
         requires first { IsFirstDay self.now.rule.now (unit.number + 1) next }
         ensures { IsUnitFrom self.now.rule.now self.now.start.number next result.number result.day }

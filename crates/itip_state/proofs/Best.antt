@@ -5,7 +5,8 @@ use Rattle.std.specs.Cmp.Lexicographic.{slice_cmp}
 use Rattle.std.specs.Ordering.{nat_cmp, ordering_reverse, ordering_then, MatchOrdering}
 use Rattle.std.specs.declared.cmp.Ordering.TheVariants.{Less, Equal, Greater}
 use Rattle.std.proofs.lemmas.Cmp.{ranked, tied_itself}
-use Rattle.std.proofs.lemmas.List.Elements.{Contains-append_cases, Contains-append_left, Contains-append_right, Contains-push, Contains-push_cases}
+use Rattle.std.proofs.lemmas.List.Elements.{Contains-append_cases, Contains-append_left, Contains-append_right, Contains-push}
+use Rattle.std.proofs.lemmas.List.Elements.{Contains-push_cases}
 use Rattle.itip_moment.specs.Order.{stamp_cmp}
 use Rattle.itip_items.specs.Later.{revision_cmp, IsLater}
 use Rattle.itip_items.specs.declared.item.Item.{Item}
@@ -53,14 +54,19 @@ not_later_transitive i j k a b later =
     ] refl
   where
     tied_right : revision_cmp j k ≡ Equal → revision_cmp i k ≡ revision_cmp i j
-    tied_right e = revisions_total.antisymm i k ∙ ap ordering_reverse (sym (revisions_total.congr j k i e)) ∙ sym (revisions_total.antisymm i j)
+    tied_right e = revisions_total.antisymm i k ∙ ap ordering_reverse (sym (revisions_total.congr j k i e)) ∙
+        sym (revisions_total.antisymm i j)
 
 -- a lower effective sequence is earlier
 pub greater_eff : (i j : Item) → j.eff < i.eff → IsLater i j
 greater_eff i j h =
     elim (nat_cmp i.eff j.eff) as (λ o. nat_cmp i.eff j.eff ≡ o → IsLater i j) [
-      | Less ↦ λ e. let x : i.eff < j.eff = subst (λ o. MatchOrdering o (i.eff < j.eff) (i.eff ≡ j.eff) (j.eff < i.eff)) e (ranked i.eff j.eff (nat_cmp i.eff j.eff) refl) in absurd (omega arith)
-      | Equal ↦ λ e. let x : i.eff ≡ j.eff = subst (λ o. MatchOrdering o (i.eff < j.eff) (i.eff ≡ j.eff) (j.eff < i.eff)) e (ranked i.eff j.eff (nat_cmp i.eff j.eff) refl) in absurd (omega arith)
+      | Less ↦ λ e. let x : i.eff < j.eff =
+          subst (λ o. MatchOrdering o (i.eff < j.eff) (i.eff ≡ j.eff) (j.eff < i.eff)) e (ranked i.eff j.eff (nat_cmp i.eff j.eff) refl) in
+          absurd (omega arith)
+      | Equal ↦ λ e. let x : i.eff ≡ j.eff =
+          subst (λ o. MatchOrdering o (i.eff < j.eff) (i.eff ≡ j.eff) (j.eff < i.eff)) e (ranked i.eff j.eff (nat_cmp i.eff j.eff) refl) in
+          absurd (omega arith)
       | Greater ↦ λ e. ap (λ o. ordering_then o (ordering_then (stamp_cmp i.stamp j.stamp) (slice_cmp nat_cmp i.bytes j.bytes))) e
     ] refl
 
@@ -76,7 +82,8 @@ with_other x xs key other (inr (best, is)) = inr (
   record {
     is_heard = Contains-append_right (x ∷ []) xs best is.is_heard;
     about = is.about;
-    none_later = λ i h about. elim (Contains-cons_cases x xs i h) [ inl same ↦ absurd (other (ap (λ (j : Item). j.key) same ∙ about)) | inr rest ↦ is.none_later i rest about ];
+    none_later = λ i h about. elim (Contains-cons_cases x xs i h)
+        [ inl same ↦ absurd (other (ap (λ (j : Item). j.key) same ∙ about)) | inr rest ↦ is.none_later i rest about ];
   },
 )
 
@@ -86,7 +93,8 @@ with_one x xs key about (inl none) = inr (
   record {
     is_heard = Contains-append_left (x ∷ []) xs x (Contains-push [] x);
     about = about;
-    none_later = λ i h at. elim (Contains-cons_cases x xs i h) [ inl same ↦ subst (λ (j : Item). ¬ IsLater j x) same (not_later_itself x) | inr rest ↦ absurd (none i rest at) ];
+    none_later = λ i h at. elim (Contains-cons_cases x xs i h)
+        [ inl same ↦ subst (λ (j : Item). ¬ IsLater j x) same (not_later_itself x) | inr rest ↦ absurd (none i rest at) ];
   },
 )
 with_one x xs key about (inr (best, is)) =

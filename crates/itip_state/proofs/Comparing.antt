@@ -1,5 +1,6 @@
 -- What is held of a UID tells no more than what another holds of it exactly where hearing it adds nothing.
-use Rattle.std.proofs.Common.{◌≡◌, ℕ, List, ◌++◌, ◌<◌, ◌≤◌, refl, sym, ◌∙◌, ap, subst, ◌⊎◌, inl, inr, true, false, arith, Option, Some, None, nat_lt}
+use Rattle.std.proofs.Common.{◌≡◌, ℕ, List, ◌++◌, ◌<◌, ◌≤◌, refl, sym, ◌∙◌, ap, subst, ◌⊎◌, inl, inr, true, false, arith, Option, Some}
+use Rattle.std.proofs.Common.{None, nat_lt}
 use Rattle.std.specs.List.{Contains}
 use Rattle.std.proofs.lemmas.Bool.Decides.{nat_tests}
 use Rattle.std.proofs.lemmas.List.Elements.{Contains-append_cases, Contains-append_left, Contains-append_right}
@@ -17,14 +18,15 @@ use Rattle.itip_items.specs.declared.key.Key.TheVariants.{Series}
 use Rattle.itip_state.specs.Kept.{IsBest, IsDead, IsKept, AreKept}
 use Rattle.itip_state.specs.Slots.{slot_cmp}
 use Rattle.itip_state.specs.Held.{Best, UidState, best, is_series, can_die, is_killed, kills, uid_state_items, IsSound}
-use Rattle.itip_state.specs.Dying.{IsNoLater, eff_up_to, less_from}
+use Rattle.itip_state.specs.DyingLaws.{IsNoLater, eff_up_to, less_from}
 use Rattle.itip_state.specs.Joined.{IsUidStateBelow}
 use Rattle.itip_state.proofs.Members.{by_bool}
 use Rattle.itip_state.proofs.Best.{best_above, not_later_itself, later_transitive, greater_eff}
 use Rattle.itip_state.proofs.Later.{up_to_not_later, not_later_up_to, neither_later}
 use Rattle.itip_state.proofs.Keeping.{series_kept}
 use Rattle.itip_state.proofs.Tests.{series_key, can, killed, kill}
-use Rattle.itip_state.proofs.UidStates.{held_as, series_held, entry_held, entry_key, known_key, about, series_is, entry_is, one_of_key, not_killed, is_state, killed_is_dead}
+use Rattle.itip_state.proofs.UidStates.{held_as, series_held, entry_held, entry_key, known_key, about, series_is, entry_is, one_of_key}
+use Rattle.itip_state.proofs.UidStates.{not_killed, is_state, killed_is_dead}
 
 -- where no item can be dead, none is killed
 abbrev pub IsToldBy : UidState → Item → Type 0
@@ -47,7 +49,8 @@ module _ (uid : List ℕ) (a b : UidState) (sound_a : IsSound uid a) (sound_b : 
   by_series j key Nothing e l = absurd l
   by_series j key (Known w) e l = inl (w.value, series_held uid b sound_b w.value e, known_key uid b sound_b w.value e ∙ sym key, l)
 
-  by_entry : (j : Item) (o : Option Best) → value_at slot_cmp b.entries j.key ≡ o → IsBelowUnder (is_killed b.series j.key) IsNoLater (Some (best j)) o → IsToldBy b j
+  by_entry : (j : Item) (o : Option Best) → value_at slot_cmp b.entries j.key ≡ o →
+      IsBelowUnder (is_killed b.series j.key) IsNoLater (Some (best j)) o → IsToldBy b j
   by_entry j None e d = inr d
   by_entry j (Some w) e (inl d) = inr d
   by_entry j (Some w) e (inr l) = inl (w.value, entry_held uid b sound_b j.key w e, (entry_key uid b sound_b j.key w e).in_place, l)
@@ -55,14 +58,17 @@ module _ (uid : List ℕ) (a b : UidState) (sound_a : IsSound uid a) (sound_b : 
   -- what the one tells the other tells too, or it is dead there
   pub told : IsUidStateBelow a b → (j : Item) → Contains x j → IsToldBy b j
   told le j h = elim (held_as uid a sound_a j h) [
-    | inl first ↦ by_series j (known_key uid a sound_a j first.0) b.series refl (subst (λ (s : Lift Best). IsLiftedBelow IsNoLater s b.series) first.0 le.0)
+    | inl first ↦ by_series j (known_key uid a sound_a j first.0) b.series refl
+        (subst (λ (s : Lift Best). IsLiftedBelow IsNoLater s b.series) first.0 le.0)
     | inr other ↦ by_entry j (value_at slot_cmp b.entries j.key) refl
-        (subst (λ (o : Option Best). IsBelowUnder (is_killed b.series j.key) IsNoLater o (value_at slot_cmp b.entries j.key)) other.0 (le.1 j.key))
+        (subst (λ (o : Option Best). IsBelowUnder (is_killed b.series j.key) IsNoLater o (value_at slot_cmp b.entries j.key)) other.0
+        (le.1 j.key))
   ]
 
   -- nothing that is told is later than what the other holds of its key
   told_no_later : (j : Item) → IsToldBy b j → (i : Item) → Contains z i → j.key ≡ i.key → ¬ IsLater j i
-  told_no_later j (inl (w, there, key, up)) i h same later = up_to_not_later j w up (subst (λ (y : Item). IsLater j y) (sym (one_of_key uid b sound_b w i there h (key ∙ same))) later)
+  told_no_later j (inl (w, there, key, up)) i h same later =
+      up_to_not_later j w up (subst (λ (y : Item). IsLater j y) (sym (one_of_key uid b sound_b w i there h (key ∙ same))) later)
   told_no_later j (inr d) i h same later =
       by_bool (is_series i.key) ⊥
       (λ e. series_lives b.series j.key j (ap is_series same ∙ e) d)
@@ -81,11 +87,13 @@ module _ (uid : List ℕ) (a b : UidState) (sound_a : IsSound uid a) (sound_b : 
 
           high : (t : Item) → can_die j.key ≡ true → j.eff < t.eff → kills (Known (best t)) i.key i ≡ false → j.eff < i.eff
           high t c low f = by_bool (nat_lt i.eff t.eff) (j.eff < i.eff)
-              (λ under. let y : true ≡ false = sym (kill t i.key i (ap can_die (sym same) ∙ c) (less_from i.eff t.eff under)) ∙ f in absurd (cc))
+              (λ under. let y : true ≡ false = sym (kill t i.key i (ap can_die (sym same) ∙ c) (less_from i.eff t.eff under)) ∙ f in
+              absurd (cc))
               (λ over. less_than i.eff t.eff low over)
 
   -- a series item that is told has one above it
-  told_series : IsUidStateBelow a b → (t : Item) → Contains (x ++ z) t → t.key ≡ Series uid → (s : Item) × Contains z s × (s.key ≡ Series uid) × (t.eff ≤ s.eff)
+  told_series : IsUidStateBelow a b → (t : Item) → Contains (x ++ z) t → t.key ≡ Series uid → (s : Item) × Contains z s ×
+      (s.key ≡ Series uid) × (t.eff ≤ s.eff)
   told_series le t h key = elim (Contains-append_cases x z t h) [
     | inl left ↦ by (told le t left)
     | inr right ↦ (t, right, key, omega arith)
@@ -130,9 +138,11 @@ module _ (uid : List ℕ) (a b : UidState) (sound_a : IsSound uid a) (sound_b : 
         where
           by : Contains x i → IsToldBy b i → Contains z i
           by left (inl (w, there, same, up_to)) =
-              let one : w ≡ i = neither_later w i (kept.best.none_later w (Contains-append_right x z w there) same) (up_to_not_later i w up_to) in
+              let one : w ≡ i = neither_later w i (kept.best.none_later w (Contains-append_right x z w there) same)
+              (up_to_not_later i w up_to) in
               subst (Contains z) one there
-          by left (inr d) = absurd (kept.alive (killed_is_dead uid b sound_b (x ++ z) (Contains-append_right x z) i (about uid a sound_a i left) d))
+          by left (inr d) = absurd (kept.alive
+              (killed_is_dead uid b sound_b (x ++ z) (Contains-append_right x z) i (about uid a sound_a i left) d))
 
   -- ---- and back
   series_in : AreKept z (x ++ z) → (t : Item) → IsBest (x ++ z) (Series uid) t → b.series ≡ Known (best t)
@@ -151,9 +161,11 @@ module _ (uid : List ℕ) (a b : UidState) (sound_a : IsSound uid a) (sound_b : 
           subst (λ (t : Lift Best). IsLiftedBelow IsNoLater (Known s) t) (sym (series_in kept found.0 is))
           (not_later_up_to s.value found.0 (is.none_later s.value (Contains-append_left x z s.value here) key))
 
-      entry_below : (k : Key) (o : Option Best) → value_at slot_cmp a.entries k ≡ o → IsBelowUnder (is_killed b.series k) IsNoLater o (value_at slot_cmp b.entries k)
+      entry_below : (k : Key) (o : Option Best) → value_at slot_cmp a.entries k ≡ o →
+          IsBelowUnder (is_killed b.series k) IsNoLater o (value_at slot_cmp b.entries k)
       entry_below k None e = tt
-      entry_below k (Some v) e = by_bool (kills b.series k i) (IsBelowUnder (is_killed b.series k) IsNoLater (Some v) (value_at slot_cmp b.entries k))
+      entry_below k (Some v) e =
+          by_bool (kills b.series k i) (IsBelowUnder (is_killed b.series k) IsNoLater (Some v) (value_at slot_cmp b.entries k))
           (λ d. dead d (value_at slot_cmp b.entries k))
           (λ n. subst (IsBelowUnder (is_killed b.series k) IsNoLater (Some v)) (sym (there n)) (inr (not_later_up_to i found.0 no_later)))
         where
@@ -190,6 +202,8 @@ module _ (uid : List ℕ) (a b : UidState) (sound_a : IsSound uid a) (sound_b : 
 
           there : kills b.series k i ≡ false → value_at slot_cmp b.entries k ≡ Some (best found.0)
           there n =
-              let is : IsKept (x ++ z) found.0 = record { best = subst (λ (q : Key). IsBest (x ++ z) q found.0) (sym (found.1).about) found.1; alive = alive n } in
+              let is : IsKept (x ++ z) found.0 =
+              record { best = subst (λ (q : Key). IsBest (x ++ z) q found.0) (sym (found.1).about) found.1; alive = alive n } in
               let other : is_series (found.0).key ≡ false = ap is_series ((found.1).about ∙ key) ∙ (entry_key uid a sound_a k v e).other in
-              subst (λ (q : Key). value_at slot_cmp b.entries q ≡ Some (best found.0)) ((found.1).about ∙ key) (entry_is uid b sound_b found.0 ((kept found.0).1 is) other)
+              subst (λ (q : Key). value_at slot_cmp b.entries q ≡ Some (best found.0)) ((found.1).about ∙ key)
+              (entry_is uid b sound_b found.0 ((kept found.0).1 is) other)

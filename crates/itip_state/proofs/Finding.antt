@@ -45,8 +45,11 @@ module _ {X : Type 0} (item : X → Item) where
   keys_rise xs k ascend i j d up inside = elim (cases_lt i j) [
     | inl lt ↦ rises (item (get_or xs i d)).key (item (get_or xs j d)).key k
         (subst (λ (a : Item). key_cmp a.key (item (get_or xs j d)).key ≡ Less) (get_or-map item xs i d)
-        (subst (λ (b : Item). key_cmp (get_or (map item xs) i (item d)).key b.key ≡ Less) (get_or-map item xs j d) (ascend i j (item d) lt (rw (length-map xs item) inside))))
-    | inr ge ↦ let same : i ≡ j = omega arith in subst (λ (n : ℕ). ordering_index (key_cmp (item (get_or xs i d)).key k) ≤ ordering_index (key_cmp (item (get_or xs n d)).key k)) same (omega arith)
+        (subst (λ (b : Item). key_cmp (get_or (map item xs) i (item d)).key b.key ≡ Less) (get_or-map item xs j d)
+        (ascend i j (item d) lt (rw (length-map xs item) inside))))
+    | inr ge ↦ let same : i ≡ j = omega arith in
+        subst (λ (n : ℕ). ordering_index (key_cmp (item (get_or xs i d)).key k) ≤ ordering_index (key_cmp (item (get_or xs n d)).key k))
+        same (omega arith)
   ]
 
   pub mapped_in : (xs : List X) (k : ℕ) (x : X) → k < length xs → x ≡ get_or xs k x → Contains (map item xs) (item x)
@@ -59,12 +62,15 @@ module _ {X : Type 0} (item : X → Item) where
     | inr rest ↦ let r = from_mapped xs i rest in (r.0, cons_later x xs r.0 r.1, r.2)
   ]
 
-  not_there : (xs : List X) (k : Key) (place : ℕ) → IsPartitionPoint (λ x. key_cmp (item x).key k ≡ Less) (λ x. key_cmp (item x).key k ≡ Greater) xs place → (i : Item) → Contains (map item xs) i → i.key ≡ k → ⊥
+  not_there : (xs : List X) (k : Key) (place : ℕ) →
+      IsPartitionPoint (λ x. key_cmp (item x).key k ≡ Less) (λ x. key_cmp (item x).key k ≡ Greater) xs place → (i : Item) →
+      Contains (map item xs) i → i.key ≡ k → ⊥
   not_there xs k place parts i h about =
       let found = from_mapped xs i h in
       let at : ℕ = found.1.0 in
       let equal : key_cmp (item (get_or xs at found.0)).key k ≡ Equal =
-      ap (λ (x : X). key_cmp (item x).key k) found.1.2 ∙ ap (λ (y : Item). key_cmp y.key k) found.2 ∙ ap (λ (q : Key). key_cmp q k) about ∙ tied_itself key_total k in
+      ap (λ (x : X). key_cmp (item x).key k) found.1.2 ∙ ap (λ (y : Item). key_cmp y.key k) found.2 ∙ ap (λ (q : Key). key_cmp q k) about ∙
+      tied_itself key_total k in
       elim (cases_lt at place) [
         | inl lt ↦ let x : Less ≡ Equal = sym (parts.0 at found.0 (omega arith) lt) ∙ equal in cc
         | inr ge ↦ let x : Greater ≡ Equal = sym (parts.1 at found.0 ge found.1.1) ∙ equal in cc
@@ -76,8 +82,12 @@ module _ {X : Type 0} (item : X → Item) (key : Key) (parts : KeyParts) (has : 
   same_order = λ i x. sym (as_key (item x).key key parts has) i
 
   pub parts_rise : (xs : List X) → AscendKeys (map item xs) → IsNonDecreasingBy (λ x. ordering_index (parts_cmp (item x).key parts)) xs
-  parts_rise xs ascend = subst (λ (f : X → Ordering). IsNonDecreasingBy (λ x. ordering_index (f x)) xs) same_order (keys_rise item xs key ascend)
+  parts_rise xs ascend =
+      subst (λ (f : X → Ordering). IsNonDecreasingBy (λ x. ordering_index (f x)) xs) same_order (keys_rise item xs key ascend)
 
-  pub none_with_parts : (xs : List X) (place : ℕ) → IsPartitionPoint (λ x. parts_cmp (item x).key parts ≡ Less) (λ x. parts_cmp (item x).key parts ≡ Greater) xs place
+  pub none_with_parts : (xs : List X) (place : ℕ) →
+      IsPartitionPoint (λ x. parts_cmp (item x).key parts ≡ Less) (λ x. parts_cmp (item x).key parts ≡ Greater) xs place
       → (i : Item) → Contains (map item xs) i → i.key ≡ key → ⊥
-  none_with_parts xs place point = not_there item xs key place (subst (λ (f : X → Ordering). IsPartitionPoint (λ x. f x ≡ Less) (λ x. f x ≡ Greater) xs place) (sym same_order) point)
+  none_with_parts xs place point =
+      not_there item xs key place (subst (λ (f : X → Ordering). IsPartitionPoint (λ x. f x ≡ Less) (λ x. f x ≡ Greater) xs place)
+      (sym same_order) point)

@@ -22,9 +22,19 @@ use Rattle.itip_state.proofs.Maps.{uid_cmp, joined_held}
 alone_sound : (item : Item) → IsSound (uid_of item.key) (alone item) × (0 < length (uid_state_items (alone item)))
 unfolding IsStrictlySortedBy
 alone_sound item =
-    elim (is_series item.key) as (λ b. is_series item.key ≡ b → IsSound (uid_of item.key) (cond b (record { series = Known (best item); entries = [] }) (record { series = Nothing; entries = (item.key, best item) ∷ [] }))
-    × (0 < length (uid_state_items (cond b (record { series = Known (best item); entries = [] }) (record { series = Nothing; entries = (item.key, best item) ∷ [] }))))) [
-      | true ↦ λ e. (record { placed = record { series = series_key item.key e; entries = tt }; whole = record { sorted = tt; alive = refl } }, omega arith)
+    elim (is_series item.key) as (λ b. is_series item.key ≡ b →
+    IsSound (uid_of item.key) (cond b (record { series = Known (best item); entries = [] })
+    (record { series = Nothing; entries = (item.key, best item) ∷ [] }))
+    × (0 < length (uid_state_items (cond b (record { series = Known (best item); entries = [] })
+    (record { series = Nothing; entries = (item.key, best item) ∷ [] }))))) [
+      | true ↦ λ e. (
+        record {
+          placed = record { series = series_key item.key e; entries = tt };
+          whole =
+              record { sorted = tt; alive = refl };
+        },
+        omega arith,
+      )
       | false ↦ λ e. (
         record {
           placed = record { series = tt; entries = (record { in_place = refl; about = refl; other = e }, tt) };
@@ -36,7 +46,9 @@ alone_sound item =
 
 alone_items : (item : Item) → uid_state_items (alone item) ≡ item ∷ []
 alone_items item =
-    elim (is_series item.key) as (λ b. uid_state_items (cond b (record { series = Known (best item); entries = [] }) (record { series = Nothing; entries = (item.key, best item) ∷ [] })) ≡ item ∷ []) [ true ↦ refl | false ↦ refl ]
+    elim (is_series item.key) as (λ b. uid_state_items
+    (cond b (record { series = Known (best item); entries = [] })
+    (record { series = Nothing; entries = (item.key, best item) ∷ [] })) ≡ item ∷ []) [ true ↦ refl | false ↦ refl ]
 
 one_held : (item : Item) → AreHeld ((uid_of item.key, alone item) ∷ [])
 unfolding IsStrictlySortedBy
@@ -58,8 +70,10 @@ module _ (item : Item) (xs zs : List (List ℕ × UidState)) (ordered : AreOrder
   each : (q : List ℕ) → IsJoinedAt (at xs q) (at ys q) (at zs q)
   each q = by_bool (is_eq (uid_cmp u q)) (IsJoinedAt (at xs q) (at ys q) (at zs q))
       (λ k. subst (λ (r : List ℕ). IsJoinedAt (at xs r) (at ys r) (at zs r)) (one_key nat_list_cmp_total exact_bytes u q k)
-      (subst (λ (o : Option UidState). IsJoinedAt (at xs u) o (at zs u)) (sym (at_head nat_list_cmp_total exact_bytes (u, alone item) [])) joined))
-      (λ k. subst (λ (o : Option UidState). IsJoinedAt (at xs q) o (at zs q)) (sym (at_other nat_list_cmp_total exact_bytes (u, alone item) [] q ((eq_by_cmp_equiv nat_list_cmp_total).symm q u ∙ k)))
+      (subst (λ (o : Option UidState). IsJoinedAt (at xs u) o (at zs u)) (sym (at_head nat_list_cmp_total exact_bytes (u, alone item) []))
+      joined))
+      (λ k. subst (λ (o : Option UidState). IsJoinedAt (at xs q) o (at zs q))
+      (sym (at_other nat_list_cmp_total exact_bytes (u, alone item) [] q ((eq_by_cmp_equiv nat_list_cmp_total).symm q u ∙ k)))
       (subst (IsJoinedAt (at xs q) None) (sym (others q k)) (joined_none (at xs q))))
 
   pub heard_once : (heard : List Item) → HoldKept heard xs → HoldKept (heard ++ item ∷ []) zs
@@ -68,7 +82,8 @@ module _ (item : Item) (xs zs : List (List ℕ × UidState)) (ordered : AreOrder
       let mine : items_of ys ≡ item ∷ [] = ap (λ (is : List Item). is ++ []) (alone_items item) in
       record {
         held = all.held;
-        kept = are_kept_by (items_of zs) (items_of xs ++ item ∷ []) (heard ++ item ∷ []) (kept_beside heard (item ∷ []) (items_of xs) holds.kept)
+        kept = are_kept_by (items_of zs) (items_of xs ++ item ∷ []) (heard ++ item ∷ [])
+            (kept_beside heard (item ∷ []) (items_of xs) holds.kept)
             (subst (λ (is : List Item). AreKept (items_of zs) (items_of xs ++ is)) mine all.kept);
       }
 

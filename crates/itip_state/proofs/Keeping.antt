@@ -22,9 +22,14 @@ AreAmong part whole = (i : Item) → Contains part i → Contains whole i
 pub eff_up : (i j : Item) → (¬ IsLater i j) → i.eff ≤ j.eff
 eff_up i j not =
     elim (nat_cmp i.eff j.eff) as (λ o. nat_cmp i.eff j.eff ≡ o → i.eff ≤ j.eff) [
-      | Less ↦ λ e. let x : i.eff < j.eff = subst (λ o. MatchOrdering o (i.eff < j.eff) (i.eff ≡ j.eff) (j.eff < i.eff)) e (ranked i.eff j.eff (nat_cmp i.eff j.eff) refl) in omega arith
-      | Equal ↦ λ e. let x : i.eff ≡ j.eff = subst (λ o. MatchOrdering o (i.eff < j.eff) (i.eff ≡ j.eff) (j.eff < i.eff)) e (ranked i.eff j.eff (nat_cmp i.eff j.eff) refl) in omega arith
-      | Greater ↦ λ e. absurd (not (greater_eff i j (subst (λ o. MatchOrdering o (i.eff < j.eff) (i.eff ≡ j.eff) (j.eff < i.eff)) e (ranked i.eff j.eff (nat_cmp i.eff j.eff) refl))))
+      | Less ↦ λ e. let x : i.eff < j.eff =
+          subst (λ o. MatchOrdering o (i.eff < j.eff) (i.eff ≡ j.eff) (j.eff < i.eff)) e (ranked i.eff j.eff (nat_cmp i.eff j.eff) refl) in
+          omega arith
+      | Equal ↦ λ e. let x : i.eff ≡ j.eff =
+          subst (λ o. MatchOrdering o (i.eff < j.eff) (i.eff ≡ j.eff) (j.eff < i.eff)) e (ranked i.eff j.eff (nat_cmp i.eff j.eff) refl) in
+          omega arith
+      | Greater ↦ λ e. absurd (not (greater_eff i j
+          (subst (λ o. MatchOrdering o (i.eff < j.eff) (i.eff ≡ j.eff) (j.eff < i.eff)) e (ranked i.eff j.eff (nat_cmp i.eff j.eff) refl))))
     ] refl
 
 -- A part covers a set where it has all that is kept of it, and nothing else but the set's own.
@@ -53,7 +58,8 @@ series_kept heard uid s best = record {
 }
 
 -- a best series item stands at or above each series item of its UID
-series_above : (heard : List Item) (uid : List ℕ) (s : Item) → Contains heard s → s.key ≡ Series uid → (t : Item) × IsBest heard (Series uid) t × (s.eff ≤ t.eff)
+series_above : (heard : List Item) (uid : List ℕ) (s : Item) → Contains heard s → s.key ≡ Series uid → (t : Item) ×
+    IsBest heard (Series uid) t × (s.eff ≤ t.eff)
 series_above heard uid s h about =
     let found = best_above heard s h in
     let best : IsBest heard (Series uid) found.0 = subst (λ (k : Key). IsBest heard k found.0) about found.1 in
@@ -65,7 +71,13 @@ kept_part whole part i among kept h = record {
   best = best_part whole part i.key i among kept.best h;
   alive = λ dead.
       let above = series_above whole (uid_of i.key) dead.series (among dead.series dead.best.is_heard) dead.best.about in
-      kept.alive (record { can_die = dead.can_die; series = above.0; best = above.1; below = let x : i.eff < dead.series.eff = dead.below in let y : dead.series.eff ≤ (above.0).eff = above.2 in omega arith });
+      kept.alive (record {
+        can_die = dead.can_die;
+        series = above.0;
+        best = above.1;
+        below = let x : i.eff < dead.series.eff =
+            dead.below in let y : dead.series.eff ≤ (above.0).eff = above.2 in omega arith;
+      });
 }
 
 -- what is kept depends on which items there are alone
@@ -73,7 +85,8 @@ pub kept_same : (x y : List Item) (i : Item) → SameItems x y → IsKept x i �
 kept_same x y i same kept = kept_part x y i (λ j h. (same j).1 h) kept ((same i).0 kept.best.is_heard)
 
 -- Beside a set that has all that a part keeps, nothing of the part is later than what is kept.
-none_later_in : (part kept_part whole : List Item) (i j : Item) → Covers kept_part part → AreAmong kept_part whole → IsKept whole i → Contains part j → j.key ≡ i.key → ¬ IsLater j i
+none_later_in : (part kept_part whole : List Item) (i j : Item) → Covers kept_part part → AreAmong kept_part whole → IsKept whole i →
+    Contains part j → j.key ≡ i.key → ¬ IsLater j i
 none_later_in part kept_of whole i j are among kept h about later =
     let found = best_above part j h in
     let b : Item = found.0 in
@@ -127,15 +140,23 @@ module _ (x y kept_x kept_y : List Item) (hx : Covers kept_x x) (hy : Covers kep
         | inr right ↦ none_later_in y kept_y (kept_x ++ kept_y) i j hy (Contains-append_right kept_x kept_y) kept right about
       ];
     };
-    alive = λ dead. kept.alive (record { can_die = dead.can_die; series = dead.series; best = series_down (uid_of i.key) dead.series dead.best; below = dead.below });
+    alive = λ dead. kept.alive (record {
+      can_die = dead.can_die;
+      series = dead.series;
+      best =
+          series_down (uid_of i.key) dead.series dead.best;
+      below = dead.below;
+    });
   }
 
 -- what is kept of two parts that cover two sets is what is kept of the sets
-pub kept_of_parts : (x y part_x part_y : List Item) → Covers part_x x → Covers part_y y → (i : Item) → IsKept (part_x ++ part_y) i ↔ IsKept (x ++ y) i
+pub kept_of_parts : (x y part_x part_y : List Item) → Covers part_x x → Covers part_y y → (i : Item) → IsKept (part_x ++ part_y) i ↔
+    IsKept (x ++ y) i
 kept_of_parts x y part_x part_y hx hy i = (kept_up x y part_x part_y hx hy i, kept_down x y part_x part_y hx hy i)
 
 -- what is kept of what was kept is what is kept of all
-pub kept_of_kept_lem : (x y kept_x kept_y : List Item) → AreKept kept_x x → AreKept kept_y y → (i : Item) → IsKept (kept_x ++ kept_y) i ↔ IsKept (x ++ y) i
+pub kept_of_kept_lem : (x y kept_x kept_y : List Item) → AreKept kept_x x → AreKept kept_y y → (i : Item) → IsKept (kept_x ++ kept_y) i ↔
+    IsKept (x ++ y) i
 kept_of_kept_lem x y kept_x kept_y hx hy = kept_of_parts x y kept_x kept_y (covers_kept kept_x x hx) (covers_kept kept_y y hy)
 
 -- the same beside a set of which nothing was left out
@@ -147,10 +168,12 @@ pub same_swapped : (x y : List Item) → SameItems (x ++ y) (y ++ x)
 same_swapped x y i = (swap x y, swap y x)
   where
     swap : (a b : List Item) → Contains (a ++ b) i → Contains (b ++ a) i
-    swap a b h = elim (Contains-append_cases a b i h) [ inl left ↦ Contains-append_right b a i left | inr right ↦ Contains-append_left b a i right ]
+    swap a b h = elim (Contains-append_cases a b i h)
+        [ inl left ↦ Contains-append_right b a i left | inr right ↦ Contains-append_left b a i right ]
 
 pub same_absorbed : (x y : List Item) → AreAmong x y → SameItems (x ++ y) y
-same_absorbed x y among i = (λ h. elim (Contains-append_cases x y i h) [ inl left ↦ among i left | inr right ↦ right ], Contains-append_right x y i)
+same_absorbed x y among i =
+    (λ h. elim (Contains-append_cases x y i h) [ inl left ↦ among i left | inr right ↦ right ], Contains-append_right x y i)
 
 -- two sets with the same items keep the same
 pub kept_iff : (x y : List Item) → SameItems x y → (i : Item) → IsKept x i ↔ IsKept y i
@@ -172,7 +195,8 @@ below_from_same x z is same = are_kept_same z z (x ++ z) (λ i. let two = same_a
 
 -- z is what is kept of x and z, where it is what is kept of x, y and z
 below_by_more : (x y z : List Item) → IsState x → IsBelow y z → AreKept z (x ++ (y ++ z)) → IsBelow x z
-below_by_more x y z is below all = are_kept_by z (x ++ (y ++ z)) (x ++ z) (λ i. let two = kept_of_kept_lem x (y ++ z) x z is below i in (two.1, two.0)) all
+below_by_more x y z is below all =
+    are_kept_by z (x ++ (y ++ z)) (x ++ z) (λ i. let two = kept_of_kept_lem x (y ++ z) x z is below i in (two.1, two.0)) all
 
 pub more_by_below : (x y z : List Item) → IsState x → IsBelow x z → IsBelow y z → AreKept z (x ++ (y ++ z))
 more_by_below x y z is below_x below_y = are_kept_by z (x ++ z) (x ++ (y ++ z)) (kept_of_kept_lem x (y ++ z) x z is below_y) below_x
@@ -183,8 +207,10 @@ below_transitive x y z is_x is_z xy yz =
     below_by_more x y z is_x yz (subst (λ (w : List Item). AreKept z w) (append_assoc x y z) all)
 
 pub below_both_ways : (x y : List Item) → IsBelow x y → IsBelow y x → SameItems x y
-below_both_ways x y xy yx i =
-    (λ h. (xy i).1 (kept_same (y ++ x) (x ++ y) i (same_swapped y x) ((yx i).0 h)), λ h. (yx i).1 (kept_same (x ++ y) (y ++ x) i (same_swapped x y) ((xy i).0 h)))
+below_both_ways x y xy yx i = (
+  λ h. (xy i).1 (kept_same (y ++ x) (x ++ y) i (same_swapped y x) ((yx i).0 h)),
+  λ h. (yx i).1 (kept_same (x ++ y) (y ++ x) i (same_swapped x y) ((xy i).0 h)),
+)
 
 pub least_upper : (x y bound : List Item) → IsState x → IsState y → AreKept bound (x ++ y) → IsLeastUpperBound x y bound
 least_upper x y bound is_x is_y are = record {
@@ -198,12 +224,14 @@ least_upper x y bound is_x is_y are = record {
   above_second = are_kept_by bound (x ++ y) (y ++ bound) (λ i. let two = kept_of_kept_lem y (x ++ y) y bound is_y are i in
       let again = kept_iff (y ++ (x ++ y)) (x ++ y) (same_absorbed y (x ++ y) (Contains-append_right x y)) i in
       (λ k. two.1 (again.1 k), λ k. again.0 (two.0 k))) are;
-  least = λ z is_z xz yz. are_kept_by z ((x ++ y) ++ z) (bound ++ z) (λ i. let two = kept_of_kept_lem (x ++ y) z bound z are is_z i in (two.1, two.0))
+  least = λ z is_z xz yz. are_kept_by z ((x ++ y) ++ z) (bound ++ z) (λ i. let two = kept_of_kept_lem (x ++ y) z bound z are is_z i in
+      (two.1, two.0))
       (subst (λ (w : List Item). AreKept z w) (sym (append_assoc x y z)) (more_by_below x y z is_x xz yz));
 }
 
 -- what is kept of a UID depends on its items alone
-pub kept_in_part : (uid : List ℕ) (part whole : List Item) → ArePart uid part whole → (i : Item) → uid_of i.key ≡ uid → IsKept part i ↔ IsKept whole i
+pub kept_in_part : (uid : List ℕ) (part whole : List Item) → ArePart uid part whole → (i : Item) → uid_of i.key ≡ uid → IsKept part i ↔
+    IsKept whole i
 kept_in_part uid part whole is i of_uid = (up, λ kept. kept_part whole part i among kept ((is i).1 (kept.best.is_heard, of_uid)))
   where
     among : AreAmong part whole
@@ -222,12 +250,14 @@ kept_in_part uid part whole is i of_uid = (up, λ kept. kept_part whole part i a
       alive = λ dead. kept.alive (record {
         can_die = dead.can_die;
         series = dead.series;
-        best = best_part whole part (Series (uid_of i.key)) dead.series among dead.best (here dead.series dead.best.is_heard (ap uid_of dead.best.about));
+        best = best_part whole part (Series (uid_of i.key)) dead.series among dead.best
+            (here dead.series dead.best.is_heard (ap uid_of dead.best.about));
         below = dead.below;
       });
     }
 
-pub kept_by_uid : (uid : List ℕ) (part whole kept_part_of kept_whole : List Item) → ArePart uid part whole → AreKept kept_part_of part → AreKept kept_whole whole → ArePart uid kept_part_of kept_whole
+pub kept_by_uid : (uid : List ℕ) (part whole kept_part_of kept_whole : List Item) → ArePart uid part whole → AreKept kept_part_of part →
+    AreKept kept_whole whole → ArePart uid kept_part_of kept_whole
 kept_by_uid uid part whole kept_part_of kept_whole is are_part are_whole i = (
   λ h. let kept : IsKept part i = (are_part i).0 h in
       let of_uid : uid_of i.key ≡ uid = ((is i).0 kept.best.is_heard).1 in

@@ -1,5 +1,6 @@
 -- The test of each item says whether it is kept.
-use Rattle.std.proofs.Common.{◌≡◌, List, [], ◌∷◌, ◌++◌, refl, sym, ◌∙◌, ap, subst, inl, inr, Bool, true, false, not, ◌&&◌, ◌||◌, arith, ◌↔◌, IsTrue}
+use Rattle.std.proofs.Common.{◌≡◌, List, [], ◌∷◌, ◌++◌, refl, sym, ◌∙◌, ap, subst, inl, inr, Bool, true, false, not, ◌&&◌, ◌||◌, arith, ◌↔◌}
+use Rattle.std.proofs.Common.{IsTrue}
 use Rattle.std.specs.List.{Contains, AllPairs, list_any}
 use Rattle.std.specs.Ordering.{is_eq, is_gt, eq_by_cmp}
 use Rattle.std.proofs.lemmas.Map.Lookups.{exact_bytes, CmpEqualImpliesEq}
@@ -69,7 +70,8 @@ kept_from_test heard i h e =
             let x : true ≡ false = sym (any_from (λ (o : Item). outdates o i) heard o g (outdates_from o i about later)) ∙ none_later in cc;
       };
       alive = λ dead.
-          let kill : kills dead.series i ≡ true = ap (λ b. b && is_below dead.series i) (ap is_series dead.best.about) ∙ below_dead heard i dead in
+          let kill : kills dead.series i ≡ true = ap (λ b. b && is_below dead.series i) (ap is_series dead.best.about) ∙
+          below_dead heard i dead in
           let x : true ≡ false = sym (any_from (λ (s : Item). kills s i) heard dead.series dead.best.is_heard kill) ∙ none_kills in cc;
     }
 
@@ -78,7 +80,8 @@ test_from_kept heard i kept =
     ap (λ b. b && not (list_any (λ (s : Item). kills s i) heard)) (true_not (list_any (λ (o : Item). outdates o i) heard) (λ e.
     let found = any_found (λ (o : Item). outdates o i) heard e in
     let tests = both (is_eq (key_cmp found.0.key i.key)) (is_gt (revision_cmp found.0 i)) found.2 in
-    kept.best.none_later found.0 found.1 (key_exact found.0.key i.key ((Equal-is (key_cmp found.0.key i.key)).0 tests.0)) (greater (revision_cmp found.0 i) tests.1)))
+    kept.best.none_later found.0 found.1 (key_exact found.0.key i.key ((Equal-is (key_cmp found.0.key i.key)).0 tests.0))
+    (greater (revision_cmp found.0 i) tests.1)))
     ∙ true_not (list_any (λ (s : Item). kills s i) heard) (λ e.
     let found = any_found (λ (s : Item). kills s i) heard e in
     let tests = both (is_series found.0.key) (is_below found.0 i) found.2 in
@@ -89,7 +92,8 @@ pub record Collects (heard done kept : List Item) : Type 0 where
   pub each : (i : Item) → Contains kept i ↔ (Contains done i × (keeps heard i ≡ true))
   pub once : AllPairs (λ (a b : Item). a ≡ b → ⊥) kept
 
-pub collect_one : (heard done kept : List Item) (x : Item) → Collects heard done kept → keeps heard x ≡ true → (Contains kept x → ⊥) → Collects heard (done ++ x ∷ []) (kept ++ x ∷ [])
+pub collect_one : (heard done kept : List Item) (x : Item) → Collects heard done kept → keeps heard x ≡ true → (Contains kept x → ⊥) →
+    Collects heard (done ++ x ∷ []) (kept ++ x ∷ [])
 collect_one heard done kept x c k new = record {
   each = λ i. (
     λ h. elim (Contains-push_cases kept x i h) [
@@ -101,10 +105,12 @@ collect_one heard done kept x c k new = record {
       | inr same ↦ subst (Contains (kept ++ x ∷ [])) same (Contains-push kept x)
     ],
   );
-  once = all_pairs_push (λ (a b : Item). a ≡ b → ⊥) kept x c.once (λ j d below same. new (subst (Contains kept) same (Contains-get_or kept j d below)));
+  once = all_pairs_push (λ (a b : Item). a ≡ b → ⊥) kept x c.once
+      (λ j d below same. new (subst (Contains kept) same (Contains-get_or kept j d below)));
 }
 
-pub collect_other : (heard done kept : List Item) (x : Item) → Collects heard done kept → (keeps heard x ≡ true → Contains kept x) → Collects heard (done ++ x ∷ []) kept
+pub collect_other : (heard done kept : List Item) (x : Item) → Collects heard done kept → (keeps heard x ≡ true → Contains kept x) →
+    Collects heard (done ++ x ∷ []) kept
 collect_other heard done kept x c there = record {
   each = λ i. (
     λ h. (Contains-append_left done (x ∷ []) i ((c.each i).0 h).0, ((c.each i).0 h).1),
@@ -117,7 +123,8 @@ collect_other heard done kept x c there = record {
 }
 
 pub collected : (heard kept : List Item) → Collects heard heard kept → AreKept kept heard
-collected heard kept c i = (λ h. let r = (c.each i).0 h in kept_from_test heard i r.0 r.1, λ k. (c.each i).1 (k.best.is_heard, test_from_kept heard i k))
+collected heard kept c i =
+    (λ h. let r = (c.each i).0 h in kept_from_test heard i r.0 r.1, λ k. (c.each i).1 (k.best.is_heard, test_from_kept heard i k))
 
 -- ---- equal items
 exact : CmpEqualImpliesEq octets_cmp
@@ -125,6 +132,7 @@ exact i j tied = same_item i j (exact_bytes i.bytes j.bytes tied)
 
 pub has_from_test : (r : Bool) (xs : List Item) (x : Item) → r ≡ list_any (λ y. eq_by_cmp octets_cmp y x) xs → IsTrue r ↔ Contains xs x
 has_from_test r xs x e = (
-  λ t. let found = any_found (λ y. eq_by_cmp octets_cmp y x) xs (sym e ∙ t) in subst (Contains xs) (tells_apart exact found.0 x found.2) found.1,
+  λ t. let found = any_found (λ y. eq_by_cmp octets_cmp y x) xs (sym e ∙ t) in
+      subst (Contains xs) (tells_apart exact found.0 x found.2) found.1,
   λ h. e ∙ any_from (λ y. eq_by_cmp octets_cmp y x) xs x h (ap is_eq (tied_itself octets_total x)),
 )

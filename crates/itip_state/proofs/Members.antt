@@ -1,8 +1,10 @@
 -- Members of lists, and cases by a test.
-use Rattle.std.proofs.Common.{◌≡◌, List, [], ◌∷◌, ◌++◌, ◌≤◌, ◌<◌, length, slice_index_or, refl, sym, ap, subst, ◌⊎◌, inl, inr, Bool, true, false, arith, zero, suc, Ok, Err, Result}
+use Rattle.std.proofs.Common.{◌≡◌, List, [], ◌∷◌, ◌++◌, ◌≤◌, ◌<◌, length, slice_index_or, refl, sym, ap, subst, ◌⊎◌, inl, inr, Bool, true}
+use Rattle.std.proofs.Common.{false, arith, zero, suc, Ok, Err, Result}
 use Rattle.std.specs.Prelude.{OnOk, OnErr, IfOk}
 use Rattle.std.specs.List.{Contains, All, AllPairs}
-use Rattle.std.proofs.lemmas.List.Elements.{Contains-append_cases, Contains-append_left, Contains-append_right, Contains-push, Contains-push_cases, All-contains_itself, All-weaker}
+use Rattle.std.proofs.lemmas.List.Elements.{Contains-append_cases, Contains-append_left, Contains-append_right, Contains-push}
+use Rattle.std.proofs.lemmas.List.Elements.{Contains-push_cases, All-contains_itself, All-weaker}
 use Rattle.std.proofs.lemmas.List.Kept.{AllPairs-cons}
 
 pub by_bool : (b : Bool) (G : Type 0) → (b ≡ true → G) → (b ≡ false → G) → G
@@ -32,10 +34,12 @@ module _ {X : Type 0} where
   pub no_pairs : (R : X → X → Type 0) → AllPairs R []
   no_pairs R = λ i j d below inside. absurd (omega (arith, inside))
 
-  pub pairs_append : (R : X → X → Type 0) (xs ys : List X) → AllPairs R xs → AllPairs R ys → ((x y : X) → Contains xs x → Contains ys y → R x y) → AllPairs R (xs ++ ys)
+  pub pairs_append : (R : X → X → Type 0) (xs ys : List X) → AllPairs R xs → AllPairs R ys →
+      ((x y : X) → Contains xs x → Contains ys y → R x y) → AllPairs R (xs ++ ys)
   pairs_append R [] ys p q cross = q
   pairs_append R (x ∷ xs) ys p q cross = AllPairs-cons R x (xs ++ ys)
-      (all_each (R x) (xs ++ ys) (λ y h. elim (Contains-append_cases xs ys y h) [ inl left ↦ head_pair y left | inr right ↦ cross x y (cons_first x xs) right ]))
+      (all_each (R x) (xs ++ ys) (λ y h. elim (Contains-append_cases xs ys y h)
+      [ inl left ↦ head_pair y left | inr right ↦ cross x y (cons_first x xs) right ]))
       (pairs_append R xs ys tail_pairs q (λ a b h g. cross a b (cons_later x xs a h) g))
     where
       tail_pairs : AllPairs R xs

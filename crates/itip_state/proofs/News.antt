@@ -1,5 +1,6 @@
 -- What is kept, and what moves, where items that were told before, or are dead, are left out.
-use Rattle.std.proofs.Common.{◌≡◌, ◌≢◌, List, ℕ, [], ◌∷◌, ◌++◌, ◌↔◌, ◌⊎◌, inl, inr, refl, sym, ◌∙◌, ap, subst, append-nil, Some, None, true, false}
+use Rattle.std.proofs.Common.{◌≡◌, ◌≢◌, List, ℕ, [], ◌∷◌, ◌++◌, ◌↔◌, ◌⊎◌, inl, inr, refl, sym, ◌∙◌, ap, subst, append-nil, Some, None, true}
+use Rattle.std.proofs.Common.{false}
 use Rattle.std.specs.List.{Contains}
 use Rattle.std.proofs.lemmas.List.Elements.{Contains-append_cases, Contains-append_left, Contains-append_right}
 use Rattle.itip_join.specs.declared.lift.Lift.{Lift}
@@ -22,11 +23,16 @@ use Rattle.itip_state.proofs.Tests.{series_key, dead_under, can, kill}
 use Rattle.itip_state.proofs.UidStates.{IsHeldAs, known_key, series_held, entry_held, entry_key, held_as, series_is, killed_is_dead}
 use Rattle.itip_state.proofs.Reading.{held_part, held_no_part, held_sound}
 
-pub one_more_news : (set items news : List Item) (j : Item) → (¬ IsOutdone set j) → AreNews set items news → AreNews set (items ++ j ∷ []) (news ++ j ∷ [])
+pub one_more_news : (set items news : List Item) (j : Item) → (¬ IsOutdone set j) → AreNews set items news →
+    AreNews set (items ++ j ∷ []) (news ++ j ∷ [])
 one_more_news set items news j new are = record {
   new = λ i h. elim (Contains-append_cases news (j ∷ []) i h) [
     | inl before ↦ are.new i before
-    | inr now ↦ elim (cons_cases j [] i now) [ inl same ↦ subst (λ (k : Item). ¬ IsOutdone set k) same new | inr none ↦ absurd (none_in i none) ]
+    | inr now ↦ elim (cons_cases j [] i now) [
+      | inl same ↦ subst (λ (k : Item). ¬ IsOutdone set k) same new
+      | inr none ↦ absurd (none_in
+          i none)
+    ]
   ];
   among = λ i h. elim (Contains-append_cases news (j ∷ []) i h) [
     | inl before ↦ Contains-append_left items (j ∷ []) i (are.among i before)
@@ -51,12 +57,14 @@ nothing_new set items news j old are = record {
 -- what is kept, and was told, is what told it
 told_kept : (set items : List Item) (i : Item) → IsKept (set ++ items) i → IsTold set i → Contains set i
 told_kept set items i kept told = subst (Contains set)
-    (neither_later told.teller i (kept.best.none_later told.teller (Contains-append_left set items told.teller told.there) told.same) told.not_later) told.there
+    (neither_later told.teller i (kept.best.none_later told.teller (Contains-append_left set items told.teller told.there) told.same)
+    told.not_later) told.there
 
 -- what is dead beside a part is dead beside the whole
 dead_more : (set items : List Item) (i : Item) → IsDead set i → IsDead (set ++ items) i
 dead_more set items i dead =
-    dead_under (set ++ items) dead.series i (Contains-append_left set items dead.series dead.best.is_heard) dead.best.about (can i.key dead.can_die) dead.below
+    dead_under (set ++ items) dead.series i (Contains-append_left set items dead.series dead.best.is_heard) dead.best.about
+    (can i.key dead.can_die) dead.below
 
 outdone_kept : (set items : List Item) (i : Item) → IsKept (set ++ items) i → IsOutdone set i → Contains set i
 outdone_kept set items i kept (inl told) = told_kept set items i kept told
@@ -80,7 +88,8 @@ news_cover set items news are i = (
 covered_kept : (part whole : List Item) → Covers part whole → (i : Item) → IsKept part i ↔ IsKept whole i
 covered_kept part whole covers i =
     subst (λ (p : List Item). IsKept p i ↔ IsKept whole i) (append-nil part)
-    (subst (λ (w : List Item). IsKept (part ++ []) i ↔ IsKept w i) (append-nil whole) (kept_of_parts whole [] part [] covers (covers_itself []) i))
+    (subst (λ (w : List Item). IsKept (part ++ []) i ↔ IsKept w i) (append-nil whole)
+    (kept_of_parts whole [] part [] covers (covers_itself []) i))
 
 -- the news count beside the set as much as all items
 pub news_kept : (set items news : List Item) → AreNews set items news → (i : Item) → IsKept (set ++ news) i ↔ IsKept (set ++ items) i
@@ -93,13 +102,31 @@ new_kept set items news i are kept = record {
     is_heard = Contains-append_right set news i kept.best.is_heard;
     about = refl;
     none_later = λ j h same. elim (Contains-append_cases set news j h) [
-      | inl old ↦ λ later. new (inl (record { teller = j; there = old; same = same; not_later = λ over. not_later_itself i (later_transitive i j i over later) }))
+      | inl old ↦ λ later. new (inl (record {
+        teller = j;
+        there = old;
+        same = same;
+        not_later =
+            λ over. not_later_itself i (later_transitive i j i over later);
+      }))
       | inr now ↦ kept.best.none_later j now same
     ];
   };
   alive = λ dead. elim (Contains-append_cases set news dead.series dead.best.is_heard) [
-    | inl old ↦ new (inr (record { can_die = dead.can_die; series = dead.series; best = best_part (set ++ news) set _ dead.series (Contains-append_left set news) dead.best old; below = dead.below }))
-    | inr now ↦ kept.alive (record { can_die = dead.can_die; series = dead.series; best = best_part (set ++ news) news _ dead.series (Contains-append_right set news) dead.best now; below = dead.below })
+    | inl old ↦ new (inr (record {
+      can_die = dead.can_die;
+      series = dead.series;
+      best =
+          best_part (set ++ news) set _ dead.series (Contains-append_left set news) dead.best old;
+      below = dead.below;
+    }))
+    | inr now ↦ kept.alive (record {
+      can_die = dead.can_die;
+      series = dead.series;
+      best =
+          best_part (set ++ news) news _ dead.series (Contains-append_right set news) dead.best now;
+      below = dead.below;
+    })
   ];
 }
   where
@@ -108,7 +135,8 @@ new_kept set items news i are kept = record {
 
 -- beside items of other UIDs is kept of a UID what was kept
 kept_apart : (set news : List Item) (uid : List ℕ) → ((i : Item) → Contains news i → uid_of i.key ≢ uid) → KeepSame uid set (set ++ news)
-kept_apart set news uid none i of_uid = (up, λ kept. kept_part (set ++ news) set i (Contains-append_left set news) kept (old i kept.best.is_heard of_uid))
+kept_apart set news uid none i of_uid =
+    (up, λ kept. kept_part (set ++ news) set i (Contains-append_left set news) kept (old i kept.best.is_heard of_uid))
   where
     old : (j : Item) → Contains (set ++ news) j → uid_of j.key ≡ uid → Contains set j
     old j h same = elim (Contains-append_cases set news j h) [ inl left ↦ left | inr right ↦ absurd (none j right same) ]
@@ -123,7 +151,8 @@ kept_apart set news uid none i of_uid = (up, λ kept. kept_part (set ++ news) se
       alive = λ dead. kept.alive (record {
         can_die = dead.can_die;
         series = dead.series;
-        best = best_part (set ++ news) set _ dead.series (Contains-append_left set news) dead.best (old dead.series dead.best.is_heard (ap uid_of dead.best.about ∙ of_uid));
+        best = best_part (set ++ news) set _ dead.series (Contains-append_left set news) dead.best
+            (old dead.series dead.best.is_heard (ap uid_of dead.best.about ∙ of_uid));
         below = dead.below;
       });
     }
@@ -156,7 +185,8 @@ news_move set items news are = record {
         let about : (found.0).key ≡ i.key = found.1.about in
         none_kept i found.0 same (ap uid_of about) (record {
           best = subst (λ k. IsBest news k found.0) (sym about) found.1;
-          alive = λ dead. none_kept i dead.series same (ap uid_of dead.best.about ∙ ap uid_of about) (series_kept news (uid_of (found.0).key) dead.series dead.best);
+          alive = λ dead. none_kept i dead.series same (ap uid_of dead.best.about ∙ ap uid_of about)
+              (series_kept news (uid_of (found.0).key) dead.series dead.best);
         })
 
 -- ---- at the key of an item
@@ -170,18 +200,21 @@ module _ (sh : UidState) (item : Item) (b : Best) where
       one : (x y : Best) → Known x ≡ Known y → x ≡ y
       one x y same = cc
 
-      by : (held : Best) → (¬ IsLater item held.value) → ((is_series item.key ≡ true) × (sh.series ≡ Known held)) ⊎ ((is_series item.key ≡ false) × (value_at slot_cmp sh.entries item.key ≡ Some held))
+      by : (held : Best) → (¬ IsLater item held.value) → ((is_series item.key ≡ true) × (sh.series ≡ Known held)) ⊎
+          ((is_series item.key ≡ false) × (value_at slot_cmp sh.entries item.key ≡ Some held))
           → ¬ IsLater item b.value
       by held not (inl first) = subst (λ (x : Best). ¬ IsLater item x.value) (one held b (sym first.1 ∙ known)) not
       by held not (inr other) = let x : true ≡ false = sym e ∙ other.0 in absurd (cc)
 
-  pub entry_holds : is_series item.key ≡ false → value_at slot_cmp sh.entries item.key ≡ Some b → HoldsNoEarlier sh item ↔ (¬ IsLater item b.value)
+  pub entry_holds : is_series item.key ≡ false → value_at slot_cmp sh.entries item.key ≡ Some b → HoldsNoEarlier sh item ↔
+      (¬ IsLater item b.value)
   entry_holds e there = (λ h. by h.held h.not_later h.place, λ n. record { held = b; place = inr (e, there); not_later = n })
     where
       one : (x y : Best) → Some x ≡ Some y → x ≡ y
       one x y same = cc
 
-      by : (held : Best) → (¬ IsLater item held.value) → ((is_series item.key ≡ true) × (sh.series ≡ Known held)) ⊎ ((is_series item.key ≡ false) × (value_at slot_cmp sh.entries item.key ≡ Some held))
+      by : (held : Best) → (¬ IsLater item held.value) → ((is_series item.key ≡ true) × (sh.series ≡ Known held)) ⊎
+          ((is_series item.key ≡ false) × (value_at slot_cmp sh.entries item.key ≡ Some held))
           → ¬ IsLater item b.value
       by held not (inl first) = let x : true ≡ false = sym first.0 ∙ e in absurd (cc)
       by held not (inr other) = subst (λ (x : Best). ¬ IsLater item x.value) (one held b (sym other.1 ∙ there)) not
@@ -193,16 +226,23 @@ module _ (es : List (List ℕ × UidState)) (p : AreHeld es) (item : Item) where
 
   pub not_outdone : at es (uid_of item.key) ≡ None → ¬ IsOutdone all item
   not_outdone e (inl told) = none_in told.teller ((held_no_part es p (uid_of item.key) e told.teller).1 (told.there, ap uid_of told.same))
-  not_outdone e (inr dead) = none_in dead.series ((held_no_part es p (uid_of item.key) e dead.series).1 (dead.best.is_heard, ap uid_of dead.best.about))
+  not_outdone e (inr dead) =
+      none_in dead.series ((held_no_part es p (uid_of item.key) e dead.series).1 (dead.best.is_heard, ap uid_of dead.best.about))
 
   module _ (sh : UidState) (e : at es (uid_of item.key) ≡ Some sh) where
     sound : IsSound (uid_of item.key) sh
     sound = held_sound es p (uid_of item.key) sh e
 
-    in_place : (held : Best) → ((is_series item.key ≡ true) × (sh.series ≡ Known held)) ⊎ ((is_series item.key ≡ false) × (value_at slot_cmp sh.entries item.key ≡ Some held))
+    in_place : (held : Best) → ((is_series item.key ≡ true) × (sh.series ≡ Known held)) ⊎
+        ((is_series item.key ≡ false) × (value_at slot_cmp sh.entries item.key ≡ Some held))
         → Contains (uid_state_items sh) held.value × (held.value.key ≡ item.key)
-    in_place held (inl first) = (series_held (uid_of item.key) sh sound held.value first.1, known_key (uid_of item.key) sh sound held.value first.1 ∙ sym (series_key item.key first.0))
-    in_place held (inr other) = (entry_held (uid_of item.key) sh sound item.key held other.1, (entry_key (uid_of item.key) sh sound item.key held other.1).in_place)
+    in_place held (inl first) = (
+      series_held (uid_of item.key) sh sound held.value first.1,
+      known_key (uid_of item.key) sh sound held.value first.1 ∙
+          sym (series_key item.key first.0),
+    )
+    in_place held (inr other) =
+        (entry_held (uid_of item.key) sh sound item.key held other.1, (entry_key (uid_of item.key) sh sound item.key held other.1).in_place)
 
     from_uid_state : (i : Item) → Contains (uid_state_items sh) i → Contains all i
     from_uid_state i h = ((held_part es p (uid_of item.key) sh e i).0 h).0
@@ -220,12 +260,18 @@ module _ (es : List (List ℕ × UidState)) (p : AreHeld es) (item : Item) where
 
     holds_as : (w : Item) → w.key ≡ item.key → (¬ IsLater item w) → IsHeldAs sh w → HoldsNoEarlier sh item
     holds_as w same not (inl first) = record { held = best w; place = inl (ap is_series (sym same) ∙ first.1, first.0); not_later = not }
-    holds_as w same not (inr other) = record { held = best w; place = inr (ap is_series (sym same) ∙ other.1, ap (value_at slot_cmp sh.entries) (sym same) ∙ other.0); not_later = not }
+    holds_as w same not (inr other) =
+        record {
+          held = best w;
+          place = inr (ap is_series (sym same) ∙ other.1, ap (value_at slot_cmp sh.entries) (sym same) ∙ other.0);
+          not_later = not;
+        }
 
     -- where an item is outdone, one of the two is seen here
     pub outdone_here : IsOutdone all item → (kills sh.series item.key item ≡ true) ⊎ HoldsNoEarlier sh item
     outdone_here (inl told) =
-        inr (holds_as told.teller told.same told.not_later (held_as (uid_of item.key) sh sound told.teller (in_uid_state told.teller told.there (ap uid_of told.same))))
+        inr (holds_as told.teller told.same told.not_later
+        (held_as (uid_of item.key) sh sound told.teller (in_uid_state told.teller told.there (ap uid_of told.same))))
     outdone_here (inr dead) =
         let there : Contains (uid_state_items sh) dead.series = in_uid_state dead.series dead.best.is_heard (ap uid_of dead.best.about) in
         let known = series_is (uid_of item.key) sh sound dead.series there (ap is_series dead.best.about) in

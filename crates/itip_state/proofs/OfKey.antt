@@ -1,5 +1,6 @@
 -- Of items in the order of their keys, each is the best of its key.
-use Rattle.std.proofs.Common.{◌≡◌, ◌≤◌, ℕ, List, [], ◌∷◌, length, slice_index_or, zero, suc, refl, sym, ◌∙◌, ap, subst, inl, inr, arith, Option, Some, None}
+use Rattle.std.proofs.Common.{◌≡◌, ◌≤◌, ℕ, List, [], ◌∷◌, length, slice_index_or, zero, suc, refl, sym, ◌∙◌, ap, subst, inl, inr, arith}
+use Rattle.std.proofs.Common.{Option, Some, None}
 use Rattle.std.specs.Prelude.{MatchOption}
 use Rattle.std.specs.List.{Contains, AllPairs}
 use Rattle.std.specs.Cmp.{tied_itself}
@@ -49,7 +50,8 @@ best_in items a key i h about = record {
 }
 
 -- what a lookup finds is the best
-pub found_best : (items : List Item) → AscendKeys items → (key : Key) (o : Option Item) → MatchOption o ((i : Item) → Contains items i → i.key ≡ key → ⊥) (λ i. Contains items i × (i.key ≡ key))
+pub found_best : (items : List Item) → AscendKeys items → (key : Key) (o : Option Item) →
+    MatchOption o ((i : Item) → Contains items i → i.key ≡ key → ⊥) (λ i. Contains items i × (i.key ≡ key))
     → IsBestOf items key o
 found_best items a key None h = h
 found_best items a key (Some i) h = best_in items a key i h.0 h.1
@@ -60,13 +62,17 @@ not_before uid k same not e = by k (ap (λ (u : List ℕ). slice_cmp nat_cmp u u
   where
     by : (k : Key) → slice_cmp nat_cmp (uid_of k) uid ≡ Equal → ((u : List ℕ) → k ≡ Series u → ⊥) → key_cmp k (Series uid) ≡ Less → ⊥
     by (Series u) tied not e = not u refl
-    by (Instance u id) tied not e = let x : Less ≡ Greater = sym e ∙ ap (λ o. ordering_then o (rest_cmp (Instance u id) (Series uid))) tied in cc
+    by (Instance u id) tied not e = let x : Less ≡ Greater = sym e ∙
+        ap (λ o. ordering_then o (rest_cmp (Instance u id) (Series uid))) tied in cc
     by (Range u id) tied not e = let x : Less ≡ Greater = sym e ∙ ap (λ o. ordering_then o (rest_cmp (Range u id) (Series uid))) tied in cc
-    by (Answer u id attendee) tied not e = let x : Less ≡ Greater = sym e ∙ ap (λ o. ordering_then o (rest_cmp (Answer u id attendee) (Series uid))) tied in cc
-    by (Refresh u id attendee) tied not e = let x : Less ≡ Greater = sym e ∙ ap (λ o. ordering_then o (rest_cmp (Refresh u id attendee) (Series uid))) tied in cc
+    by (Answer u id attendee) tied not e = let x : Less ≡ Greater = sym e ∙
+        ap (λ o. ordering_then o (rest_cmp (Answer u id attendee) (Series uid))) tied in cc
+    by (Refresh u id attendee) tied not e = let x : Less ≡ Greater = sym e ∙
+        ap (λ o. ordering_then o (rest_cmp (Refresh u id attendee) (Series uid))) tied in cc
 
 -- where the first item of a UID is no series item, there is none
-pub first_is_none : (uid : List ℕ) (x : Item) (xs : List Item) → AscendKeys (x ∷ xs) → uid_of x.key ≡ uid → ((u : List ℕ) → x.key ≡ Series u → ⊥) → (i : Item) → Contains (x ∷ xs) i → i.key ≡ Series uid → ⊥
+pub first_is_none : (uid : List ℕ) (x : Item) (xs : List Item) → AscendKeys (x ∷ xs) → uid_of x.key ≡ uid →
+    ((u : List ℕ) → x.key ≡ Series u → ⊥) → (i : Item) → Contains (x ∷ xs) i → i.key ≡ Series uid → ⊥
 first_is_none uid x xs a about not i h same = elim (cons_cases x xs i h) [
   | inl first ↦ not uid (ap (λ (j : Item). j.key) first ∙ same)
   | inr rest ↦ not_before uid x.key about not (subst (λ (k : Key). key_cmp x.key k ≡ Less) same (head_pair IsBefore x xs a i rest))

@@ -16,13 +16,19 @@ module _ {X : Type 0} (R : X → X → Type 0) (apart : (x y : X) → R x y → 
   rest_up : (x : X) (xs : List X) → AllPairs R (x ∷ xs) → AllPairs R xs
   rest_up x xs up i j d less within = up (suc i) (suc j) d (omega arith) (omega arith)
 
-  same_first : (x : X) (xs : List X) (y : X) (ys : List X) → AllPairs R (x ∷ xs) → AllPairs R (y ∷ ys) → Contains (y ∷ ys) x → Contains (x ∷ xs) y → x ≡ y
+  same_first : (x : X) (xs : List X) (y : X) (ys : List X) → AllPairs R (x ∷ xs) → AllPairs R (y ∷ ys) → Contains (y ∷ ys) x →
+      Contains (x ∷ xs) y → x ≡ y
   same_first x xs y ys up over h g = elim (cons_cases y ys x h) [
     | inl same ↦ sym same
-    | inr later ↦ elim (cons_cases x xs y g) [ inl same ↦ same | inr after ↦ absurd (apart x y (first_before x xs up y after) (first_before y ys over x later)) ]
+    | inr later ↦ elim (cons_cases x xs y g) [
+      | inl same ↦ same
+      | inr after ↦ absurd
+          (apart x y (first_before x xs up y after) (first_before y ys over x later))
+    ]
   ]
 
-  rest_in : (x : X) (xs : List X) (y : X) (ys : List X) → AllPairs R (x ∷ xs) → x ≡ y → (i : X) → Contains xs i → Contains (y ∷ ys) i → Contains ys i
+  rest_in : (x : X) (xs : List X) (y : X) (ys : List X) → AllPairs R (x ∷ xs) → x ≡ y → (i : X) → Contains xs i → Contains (y ∷ ys) i →
+      Contains ys i
   rest_in x xs y ys up same i h g = elim (cons_cases y ys i g) [
     | inl one ↦
         let below : R x i = first_before x xs up i h in
@@ -38,11 +44,16 @@ module _ {X : Type 0} (R : X → X → Type 0) (apart : (x y : X) → R x y → 
   same_ascending (x ∷ xs) (y ∷ ys) up over same =
       let one : x ≡ y = same_first x xs y ys up over ((same x).0 (cons_first x xs)) ((same y).1 (cons_first y ys)) in
       let rest : xs ≡ ys = same_ascending xs ys (rest_up x xs up) (rest_up y ys over)
-      (λ i. (λ h. rest_in x xs y ys up one i h ((same i).0 (cons_later x xs i h)), λ h. rest_in y ys x xs over (sym one) i h ((same i).1 (cons_later y ys i h)))) in
+      (λ i. (
+        λ h. rest_in x xs y ys up one i h ((same i).0 (cons_later x xs i h)),
+        λ h. rest_in
+            y ys x xs over (sym one) i h ((same i).1 (cons_later y ys i h)),
+      )) in
       λ i. one i ∷ rest i
 
   -- where the first of a list stands behind the first of another, all of the list do
-  after_first : (x : X) (xs : List X) (y : X) (ys : List X) → AllPairs R (x ∷ xs) → AllPairs R (y ∷ ys) → Contains ys x → (i : X) → Contains (x ∷ xs) i → Contains (y ∷ ys) i → Contains ys i
+  after_first : (x : X) (xs : List X) (y : X) (ys : List X) → AllPairs R (x ∷ xs) → AllPairs R (y ∷ ys) → Contains ys x → (i : X) →
+      Contains (x ∷ xs) i → Contains (y ∷ ys) i → Contains ys i
   after_first x xs y ys up over behind i h g = elim (cons_cases x xs i h) [
     | inl same ↦ subst (Contains ys) same behind
     | inr rest ↦ elim (cons_cases y ys i g) [
@@ -57,7 +68,10 @@ module _ {X : Type 0} (R : X → X → Type 0) (apart : (x y : X) → R x y → 
   not_longer (x ∷ xs) [] up over in_ys = absurd (none_in x (in_ys x (cons_first x xs)))
   not_longer (x ∷ xs) (y ∷ ys) up over in_ys = elim (cons_cases y ys x (in_ys x (cons_first x xs))) [
     | inl same ↦
-        let rest : length xs ≤ length ys = not_longer xs ys (rest_up x xs up) (rest_up y ys over) (λ i h. rest_in x xs y ys up (sym same) i h (in_ys i (cons_later x xs i h))) in omega arith
+        let rest : length xs ≤ length ys =
+        not_longer xs ys (rest_up x xs up) (rest_up y ys over) (λ i h. rest_in
+        x xs y ys up (sym same) i h (in_ys i (cons_later x xs i h))) in omega arith
     | inr behind ↦
-        let rest : length (x ∷ xs) ≤ length ys = not_longer (x ∷ xs) ys up (rest_up y ys over) (λ i h. after_first x xs y ys up over behind i h (in_ys i h)) in omega arith
+        let rest : length (x ∷ xs) ≤ length ys =
+        not_longer (x ∷ xs) ys up (rest_up y ys over) (λ i h. after_first x xs y ys up over behind i h (in_ys i h)) in omega arith
   ]

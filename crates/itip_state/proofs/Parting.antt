@@ -24,7 +24,8 @@ or_false : (b : Bool) → (b || (false || false)) ≡ b
 or_false true = refl
 or_false false = refl
 
-listed_more : (us now : List (List ℕ)) (u q : List ℕ) → now ≡ us ++ u ∷ [] → is_listed now q ≡ (is_listed us q || (is_eq (uid_cmp u q) || false))
+listed_more : (us now : List (List ℕ)) (u q : List ℕ) → now ≡ us ++ u ∷ [] →
+    is_listed now q ≡ (is_listed us q || (is_eq (uid_cmp u q) || false))
 listed_more us now u q e = ap (λ xs. is_listed xs q) e ∙ list_any-append (λ x. is_eq (uid_cmp x q)) us (u ∷ [])
 
 module _ {V : Type 0} (whole : List ℕ → Option V) (us now : List (List ℕ)) (u : List ℕ) (more : now ≡ us ++ u ∷ []) (q : List ℕ) where
@@ -37,15 +38,18 @@ module _ {V : Type 0} (whole : List ℕ → Option V) (us now : List (List ℕ))
   at_key : is_eq (uid_cmp u q) ≡ true → u ≡ q
   at_key k = one_key nat_list_cmp_total exact_bytes u q k
 
-  pub put_more : (v : V) (old new : Option V) → Some v ≡ whole u → new ≡ cond (is_eq (uid_cmp u q)) (Some v) old → old ≡ cond (is_listed us q) (whole q) None → new ≡ cond (is_listed now q) (whole q) None
+  pub put_more : (v : V) (old new : Option V) → Some v ≡ whole u → new ≡ cond (is_eq (uid_cmp u q)) (Some v) old →
+      old ≡ cond (is_listed us q) (whole q) None → new ≡ cond (is_listed now q) (whole q) None
   put_more v old new there is so = by_bool (is_eq (uid_cmp u q)) (new ≡ cond (is_listed now q) (whole q) None)
       (λ k. is ∙ ap (λ b. cond b (Some v) old) k ∙ there ∙ ap whole (at_key k) ∙ sym (ap (λ b. cond b (whole q) None) (here k)))
       (λ k. is ∙ ap (λ b. cond b (Some v) old) k ∙ so ∙ sym (ap (λ b. cond b (whole q) None) (apart k)))
 
-  pub pass_more : (old : Option V) → None ≡ whole u → old ≡ cond (is_listed us q) (whole q) None → old ≡ cond (is_listed now q) (whole q) None
+  pub pass_more : (old : Option V) → None ≡ whole u → old ≡ cond (is_listed us q) (whole q) None →
+      old ≡ cond (is_listed now q) (whole q) None
   pass_more old none so = by_bool (is_eq (uid_cmp u q)) (old ≡ cond (is_listed now q) (whole q) None)
       (λ k. let nothing : whole q ≡ None = sym (none ∙ ap whole (at_key k)) in
-      so ∙ ap (λ (o : Option V). cond (is_listed us q) o None) nothing ∙ both_same (is_listed us q) None ∙ sym nothing ∙ sym (ap (λ b. cond b (whole q) None) (here k)))
+      so ∙ ap (λ (o : Option V). cond (is_listed us q) o None) nothing ∙ both_same (is_listed us q) None ∙ sym nothing ∙
+      sym (ap (λ b. cond b (whole q) None) (here k)))
       (λ k. so ∙ sym (ap (λ b. cond b (whole q) None) (apart k)))
     where
       both_same : (b : Bool) (o : Option V) → cond b o o ≡ o
@@ -84,7 +88,13 @@ module _ (es ps : List (List ℕ × UidState)) (p : AreHeld es) (ordered : AreOr
       let mine = part_at ps part_held u i in
       let all = part_at es p u i in (
         λ h. by_bool (is_listed us u) (Contains (items_of es) i × Contains us u)
-            (λ k. ((all.0 (subst (λ (o : Option UidState). Contains (items_at o) i) (is u ∙ ap (λ b. cond b (at es u) None) k) (mine.1 (h, refl)))).0, listed_in us u k))
-            (λ k. absurd (none_in i (subst (λ (o : Option UidState). Contains (items_at o) i) (is u ∙ ap (λ b. cond b (at es u) None) k) (mine.1 (h, refl))))),
-        λ h. (mine.0 (subst (λ (o : Option UidState). Contains (items_at o) i) (sym (is u ∙ ap (λ b. cond b (at es u) None) (in_listed us u h.1))) (all.1 (h.0, refl)))).0,
+            (λ k. (
+              (all.0 (subst (λ (o : Option UidState). Contains (items_at o) i) (is u ∙ ap (λ b. cond b (at es u) None) k)
+                  (mine.1 (h, refl)))).0,
+              listed_in us u k,
+            ))
+            (λ k. absurd (none_in i (subst (λ (o : Option UidState). Contains (items_at o) i) (is u ∙ ap (λ b. cond b (at es u) None) k)
+            (mine.1 (h, refl))))),
+        λ h. (mine.0 (subst (λ (o : Option UidState). Contains (items_at o) i)
+            (sym (is u ∙ ap (λ b. cond b (at es u) None) (in_listed us u h.1))) (all.1 (h.0, refl)))).0,
       )

@@ -51,11 +51,21 @@ none_long : (s : Lift Best) → ((b : Best) → s ≡ Known b → ⊥) → lengt
 none_long Nothing n = refl
 none_long (Known b) n = absurd (n b refl)
 
-pub uid_state_long : (sh : UidState) (rest : List Item) → length (uid_state_items sh ++ rest) ≡ length (series_items sh.series) + length sh.entries + length rest
-uid_state_long sh rest = omega (arith, length-append {A = Item}, entries_long sh.entries, length-append (uid_state_items sh) rest, length-append (series_items sh.series) (entry_items sh.entries))
+pub uid_state_long : (sh : UidState) (rest : List Item) →
+    length (uid_state_items sh ++ rest) ≡ length (series_items sh.series) + length sh.entries + length rest
+uid_state_long sh rest =
+    omega (
+      arith,
+      length-append {A = Item},
+      entries_long sh.entries,
+      length-append (uid_state_items sh) rest,
+      length-append (series_items sh.series) (entry_items sh.entries),
+    )
 
-pub one_more : (sh : UidState) (b : Best) (rest : List Item) → sh.series ≡ Known b → length (uid_state_items sh ++ rest) ≡ 1 + length sh.entries + length rest
+pub one_more : (sh : UidState) (b : Best) (rest : List Item) → sh.series ≡ Known b →
+    length (uid_state_items sh ++ rest) ≡ 1 + length sh.entries + length rest
 one_more sh b rest e = let x = uid_state_long sh rest in let y = known_long sh.series b e in omega arith
 
-pub none_more : (sh : UidState) (rest : List Item) → ((b : Best) → sh.series ≡ Known b → ⊥) → length (uid_state_items sh ++ rest) ≡ length sh.entries + length rest
+pub none_more : (sh : UidState) (rest : List Item) → ((b : Best) → sh.series ≡ Known b → ⊥) →
+    length (uid_state_items sh ++ rest) ≡ length sh.entries + length rest
 none_more sh rest n = let x = uid_state_long sh rest in let y = none_long sh.series n in omega arith

@@ -20,10 +20,12 @@ use Rattle.itip_state.proofs.Maps.{uid_cmp}
 module _ {V : Type 0} (of : V → UidState) where
   pub seen_at : (es : List (List ℕ × V)) (q : List ℕ) → option_map of (value_at uid_cmp es q) ≡ at (uid_states es of) q
   seen_at [] q = refl
-  seen_at (e ∷ es) q = elim (is_eq (uid_cmp q e.0)) as (λ b. option_map of (cond b (Some e.1) (value_at uid_cmp es q)) ≡ cond b (Some (of e.1)) (at (uid_states es of) q)) [
-    | true ↦ refl
-    | false ↦ seen_at es q
-  ]
+  seen_at (e ∷ es) q =
+      elim (is_eq (uid_cmp q e.0)) as (λ b. option_map of (cond b (Some e.1) (value_at uid_cmp es q)) ≡ cond b (Some (of e.1))
+      (at (uid_states es of) q)) [
+        | true ↦ refl
+        | false ↦ seen_at es q
+      ]
 
   pub keys_seen : (es : List (List ℕ × V)) → keys_of (uid_states es of) ≡ keys_of es
   keys_seen [] = refl
@@ -32,7 +34,8 @@ module _ {V : Type 0} (of : V → UidState) where
   pub in_order : (es : List (List ℕ × V)) → IsStrictlySortedBy uid_cmp (keys_of es) → AreOrdered (uid_states es of)
   in_order es s = subst (IsStrictlySortedBy uid_cmp) (sym (keys_seen es)) s
 
-  pub same_seen : (xs zs : List (List ℕ × V)) (q : List ℕ) → value_at uid_cmp xs q ≡ value_at uid_cmp zs q → at (uid_states xs of) q ≡ at (uid_states zs of) q
+  pub same_seen : (xs zs : List (List ℕ × V)) (q : List ℕ) → value_at uid_cmp xs q ≡ value_at uid_cmp zs q →
+      at (uid_states xs of) q ≡ at (uid_states zs of) q
   same_seen xs zs q e = sym (seen_at xs q) ∙ ap (option_map of) e ∙ seen_at zs q
 
   -- ---- another value at a UID
@@ -47,12 +50,16 @@ module _ {V : Type 0} (of : V → UidState) where
   module _ (xs zs : List (List ℕ × V)) (u : List ℕ) where
     pub put_seen : (o : Option V) → ((q : List ℕ) → value_at uid_cmp zs q ≡ cond (is_eq (uid_cmp u q)) o (value_at uid_cmp xs q))
         → (q : List ℕ) → at (uid_states zs of) q ≡ cond (is_eq (uid_cmp u q)) (option_map of o) (at (uid_states xs of) q)
-    put_seen o put q = sym (seen_at zs q) ∙ ap (option_map of) (put q) ∙ map_cond (is_eq (uid_cmp u q)) o (value_at uid_cmp xs q) ∙ ap (cond (is_eq (uid_cmp u q)) (option_map of o)) (seen_at xs q)
+    put_seen o put q = sym (seen_at zs q) ∙ ap (option_map of) (put q) ∙ map_cond (is_eq (uid_cmp u q)) o (value_at uid_cmp xs q) ∙
+        ap (cond (is_eq (uid_cmp u q)) (option_map of o)) (seen_at xs q)
 
-    pub replaced_seen : (v : V) → ((q : List ℕ) → value_at uid_cmp zs q ≡ cond (is_eq (uid_cmp u q)) (replaced (value_at uid_cmp xs u) v) (value_at uid_cmp xs q))
-        → (q : List ℕ) → at (uid_states zs of) q ≡ cond (is_eq (uid_cmp u q)) (replaced (at (uid_states xs of) u) (of v)) (at (uid_states xs of) q)
+    pub replaced_seen : (v : V) → ((q : List ℕ) →
+        value_at uid_cmp zs q ≡ cond (is_eq (uid_cmp u q)) (replaced (value_at uid_cmp xs u) v) (value_at uid_cmp xs q))
+        → (q : List ℕ) → at (uid_states zs of) q ≡ cond (is_eq (uid_cmp u q)) (replaced (at (uid_states xs of) u) (of v))
+        (at (uid_states xs of) q)
     replaced_seen v put q = put_seen (replaced (value_at uid_cmp xs u) v) put q
-        ∙ ap (λ o. cond (is_eq (uid_cmp u q)) o (at (uid_states xs of) q)) (map_replaced (value_at uid_cmp xs u) v ∙ ap (λ o. replaced o (of v)) (seen_at xs u))
+        ∙ ap (λ o. cond (is_eq (uid_cmp u q)) o (at (uid_states xs of) q)) (map_replaced (value_at uid_cmp xs u) v ∙
+        ap (λ o. replaced o (of v)) (seen_at xs u))
 
   -- ---- in order
   abbrev pub le : V → V → Type 0
@@ -71,7 +78,8 @@ module _ {V : Type 0} (of : V → UidState) where
   module _ (xs zs : List (List ℕ × V)) where
     pub below_seen : IsMapBelow uid_cmp le xs zs → AreBelow (uid_states xs of) (uid_states zs of)
     below_seen l q = subst (λ (o : Option UidState). IsBelowAt IsUidStateBelow o (at (uid_states zs of) q)) (seen_at xs q)
-        (subst (IsBelowAt IsUidStateBelow (option_map of (value_at uid_cmp xs q))) (seen_at zs q) (below_map (value_at uid_cmp xs q) (value_at uid_cmp zs q) (l q)))
+        (subst (IsBelowAt IsUidStateBelow (option_map of (value_at uid_cmp xs q))) (seen_at zs q)
+        (below_map (value_at uid_cmp xs q) (value_at uid_cmp zs q) (l q)))
 
     pub seen_below : AreBelow (uid_states xs of) (uid_states zs of) → IsMapBelow uid_cmp le xs zs
     seen_below l q = map_below (value_at uid_cmp xs q) (value_at uid_cmp zs q)
@@ -79,17 +87,22 @@ module _ {V : Type 0} (of : V → UidState) where
         (subst (IsBelowAt IsUidStateBelow (at (uid_states xs of) q)) (sym (seen_at zs q)) (l q)))
 
   -- ---- joined
-  module _ (whole : (v : V) → IsReduced (of v)) (make : (sh : UidState) → IsReduced sh → V) (made : (sh : UidState) (w : IsReduced sh) → of (make sh w) ≡ sh) where
+  module _ (whole : (v : V) → IsReduced (of v)) (make : (sh : UidState) → IsReduced sh → V) (made : (sh : UidState) (w : IsReduced sh) →
+      of (make sh w) ≡ sh) where
     joined_map : (o n m : Option V) → IsJoinOf (IsBelowAt le) o n m → IsJoinedAt (option_map of o) (option_map of n) (option_map of m)
     joined_map None None None j = refl
     joined_map None None (Some c) j = absurd (j.least None tt tt)
     joined_map None (Some b) None j = absurd j.above_second
-    joined_map None (Some b) (Some c) j = ap Some (same_uid_state (of c) (of b) (whole c) (whole b) (j.least (Some b) tt (uid_state_below_itself (of b))) j.above_second)
+    joined_map None (Some b) (Some c) j =
+        ap Some (same_uid_state (of c) (of b) (whole c) (whole b) (j.least (Some b) tt (uid_state_below_itself (of b))) j.above_second)
     joined_map (Some a) n None j = absurd j.above_first
-    joined_map (Some a) None (Some c) j = ap Some (same_uid_state (of c) (of a) (whole c) (whole a) (j.least (Some a) (uid_state_below_itself (of a)) tt) j.above_first)
+    joined_map (Some a) None (Some c) j =
+        ap Some (same_uid_state (of c) (of a) (whole c) (whole a) (j.least (Some a) (uid_state_below_itself (of a)) tt) j.above_first)
     joined_map (Some a) (Some b) (Some c) j =
-        let least : (d : UidState) → IsReduced d → IsUidStateBelow (of a) d → IsUidStateBelow (of b) d → IsUidStateBelow (of c) d = λ d w x y. subst (IsUidStateBelow (of c)) (made d w)
-        (j.least (Some (make d w)) (subst (IsUidStateBelow (of a)) (sym (made d w)) x) (subst (IsUidStateBelow (of b)) (sym (made d w)) y)) in (
+        let least : (d : UidState) → IsReduced d → IsUidStateBelow (of a) d → IsUidStateBelow (of b) d → IsUidStateBelow (of c) d =
+        λ d w x y. subst (IsUidStateBelow (of c)) (made d w)
+        (j.least (Some (make d w)) (subst (IsUidStateBelow (of a)) (sym (made d w)) x) (subst (IsUidStateBelow (of b)) (sym (made d w)) y))
+        in (
           of c,
           refl,
           record {
@@ -100,21 +113,29 @@ module _ {V : Type 0} (of : V → UidState) where
           },
         )
 
-    pub joined_seen : (xs zs : List (List ℕ × V)) (n : Option V) (q : List ℕ) → IsJoinOf (IsBelowAt le) (value_at uid_cmp xs q) n (value_at uid_cmp zs q)
+    pub joined_seen : (xs zs : List (List ℕ × V)) (n : Option V) (q : List ℕ) →
+        IsJoinOf (IsBelowAt le) (value_at uid_cmp xs q) n (value_at uid_cmp zs q)
         → IsJoinedAt (at (uid_states xs of) q) (option_map of n) (at (uid_states zs of) q)
     joined_seen xs zs n q j = subst (λ (o : Option UidState). IsJoinedAt o (option_map of n) (at (uid_states zs of) q)) (seen_at xs q)
-        (subst (IsJoinedAt (option_map of (value_at uid_cmp xs q)) (option_map of n)) (seen_at zs q) (joined_map (value_at uid_cmp xs q) n (value_at uid_cmp zs q) j))
+        (subst (IsJoinedAt (option_map of (value_at uid_cmp xs q)) (option_map of n)) (seen_at zs q)
+        (joined_map (value_at uid_cmp xs q) n (value_at uid_cmp zs q) j))
 
     -- maps with their order beside them
     module _ {T : Type 0} (map_of : T → List (List ℕ × V)) (ordered : (t : T) → IsStrictlySortedBy uid_cmp (keys_of (map_of t)))
-        (pack : (es : List (List ℕ × V)) → IsStrictlySortedBy uid_cmp (keys_of es) → T) (packed : (es : List (List ℕ × V)) (s : IsStrictlySortedBy uid_cmp (keys_of es)) → map_of (pack es s) ≡ es)
+        (pack : (es : List (List ℕ × V)) → IsStrictlySortedBy uid_cmp (keys_of es) → T)
+        (packed : (es : List (List ℕ × V)) (s : IsStrictlySortedBy uid_cmp (keys_of es)) → map_of (pack es s) ≡ es)
         (x y z : T) (joined : IsJoinOf (λ a b. IsMapBelow uid_cmp le (map_of a) (map_of b)) x y z) where
-      least : (bound : List (List ℕ × V)) → IsStrictlySortedBy uid_cmp (keys_of bound) → IsMapBelow uid_cmp le (map_of x) bound → IsMapBelow uid_cmp le (map_of y) bound
+      least : (bound : List (List ℕ × V)) → IsStrictlySortedBy uid_cmp (keys_of bound) → IsMapBelow uid_cmp le (map_of x) bound →
+          IsMapBelow uid_cmp le (map_of y) bound
           → IsMapBelow uid_cmp le (map_of z) bound
       least bound s a b = subst (IsMapBelow uid_cmp le (map_of z)) (packed bound s)
-          (joined.least (pack bound s) (subst (IsMapBelow uid_cmp le (map_of x)) (sym (packed bound s)) a) (subst (IsMapBelow uid_cmp le (map_of y)) (sym (packed bound s)) b))
+          (joined.least (pack bound s) (subst (IsMapBelow uid_cmp le (map_of x)) (sym (packed bound s)) a)
+          (subst (IsMapBelow uid_cmp le (map_of y)) (sym (packed bound s)) b))
 
-      pub joined_all : (q : List ℕ) → IsJoinedAt (at (uid_states (map_of x) of) q) (at (uid_states (map_of y) of) q) (at (uid_states (map_of z) of) q)
-      joined_all q = subst (λ (o : Option UidState). IsJoinedAt (at (uid_states (map_of x) of) q) o (at (uid_states (map_of z) of) q)) (seen_at (map_of y) q)
+      pub joined_all : (q : List ℕ) → IsJoinedAt (at (uid_states (map_of x) of) q) (at (uid_states (map_of y) of) q)
+          (at (uid_states (map_of z) of) q)
+      joined_all q = subst (λ (o : Option UidState). IsJoinedAt (at (uid_states (map_of x) of) q) o (at (uid_states (map_of z) of) q))
+          (seen_at (map_of y) q)
           (joined_seen (map_of x) (map_of z) (value_at uid_cmp (map_of y) q) q
-          (joined_at nat_list_cmp_total exact_bytes le (map_of x) (map_of y) (map_of z) (ordered z) joined.above_first joined.above_second least q))
+          (joined_at nat_list_cmp_total exact_bytes le (map_of x) (map_of y) (map_of z) (ordered z) joined.above_first joined.above_second
+          least q))

@@ -13,7 +13,7 @@ use Rattle.itip_items.specs.declared.key.Key.TheVariants.{Series, Instance, Rang
 use Rattle.itip_join.specs.declared.lift.Lift.TheVariants.{Known}
 use Rattle.itip_state.specs.Kept.{IsBest, IsDead, CanDie}
 use Rattle.itip_state.specs.Held.{is_series, can_die, is_below, kills, best}
-use Rattle.itip_state.specs.Dying.{less_from, from_less}
+use Rattle.itip_state.specs.DyingLaws.{less_from, from_less}
 use Rattle.itip_state.proofs.Best.{best_above}
 use Rattle.itip_state.proofs.Keeping.{eff_up}
 
@@ -48,7 +48,8 @@ pub and_true : (a b : Bool) → a ≡ true → b ≡ true → (a && b) ≡ true
 and_true a b p q = ap (λ x. x && b) p ∙ q
 
 -- a series item of a set, of an item's UID and of a greater sequence, makes the item dead where its key can die
-pub dead_under : (all : List Item) (s x : Item) → Contains all s → s.key ≡ Series (uid_of x.key) → can_die x.key ≡ true → x.eff < s.eff → IsDead all x
+pub dead_under : (all : List Item) (s x : Item) → Contains all s → s.key ≡ Series (uid_of x.key) → can_die x.key ≡ true → x.eff < s.eff →
+    IsDead all x
 dead_under all s x h key can_x low =
     let found = best_above all s h in
     let is_best : IsBest all (Series (uid_of x.key)) found.0 = subst (λ (k : Key). IsBest all k found.0) key found.1 in
@@ -60,7 +61,8 @@ pub dead_below : (all : List Item) (s x : Item) → Contains all s → is_series
 dead_below all s x h e b =
     let first = both (can_die x.key) _ b in
     let second = both (is_eq (slice_cmp nat_cmp (uid_of s.key) (uid_of x.key))) _ first.1 in
-    let uid : uid_of s.key ≡ uid_of x.key = exact_bytes (uid_of s.key) (uid_of x.key) ((Equal-is (slice_cmp nat_cmp (uid_of s.key) (uid_of x.key))).0 second.0) in
+    let uid : uid_of s.key ≡ uid_of x.key =
+    exact_bytes (uid_of s.key) (uid_of x.key) ((Equal-is (slice_cmp nat_cmp (uid_of s.key) (uid_of x.key))).0 second.0) in
     dead_under all s x h (series_key s.key e ∙ ap Series uid) first.0 (less_from x.eff s.eff second.1)
 
 -- and the best series item above a dead item shows that it is dead

@@ -13,5 +13,6 @@ part_state uid part whole are is i = (
   λ kept. kept.best.is_heard,
 )
 
-pub uid_part : (uid : List ℕ) (part whole : List Item) → ArePart uid part whole → AscendKeys part → IsState whole → IsUidPart (record { uid = uid; items = part })
+pub uid_part : (uid : List ℕ) (part whole : List Item) → ArePart uid part whole → AscendKeys part → IsState whole →
+    IsUidPart (record { uid = uid; items = part })
 uid_part uid part whole are ascend is = record { about = λ i h. ((are i).0 h).1; ascend = ascend; state = part_state uid part whole are is }

@@ -6,7 +6,8 @@ use Rattle.itip_items.specs.declared.item.Item.{Item}
 use Rattle.itip_state.proofs.Members.{none_in, cons_cases, cons_first, cons_later}
 
 module _ {X : Type 0} (f : X → Item) where
-  pub uid_from : (xs : List X) (uid : List ℕ) → Contains (map (λ x. uid_of (f x).key) xs) uid → (item : Item) × Contains (map f xs) item × (uid_of item.key ≡ uid)
+  pub uid_from : (xs : List X) (uid : List ℕ) → Contains (map (λ x. uid_of (f x).key) xs) uid → (item : Item) × Contains (map f xs) item ×
+      (uid_of item.key ≡ uid)
   uid_from [] uid h = absurd (none_in uid h)
   uid_from (x ∷ xs) uid h = elim (cons_cases (uid_of (f x).key) (map (λ x. uid_of (f x).key) xs) uid h) [
     | inl same ↦ (f x, cons_first (f x) (map f xs), same)
@@ -16,6 +17,7 @@ module _ {X : Type 0} (f : X → Item) where
   pub uid_among : (xs : List X) (item : Item) → Contains (map f xs) item → Contains (map (λ x. uid_of (f x).key) xs) (uid_of item.key)
   uid_among [] item h = absurd (none_in item h)
   uid_among (x ∷ xs) item h = elim (cons_cases (f x) (map f xs) item h) [
-    | inl same ↦ subst (λ (i : Item). Contains (map (λ x. uid_of (f x).key) (x ∷ xs)) (uid_of i.key)) same (cons_first (uid_of (f x).key) (map (λ x. uid_of (f x).key) xs))
+    | inl same ↦ subst (λ (i : Item). Contains (map (λ x. uid_of (f x).key) (x ∷ xs)) (uid_of i.key)) same
+        (cons_first (uid_of (f x).key) (map (λ x. uid_of (f x).key) xs))
     | inr rest ↦ cons_later (uid_of (f x).key) (map (λ x. uid_of (f x).key) xs) (uid_of item.key) (uid_among xs item rest)
   ]

@@ -23,7 +23,7 @@ use Rattle.itip_state.specs.Undone.{IsNoted, LeadsBack, IsUndone, AreUndone, IsO
 use Rattle.itip_state.specs.declared.hear.Before.{Before}
 use Rattle.itip_state.specs.declared.hear.Before.TheVariants.{Absent, Whole, Entry}
 use Rattle.itip_state.specs.declared.hear.Hearing.{Hearing}
-use Rattle.itip_state.specs.Dying.{IsNoLater}
+use Rattle.itip_state.specs.DyingLaws.{IsNoLater}
 use Rattle.itip_state.specs.Held.{Best, UidState, best, is_series, is_killed, alone, at, IsReduced, AreOrdered}
 use Rattle.itip_state.specs.Slots.{slot_cmp, slot_total, slot_exact}
 use Rattle.itip_state.proofs.Members.{by_bool}
@@ -38,11 +38,14 @@ none_some x e = cc
 
 -- ---- one UID
 -- what is noted of a key
-pub noted_at : (key : Key) (held : Option Best) (w : UidState) → IsReduced w → held ≡ value_at slot_cmp w.entries key → IsBackAt key held w w
+pub noted_at : (key : Key) (held : Option Best) (w : UidState) → IsReduced w → held ≡ value_at slot_cmp w.entries key →
+    IsBackAt key held w w
 noted_at key held w whole is = record {
   series = refl;
-  entries = λ q. by_bool (is_eq (slot_cmp key q)) (value_at slot_cmp w.entries q ≡ cond (is_eq (slot_cmp key q)) held (value_at slot_cmp w.entries q))
-      (λ k. ap (value_at slot_cmp w.entries) (sym (one_key slot_total slot_exact key q k)) ∙ sym is ∙ sym (ap (λ b. cond b held (value_at slot_cmp w.entries q)) k))
+  entries = λ q. by_bool (is_eq (slot_cmp key q))
+      (value_at slot_cmp w.entries q ≡ cond (is_eq (slot_cmp key q)) held (value_at slot_cmp w.entries q))
+      (λ k. ap (value_at slot_cmp w.entries) (sym (one_key slot_total slot_exact key q k)) ∙ sym is ∙
+      sym (ap (λ b. cond b held (value_at slot_cmp w.entries q)) k))
       (λ k. sym (ap (λ b. cond b held (value_at slot_cmp w.entries q)) k));
   there = λ s. ap is_some (sym is) ∙ s;
   whole = whole;
@@ -50,9 +53,12 @@ noted_at key held w whole is = record {
 
 -- an item alone, that is no series item
 alone_other : (item : Item) → is_series item.key ≡ false → alone item ≡ record { series = Nothing; entries = (item.key, best item) ∷ [] }
-alone_other item e = ap (λ b. cond b (record { series = Known (best item); entries = [] }) (record { series = Nothing; entries = (item.key, best item) ∷ [] })) e
+alone_other item e =
+    ap (λ b. cond b (record { series = Known (best item); entries = [] })
+    (record { series = Nothing; entries = (item.key, best item) ∷ [] })) e
 
-module _ (item : Item) (a c : UidState) (of : HoldsOfTwo a (alone item) c) (whole : IsReduced a) (above : IsUidStateBelow a c) (other : is_series item.key ≡ false) where
+module _ (item : Item) (a c : UidState) (of : HoldsOfTwo a (alone item) c) (whole : IsReduced a) (above : IsUidStateBelow a c)
+    (other : is_series item.key ≡ false) where
   series_same : c.series ≡ a.series
   series_same = elim of.series [
     | inl e ↦ e
@@ -74,14 +80,17 @@ module _ (item : Item) (a c : UidState) (of : HoldsOfTwo a (alone item) c) (whol
   not_alone : (q : Key) (v : Best) → is_eq (slot_cmp item.key q) ≡ false → value_at slot_cmp (alone item).entries q ≡ Some v → ⊥
   not_alone q v n e =
       let flipped : is_eq (slot_cmp q item.key) ≡ false = (eq_by_cmp_equiv slot_total).symm q item.key ∙ n in
-      none_some v (sym (ap (λ (sh : UidState). value_at slot_cmp sh.entries q) (alone_other item other) ∙ ap (λ b. cond b (Some (best item)) None) flipped) ∙ e)
+      none_some v (sym (ap (λ (sh : UidState). value_at slot_cmp sh.entries q) (alone_other item other) ∙
+      ap (λ b. cond b (Some (best item)) None) flipped) ∙ e)
 
-  apart : (q : Key) → is_eq (slot_cmp item.key q) ≡ false → (o p : Option Best) → value_at slot_cmp a.entries q ≡ o → value_at slot_cmp c.entries q ≡ p → o ≡ p
+  apart : (q : Key) → is_eq (slot_cmp item.key q) ≡ false → (o p : Option Best) → value_at slot_cmp a.entries q ≡ o →
+      value_at slot_cmp c.entries q ≡ p → o ≡ p
   apart q n None None e f = refl
   apart q n (Some v) None e f = absurd (not_gone q v e f)
   apart q n o (Some w) e f = elim (of.entries q w f) [ inl g ↦ sym e ∙ g | inr g ↦ absurd (not_alone q w n g) ]
 
-  still : (o p : Option Best) → value_at slot_cmp a.entries item.key ≡ o → value_at slot_cmp c.entries item.key ≡ p → is_some o ≡ true → is_some p ≡ true
+  still : (o p : Option Best) → value_at slot_cmp a.entries item.key ≡ o → value_at slot_cmp c.entries item.key ≡ p → is_some o ≡ true →
+      is_some p ≡ true
   still None p e f s = let x : false ≡ true = s in absurd (cc)
   still (Some v) None e f s = absurd (not_gone item.key v e f)
   still (Some v) (Some w) e f s = refl
@@ -89,9 +98,13 @@ module _ (item : Item) (a c : UidState) (of : HoldsOfTwo a (alone item) c) (whol
   back_at : IsBackAt item.key (value_at slot_cmp a.entries item.key) c a
   back_at = record {
     series = series_same;
-    entries = λ q. by_bool (is_eq (slot_cmp item.key q)) (value_at slot_cmp a.entries q ≡ cond (is_eq (slot_cmp item.key q)) (value_at slot_cmp a.entries item.key) (value_at slot_cmp c.entries q))
-        (λ k. ap (value_at slot_cmp a.entries) (sym (one_key slot_total slot_exact item.key q k)) ∙ sym (ap (λ b. cond b (value_at slot_cmp a.entries item.key) (value_at slot_cmp c.entries q)) k))
-        (λ k. apart q k (value_at slot_cmp a.entries q) (value_at slot_cmp c.entries q) refl refl ∙ sym (ap (λ b. cond b (value_at slot_cmp a.entries item.key) (value_at slot_cmp c.entries q)) k));
+    entries = λ q. by_bool (is_eq (slot_cmp item.key q))
+        (value_at slot_cmp a.entries q ≡ cond (is_eq (slot_cmp item.key q)) (value_at slot_cmp a.entries item.key)
+        (value_at slot_cmp c.entries q))
+        (λ k. ap (value_at slot_cmp a.entries) (sym (one_key slot_total slot_exact item.key q k)) ∙
+        sym (ap (λ b. cond b (value_at slot_cmp a.entries item.key) (value_at slot_cmp c.entries q)) k))
+        (λ k. apart q k (value_at slot_cmp a.entries q) (value_at slot_cmp c.entries q) refl refl ∙
+        sym (ap (λ b. cond b (value_at slot_cmp a.entries item.key) (value_at slot_cmp c.entries q)) k));
     there = still (value_at slot_cmp a.entries item.key) (value_at slot_cmp c.entries item.key) refl refl;
     whole = whole;
   }
@@ -102,12 +115,15 @@ put_there None there s = refl
 put_there (Some b) (Some was) s = refl
 put_there (Some b) None s = let x : false ≡ true = s refl in absurd (cc)
 
--- two uid_states with the same at each key are one
-pub back_is : (key : Key) (held : Option Best) (v w z : UidState) → IsBackAt key held v w → z.series ≡ v.series → IsStrictlySortedBy slot_cmp (keys_of z.entries)
-    → ((q : Key) → value_at slot_cmp z.entries q ≡ cond (is_eq (slot_cmp key q)) (in_place_of (value_at slot_cmp v.entries key) held) (value_at slot_cmp v.entries q)) → z ≡ w
+-- two states of a UID with the same at each key are one
+pub back_is : (key : Key) (held : Option Best) (v w z : UidState) → IsBackAt key held v w → z.series ≡ v.series →
+    IsStrictlySortedBy slot_cmp (keys_of z.entries)
+    → ((q : Key) → value_at slot_cmp z.entries q ≡ cond (is_eq (slot_cmp key q)) (in_place_of (value_at slot_cmp v.entries key) held)
+    (value_at slot_cmp v.entries q)) → z ≡ w
 back_is key held v w z is same sorted put =
     let e : z.entries ≡ w.entries = entries_from_values slot_total slot_exact z.entries w.entries sorted is.whole.sorted
-    (λ q. put q ∙ ap (λ (o : Option Best). cond (is_eq (slot_cmp key q)) o (value_at slot_cmp v.entries q)) (put_there held (value_at slot_cmp v.entries key) is.there) ∙ sym (is.entries q)) in
+    (λ q. put q ∙ ap (λ (o : Option Best). cond (is_eq (slot_cmp key q)) o (value_at slot_cmp v.entries q))
+    (put_there held (value_at slot_cmp v.entries key) is.there) ∙ sym (is.entries q)) in
     let s : z.series ≡ w.series = same ∙ is.series in
     λ i. record { series = s i; entries = e i }
 
@@ -119,12 +135,21 @@ pub joined_some : (o : Option UidState) (b : UidState) (n : Option UidState) →
 joined_some None b n e = ap is_some e
 joined_some (Some a) b n (joined, e, j) = ap is_some e
 
-pub noted_leads : (before : Before) (item : Item) (old now : Option UidState) → IsNoted before item old → IsJoinedAt old (Some (alone item)) now → LeadsBack before item now old
+pub noted_leads : (before : Before) (item : Item) (old now : Option UidState) → IsNoted before item old →
+    IsJoinedAt old (Some (alone item)) now → LeadsBack before item now old
 noted_leads Absent item old now is joined = is
 noted_leads (Whole was) item old now is joined = (joined_some old (alone item) now joined, is.0)
 noted_leads (Entry place held) item old now (w, e, back, other, here) joined =
-    let all : IsJoinedAt (Some w) (Some (alone item)) now = subst (λ (o : Option UidState). IsJoinedAt o (Some (alone item)) now) e joined in
-    (all.0, w, all.1, e, subst (λ (h : Option Best). IsBackAt item.key h all.0 w) (held_is item.key held w back) (back_at item w all.0 (all.2).of_two back.whole (all.2).above_first other), here)
+    let all : IsJoinedAt (Some w) (Some (alone item)) now =
+    subst (λ (o : Option UidState). IsJoinedAt o (Some (alone item)) now) e joined in (
+      all.0,
+      w,
+      all.1,
+      e,
+      subst (λ (h : Option Best). IsBackAt item.key h all.0 w) (held_is item.key held w back)
+          (back_at item w all.0 (all.2).of_two back.whole (all.2).above_first other),
+      here,
+    )
 
 pub noted_stays : (before : Before) (item : Item) (old : Option UidState) → IsNoted before item old → LeadsBack before item old old
 noted_stays Absent item old is = is
@@ -132,11 +157,13 @@ noted_stays (Whole was) item old is = (ap is_some is.0, is.0)
 noted_stays (Entry place held) item old (w, e, back, other, here) = (w, w, e, e, back, here)
 
 -- ---- a list of them
-pub undone_push : (cs : List Hearing) (c : Hearing) (now mid start : List (List ℕ × UidState)) → AreUndone cs mid start → IsUndone c now mid → AreUndone (cs ++ c ∷ []) now start
+pub undone_push : (cs : List Hearing) (c : Hearing) (now mid start : List (List ℕ × UidState)) → AreUndone cs mid start →
+    IsUndone c now mid → AreUndone (cs ++ c ∷ []) now start
 undone_push [] c now mid start all one = (now, refl, subst (IsUndone c now) all one)
 undone_push (d ∷ cs) c now mid start (m, rest, first) one = (m, undone_push cs c now mid m rest one, first)
 
-pub undone_pop : (cs : List Hearing) (c : Hearing) (now start : List (List ℕ × UidState)) → AreUndone (cs ++ c ∷ []) now start → (mid : List (List ℕ × UidState)) × IsUndone c now mid × AreUndone cs mid start
+pub undone_pop : (cs : List Hearing) (c : Hearing) (now start : List (List ℕ × UidState)) → AreUndone (cs ++ c ∷ []) now start →
+    (mid : List (List ℕ × UidState)) × IsUndone c now mid × AreUndone cs mid start
 undone_pop [] c now start (m, same, one) = (start, subst (λ (n : List (List ℕ × UidState)). IsUndone c n start) (sym same) one, refl)
 undone_pop (d ∷ cs) c now start (m, rest, first) = let r = undone_pop cs c now m rest in (r.0, r.1, (m, r.2, first))
 
@@ -166,7 +193,8 @@ one_last (z ∷ xs) [] x y e = absurd (none_ends xs x (rest_same y z [] (xs ++ x
 one_last (v ∷ xs) (w ∷ ys) x y e = one_last xs ys x y (rest_same v w (xs ++ x ∷ []) (ys ++ y ∷ []) e)
 
 -- what notes all is the last change
-pub last_notes : (cs earlier : List Hearing) (c : Hearing) (u : List ℕ) → cs ≡ earlier ++ c ∷ [] → NotesAll cs u → (uid_of c.item.now.key ≡ u) × IsOfAll c.before
+pub last_notes : (cs earlier : List Hearing) (c : Hearing) (u : List ℕ) → cs ≡ earlier ++ c ∷ [] → NotesAll cs u →
+    (uid_of c.item.now.key ≡ u) × IsOfAll c.before
 last_notes cs earlier c u e notes =
     let same : notes.last ≡ c = one_last notes.earlier earlier notes.last c (sym notes.is_last ∙ e) in
     (subst (λ (d : Hearing). uid_of d.item.now.key ≡ u) same notes.about, subst (λ (d : Hearing). IsOfAll d.before) same notes.all)
@@ -174,13 +202,15 @@ last_notes cs earlier c u e notes =
 pub notes_same : (cs ds : List Hearing) (u v : List ℕ) → cs ≡ ds → u ≡ v → NotesAll cs u → NotesAll ds v
 notes_same cs ds u v e f notes = subst (λ (xs : List Hearing). NotesAll xs v) e (subst (NotesAll cs) f notes)
 
-leads_still : (b : Before) (item : Item) (now next old : Option UidState) → IsOfAll b → (is_some now ≡ true → is_some next ≡ true) → LeadsBack b item now old → LeadsBack b item next old
+leads_still : (b : Before) (item : Item) (now next old : Option UidState) → IsOfAll b → (is_some now ≡ true → is_some next ≡ true) →
+    LeadsBack b item now old → LeadsBack b item next old
 leads_still Absent item now next old all some leads = leads
 leads_still (Whole was) item now next old all some leads = (some leads.0, leads.1)
 leads_still (Entry place held) item now next old all some leads = absurd all
 
 -- what is noted of a UID as a whole takes back what happens to it later, too
-pub undone_still : (cs : List Hearing) (u : List ℕ) (now next start : List (List ℕ × UidState)) → NotesAll cs u → (is_some (at now u) ≡ true → is_some (at next u) ≡ true)
+pub undone_still : (cs : List Hearing) (u : List ℕ) (now next start : List (List ℕ × UidState)) → NotesAll cs u →
+    (is_some (at now u) ≡ true → is_some (at next u) ≡ true)
     → ((q : List ℕ) → is_eq (uid_cmp u q) ≡ false → at next q ≡ at now q) → AreUndone cs now start → AreUndone cs next start
 undone_still cs u now next start notes some others all =
     let last = undone_pop notes.earlier notes.last now start (subst (λ ds. AreUndone ds now start) notes.is_last all) in
@@ -195,11 +225,15 @@ undone_still cs u now next start notes some others all =
 
 -- ---- a change that is taken back
 -- with `o` at the UID, a map is what it was before
-pub undone_put : (now next before : List (List ℕ × UidState)) (k u : List ℕ) (o : Option UidState) → k ≡ u → AreOrdered next → AreOrdered before
-    → ((q : List ℕ) → at next q ≡ cond (is_eq (uid_cmp k q)) o (at now q)) → o ≡ at before u → ((q : List ℕ) → is_eq (uid_cmp u q) ≡ false → at now q ≡ at before q) → next ≡ before
-undone_put now next before k u o about ordered was put there others = entries_from_values nat_list_cmp_total exact_bytes next before ordered was
+pub undone_put : (now next before : List (List ℕ × UidState)) (k u : List ℕ) (o : Option UidState) → k ≡ u → AreOrdered next →
+    AreOrdered before
+    → ((q : List ℕ) → at next q ≡ cond (is_eq (uid_cmp k q)) o (at now q)) → o ≡ at before u →
+    ((q : List ℕ) → is_eq (uid_cmp u q) ≡ false → at now q ≡ at before q) → next ≡ before
+undone_put now next before k u o about ordered was put there others =
+    entries_from_values nat_list_cmp_total exact_bytes next before ordered was
     (λ q. by_bool (is_eq (uid_cmp u q)) (at next q ≡ at before q)
-    (λ e. put q ∙ ap (λ b. cond b o (at now q)) (ap (λ r. is_eq (uid_cmp r q)) about ∙ e) ∙ there ∙ ap (at before) (one_key nat_list_cmp_total exact_bytes u q e))
+    (λ e. put q ∙ ap (λ b. cond b o (at now q)) (ap (λ r. is_eq (uid_cmp r q)) about ∙ e) ∙ there ∙
+    ap (at before) (one_key nat_list_cmp_total exact_bytes u q e))
     (λ n. put q ∙ ap (λ b. cond b o (at now q)) (ap (λ r. is_eq (uid_cmp r q)) about ∙ n) ∙ others q n))
 
 pub replaced_some : (o : Option UidState) (x : UidState) → is_some o ≡ true → replaced o x ≡ Some x
@@ -207,15 +241,24 @@ replaced_some None x s = let y : false ≡ true = s in absurd (cc)
 replaced_some (Some v) x s = refl
 
 -- what stands at a key, once it was put there, is there and nowhere else
-pub put_at : (now next : List (List ℕ × UidState)) (k u : List ℕ) (o : Option UidState) → k ≡ u → ((q : List ℕ) → at next q ≡ cond (is_eq (uid_cmp k q)) o (at now q)) → at next k ≡ o
+pub put_at : (now next : List (List ℕ × UidState)) (k u : List ℕ) (o : Option UidState) → k ≡ u →
+    ((q : List ℕ) → at next q ≡ cond (is_eq (uid_cmp k q)) o (at now q)) → at next k ≡ o
 put_at now next k u o about put = put k ∙ ap (λ b. cond b o (at now k)) (itself nat_list_cmp_total exact_bytes k)
 
-pub put_apart : (now next : List (List ℕ × UidState)) (k u : List ℕ) (o : Option UidState) → k ≡ u → ((q : List ℕ) → at next q ≡ cond (is_eq (uid_cmp k q)) o (at now q))
+pub put_apart : (now next : List (List ℕ × UidState)) (k u : List ℕ) (o : Option UidState) → k ≡ u →
+    ((q : List ℕ) → at next q ≡ cond (is_eq (uid_cmp k q)) o (at now q))
     → (q : List ℕ) → is_eq (uid_cmp u q) ≡ false → at next q ≡ at now q
 put_apart now next k u o about put q n = put q ∙ ap (λ b. cond b o (at now q)) (ap (λ r. is_eq (uid_cmp r q)) about ∙ n)
 
-pub entry_leads : (place : _) (item : Item) (held : Option Best) (now old : Option UidState) (v : UidState) → now ≡ Some v → LeadsBack (Entry place held) item now old → (w : UidState) × (old ≡ Some w) × IsBackAt place.now held v w
-entry_leads place item held now old v e (x, w, f, g, back, here) = (w, g, subst (λ (k : Key). IsBackAt k held v w) (sym here) (subst (λ (sh : UidState). IsBackAt item.key held sh w) (some_one x v (sym f ∙ e)) back))
+pub entry_leads : (place : _) (item : Item) (held : Option Best) (now old : Option UidState) (v : UidState) → now ≡ Some v →
+    LeadsBack (Entry place held) item now old → (w : UidState) × (old ≡ Some w) × IsBackAt place.now held v w
+entry_leads place item held now old v e (x, w, f, g, back, here) = (
+  w,
+  g,
+  subst (λ (k : Key). IsBackAt k held v w) (sym here)
+      (subst (λ (sh : UidState). IsBackAt item.key held sh w) (some_one x v (sym f ∙ e)) back),
+)
 
-pub not_absent : (place : _) (item : Item) (held : Option Best) (now old : Option UidState) → now ≡ None → LeadsBack (Entry place held) item now old → ⊥
+pub not_absent : (place : _) (item : Item) (held : Option Best) (now old : Option UidState) → now ≡ None →
+    LeadsBack (Entry place held) item now old → ⊥
 not_absent place item held now old e (x, w, f, g, back, here) = none_some x (sym e ∙ f)

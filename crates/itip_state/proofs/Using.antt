@@ -1,5 +1,6 @@
 -- The greatest sequence that organizers have used.
-use Rattle.std.proofs.Common.{◌≡◌, ℕ, ◌≤◌, List, [], ◌∷◌, refl, sym, ◌∙◌, ap, subst, ◌⊎◌, inl, inr, true, false, Option, Some, None, max, arith}
+use Rattle.std.proofs.Common.{◌≡◌, ℕ, ◌≤◌, List, [], ◌∷◌, refl, sym, ◌∙◌, ap, subst, ◌⊎◌, inl, inr, true, false, Option, Some, None, max}
+use Rattle.std.proofs.Common.{arith}
 use Rattle.std.specs.Prelude.{if◌then◌else◌}
 use Rattle.std.specs.List.{Contains}
 use Rattle.itip_items.specs.declared.item.Item.{Item}
@@ -44,13 +45,16 @@ either (Some a) (Some b) = elim (max_cases a b) [ inl p ↦ inl (ap Some p) | in
 
 last_up : (last : Option ℕ) (items : List Item) → IsUpTo last (greatest last items)
 last_up last [] = up_itself last
-last_up last (i ∷ is) = up_through last (greater last (used_by i)) (greatest (greater last (used_by i)) is) (first_up last (used_by i)) (last_up (greater last (used_by i)) is)
+last_up last (i ∷ is) =
+    up_through last (greater last (used_by i)) (greatest (greater last (used_by i)) is) (first_up last (used_by i))
+    (last_up (greater last (used_by i)) is)
 
 each_up : (last : Option ℕ) (items : List Item) (i : Item) → Contains items i → IsUpTo (used_by i) (greatest last items)
 each_up last [] i h = absurd (none_in i h)
 each_up last (j ∷ js) i h = elim (cons_cases j js i h) [
   | inl same ↦ up_through (used_by i) (greater last (used_by j)) (greatest (greater last (used_by j)) js)
-      (subst (λ (k : Item). IsUpTo (used_by k) (greater last (used_by j))) same (second_up last (used_by j))) (last_up (greater last (used_by j)) js)
+      (subst (λ (k : Item). IsUpTo (used_by k) (greater last (used_by j))) same (second_up last (used_by j)))
+      (last_up (greater last (used_by j)) js)
   | inr rest ↦ each_up (greater last (used_by j)) js i rest
 ]
 
@@ -81,14 +85,16 @@ used_sent i n e = elim (is_organizers i.kind) as (λ b. (if b then Some i.eff el
     value a b h = cc
 
 -- the greatest sequence among the items of a UID is the last used of it
-pub last_is : (uid : List ℕ) (items whole : List Item) → ArePart uid items whole → IsState whole → IsLastUsed whole uid (greatest None items)
+pub last_is : (uid : List ℕ) (items whole : List Item) → ArePart uid items whole → IsState whole →
+    IsLastUsed whole uid (greatest None items)
 last_is uid items whole part is_state = by (greatest None items) refl
   where
     among : (i : Item) → IsOrganizers whole uid i → Contains items i
     among i o = (part i).1 ((is_state i).1 o.kept, o.about)
 
     up : (o : Option ℕ) → greatest None items ≡ o → (i : Item) → IsOrganizers whole uid i → IsUpTo (Some i.eff) o
-    up o e i sent = subst (λ (a : Option ℕ). IsUpTo a o) (sent_uses i sent.sent) (subst (λ (b : Option ℕ). IsUpTo (used_by i) b) e (each_up None items i (among i sent)))
+    up o e i sent = subst (λ (a : Option ℕ). IsUpTo a o) (sent_uses i sent.sent)
+        (subst (λ (b : Option ℕ). IsUpTo (used_by i) b) e (each_up None items i (among i sent)))
 
     used : (n : ℕ) → greatest None items ≡ Some n → IsUsedIn items (greatest None items) → IsUsed whole uid n
     used n e (i, h, u) =

@@ -6,7 +6,8 @@ use Rattle.itip_items.specs.declared.key.Key.{Key}
 use Rattle.itip_state.specs.Slots.{slot_cmp}
 use Rattle.itip_state.specs.Held.{Best, UidState, IsReduced}
 
--- `old` is `now` with `held` at the key, and the same series item. Where `held` is an item, `now` has one there too, in whose place it is put. `old` is whole.
+-- `old` is `now` with `held` at the key, and the same series item. Where `held` is an item, `now` has one there too, in
+-- whose place it is put. `old` is reduced.
 pub record IsBackAt (key : Key) (held : Option Best) (now old : UidState) : Type 0 where
   pub series : now.series ≡ old.series
   pub entries : (q : Key) → value_at slot_cmp old.entries q ≡ cond (is_eq (slot_cmp key q)) held (value_at slot_cmp now.entries q)

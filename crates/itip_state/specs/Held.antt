@@ -128,7 +128,8 @@ pub record AreHeld (es : List (List ℕ × UidState)) : Type 0 where
 
 -- one item alone
 abbrev pub alone : Item → UidState
-alone item = cond (is_series item.key) (record { series = Known (best item); entries = [] }) (record { series = Nothing; entries = (item.key, best item) ∷ [] })
+alone item = cond (is_series item.key) (record { series = Known (best item); entries = [] })
+    (record { series = Nothing; entries = (item.key, best item) ∷ [] })
 
 -- what is held is what is kept of what was heard
 pub record HoldKept (heard : List Item) (es : List (List ℕ × UidState)) : Type 0 where

@@ -7,11 +7,12 @@ use Rattle.itip_join.specs.KeyByKey.{value_at, IsMapBelow, IsMapBelowUnder}
 use Rattle.itip_join.specs.Lifted.{IsLiftedBelow}
 use Rattle.itip_state.specs.Slots.{slot_cmp}
 use Rattle.itip_state.specs.Held.{Best, UidState, is_killed, IsReduced}
-use Rattle.itip_state.specs.Dying.{IsNoLater}
+use Rattle.itip_state.specs.DyingLaws.{IsNoLater}
 
 -- the series item is no later, and each other item is no later than the one at its key, or dead below the other series item
 abbrev pub IsUidStateBelow : UidState → UidState → Type 0
-IsUidStateBelow a b = IsLiftedBelow IsNoLater a.series b.series × IsMapBelowUnder (is_killed b.series) slot_cmp IsNoLater a.entries b.entries
+IsUidStateBelow a b = IsLiftedBelow IsNoLater a.series b.series ×
+    IsMapBelowUnder (is_killed b.series) slot_cmp IsNoLater a.entries b.entries
 
 -- the same of each UID
 abbrev pub AreBelow : List (List ℕ × UidState) → List (List ℕ × UidState) → Type 0
@@ -20,7 +21,8 @@ AreBelow es fs = IsMapBelow (slice_cmp nat_cmp) IsUidStateBelow es fs
 -- what one or the other holds
 pub record HoldsOfTwo (a b c : UidState) : Type 0 where
   pub series : (c.series ≡ a.series) ⊎ (c.series ≡ b.series)
-  pub entries : (q : Key) (v : Best) → value_at slot_cmp c.entries q ≡ Some v → (value_at slot_cmp a.entries q ≡ Some v) ⊎ (value_at slot_cmp b.entries q ≡ Some v)
+  pub entries : (q : Key) (v : Best) → value_at slot_cmp c.entries q ≡ Some v → (value_at slot_cmp a.entries q ≡ Some v) ⊎
+      (value_at slot_cmp b.entries q ≡ Some v)
 
 -- above both, and with nothing but what one or the other holds
 pub record IsJoined (a b c : UidState) : Type 0 where

@@ -30,7 +30,8 @@ CanDie (Answer uid None attendee) = Unit {0}
 CanDie (Answer uid (Some id) attendee) = ⊥
 CanDie (Refresh uid id attendee) = ⊥
 
--- An instance item, a range item or an answer to the series is dead where its effective sequence is below that of the best series item of its UID. Equal is not dead.
+-- An instance item, a range item or an answer to the series is dead where its effective sequence is below that of the
+-- best series item of its UID. Equal is not dead.
 pub record IsDead (heard : List Item) (item : Item) : Type 0 where
   pub can_die : CanDie item.key
   pub series : Item
@@ -89,7 +90,8 @@ pub record IsItemsOf (items set : List Item) : Type 0 where
 abbrev pub HasEachOnce : List Item → Type 0
 HasEachOnce = AllPairs (λ (a b : Item). a ≢ b)
 
--- Items in the order of their keys: by UID, then the series item, instances and then ranges by recurrence id, answers, and refreshes, these by instance and attendee.
+-- Items in the order of their keys: by UID, then the series item, instances and then ranges by recurrence id, answers,
+-- and refreshes, these by instance and attendee.
 abbrev pub AscendKeys : List Item → Type 0
 AscendKeys = AllPairs (λ (a b : Item). key_cmp a.key b.key ≡ Less)
 

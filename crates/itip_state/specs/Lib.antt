@@ -4,8 +4,8 @@ pub mod Slots
 pub mod OfUid
 pub mod Parts
 pub mod Held
-pub mod Seen
-pub mod Dying
+pub mod UidStates
+pub mod DyingLaws
 pub mod Joined
 pub mod Told
 pub mod Changes

@@ -18,7 +18,9 @@ pub record HasParts (key : Key) (parts : KeyParts) : Type 0 where
 
 -- a key beside the parts of another, by instance and attendee
 abbrev pub within_beside : Key → KeyParts → Ordering
-within_beside key parts = ordering_then (option_cmp moment_cmp (instance_of key) (option_copied parts.instance)) (slice_cmp nat_cmp (attendee_of key) parts.attendee.now)
+within_beside key parts =
+    ordering_then (option_cmp moment_cmp (instance_of key) (option_copied parts.instance))
+    (slice_cmp nat_cmp (attendee_of key) parts.attendee.now)
 
 -- the same by kind of key, and then by these
 abbrev pub rest_beside : Key → KeyParts → Ordering

@@ -1,4 +1,5 @@
--- The order in which a state holds its items: by UID, then by the rest of the key, the series item first (our own rule). Of items that are held under one UID, the rest is compared first.
+-- The order in which a state holds its items: by UID, then by the rest of the key, the series item first (our own
+-- rule). Of items that are held under one UID, the rest is compared first.
 use Rattle.std.specs.Prelude.{◌≡◌}
 use Rattle.std.proofs.Common.{refl}
 use Rattle.std.specs.declared.cmp.Ordering.{Ordering}
@@ -52,7 +53,8 @@ from_rest : (a b : Key) → slice_cmp nat_cmp (uid_of a) (uid_of b) ≡ Equal �
 from_rest a b uid rest =
     let first = then_equal (nat_cmp (rank_of a) (rank_of b)) _ rest in
     let second = then_equal (option_cmp moment_cmp (instance_of a) (instance_of b)) _ first.1 in
-    from_parts a b (exact_bytes _ _ uid) (exact_unsigned _ _ first.0) (exact_option moment_cmp moment_equal _ _ second.0) (exact_bytes _ _ second.1)
+    from_parts a b (exact_bytes _ _ uid) (exact_unsigned _ _ first.0) (exact_option moment_cmp moment_equal _ _ second.0)
+    (exact_bytes _ _ second.1)
 
 pub key_exact : CmpEqualImpliesEq key_cmp
 key_exact a b e = let both = then_equal (slice_cmp nat_cmp (uid_of a) (uid_of b)) (rest_cmp a b) e in from_rest a b both.0 both.1

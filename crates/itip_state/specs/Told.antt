@@ -1,4 +1,5 @@
--- What adds nothing (our own form): an item no later than one of its key in the set, and an item that is dead beside the set. All else is news.
+-- What adds nothing (our own form): an item no later than one of its key in the set, and an item that is dead beside
+-- the set. All else is news.
 use Rattle.std.specs.Prelude.{◌≡◌, List, Some, ◌⊎◌, true, false}
 use Rattle.std.specs.List.{Contains}
 use Rattle.itip_items.specs.Later.{IsLater}
@@ -29,5 +30,6 @@ pub record AreNews (set items news : List Item) : Type 0 where
 -- something is held at the key of the item, and it is no earlier than the item; `uid_state` is what is held of its UID
 pub record HoldsNoEarlier (uid_state : UidState) (item : Item) : Type 0 where
   pub held : Best
-  pub place : ((is_series item.key ≡ true) × (uid_state.series ≡ Known held)) ⊎ ((is_series item.key ≡ false) × (value_at slot_cmp uid_state.entries item.key ≡ Some held))
+  pub place : ((is_series item.key ≡ true) × (uid_state.series ≡ Known held)) ⊎
+      ((is_series item.key ≡ false) × (value_at slot_cmp uid_state.entries item.key ≡ Some held))
   pub not_later : ¬ IsLater item held.value

@@ -12,7 +12,8 @@ use Rattle.itip_join.specs.declared.under_guard.UnderGuard as under
 use Rattle.itip_state.specs.Held.{Best, UidState}
 
 -- a series item, or none, and the entries under it
-abbrev pub uid_state : {o : ord.Ghosts Key} {e : eq.Ghosts Key} {p : partial.Ghosts Key} {g : join.Ghosts (Lift Best)} {u : under.Ghosts (Keyed Key Best o e p) (Lift Best)}
+abbrev pub uid_state : {o : ord.Ghosts Key} {e : eq.Ghosts Key} {p : partial.Ghosts Key} {g : join.Ghosts (Lift Best)}
+    {u : under.Ghosts (Keyed Key Best o e p) (Lift Best)}
     {j : join.Ghosts (Keyed Key Best o e p)} → Guarded (Lift Best) (Keyed Key Best o e p) g u j → UidState
 uid_state held = record { series = held.guard; entries = held.entries.map }
 

@@ -11,17 +11,20 @@ use Rattle.itip_state.specs.declared.hear.Before.{Before}
 use Rattle.itip_state.specs.declared.hear.Before.TheVariants.{Absent, Whole, Entry}
 use Rattle.itip_state.specs.declared.hear.Hearing.{Hearing}
 
--- The note is right, where `old` is held of the UID before the item is heard: of a series item all that was held, of any other what was held at its key.
+-- The note is right, where `old` is held of the UID before the item is heard: of a series item all that was held, of
+-- any other what was held at its key.
 abbrev pub IsNoted : Before → Item → Option UidState → Type 0
 IsNoted Absent item old = old ≡ None
 IsNoted (Whole was) item old = (old ≡ Some (uid_state was)) × (is_series item.key ≡ true)
-IsNoted (Entry place held) item old = (w : UidState) × (old ≡ Some w) × IsBackAt item.key held w w × (is_series item.key ≡ false) × (place.now ≡ item.key)
+IsNoted (Entry place held) item old = (w : UidState) × (old ≡ Some w) × IsBackAt item.key held w w × (is_series item.key ≡ false) ×
+    (place.now ≡ item.key)
 
 -- what was noted leads from what is held of a UID now back to what was held; where something was held, something is held now, too
 abbrev pub LeadsBack : Before → Item → Option UidState → Option UidState → Type 0
 LeadsBack Absent item now old = old ≡ None
 LeadsBack (Whole was) item now old = (is_some now ≡ true) × (old ≡ Some (uid_state was))
-LeadsBack (Entry place held) item now old = (v : UidState) × (w : UidState) × (now ≡ Some v) × (old ≡ Some w) × IsBackAt item.key held v w × (place.now ≡ item.key)
+LeadsBack (Entry place held) item now old = (v : UidState) × (w : UidState) × (now ≡ Some v) × (old ≡ Some w) ×
+    IsBackAt item.key held v w × (place.now ≡ item.key)
 
 -- taking a change back leads from `now` to `before`, at the UID of its item; all other UIDs have the same in both
 pub record IsUndone (change : Hearing) (now before : List (List ℕ × UidState)) : Type 0 where

@@ -10,8 +10,8 @@ ghost use Rattle.itip_state.specs.Undone.{IsNoted, IsUndone, AreUndone, NotesAll
 
 use crate::NoMemory;
 use crate::held::Held;
+use crate::held_of_uid::{HeldOfUid, of_item, of_nothing, put_back};
 use crate::revision::Best;
-use crate::series::{SeriesState, of_item, of_nothing, put_back};
 use crate::shared::SharedItem;
 use crate::slot::Slot;
 use itip_join::Join;
@@ -24,7 +24,7 @@ enum Before<'a> {
     /// Nothing was held of the UID.
     Absent,
     /// All this. The item is a series item, which may make others dead.
-    Whole(SeriesState),
+    Whole(HeldOfUid),
     /// At the place of the item this, or nothing, and at least one item of the UID. The item is no series item, so that all else stays.
     Entry(&'a Slot, Option<Best>),
 }
@@ -39,7 +39,8 @@ struct Hearing<'a> {
 /// Joins in what is kept of one item, in place. A refusal (out of memory) changes nothing.
 pub(crate) fn hear(held: &mut Held, alloc: Global, item: &SharedItem) -> Result<(), NoMemory>
     ensures kept { OnOk result ((heard : List Item) → HoldKept heard held.old → HoldKept (heard ++ item.now ∷ []) held.new) }
-    ensures joined { OnOk result (IsJoinedAt (at held.old (uid_of item.now.key)) (Some (alone item.now)) (at held.new (uid_of item.now.key))) }
+    ensures joined { OnOk result (IsJoinedAt (at held.old (uid_of item.now.key)) (Some (alone item.now))
+        (at held.new (uid_of item.now.key))) }
     ensures others { (q : List ℕ) → is_eq (slice_cmp nat_cmp (uid_of item.now.key) q) ≡ false → at held.new q ≡ at held.old q }
     ensures err { OnErr result (held.new ≡ held.old) }
 {
@@ -47,13 +48,15 @@ pub(crate) fn hear(held: &mut Held, alloc: Global, item: &SharedItem) -> Result<
     held.join_one(item.uid(), &one)
 }
 
-/// Joins in what is kept of these items, in place. Where memory is refused, what was changed is changed back. A single item needs no note: its hearing is all or nothing.
+/// Joins in what is kept of these items, in place. Where memory is refused, what was changed is changed back. A single
+/// item needs no note: its hearing is all or nothing.
 pub(crate) fn hear_all(
     held: &mut Held,
     alloc: Global,
     items: &[&SharedItem],
 ) -> Result<(), NoMemory>
-    ensures ok { OnOk result ((heard : List Item) → HoldKept heard held.old → HoldKept (heard ++ map (λ item. item.now) items.now) held.new) }
+    ensures ok { OnOk result ((heard : List Item)
+        → HoldKept heard held.old → HoldKept (heard ++ map (λ item. item.now) items.now) held.new) }
     ensures err { OnErr result (held.new ≡ held.old) }
 {
     if let [item] = items {
@@ -77,7 +80,8 @@ fn hear_noted<'a>(
     changes: &mut Vec<Hearing<'a>>,
 ) -> Result<(), NoMemory>
     ensures kept { OnOk result ((heard : List Item) → HoldKept heard held.old → HoldKept (heard ++ item.now ∷ []) held.new) }
-    ensures noted { (start : List (List ℕ × UidState)) → AreUndone changes.old.items held.old start → AreUndone changes.new.items held.new start }
+    ensures noted { (start : List (List ℕ × UidState))
+        → AreUndone changes.old.items held.old start → AreUndone changes.new.items held.new start }
 {
     if notes_all(changes, item.uid()) {
         return hear(held, alloc, item);
@@ -87,8 +91,8 @@ fn hear_noted<'a>(
     hear(held, alloc, item)
 }
 
-/// Whether the last change noted all that was held of a UID: then it takes back later hearings of this UID too. So a batch copies what is held of a UID at most
-/// once for each run of items of the UID, however long the run is.
+/// Whether the last change noted all that was held of a UID: then it takes back later hearings of this UID too. So a
+/// batch copies what is held of a UID at most once for each run of items of the UID, however long the run is.
 fn notes_all(changes: &[Hearing<'_>], about: &Uid) -> bool
     ensures { IsTrue result ↔ NotesAll changes.now about.now }
 {

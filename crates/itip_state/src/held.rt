@@ -1,5 +1,6 @@
 //! What a state holds of each UID.
-ghost use Rattle.std.specs.Prelude.{◌≡◌, ℕ, List, [], Some, None, false, cond, length, min, map, option_map, IsTrue, IfOk, OnOk, OnErr, IsOk, ◌↔◌};
+ghost use Rattle.std.specs.Prelude.{◌≡◌, ℕ, List, [], Some, None, false, cond, length, min, map, option_map, IsTrue, IfOk, OnOk, OnErr};
+ghost use Rattle.std.specs.Prelude.{IsOk, ◌↔◌};
 ghost use Rattle.std.specs.Map.{keys_of};
 ghost use Rattle.std.specs.Option.{option_copied};
 ghost use Rattle.std.specs.Ordering.{nat_cmp, is_eq};
@@ -10,7 +11,7 @@ ghost use Rattle.itip_state.specs.UidStates.{uid_state};
 ghost use Rattle.itip_state.specs.Joined.{IsJoinedAt, AreBelow};
 
 use crate::NoMemory;
-use crate::series::{SeriesState, share};
+use crate::held_of_uid::{HeldOfUid, share};
 use crate::shared::SharedItem;
 use itip_items::Item;
 use itip_join::{Join, Keyed, Lift};
@@ -21,7 +22,7 @@ use std::marker::Model;
 /// A map by UID. It is seen as what it holds of each UID: the series item, and the other items by their keys.
 #[derive(Debug, Drop)]
 pub(crate) struct Held {
-    map: Keyed<Uid, SeriesState>,
+    map: Keyed<Uid, HeldOfUid>,
 }
 
 impl Model for Held {
@@ -51,7 +52,7 @@ impl Held {
     }
 
     /// What is held of a UID.
-    pub(crate) fn get(&self, uid: &Uid) -> Option<&SeriesState>
+    pub(crate) fn get(&self, uid: &Uid) -> Option<&HeldOfUid>
         ensures found { option_map uid_state (option_copied result) ≡ at self.now uid.now }
         ensures ordered { AreOrdered self.now }
     {
@@ -59,7 +60,7 @@ impl Held {
     }
 
     /// Joins `one` in at a UID, in place. A refusal (out of memory) changes nothing.
-    pub(crate) fn join_one(&mut self, uid: &Uid, one: &SeriesState) -> Result<(), NoMemory>
+    pub(crate) fn join_one(&mut self, uid: &Uid, one: &HeldOfUid) -> Result<(), NoMemory>
         ensures joined { OnOk result (IsJoinedAt (at self.old uid.now) (Some (uid_state one.now)) (at self.new uid.now)) }
         ensures others { (q : List ℕ) → is_eq (slice_cmp nat_cmp uid.now q) ≡ false → at self.new q ≡ at self.old q }
         ensures ordered { AreOrdered self.new }
@@ -69,8 +70,9 @@ impl Held {
     }
 
     /// Puts in a copy of what another map holds of a UID. A refusal (out of memory) changes nothing.
-    pub(crate) fn put(&mut self, uid: &Uid, series: &SeriesState) -> Result<(), NoMemory>
-        ensures put { OnOk result ((q : List ℕ) → at self.new q ≡ cond (is_eq (slice_cmp nat_cmp uid.now q)) (Some (uid_state series.now)) (at self.old q)) }
+    pub(crate) fn put(&mut self, uid: &Uid, series: &HeldOfUid) -> Result<(), NoMemory>
+        ensures put { OnOk result ((q : List ℕ)
+            → at self.new q ≡ cond (is_eq (slice_cmp nat_cmp uid.now q)) (Some (uid_state series.now)) (at self.old q)) }
         ensures ordered { OnOk result (AreOrdered self.new) }
     {
         let copy = series.copy()?;
@@ -86,10 +88,11 @@ impl Held {
         self.map.remove(uid);
     }
 
-    /// Puts `series` in the place of what is held of a UID, and gives that. Where nothing is held of it, nothing changes. It takes no memory.
-    pub(crate) fn replace(&mut self, uid: &Uid, series: SeriesState) -> Option<SeriesState>
+    /// Replaces what is held of a UID by `series`; returns the old one. Where nothing is held of it, nothing changes. It takes no memory.
+    pub(crate) fn replace(&mut self, uid: &Uid, series: HeldOfUid) -> Option<HeldOfUid>
         ensures before { option_map uid_state result ≡ at self.old uid.now }
-        ensures with { (q : List ℕ) → at self.new q ≡ cond (is_eq (slice_cmp nat_cmp uid.now q)) (replaced (at self.old uid.now) (uid_state series)) (at self.old q) }
+        ensures with { (q : List ℕ) → at self.new q
+            ≡ cond (is_eq (slice_cmp nat_cmp uid.now q)) (replaced (at self.old uid.now) (uid_state series)) (at self.old q) }
         ensures ordered { AreOrdered self.new }
     {
         self.map.replace(uid, series)

@@ -6,13 +6,13 @@
 
 mod hear;
 mod held;
+mod held_of_uid;
 mod laws;
 mod of_uid;
 mod organizers;
 mod parts;
 mod plain;
 mod revision;
-mod series;
 mod shared;
 mod slot;
 mod state;

@@ -13,8 +13,8 @@ use itip_moment::Moment;
 use itip_todo::Uid;
 use std::marker::Model;
 
-/// The kept items of one UID in the order of their keys: the series item, then instances and then ranges, each by recurrence id, then answers and then
-/// refresh requests, each by instance and attendee.
+/// The kept items of one UID in the order of their keys: the series item, then instances and then ranges, each by
+/// recurrence id, then answers and then refresh requests, each by instance and attendee.
 #[derive(Debug, Drop)]
 pub struct ItemsOfUid<'a> {
     uid: &'a Uid,
@@ -97,8 +97,8 @@ impl<'a> ItemsOfUid<'a> {
         self.found(&KeyParts::of_instance(self.uid, at))
     }
 
-    /// The answer of an attendee, by its key (`itip_todo::attendee_key`), to the instance of a moment, or to the to-do as a whole; `None` where none is kept. It
-    /// takes no memory.
+    /// The answer of an attendee, by its key (`itip_todo::attendee_key`), to the instance of a moment, or to the to-do
+    /// as a whole; `None` where none is kept. It takes no memory.
     pub fn answer(&self, at: Option<&Moment>, attendee: &str) -> Option<&'a Item>
         ensures { IsBestOf self.now.items (key.Answer self.now.uid (option_copied at.entry) attendee.now) (option_copied result) }
     {

@@ -4,7 +4,7 @@ ghost use Rattle.itip_state.specs.Held.{uid_state_items};
 ghost use Rattle.itip_state.specs.UidStates.{uid_state};
 ghost use Rattle.itip_state.specs.Organizers.{used_by, greater, greatest};
 
-use crate::series::SeriesState;
+use crate::held_of_uid::HeldOfUid;
 use itip_items::{Item, Kind};
 use itip_join::Lift;
 
@@ -30,7 +30,7 @@ fn greater(last: Option<u32>, used: Option<u32>) -> Option<u32>
 }
 
 /// The greatest effective sequence of the items of one UID that its organizer has sent.
-pub(crate) fn greatest(series: &SeriesState) -> Option<u32>
+pub(crate) fn greatest(series: &HeldOfUid) -> Option<u32>
     ensures { result ≡ greatest None (uid_state_items (uid_state series.now)) }
 {
     let mut last = match &series.guard {

@@ -6,7 +6,7 @@ ghost use Rattle.itip_state.specs.Kept.{AreKept};
 ghost use Rattle.itip_state.specs.Plain.{outdates as item_outdates, kills as item_kills, keeps};
 
 use crate::NoMemory;
-use crate::series::is_below;
+use crate::held_of_uid::is_below;
 use crate::slot::compare;
 use itip_items::{Item, Key};
 use std::alloc::Global;

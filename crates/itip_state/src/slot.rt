@@ -12,7 +12,8 @@ use std::cmp::Ordering;
 use std::marker::Model;
 use std::sync::Arc;
 
-/// The key of an item among those of its UID: by kind of key, instance and attendee, and only then by UID, which is the same. It is shared, as a revision is.
+/// The key of an item among those of its UID: by kind of key, instance and attendee, and only then by UID, which is the
+/// same. It is shared, as a revision is.
 #[derive(Debug, Drop)]
 pub(crate) struct Slot {
     shared: Arc<Key>,

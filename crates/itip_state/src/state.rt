@@ -12,10 +12,10 @@ ghost use Rattle.itip_state.specs.Told.{IsOutdone, HoldsNoEarlier};
 use crate::NoMemory;
 use crate::hear::{hear, hear_all};
 use crate::held::Held;
+use crate::held_of_uid::{HeldOfUid, is_dead_below, share};
 use crate::of_uid::ItemsOfUid;
 use crate::organizers::greatest;
 use crate::revision::Best;
-use crate::series::{SeriesState, is_dead_below, share};
 use crate::shared::{SharedItem, by_octets};
 use itip_items::Item;
 use itip_join::Lift;
@@ -31,7 +31,7 @@ fn is_no_later(item: &Item, best: &Best) -> bool
 }
 
 /// Whether what is held of the UID of `item` at its key is no earlier than it.
-fn holds_no_earlier(series: &SeriesState, item: &SharedItem) -> bool
+fn holds_no_earlier(series: &HeldOfUid, item: &SharedItem) -> bool
     ensures { IsTrue result ↔ HoldsNoEarlier (uid_state series.now) item.now }
 {
     match item.slot() {
@@ -57,7 +57,7 @@ fn outdoes(held: &Held, item: &SharedItem) -> bool
 }
 
 /// Shows the items of one UID, the series item first.
-fn show<'a>(series: &'a SeriesState, items: &mut Vec<&'a Item>) -> Result<(), NoMemory>
+fn show<'a>(series: &'a HeldOfUid, items: &mut Vec<&'a Item>) -> Result<(), NoMemory>
     ensures { OnOk result (map (λ item. item.now) items.new.items
         ≡ map (λ item. item.now) items.old.items ++ uid_state_items (uid_state series.now)) }
 {
@@ -158,8 +158,8 @@ impl State {
         self.held.join(&other.held)
     }
 
-    /// The kept items of these UIDs, each shared with this state. Each UID is looked up, and what is kept of it shared, as often as it is named; no other is
-    /// looked at.
+    /// The kept items of these UIDs, each shared with this state. Each UID is looked up, and what is kept of it shared,
+    /// as often as it is named; no other is looked at.
     pub fn part(&self, uids: &[&Uid]) -> Result<State, NoMemory>
         ensures { IfOk result (λ part. ArePartOf part self.now (map (λ uid. uid.now) uids.now)) }
     {
@@ -176,7 +176,8 @@ impl State {
         })
     }
 
-    /// The kept items of these UIDs, shared with this state, in no order, and perhaps more than once. Each UID is looked up; no other is looked at.
+    /// The kept items of these UIDs, shared with this state, in no particular order, and perhaps more than once. Each
+    /// UID is looked up; no other is looked at.
     pub fn shared_of(&self, uids: &[&Uid]) -> Result<Vec<SharedItem>, NoMemory>
         ensures { IfOk result (λ items. ArePartOf items.items self.now (map (λ uid. uid.now) uids.now)) }
     {
@@ -246,7 +247,8 @@ impl State {
         Ok(ItemsOfUid::new(uid, items))
     }
 
-    /// The greatest effective sequence of the kept items that the organizer of a UID has sent, or `None` where there is none. It takes no memory.
+    /// The greatest effective sequence of the kept items that the organizer of a UID has sent, or `None` where there is
+    /// none. It takes no memory.
     pub fn last_used(&self, uid: &Uid) -> Option<u32>
         ensures { IsLastUsed self.now uid.now result }
     {
@@ -271,7 +273,8 @@ impl State {
         self.held.count()
     }
 
-    /// What is true of every state: it keeps each of its items, and has each once. The call does nothing; a prover who makes it learns this.
+    /// What is true of every state: it keeps each of its items, and has each once. The call does nothing; a prover who
+    /// makes it learns this.
     pub fn lawful(&self)
         ensures state { IsState self.now }
         ensures once { HasEachOnce self.now }

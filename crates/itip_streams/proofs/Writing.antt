@@ -3,12 +3,15 @@ use Rattle.std.proofs.Common.{ℕ, ◌-◌, List, ◌++◌, length, take, drop, 
 use Rattle.std.proofs.lemmas.List.{take_rest}
 use Rattle.std.proofs.KnownBytes.{Appends-trans}
 use Rattle.std.specs.Io.KnownBytes.{Appends}
-use Rattle.itip_streams.specs.Written.{AppendsRest}
+use Rattle.itip_streams.specs.Written.{MovesOut}
 
 -- one write more
-pub wrote_more : (old mid new : Option (List ℕ)) (output rest : List ℕ) (n : ℕ) → AppendsRest old mid output rest → Appends mid new (take n rest) → AppendsRest old new output (take (length rest - n) (drop n rest))
+pub wrote_more : (old mid new : Option (List ℕ)) (output rest : List ℕ) (n : ℕ) → MovesOut old mid output rest →
+    Appends mid new (take n rest) → MovesOut old new output (take (length rest - n) (drop n rest))
 wrote_more old mid new output rest n so_far written = record {
   front = so_far.front ++ take n rest;
-  whole = so_far.whole ∙ ap (λ (t : List ℕ). so_far.front ++ t) (sym (take-append-drop n rest)) ∙ sym (append_assoc so_far.front (take n rest) (drop n rest)) ∙ ap (λ (t : List ℕ). (so_far.front ++ take n rest) ++ t) (sym (take_rest rest n));
+  whole = so_far.whole ∙ ap (λ (t : List ℕ). so_far.front ++ t) (sym (take-append-drop n rest)) ∙
+      sym (append_assoc so_far.front (take n rest) (drop n rest)) ∙
+      ap (λ (t : List ℕ). (so_far.front ++ take n rest) ++ t) (sym (take_rest rest n));
   appended = Appends-trans old mid new so_far.front (take n rest) so_far.appended written;
 }

@@ -9,13 +9,7 @@ pub record AppendsFront (old new : Option (List ℕ)) (output : List ℕ) : Type
   pub whole : output ≡ front ++ rest
   pub appended : Appends old new front
 
--- Known bytes grow by what is written of an output, of which a rest is left.
-pub record AppendsRest (old new : Option (List ℕ)) (output rest : List ℕ) : Type 0 where
-  pub front : List ℕ
-  pub whole : output ≡ front ++ rest
-  pub appended : Appends old new front
-
--- A front of what was kept was written, and the rest is kept.
+-- Known bytes grow by what is written of octets, of which a rest is left.
 pub record MovesOut (old new : Option (List ℕ)) (kept rest : List ℕ) : Type 0 where
   pub front : List ℕ
   pub whole : kept ≡ front ++ rest

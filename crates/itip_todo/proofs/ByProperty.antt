@@ -1,5 +1,6 @@
 -- Which of the lines that a to-do is written as are of each property.
-use Rattle.std.proofs.Common.{◌≡◌, ◌∙◌, ap, refl, sym, subst, ℕ, ◌==◌, ◌<◌, Bool, true, false, cond, ◌&&◌, ◌||◌, List, [], ◌∷◌, ◌++◌, append-nil, arith, map, Option, Some, None}
+use Rattle.std.proofs.Common.{◌≡◌, ◌∙◌, ap, refl, sym, subst, ℕ, ◌==◌, ◌<◌, Bool, true, false, cond, ◌&&◌, ◌||◌, List, [], ◌∷◌, ◌++◌}
+use Rattle.std.proofs.Common.{append-nil, arith, map, Option, Some, None}
 use Rattle.std.specs.Prelude.{IsTrue}
 use Rattle.std.specs.List.{AllByRecursion, filter, list_any, list_all}
 use Rattle.std.proofs.lemmas.List.Elements.{filter-append}
@@ -17,7 +18,10 @@ use Rattle.itip_todo.specs.declared.property_name.PropertyName.{PropertyName}
 use Rattle.itip_todo.specs.declared.property_name.PropertyName.TheVariants as name
 use Rattle.itip_todo.proofs.Commas.{IsHigh, moment_high}
 use Rattle.itip_todo.proofs.Names.{same_is}
-use Rattle.itip_todo.proofs.Segments.{base_lines, rid_lines, start_lines, due_lines, status_lines, percent_lines, priority_lines, summary_lines, organizer_lines, attendee_lines, rule_lines, rdate_lines, exdate_lines, other_lines, other_on, exdate_on, rdate_on, rule_on, attendee_on, organizer_on, summary_on, priority_on, percent_on, status_on, due_on, start_on, rid_on, base_on}
+use Rattle.itip_todo.proofs.Segments.{base_lines, rid_lines, start_lines, due_lines, status_lines, percent_lines, priority_lines}
+use Rattle.itip_todo.proofs.Segments.{summary_lines, organizer_lines, attendee_lines, rule_lines, rdate_lines, exdate_lines, other_lines}
+use Rattle.itip_todo.proofs.Segments.{other_on, exdate_on, rdate_on, rule_on, attendee_on, organizer_on, summary_on, priority_on}
+use Rattle.itip_todo.proofs.Segments.{percent_on, status_on, due_on, start_on, rid_on, base_on}
 
 -- the property that a line with this content is read as
 abbrev pub property_in : Content → PropertyName
@@ -50,7 +54,8 @@ pub named_contents : (lines : List Line) (p : PropertyName) → map content_of (
 unfolding property_of
 named_contents [] p = refl
 named_contents (l ∷ lines) p =
-    elim (is_same (property_of l) p) as (λ b. map content_of (cond b (l ∷ lines_of lines p) (lines_of lines p)) ≡ cond b (content_of l ∷ contents_named (map content_of lines) p) (contents_named (map content_of lines) p)) [
+    elim (is_same (property_of l) p) as (λ b. map content_of (cond b (l ∷ lines_of lines p) (lines_of lines p)) ≡ cond b (content_of l ∷
+    contents_named (map content_of lines) p) (contents_named (map content_of lines) p)) [
       | true ↦ ap (λ (cs : List Content). content_of l ∷ cs) (named_contents lines p)
       | false ↦ named_contents lines p
     ]
@@ -73,11 +78,14 @@ none_of false = refl
 of_one : (q p : PropertyName) (cs : List Content) → AreOf q cs → contents_named cs p ≡ cond (is_same q p) cs []
 of_one q p [] h = none_of (is_same q p)
 of_one q p (c ∷ cs) h =
-    subst (λ (r : PropertyName). cond (is_same r p) (c ∷ contents_named cs p) (contents_named cs p) ≡ cond (is_same q p) (c ∷ cs) []) (sym h.0)
+    subst (λ (r : PropertyName). cond (is_same r p) (c ∷ contents_named cs p) (contents_named cs p) ≡ cond (is_same q p) (c ∷ cs) [])
+    (sym h.0)
     (one_more (is_same q p) c cs (contents_named cs p) (of_one q p cs h.1))
 
-step : (q p : PropertyName) (cs rest : List Content) → AreOf q cs → contents_named (cs ++ rest) p ≡ cond (is_same q p) cs [] ++ contents_named rest p
-step q p cs rest h = filter-append (λ c. is_same (property_in c) p) cs rest ∙ ap (λ (xs : List Content). xs ++ contents_named rest p) (of_one q p cs h)
+step : (q p : PropertyName) (cs rest : List Content) → AreOf q cs → contents_named (cs ++ rest) p ≡ cond (is_same q p) cs [] ++
+    contents_named rest p
+step q p cs rest h = filter-append (λ c. is_same (property_in c) p) cs rest ∙
+    ap (λ (xs : List Content). xs ++ contents_named rest p) (of_one q p cs h)
 
 -- the property of each line
 
@@ -89,7 +97,8 @@ no_slash (c ∷ text) h = elim (c == 47) as (λ b. (c == 47) ≡ b → (b || lis
 ] refl
 
 pub rdate_property : (m : Moment) → property_in (moment_line name.RDate m) ≡ name.RDate
-rdate_property m = ap (λ (b : Bool). cond (true && b) name.Others name.RDate) (no_slash (moment_text m) (moment_high (moment_text m) (moment_tzid m) m (moment_text-MomentText m)))
+rdate_property m = ap (λ (b : Bool). cond (true && b) name.Others name.RDate)
+    (no_slash (moment_text m) (moment_high (moment_text m) (moment_tzid m) m (moment_text-MomentText m)))
 
 map_of : {A : Type 0} (q : PropertyName) (f : A → Content) (xs : List A) → ((x : A) → property_in (f x) ≡ q) → AreOf q (map f xs)
 map_of q f [] h = tt
@@ -129,7 +138,8 @@ abbrev part_of : PropertyName → PropertyName → List Content → List Content
 part_of q p cs = cond (is_same q p) cs []
 
 -- the lines of a property, one written part after another
-parts_of_property : (parts : Parts) → IsTrue (list_all is_other parts.others) → (p : PropertyName) → contents_named (parts_contents parts) p ≡
+parts_of_property : (parts : Parts) → IsTrue (list_all is_other parts.others) → (p : PropertyName) →
+    contents_named (parts_contents parts) p ≡
     contents_named (head_contents parts) p
     ++ (part_of name.DeskBase p (base_lines parts)
     ++ (part_of name.RecurrenceId p (rid_lines parts)
@@ -146,7 +156,8 @@ parts_of_property : (parts : Parts) → IsTrue (list_all is_other parts.others) 
     ++ (part_of name.ExDate p (exdate_lines parts)
     ++ part_of name.Others p (other_lines parts))))))))))))))
 parts_of_property parts others p =
-    filter-append (λ c. is_same (property_in c) p) (head_contents parts) (base_on parts) ∙ ap (λ (xs : List Content). contents_named (head_contents parts) p ++ xs)
+    filter-append (λ c. is_same (property_in c) p) (head_contents parts) (base_on parts) ∙
+    ap (λ (xs : List Content). contents_named (head_contents parts) p ++ xs)
     (then_rest name.DeskBase (base_lines parts) (rid_on parts) (optional_of name.DeskBase _ parts.base (λ n. refl))
     (then_rest name.RecurrenceId (rid_lines parts) (start_on parts) (optional_of name.RecurrenceId _ parts.rid (λ m. refl))
     (then_rest name.DtStart (start_lines parts) (due_on parts) (optional_of name.DtStart _ parts.start (λ m. refl))
@@ -162,10 +173,12 @@ parts_of_property parts others p =
     (then_rest name.ExDate (exdate_lines parts) (other_on parts) (map_of name.ExDate _ parts.exdates (λ m. refl))
     (of_one name.Others p (other_lines parts) (others_of parts.others others)))))))))))))))
   where
-    then_rest : (q : PropertyName) (cs rest : List Content) {left : List Content} → AreOf q cs → contents_named rest p ≡ left → contents_named (cs ++ rest) p ≡ part_of q p cs ++ left
+    then_rest : (q : PropertyName) (cs rest : List Content) {left : List Content} → AreOf q cs → contents_named rest p ≡ left →
+        contents_named (cs ++ rest) p ≡ part_of q p cs ++ left
     then_rest q cs rest h e = step q p cs rest h ∙ ap (λ (xs : List Content). part_of q p cs ++ xs) e
 
-pub named : (parts : Parts) → IsTrue (list_all is_other parts.others) → (p : PropertyName) → contents_named (parts_contents parts) p ≡ segment parts p
+pub named : (parts : Parts) → IsTrue (list_all is_other parts.others) → (p : PropertyName) →
+    contents_named (parts_contents parts) p ≡ segment parts p
 named parts others name.Uid = parts_of_property parts others name.Uid
 named parts others name.DtStamp = parts_of_property parts others name.DtStamp
 named parts others name.Sequence = parts_of_property parts others name.Sequence
@@ -185,5 +198,6 @@ named parts others name.ExDate = parts_of_property parts others name.ExDate ∙ 
 named parts others name.Others = parts_of_property parts others name.Others
 
 -- the lines of a property among lines with the contents that a to-do is written as
-pub lines_named : (lines : List Line) (parts : Parts) → IsTrue (list_all is_other parts.others) → map content_of lines ≡ parts_contents parts → (p : PropertyName) → map content_of (lines_of lines p) ≡ segment parts p
+pub lines_named : (lines : List Line) (parts : Parts) → IsTrue (list_all is_other parts.others) →
+    map content_of lines ≡ parts_contents parts → (p : PropertyName) → map content_of (lines_of lines p) ≡ segment parts p
 lines_named lines parts others e p = named_contents lines p ∙ ap (λ (cs : List Content). contents_named cs p) e ∙ named parts others p

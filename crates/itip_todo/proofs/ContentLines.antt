@@ -31,9 +31,12 @@ length_from (c ∷ cs) h = ap suc (length_from cs h.1)
 octets_from : (cs : List Content) (h : AllByRecursion IsLawfulContent cs) → all_written (lines_from cs h) ≡ contents_octets cs
 unfolding written unfolded_text
 octets_from [] h = refl
-octets_from (c ∷ cs) h = ap (λ (bytes : List ℕ). written (record { name = c.name; params = c.params; value = c.value; lawful = h.0 }) ++ bytes) (octets_from cs h.1)
+octets_from (c ∷ cs) h =
+    ap (λ (bytes : List ℕ). written (record { name = c.name; params = c.params; value = c.value; lawful = h.0 }) ++ bytes)
+    (octets_from cs h.1)
 
-pub reads_from : (cs : List Content) (h : AllByRecursion IsLawfulContent cs) → length cs ≤ 20000 → length (contents_octets cs) ≤ 1048576 → ReadsLines (contents_octets cs) (lines_from cs h)
+pub reads_from : (cs : List Content) (h : AllByRecursion IsLawfulContent cs) → length cs ≤ 20000 → length (contents_octets cs) ≤ 1048576 →
+    ReadsLines (contents_octets cs) (lines_from cs h)
 reads_from cs h few short =
     subst (λ (bytes : List ℕ). ReadsLines bytes (lines_from cs h)) (octets_from cs h)
     (reads_written (lines_from cs h) (omega (arith, length_from cs h)) (omega (arith, ap length (octets_from cs h))))
@@ -43,7 +46,9 @@ ascii [] h = IsAscii-nil
 ascii (b ∷ bs) h = let p = and_parts _ _ h in IsAscii-cons b bs (ltb-true b 128 p.0) (ascii bs p.1)
 
 -- a line of octets below 128 without parameters
-pub plain_lawful : (name value : List ℕ) → 0 < length name → IsTrue (list_all is_upper_name_octet name) → IsTrue (list_all is_value_octet value) → IsTrue (list_all (λ b. nat_lt b 128) value) → length (line_text name [] value) ≤ 65536 → IsLawfulContent (bare name value)
+pub plain_lawful : (name value : List ℕ) → 0 < length name → IsTrue (list_all is_upper_name_octet name) →
+    IsTrue (list_all is_value_octet value) → IsTrue (list_all (λ b. nat_lt b 128) value) → length (line_text name [] value) ≤ 65536 →
+    IsLawfulContent (bare name value)
 plain_lawful name value some upper octets low short = record {
   named = record { some = some; upper = upper };
   each_param = tt;
@@ -52,6 +57,7 @@ plain_lawful name value some upper octets low short = record {
   short = short;
 }
 
-pub followed : (cs ds : List Content) → AllByRecursion IsLawfulContent cs → AllByRecursion IsLawfulContent ds → AllByRecursion IsLawfulContent (cs ++ ds)
+pub followed : (cs ds : List Content) → AllByRecursion IsLawfulContent cs → AllByRecursion IsLawfulContent ds →
+    AllByRecursion IsLawfulContent (cs ++ ds)
 followed [] ds h k = k
 followed (c ∷ cs) ds h k = (h.0, followed cs ds h.1 k)

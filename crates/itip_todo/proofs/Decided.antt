@@ -1,5 +1,6 @@
 -- The value of a line is one that its property may have, or it is none.
-use Rattle.std.proofs.Common.{◌≡◌, ◌≢◌, ◌∙◌, sym, ap, refl, ℕ, zero, suc, ◌+◌, ◌<◌, List, [], ◌∷◌, ◌++◌, length, arith, subst, inl, inr, ◌⊎◌, Option, Some, None, length-append}
+use Rattle.std.proofs.Common.{◌≡◌, ◌≢◌, ◌∙◌, sym, ap, refl, ℕ, zero, suc, ◌+◌, ◌<◌, List, [], ◌∷◌, ◌++◌, length, arith, subst, inl, inr}
+use Rattle.std.proofs.Common.{◌⊎◌, Option, Some, None, length-append}
 use Rattle.std.specs.Prelude.{codes}
 use Rattle.std.specs.Char.{digit_value}
 use Rattle.std.specs.List.{All}
@@ -69,7 +70,10 @@ are_digits limit text =
         | inr other ↦ inr (λ n h. other h.numeral.1)
         | inl digits ↦ elim (leb_tells (digits_value 10 (without_leading_plus text)) limit) [
           | inr over ↦ inr (λ n h. omega (arith, over.1, h.value, h.small))
-          | inl small ↦ inl (digits_value 10 (without_leading_plus text), record { numeral = (omega (arith, some.1), digits); value = refl; small = small.1 })
+          | inl small ↦ inl (
+            digits_value 10 (without_leading_plus text),
+            record { numeral = (omega (arith, some.1), digits); value = refl; small = small.1 },
+          )
         ]
       ]
     ]
@@ -102,7 +106,13 @@ first_comma (c ∷ text) =
     elim (eqb_tells c 44) [
       | inl comma ↦ inl (record { front = []; rest = text; whole = ap (λ x. x ∷ text) comma.1; first = λ i less. absurd (omega arith) })
       | inr other ↦ elim (first_comma text) [
-        | inl has ↦ inl (record { front = c ∷ has.front; rest = has.rest; whole = ap (λ t. c ∷ t) has.whole; first = no_comma_cons c has.front other.1 has.first })
+        | inl has ↦ inl (record {
+          front = c ∷ has.front;
+          rest = has.rest;
+          whole = ap (λ t. c ∷ t) has.whole;
+          first =
+              no_comma_cons c has.front other.1 has.first;
+        })
         | inr none ↦ inr (no_comma_cons c text other.1 none)
       ]
     ]
@@ -120,11 +130,14 @@ decide_moments (suc fuel) params text h =
         | inr none ↦ inr (λ ms k. let one = no_comma_one params text ms no_comma k in none one.0 one.2)
       ]
       | inl comma ↦ elim (decide_moment comma.front (zone_of params)) [
-        | inr none ↦ inr (λ ms k. let parts = behind_comma params text comma.front comma.rest ms comma.whole comma.first k in none parts.0 parts.3)
-        | inl m ↦ elim (decide_moments fuel params comma.rest (omega (arith, h, ap length comma.whole, length-append comma.front (44 ∷ comma.rest)))) [
-          | inr none ↦ inr (λ ms k. let parts = behind_comma params text comma.front comma.rest ms comma.whole comma.first k in none parts.1 parts.4)
-          | inl later ↦ inl (m.0 ∷ later.0, with_first params text comma.front comma.rest m.0 later.0 comma.whole m.1 later.1)
-        ]
+        | inr none ↦ inr (λ ms k. let parts = behind_comma params text comma.front comma.rest ms comma.whole comma.first k in
+            none parts.0 parts.3)
+        | inl m ↦ elim (decide_moments fuel params comma.rest
+            (omega (arith, h, ap length comma.whole, length-append comma.front (44 ∷ comma.rest)))) [
+              | inr none ↦ inr (λ ms k. let parts = behind_comma params text comma.front comma.rest ms comma.whole comma.first k in
+                  none parts.1 parts.4)
+              | inl later ↦ inl (m.0 ∷ later.0, with_first params text comma.front comma.rest m.0 later.0 comma.whole m.1 later.1)
+            ]
       ]
     ]
 
@@ -145,12 +158,15 @@ not_empty : (text : List ℕ) → (0 < length text) ⊎ ((0 < length text) → �
 not_empty [] = inr (λ h. omega arith)
 not_empty (b ∷ text) = inl (omega arith)
 
-moment_in : (line : Line) → ((m : Moment) × IsMomentText line.params line.value m) ⊎ (((m : Moment) × IsMomentText line.params line.value m) → ⊥)
+moment_in : (line : Line) → ((m : Moment) × IsMomentText line.params line.value m) ⊎
+    (((m : Moment) × IsMomentText line.params line.value m) → ⊥)
 unfolding zone_of
 moment_in line = some_or_none (IsMomentText line.params line.value) (decide_moment line.value (zone_of line.params))
 
-moments_in : (line : Line) → ((ms : List Moment) × AreMoments line.params line.value ms) ⊎ (((ms : List Moment) × AreMoments line.params line.value ms) → ⊥)
-moments_in line = some_or_none (AreMoments line.params line.value) (decide_moments (length line.value + 1) line.params line.value (omega arith))
+moments_in : (line : Line) → ((ms : List Moment) × AreMoments line.params line.value ms) ⊎
+    (((ms : List Moment) × AreMoments line.params line.value ms) → ⊥)
+moments_in line = some_or_none (AreMoments line.params line.value)
+    (decide_moments (length line.value + 1) line.params line.value (omega arith))
 
 number_in : (limit : ℕ) (line : Line) → ((n : ℕ) × IsNumberUpTo limit line.value n) ⊎ (((n : ℕ) × IsNumberUpTo limit line.value n) → ⊥)
 number_in limit line = some_or_none (IsNumberUpTo limit line.value) (decide_number limit line.value)

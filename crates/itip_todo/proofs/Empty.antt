@@ -20,10 +20,19 @@ no_moment set e = record { listed = []; list = refl; each = λ m. ap (λ (ks : L
 
 no_attendee : (attendees : List Property) (keys : BTreeSet (List ℕ)) → attendees ≡ [] → keys.keys ≡ [] → HoldsAttendees [] attendees keys
 unfolding IsDistinct
-no_attendee attendees keys e f = record { whole = e; values = subst (λ (ps : List Property). AllByRecursion HasValue ps) (sym e) tt; few = omega arith; distinct = tt; keys = λ key. ap (λ (ks : List (List ℕ)). list_any (is_at (slice_cmp nat_cmp key)) ks) f }
+no_attendee attendees keys e f =
+    record {
+      whole = e;
+      values = subst (λ (ps : List Property). AllByRecursion HasValue ps) (sym e) tt;
+      few = omega arith;
+      distinct = tt;
+      keys = λ key. ap (λ (ks : List (List ℕ)). list_any (is_at (slice_cmp nat_cmp key)) ks) f;
+    }
 
-pub empty_draft : (attendees : Vec Property Global) (keys : BTreeSet (List ℕ)) (rule : Vec (List ℕ) Global) (rdates exdates : BTreeSet Moment) (others : Vec Line Global)
-    → attendees.items ≡ [] → keys.keys ≡ [] → rule.items ≡ [] → rdates.keys ≡ [] → exdates.keys ≡ [] → others.items ≡ [] → (p : PropertyName)
+pub empty_draft : (attendees : Vec Property Global) (keys : BTreeSet (List ℕ)) (rule : Vec (List ℕ) Global)
+    (rdates exdates : BTreeSet Moment) (others : Vec Line Global)
+    → attendees.items ≡ [] → keys.keys ≡ [] → rule.items ≡ [] → rdates.keys ≡ [] → exdates.keys ≡ [] → others.items ≡ [] →
+    (p : PropertyName)
     → Holds (record {
       uid = None;
       stamp = None;

@@ -1,5 +1,6 @@
 -- From the draft of all lines to the to-do.
-use Rattle.std.proofs.Common.{◌≡◌, ◌≢◌, Bool, true, false, ◌&&◌, ℕ, zero, suc, ◌+◌, ◌<◌, ◌≤◌, List, [], ◌∷◌, length, map, refl, sym, ap, subst, ◌∙◌, inl, inr, arith, length-append, Option, Some, None}
+use Rattle.std.proofs.Common.{◌≡◌, ◌≢◌, Bool, true, false, ◌&&◌, ℕ, zero, suc, ◌+◌, ◌<◌, ◌≤◌, List, [], ◌∷◌, length, map, refl, sym, ap}
+use Rattle.std.proofs.Common.{subst, ◌∙◌, inl, inr, arith, length-append, Option, Some, None}
 use Rattle.std.specs.BTreeSet.{BTreeSet, IsOrdered}
 use Rattle.std.specs.Fmt.{decimal}
 use Rattle.std.specs.List.{AllByRecursion, Contains, IsDistinct, list_all}
@@ -18,9 +19,12 @@ use Rattle.itip_todo.specs.Parts.{Parts}
 use Rattle.itip_todo.specs.Drafts.{IsDraftOf, IsLawfulDraft, IsSetOf, draft_parts}
 use Rattle.itip_todo.specs.Lawful.{IsLawful, IsLawfulContent, HasValue, keys_of}
 use Rattle.itip_todo.specs.Participation.{same_text}
-use Rattle.itip_todo.specs.Reading.{IsOptional, IsOrNought, IfRefused, AreGood, LacksProperty, missing, IsUidOf, IsStampOf, IsSequenceOf, IsPercentOf, IsPriorityOf, IsMomentOf, IsStatusOf, IsPropertyOf, IsOrganizerOf, AreMomentsOf, ListMoments, lines_of, first_of, first_named, range_of, whole_property, value_of, key_of}
+use Rattle.itip_todo.specs.Reading.{IsOptional, IsOrNought, IfRefused, AreGood, LacksProperty, missing, IsUidOf, IsStampOf, IsSequenceOf}
+use Rattle.itip_todo.specs.Reading.{IsPercentOf, IsPriorityOf, IsMomentOf, IsStatusOf, IsPropertyOf, IsOrganizerOf, AreMomentsOf}
+use Rattle.itip_todo.specs.Reading.{ListMoments, lines_of, first_of, first_named, range_of, whole_property, value_of, key_of}
 use Rattle.itip_todo.specs.StatusText.{status_text}
-use Rattle.itip_todo.specs.Table.{name_text, place_of, is_same, property_of, is_other, sequence_limit, percent_limit, priority_limit, attendee_limit}
+use Rattle.itip_todo.specs.Table.{name_text, place_of, is_same, property_of, is_other, sequence_limit, percent_limit, priority_limit}
+use Rattle.itip_todo.specs.Table.{attendee_limit}
 use Rattle.itip_todo.specs.Values.{IsNumberUpTo, AreMoments}
 use Rattle.itip_todo.specs.Written.{Content, content_of, plain, moment_line, rid_line, property_line, parts_contents}
 use Rattle.itip_todo.specs.declared.draft.Draft.{Draft}
@@ -35,7 +39,8 @@ use Rattle.itip_todo.proofs.Segments.{all_append, all_optional, all_map, all_par
 use Rattle.itip_todo.proofs.Sets.{same_members}
 
 -- a value that is there has a line
-found : {A : Type 0} (P : Line → A → Type 0) (o : Option Line) (v : Option A) (a : A) → IsOptional P o v → v ≡ Some a → (l : Line) × (o ≡ Some l) × P l a
+found : {A : Type 0} (P : Line → A → Type 0) (o : Option Line) (v : Option A) (a : A) → IsOptional P o v → v ≡ Some a → (l : Line) ×
+    (o ≡ Some l) × P l a
 found P None None a h e = absurd cc
 found P None (Some b) a h e = absurd h
 found P (Some l) None a h e = absurd h
@@ -51,7 +56,8 @@ small : (limit : ℕ) (text : List ℕ) (n : ℕ) → IsNumberUpTo limit text n 
 small limit text n (inl (noughts, e)) = omega (arith, e)
 small limit text n (inr digits) = digits.small
 
-at_most : (P : Line → ℕ → Type 0) (limit : ℕ) → ((l : Line) (n : ℕ) → P l n → n ≤ limit) → (o : Option Line) (v : Option ℕ) (n : ℕ) → IsOptional P o v → v ≡ Some n → n ≤ limit
+at_most : (P : Line → ℕ → Type 0) (limit : ℕ) → ((l : Line) (n : ℕ) → P l n → n ≤ limit) → (o : Option Line) (v : Option ℕ) (n : ℕ) →
+    IsOptional P o v → v ≡ Some n → n ≤ limit
 at_most P limit below o v n h e = let at = found P o v n h e in below at.0 n at.2
 
 -- the line of a property, under its name
@@ -62,16 +68,21 @@ lawful_plain : (l : Line) (p : PropertyName) → property_of l ≡ p → place_o
 lawful_plain l p e few = lawful_without_params (name_text p) l.params l.value (lawful_line l p e few)
 
 -- the moment of a property that may stand once
-one_moment : (lines : List Line) (p : PropertyName) (v : Option Moment) → place_of p < 16 → length (name_text p) ≤ 100 → IsOptional IsMomentOf (first_of (lines_of lines p)) v → (m : Moment) → v ≡ Some m → IsLawfulContent (moment_line p m)
+one_moment : (lines : List Line) (p : PropertyName) (v : Option Moment) → place_of p < 16 → length (name_text p) ≤ 100 →
+    IsOptional IsMomentOf (first_of (lines_of lines p)) v → (m : Moment) → v ≡ Some m → IsLawfulContent (moment_line p m)
 one_moment lines p v few short h m e =
     let at = found IsMomentOf (first_of (lines_of lines p)) v m h e in
-    moment_lawful (name_text p) at.0.params at.0.value at.0.value m (lawful_line at.0 p (first_named_is lines p at.0 at.1) few) short at.2 (omega arith)
+    moment_lawful (name_text p) at.0.params at.0.value at.0.value m (lawful_line at.0 p (first_named_is lines p at.0 at.1) few) short at.2
+    (omega arith)
 
 -- RECURRENCE-ID, perhaps with a range
-one_rid : (lines : List Line) (v : Option Moment) (b : Bool) → IsOptional IsMomentOf (first_named name.RecurrenceId lines) v → b ≡ range_of (first_named name.RecurrenceId lines) → (m : Moment) → v ≡ Some m → IsLawfulContent (rid_line b m)
+one_rid : (lines : List Line) (v : Option Moment) (b : Bool) → IsOptional IsMomentOf (first_named name.RecurrenceId lines) v →
+    b ≡ range_of (first_named name.RecurrenceId lines) → (m : Moment) → v ≡ Some m → IsLawfulContent (rid_line b m)
 one_rid lines v b h range m e =
     let at = found IsMomentOf (first_named name.RecurrenceId lines) v m h e in
-    rid_lawful (name_text name.RecurrenceId) at.0.params at.0.value m b (lawful_line at.0 name.RecurrenceId (first_named_is lines name.RecurrenceId at.0 at.1) (omega arith)) (omega arith) at.2 (range ∙ ap range_of at.1)
+    rid_lawful (name_text name.RecurrenceId) at.0.params at.0.value m b
+    (lawful_line at.0 name.RecurrenceId (first_named_is lines name.RecurrenceId at.0 at.1) (omega arith)) (omega arith) at.2 (range ∙
+    ap range_of at.1)
 
 -- a range is that of a moment
 ranged : (o : Option Line) (v : Option Moment) (b : Bool) → IsOptional IsMomentOf o v → b ≡ range_of o → IsTrue b → IsTrue (is_some v)
@@ -81,14 +92,17 @@ ranged (Some l) None b h e on = absurd h
 ranged (Some l) (Some m) b h e on = refl
 
 -- the property of which the whole line is kept
-one_property : (P : Line → Property → Type 0) → ((l : Line) (x : Property) → P l x → x ≡ whole_property l) → (lines : List Line) (p : PropertyName) (v : Option Property) → place_of p < 16 → IsOptional P (first_of (lines_of lines p)) v
+one_property : (P : Line → Property → Type 0) → ((l : Line) (x : Property) → P l x → x ≡ whole_property l) →
+    (lines : List Line) (p : PropertyName) (v : Option Property) → place_of p < 16 → IsOptional P (first_of (lines_of lines p)) v
     → (x : Property) → v ≡ Some x → IsLawfulContent (property_line p x)
 one_property P whole lines p v few h x e =
     let at = found P (first_of (lines_of lines p)) v x h e in
-    subst (λ (y : Property). IsLawfulContent (property_line p y)) (sym (whole at.0 x at.2)) (lawful_line at.0 p (first_named_is lines p at.0 at.1) few)
+    subst (λ (y : Property). IsLawfulContent (property_line p y)) (sym (whole at.0 x at.2))
+    (lawful_line at.0 p (first_named_is lines p at.0 at.1) few)
 
 -- moments that are listed
-text_moments : (p : PropertyName) (params : List Param) (value : List ℕ) → line.IsLawful (name_text p) params value → length (name_text p) ≤ 100 → (text : List ℕ) (ms : List Moment) → AreMoments params text ms → length text ≤ length value
+text_moments : (p : PropertyName) (params : List Param) (value : List ℕ) → line.IsLawful (name_text p) params value →
+    length (name_text p) ≤ 100 → (text : List ℕ) (ms : List Moment) → AreMoments params text ms → length text ≤ length value
     → AllByRecursion (λ m. IsLawfulContent (moment_line p m)) ms
 text_moments p params value h short text [] is within = absurd is
 text_moments p params value h short text (m ∷ []) is within = (moment_lawful (name_text p) params value text m h short is within, tt)
@@ -98,18 +112,25 @@ text_moments p params value h short text (m ∷ (n ∷ ns)) is within =
       text_moments p params value h short is.1 (n ∷ ns) is.4 (omega (arith, long)),
     )
 
-listed_moments : (p : PropertyName) → place_of p < 16 → length (name_text p) ≤ 100 → (lines : List Line) (ms : List Moment) → AllByRecursion (λ (l : Line). property_of l ≡ p) lines → ListMoments lines ms → AllByRecursion (λ m. IsLawfulContent (moment_line p m)) ms
-listed_moments p few short [] ms named is = subst (λ (xs : List Moment). AllByRecursion (λ m. IsLawfulContent (moment_line p m)) xs) (sym is) tt
+listed_moments : (p : PropertyName) → place_of p < 16 → length (name_text p) ≤ 100 → (lines : List Line) (ms : List Moment) →
+    AllByRecursion (λ (l : Line). property_of l ≡ p) lines → ListMoments lines ms →
+    AllByRecursion (λ m. IsLawfulContent (moment_line p m)) ms
+listed_moments p few short [] ms named is =
+    subst (λ (xs : List Moment). AllByRecursion (λ m. IsLawfulContent (moment_line p m)) xs) (sym is) tt
 listed_moments p few short (l ∷ lines) ms named is =
     subst (λ (xs : List Moment). AllByRecursion (λ m. IsLawfulContent (moment_line p m)) xs) (sym is.2)
-    (all_append (λ m. IsLawfulContent (moment_line p m)) is.0 is.1 (text_moments p l.params l.value (lawful_line l p named.0 few) short l.value is.0 is.3 (omega arith)) (listed_moments p few short lines is.1 named.1 is.4))
+    (all_append (λ m. IsLawfulContent (moment_line p m)) is.0 is.1
+    (text_moments p l.params l.value (lawful_line l p named.0 few) short l.value is.0 is.3 (omega arith))
+    (listed_moments p few short lines is.1 named.1 is.4))
 
 -- attendees, rules and the others, as their lines
-whole_lines : (lines : List Line) → AllByRecursion (λ (l : Line). property_of l ≡ name.Attendee) lines → AllByRecursion IsLawfulContent (map (property_line name.Attendee) (map whole_property lines))
+whole_lines : (lines : List Line) → AllByRecursion (λ (l : Line). property_of l ≡ name.Attendee) lines →
+    AllByRecursion IsLawfulContent (map (property_line name.Attendee) (map whole_property lines))
 whole_lines [] h = tt
 whole_lines (l ∷ lines) h = (lawful_line l name.Attendee h.0 (omega arith), whole_lines lines h.1)
 
-rule_lines : (lines : List Line) → AllByRecursion (λ (l : Line). property_of l ≡ name.RRule) lines → AllByRecursion IsLawfulContent (map (plain name.RRule) (map value_of lines))
+rule_lines : (lines : List Line) → AllByRecursion (λ (l : Line). property_of l ≡ name.RRule) lines →
+    AllByRecursion IsLawfulContent (map (plain name.RRule) (map value_of lines))
 rule_lines [] h = tt
 rule_lines (l ∷ lines) h = (lawful_plain l name.RRule h.0 (omega arith), rule_lines lines h.1)
 
@@ -162,33 +183,64 @@ contained P [] m h (k, within, e) = absurd (omega arith)
 contained P (x ∷ ms) m h (zero, within, e) = subst P e h.0
 contained P (x ∷ ms) m h (suc k, within, e) = contained P ms m h.1 (k, omega arith, e)
 
-members : (P : Moment → Type 0) (ms listed : List Moment) → ((m : Moment) → Contains ms m → Contains listed m) → AllByRecursion P listed → AllByRecursion P ms
+members : (P : Moment → Type 0) (ms listed : List Moment) → ((m : Moment) → Contains ms m → Contains listed m) → AllByRecursion P listed →
+    AllByRecursion P ms
 members P [] listed among all = tt
-members P (x ∷ ms) listed among all = (contained P listed x all (among x (0, omega arith, refl)), members P ms listed (λ m h. among m (suc h.0, omega (arith, h.1), h.2)) all)
+members P (x ∷ ms) listed among all =
+    (contained P listed x all (among x (0, omega arith, refl)), members P ms listed (λ m h. among m (suc h.0, omega (arith, h.1), h.2)) all)
 
-moments_lawful : (lines : List Line) (p : PropertyName) (moments : List Moment) → place_of p < 16 → length (name_text p) ≤ 100 → AreMomentsOf (lines_of lines p) moments → AllByRecursion IsLawfulContent (map (moment_line p) moments)
+moments_lawful : (lines : List Line) (p : PropertyName) (moments : List Moment) → place_of p < 16 → length (name_text p) ≤ 100 →
+    AreMomentsOf (lines_of lines p) moments → AllByRecursion IsLawfulContent (map (moment_line p) moments)
 moments_lawful lines p moments few short is =
     all_map IsLawfulContent (moment_line p) moments
-    (members (λ m. IsLawfulContent (moment_line p m)) moments is.listed (λ m. (is.each m).0) (listed_moments p few short (lines_of lines p) is.listed (all_named lines p) is.list))
+    (members (λ m. IsLawfulContent (moment_line p m)) moments is.listed (λ m. (is.each m).0)
+    (listed_moments p few short (lines_of lines p) is.listed (all_named lines p) is.list))
 
 contents_lawful : (lines : List Line) (parts : Parts) → AreParts lines parts → AllByRecursion IsLawfulContent (parts_contents parts)
 contents_lawful lines parts is =
     let uid_at = found IsUidOf (first_named name.Uid lines) (Some parts.uid) parts.uid is.uid refl in
-    let uid_lawful : line.IsLawful (codes "UID") [] parts.uid = subst (λ (u : List ℕ). line.IsLawful (codes "UID") [] u) (sym uid_at.2.0) (lawful_plain uid_at.0 name.Uid (first_named_is lines name.Uid uid_at.0 uid_at.1) (omega arith)) in
+    let uid_lawful : line.IsLawful (codes "UID") [] parts.uid =
+    subst (λ (u : List ℕ). line.IsLawful (codes "UID") [] u) (sym uid_at.2.0) (lawful_plain
+    uid_at.0 name.Uid (first_named_is lines name.Uid uid_at.0 uid_at.1) (omega arith)) in
     let P : Content → Type 0 = IsLawfulContent in
     all_parts P parts (record {
-      head = (uid_lawful, (stamp_lawful parts.stamp, (number_lawful (codes "SEQUENCE") (record { some = omega arith; upper = refl }) (omega arith) parts.seq (sequence_small (first_named name.Sequence lines) parts.seq is.seq), tt)));
-      base = all_optional P (λ n. plain name.DeskBase (decimal n)) parts.base (λ n e. number_lawful (codes "X-DESK-BASE") (record { some = omega arith; upper = refl }) (omega arith) n (at_most IsSequenceOf sequence_limit (λ l. small sequence_limit l.value) (first_named name.DeskBase lines) parts.base n is.base e));
+      head = (
+        uid_lawful,
+        (
+          stamp_lawful parts.stamp,
+          (
+            number_lawful (codes "SEQUENCE") (record { some = omega arith; upper = refl }) (omega arith) parts.seq
+                (sequence_small (first_named name.Sequence lines) parts.seq is.seq),
+            tt,
+          ),
+        ),
+      );
+      base = all_optional P (λ n. plain name.DeskBase (decimal n)) parts.base
+          (λ n e. number_lawful (codes "X-DESK-BASE") (record { some = omega arith; upper = refl }) (omega arith) n
+          (at_most IsSequenceOf sequence_limit (λ l. small sequence_limit l.value) (first_named name.DeskBase lines) parts.base n is.base
+          e));
       rid = all_optional P (rid_line parts.range) parts.rid (one_rid lines parts.rid parts.range is.rid is.range);
-      start = all_optional P (moment_line name.DtStart) parts.start (one_moment lines name.DtStart parts.start (omega arith) (omega arith) is.start);
+      start = all_optional P (moment_line name.DtStart) parts.start
+          (one_moment lines name.DtStart parts.start (omega arith) (omega arith) is.start);
       due = all_optional P (moment_line name.Due) parts.due (one_moment lines name.Due parts.due (omega arith) (omega arith) is.due);
       status = all_optional P (λ s. plain name.Status (status_text s)) parts.status (λ s e. status_lawful s);
-      percent = all_optional P (λ n. plain name.PercentComplete (decimal n)) parts.percent (λ n e. number_lawful (codes "PERCENT-COMPLETE") (record { some = omega arith; upper = refl }) (omega arith) n (let below : n ≤ 100 = at_most IsPercentOf percent_limit (λ l. small percent_limit l.value) (first_named name.PercentComplete lines) parts.percent n is.percent e in omega arith));
-      priority = all_optional P (λ n. plain name.Priority (decimal n)) parts.priority (λ n e. number_lawful (codes "PRIORITY") (record { some = omega arith; upper = refl }) (omega arith) n (let below : n ≤ 9 = at_most IsPriorityOf priority_limit (λ l. small priority_limit l.value) (first_named name.Priority lines) parts.priority n is.priority e in omega arith));
-      summary = all_optional P (property_line name.Summary) parts.summary (one_property IsPropertyOf (λ l x h. h) lines name.Summary parts.summary (omega arith) is.summary);
-      organizer = all_optional P (property_line name.Organizer) parts.organizer (one_property IsOrganizerOf (λ l x h. h.0) lines name.Organizer parts.organizer (omega arith) is.organizer);
-      attendee = subst (λ (ps : List Property). AllByRecursion P (map (property_line name.Attendee) ps)) (sym is.attendees) (whole_lines (lines_of lines name.Attendee) (all_named lines name.Attendee));
-      rule = subst (λ (vs : List (List ℕ)). AllByRecursion P (map (plain name.RRule) vs)) (sym is.rule) (rule_lines (lines_of lines name.RRule) (all_named lines name.RRule));
+      percent = all_optional P (λ n. plain name.PercentComplete (decimal n)) parts.percent
+          (λ n e. number_lawful (codes "PERCENT-COMPLETE") (record { some = omega arith; upper = refl }) (omega arith) n
+          (let below : n ≤ 100 =
+          at_most IsPercentOf percent_limit (λ l. small percent_limit l.value) (first_named name.PercentComplete lines) parts.percent n
+          is.percent e in omega arith));
+      priority = all_optional P (λ n. plain name.Priority (decimal n)) parts.priority
+          (λ n e. number_lawful (codes "PRIORITY") (record { some = omega arith; upper = refl }) (omega arith) n (let below : n ≤ 9 =
+          at_most IsPriorityOf priority_limit (λ l. small priority_limit l.value) (first_named name.Priority lines) parts.priority n
+          is.priority e in omega arith));
+      summary = all_optional P (property_line name.Summary) parts.summary
+          (one_property IsPropertyOf (λ l x h. h) lines name.Summary parts.summary (omega arith) is.summary);
+      organizer = all_optional P (property_line name.Organizer) parts.organizer
+          (one_property IsOrganizerOf (λ l x h. h.0) lines name.Organizer parts.organizer (omega arith) is.organizer);
+      attendee = subst (λ (ps : List Property). AllByRecursion P (map (property_line name.Attendee) ps)) (sym is.attendees)
+          (whole_lines (lines_of lines name.Attendee) (all_named lines name.Attendee));
+      rule = subst (λ (vs : List (List ℕ)). AllByRecursion P (map (plain name.RRule) vs)) (sym is.rule)
+          (rule_lines (lines_of lines name.RRule) (all_named lines name.RRule));
       rdate = moments_lawful lines name.RDate parts.rdates (omega arith) (omega arith) is.rdates;
       exdate = moments_lawful lines name.ExDate parts.exdates (omega arith) (omega arith) is.exdates;
       other = subst (λ (ls : List Line). AllByRecursion P (map content_of ls)) (sym is.others) (other_lines (lines_of lines name.Others));
@@ -201,24 +253,31 @@ lawful_parts lines parts is attendees =
     record {
       uid = subst (λ (u : List ℕ). 0 < length u) (sym uid_at.2.0) uid_at.2.1;
       seq = sequence_small (first_named name.Sequence lines) parts.seq is.seq;
-      base = λ n. at_most IsSequenceOf sequence_limit (λ l. small sequence_limit l.value) (first_named name.DeskBase lines) parts.base n is.base;
+      base = λ n. at_most IsSequenceOf sequence_limit (λ l. small sequence_limit l.value) (first_named name.DeskBase lines) parts.base n
+          is.base;
       range = ranged (first_named name.RecurrenceId lines) parts.rid parts.range is.rid is.range;
-      percent = λ n. at_most IsPercentOf percent_limit (λ l. small percent_limit l.value) (first_named name.PercentComplete lines) parts.percent n is.percent;
-      priority = λ n. at_most IsPriorityOf priority_limit (λ l. small priority_limit l.value) (first_named name.Priority lines) parts.priority n is.priority;
+      percent = λ n. at_most IsPercentOf percent_limit (λ l. small percent_limit l.value) (first_named name.PercentComplete lines)
+          parts.percent n is.percent;
+      priority = λ n. at_most IsPriorityOf priority_limit (λ l. small priority_limit l.value) (first_named name.Priority lines)
+          parts.priority n is.priority;
       organizer = λ p e.
           let at = found IsOrganizerOf (first_named name.Organizer lines) parts.organizer p is.organizer e in
           subst (λ (x : Property). HasValue x) (sym at.2.0) at.2.1;
-      attendee_count = subst (λ (ps : List Property). length ps ≤ attendee_limit) (sym is.attendees) (omega (arith, attendees.few, length-map (lines_of lines name.Attendee) whole_property));
+      attendee_count = subst (λ (ps : List Property). length ps ≤ attendee_limit) (sym is.attendees)
+          (omega (arith, attendees.few, length-map (lines_of lines name.Attendee) whole_property));
       attendee_values = subst (λ (ps : List Property). AllByRecursion HasValue ps) (sym is.attendees) attendees.values;
-      attendee_keys = subst (λ (ps : List Property). IsDistinct same_text (keys_of ps)) (sym is.attendees) (subst (λ (ks : List (List ℕ)). IsDistinct same_text ks) (sym (keys_whole (lines_of lines name.Attendee))) attendees.distinct);
+      attendee_keys = subst (λ (ps : List Property). IsDistinct same_text (keys_of ps)) (sym is.attendees)
+          (subst (λ (ks : List (List ℕ)). IsDistinct same_text ks) (sym (keys_whole (lines_of lines name.Attendee))) attendees.distinct);
       rdates = is.rdates.ascending;
       exdates = is.exdates.ascending;
-      others = subst (λ (ls : List Line). IsTrue (list_all is_other ls)) (sym is.others) (all_others (lines_of lines name.Others) (all_named lines name.Others));
+      others = subst (λ (ls : List Line). IsTrue (list_all is_other ls)) (sym is.others)
+          (all_others (lines_of lines name.Others) (all_named lines name.Others));
       lines = contents_lawful lines parts is;
     }
 
 -- the moments of the set, in their order
-pub moments_of : (lines : List Line) (set : BTreeSet Moment) (moments : List Moment) → IsSetOf lines set → moments ≡ set.keys → IsOrdered moment_cmp set → AreMomentsOf lines moments
+pub moments_of : (lines : List Line) (set : BTreeSet Moment) (moments : List Moment) → IsSetOf lines set → moments ≡ set.keys →
+    IsOrdered moment_cmp set → AreMomentsOf lines moments
 moments_of lines set moments is same ordered = record {
   listed = is.listed;
   list = is.list;
@@ -266,12 +325,15 @@ is_absent P None read = refl
 is_absent P (Some line) read = absurd read
 
 -- a draft with a UID and no DTSTAMP is refused for want of DTSTAMP
-pub stampless : (e : TodoError) (draft : Draft) (uid : List ℕ) → draft.uid ≡ Some uid → IfRefused e (λ r. (r ≡ missing name.DtStamp) × (draft.stamp ≡ None))
+pub stampless : (e : TodoError) (draft : Draft) (uid : List ℕ) → draft.uid ≡ Some uid →
+    IfRefused e (λ r. (r ≡ missing name.DtStamp) × (draft.stamp ≡ None))
     → IfRefused e (λ r. (lines : List Line) → AreGood [] lines → IsDraftOf (lines_of lines) draft → LacksProperty lines r)
 stampless error.NoMemory draft uid there missing = tt
 stampless (error.Refused r) draft uid there (same, none) = λ lines good is. inr (
   good,
-  is_there IsUidOf (first_named name.Uid lines) uid (subst (λ (v : Option (List ℕ)). IsOptional IsUidOf (first_named name.Uid lines) v) there (is name.Uid)),
-  is_absent IsStampOf (first_named name.DtStamp lines) (subst (λ (v : Option Stamp). IsOptional IsStampOf (first_named name.DtStamp lines) v) none (is name.DtStamp)),
+  is_there IsUidOf (first_named name.Uid lines) uid
+      (subst (λ (v : Option (List ℕ)). IsOptional IsUidOf (first_named name.Uid lines) v) there (is name.Uid)),
+  is_absent IsStampOf (first_named name.DtStamp lines)
+      (subst (λ (v : Option Stamp). IsOptional IsStampOf (first_named name.DtStamp lines) v) none (is name.DtStamp)),
   same,
 )

@@ -1,5 +1,6 @@
 -- Nothing is wrong with lines where each property that may stand once does, each value is good, and no two attendees are one.
-use Rattle.std.proofs.Common.{◌≡◌, ◌∙◌, ap, refl, sym, subst, ℕ, ◌<◌, ◌≤◌, Bool, true, false, cond, ◌&&◌, ◌||◌, List, [], ◌∷◌, ◌++◌, length, append_assoc, length-append, arith, map}
+use Rattle.std.proofs.Common.{◌≡◌, ◌∙◌, ap, refl, sym, subst, ℕ, ◌<◌, ◌≤◌, Bool, true, false, cond, ◌&&◌, ◌||◌, List, [], ◌∷◌, ◌++◌, length}
+use Rattle.std.proofs.Common.{append_assoc, length-append, arith, map}
 use Rattle.std.specs.Prelude.{nat_le}
 use Rattle.std.specs.Option.{is_some}
 use Rattle.std.specs.List.{AllByRecursion, IsDistinct, list_any}
@@ -28,9 +29,12 @@ pub record IsGoodAlone (line : Line) : Type 0 where
   pub value : IsGoodValue (property_of line) line
 
 here_first : (line : Line) (lines : List Line) → lines_of (line ∷ lines) (property_of line) ≡ line ∷ lines_of lines (property_of line)
-here_first line lines = ap (λ (b : Bool). cond b (line ∷ lines_of lines (property_of line)) (lines_of lines (property_of line))) (same_itself (property_of line))
+here_first line lines =
+    ap (λ (b : Bool). cond b (line ∷ lines_of lines (property_of line)) (lines_of lines (property_of line)))
+    (same_itself (property_of line))
 
-split : (above lines : List Line) (line : Line) → lines_of (above ++ line ∷ lines) (property_of line) ≡ lines_of above (property_of line) ++ line ∷ lines_of lines (property_of line)
+split : (above lines : List Line) (line : Line) →
+    lines_of (above ++ line ∷ lines) (property_of line) ≡ lines_of above (property_of line) ++ line ∷ lines_of lines (property_of line)
 split above lines line =
     filter-append (λ (l : Line). is_same (property_of l) (property_of line)) above (line ∷ lines)
     ∙ ap (λ (ls : List Line). lines_of above (property_of line) ++ ls) (here_first line lines)
@@ -59,40 +63,52 @@ module _ (whole above lines : List Line) (line : Line) (e : whole ≡ above ++ l
   here = ap (λ (ls : List Line). lines_of ls (property_of line)) e ∙ split above lines line
 
   not_twice : is_twice (lines_of above) (property_of line) ≡ false
-  not_twice = elim (stands_once (property_of line)) as (λ b. stands_once (property_of line) ≡ b → (b && is_some (first_of (lines_of above (property_of line)))) ≡ false) [
-    | true ↦ λ once. none_first (lines_of above (property_of line)) (lines_of lines (property_of line)) line (subst (λ (ls : List Line). length ls ≤ 1) here (each.once (property_of line) once))
-    | false ↦ λ _. refl
-  ] refl
+  not_twice = elim (stands_once (property_of line)) as (λ b. stands_once (property_of line) ≡ b →
+      (b && is_some (first_of (lines_of above (property_of line)))) ≡ false) [
+        | true ↦ λ once. none_first (lines_of above (property_of line)) (lines_of lines (property_of line)) line
+            (subst (λ (ls : List Line). length ls ≤ 1) here (each.once (property_of line) once))
+        | false ↦ λ _. refl
+      ] refl
 
-  attendees : property_of line ≡ name.Attendee → lines_of whole name.Attendee ≡ lines_of above name.Attendee ++ line ∷ lines_of lines name.Attendee
+  attendees : property_of line ≡ name.Attendee → lines_of whole name.Attendee ≡ lines_of above name.Attendee ++ line ∷
+      lines_of lines name.Attendee
   attendees is = subst (λ (p : PropertyName). lines_of whole p ≡ lines_of above p ++ line ∷ lines_of lines p) is here
 
   not_many : is_too_many (lines_of above) (property_of line) ≡ false
-  not_many = elim (is_same (property_of line) name.Attendee) as (λ b. is_same (property_of line) name.Attendee ≡ b → (b && nat_le attendee_limit (length (lines_of above name.Attendee))) ≡ false) [
-    | true ↦ λ yes.
-        let two = length-append (lines_of above name.Attendee) (line ∷ lines_of lines name.Attendee) in
-        let all : length (lines_of whole name.Attendee) ≡ length (lines_of above name.Attendee ++ line ∷ lines_of lines name.Attendee) = ap length (attendees (same_is (property_of line) name.Attendee yes)) in
-        let few : length (lines_of whole name.Attendee) ≤ attendee_limit = each.few in
-        not_over (length (lines_of above name.Attendee)) (omega arith)
-    | false ↦ λ _. refl
-  ] refl
+  not_many = elim (is_same (property_of line) name.Attendee) as (λ b. is_same (property_of line) name.Attendee ≡ b →
+      (b && nat_le attendee_limit (length (lines_of above name.Attendee))) ≡ false) [
+        | true ↦ λ yes.
+            let two = length-append (lines_of above name.Attendee) (line ∷ lines_of lines name.Attendee) in
+            let all : length (lines_of whole name.Attendee) ≡ length (lines_of above name.Attendee ++ line ∷ lines_of lines name.Attendee) =
+            ap length (attendees (same_is (property_of line) name.Attendee yes)) in
+            let few : length (lines_of whole name.Attendee) ≤ attendee_limit = each.few in
+            not_over (length (lines_of above name.Attendee)) (omega arith)
+        | false ↦ λ _. refl
+      ] refl
 
   not_again : is_same_attendee (lines_of above) (property_of line) line ≡ false
-  not_again = elim (is_same (property_of line) name.Attendee) as (λ b. is_same (property_of line) name.Attendee ≡ b → (b && list_any (same_text (key_of line)) (map key_of (lines_of above name.Attendee))) ≡ false) [
-    | true ↦ λ yes.
-        let all : map key_of (lines_of whole name.Attendee) ≡ map key_of (lines_of above name.Attendee) ++ key_of line ∷ map key_of (lines_of lines name.Attendee) =
-        ap (map key_of) (attendees (same_is (property_of line) name.Attendee yes)) ∙ map-append key_of (lines_of above name.Attendee) (line ∷ lines_of lines name.Attendee) in
-        apart_from (key_of line) (map key_of (lines_of above name.Attendee)) (map key_of (lines_of lines name.Attendee)) (subst (λ (ks : List (List ℕ)). IsDistinct same_text ks) all each.apart)
-    | false ↦ λ _. refl
-  ] refl
+  not_again = elim (is_same (property_of line) name.Attendee) as (λ b. is_same (property_of line) name.Attendee ≡ b →
+      (b && list_any (same_text (key_of line)) (map key_of (lines_of above name.Attendee))) ≡ false) [
+        | true ↦ λ yes.
+            let all : map key_of (lines_of whole name.Attendee) ≡ map key_of (lines_of above name.Attendee) ++ key_of line ∷
+            map key_of (lines_of lines name.Attendee) =
+            ap (map key_of) (attendees (same_is (property_of line) name.Attendee yes)) ∙
+            map-append key_of (lines_of above name.Attendee) (line ∷ lines_of lines name.Attendee) in
+            apart_from (key_of line) (map key_of (lines_of above name.Attendee)) (map key_of (lines_of lines name.Attendee))
+            (subst (λ (ks : List (List ℕ)). IsDistinct same_text ks) all each.apart)
+        | false ↦ λ _. refl
+      ] refl
 
   is_good : IsGoodAlone line → IsGood above line
   is_good alone = record { once = not_twice; range = alone.range; value = alone.value; few = not_many; new = not_again }
 
-good_behind : (whole above lines : List Line) → whole ≡ above ++ lines → AreFewEach whole → AllByRecursion IsGoodAlone lines → AreGood above lines
+good_behind : (whole above lines : List Line) → whole ≡ above ++ lines → AreFewEach whole → AllByRecursion IsGoodAlone lines →
+    AreGood above lines
 good_behind whole above [] e each alone = tt
-good_behind whole above (line ∷ lines) e each alone =
-    (is_good whole above lines line e each alone.0, good_behind whole (above ++ line ∷ []) lines (e ∙ sym (append_assoc above (line ∷ []) lines)) each alone.1)
+good_behind whole above (line ∷ lines) e each alone = (
+  is_good whole above lines line e each alone.0,
+  good_behind whole (above ++ line ∷ []) lines (e ∙ sym (append_assoc above (line ∷ []) lines)) each alone.1,
+)
 
 pub are_good : (lines : List Line) → AreFewEach lines → AllByRecursion IsGoodAlone lines → AreGood [] lines
 are_good lines each alone = good_behind lines [] lines refl each alone

@@ -1,5 +1,6 @@
 -- One more line after good ones.
-use Rattle.std.proofs.Common.{◌≡◌, true, false, cond, ℕ, ◌+◌, ◌<◌, List, [], ◌∷◌, ◌++◌, length, take, drop, get_or, refl, sym, ap, subst, ◌∙◌, inl, inr, append_assoc, append-nil, take-append-drop}
+use Rattle.std.proofs.Common.{◌≡◌, true, false, cond, ℕ, ◌+◌, ◌<◌, List, [], ◌∷◌, ◌++◌, length, take, drop, get_or, refl, sym, ap, subst}
+use Rattle.std.proofs.Common.{◌∙◌, inl, inr, append_assoc, append-nil, take-append-drop}
 use Rattle.std.proofs.lemmas.List.{take_more}
 use Rattle.std.proofs.lemmas.List.Elements.{filter-append}
 use Rattle.itip_lines.specs.declared.line.Line.{Line}
@@ -18,20 +19,31 @@ use Rattle.itip_todo.specs.declared.error.CauseError.TheVariants as cause_error
 use Rattle.itip_todo.specs.declared.error.TodoCause.{TodoCause}
 use Rattle.itip_todo.specs.declared.error.TodoRefusal.{TodoRefusal}
 
-pub are_good_more : (above lines : List Line) (line : Line) → AreGood above lines → IsGood (above ++ lines) line → AreGood above (lines ++ line ∷ [])
+pub are_good_more : (above lines : List Line) (line : Line) → AreGood above lines → IsGood (above ++ lines) line →
+    AreGood above (lines ++ line ∷ [])
 are_good_more above [] line good is = (subst (λ (ls : List Line). IsGood ls line) (append-nil above) is, tt)
-are_good_more above (l ∷ lines) line (first, good) is =
-    (first, are_good_more (above ++ l ∷ []) lines line good (subst (λ (ls : List Line). IsGood ls line) (sym (append_assoc above (l ∷ []) lines)) is))
+are_good_more above (l ∷ lines) line (first, good) is = (
+  first,
+  are_good_more (above ++ l ∷ []) lines line good
+      (subst (λ (ls : List Line). IsGood ls line) (sym (append_assoc above (l ∷ []) lines)) is),
+)
 
-pub first_refusal_at : (above : List Line) (front : List NumberedLine) (l : NumberedLine) (rest : List NumberedLine) (r : TodoRefusal) → AreGood above (plain_lines front) → HasRefusal (above ++ plain_lines front) l r → FirstRefusal above (front ++ l ∷ rest) r
+pub first_refusal_at : (above : List Line) (front : List NumberedLine) (l : NumberedLine) (rest : List NumberedLine) (r : TodoRefusal) →
+    AreGood above (plain_lines front) → HasRefusal (above ++ plain_lines front) l r → FirstRefusal above (front ++ l ∷ rest) r
 first_refusal_at above [] l rest r good has = inl (subst (λ (ls : List Line). HasRefusal ls l r) (append-nil above) has)
 first_refusal_at above (k ∷ front) l rest r (first, good) has =
-    inr (first, first_refusal_at (above ++ k.line ∷ []) front l rest r good (subst (λ (ls : List Line). HasRefusal ls l r) (sym (append_assoc above (k.line ∷ []) (plain_lines front))) has))
+    inr (
+      first,
+      first_refusal_at (above ++ k.line ∷ []) front l rest r good
+          (subst (λ (ls : List Line). HasRefusal ls l r) (sym (append_assoc above (k.line ∷ []) (plain_lines front))) has),
+    )
 
 -- the lines are those before one, that one, and the others
-pub parted : {X : Type 0} (lines : List X) (i : ℕ) (line : X) → i < length lines → line ≡ get_or lines i line → lines ≡ take i lines ++ line ∷ drop (i + 1) lines
+pub parted : {X : Type 0} (lines : List X) (i : ℕ) (line : X) → i < length lines → line ≡ get_or lines i line → lines ≡ take i lines ++
+    line ∷ drop (i + 1) lines
 parted lines i line lt is =
-    sym (take-append-drop (i + 1) lines) ∙ ap (λ front. front ++ drop (i + 1) lines) (take_more lines i line lt ∙ ap (λ l. take i lines ++ l ∷ []) (sym is))
+    sym (take-append-drop (i + 1) lines) ∙ ap (λ front. front ++ drop (i + 1) lines) (take_more lines i line lt ∙
+    ap (λ l. take i lines ++ l ∷ []) (sym is))
     ∙ append_assoc (take i lines) (line ∷ []) (drop (i + 1) lines)
 
 -- what holds of a cause or of a refusal, in other words
@@ -44,12 +56,15 @@ IfRefused-weaker error.NoMemory P Q more h = tt
 IfRefused-weaker (error.Refused r) P Q more h = more r h
 
 -- the lines of each property, with one more
-pub lines_more : (above : List Line) (line : Line) (p : PropertyName) → more (lines_of above) (property_of line) line p ≡ lines_of (above ++ line ∷ []) p
+pub lines_more : (above : List Line) (line : Line) (p : PropertyName) →
+    more (lines_of above) (property_of line) line p ≡ lines_of (above ++ line ∷ []) p
 lines_more above line p =
-    (elim (is_same (property_of line) p) as (λ b. cond b (lines_of above p ++ line ∷ []) (lines_of above p) ≡ lines_of above p ++ cond b (line ∷ []) []) [
+    (elim (is_same (property_of line) p) as (λ b. cond b (lines_of above p ++ line ∷ []) (lines_of above p) ≡ lines_of above p ++
+    cond b (line ∷ []) []) [
       | true ↦ refl
       | false ↦ sym (append-nil (lines_of above p))
     ]) ∙ sym (filter-append (λ (l : Line). is_same (property_of l) p) above (line ∷ []))
 
-pub draft_more : (above : List Line) (line : Line) (d : Draft) → IsDraftOf (more (lines_of above) (property_of line) line) d → IsDraftOf (lines_of (above ++ line ∷ [])) d
+pub draft_more : (above : List Line) (line : Line) (d : Draft) → IsDraftOf (more (lines_of above) (property_of line) line) d →
+    IsDraftOf (lines_of (above ++ line ∷ [])) d
 draft_more above line d is p = subst (λ (ls : List Line). Holds d p ls) (lines_more above line p) (is p)

@@ -40,31 +40,35 @@ module _ {K : Type 0} (R : K → K → Ordering) (total : IsTotalOrder R) (exact
   all_below x y [] e h = tt
   all_below x y (z ∷ ks) e h = (total.trans x y z e h.0, all_below x y ks e h.1)
 
-  below_insert : (x k : K) (ks : List K) → R x k ≡ Less → AllByRecursion (λ z. R x z ≡ Less) ks → AllByRecursion (λ z. R x z ≡ Less) (insert_key R ks k)
+  below_insert : (x k : K) (ks : List K) → R x k ≡ Less → AllByRecursion (λ z. R x z ≡ Less) ks →
+      AllByRecursion (λ z. R x z ≡ Less) (insert_key R ks k)
   below_insert x k [] e h = (e, tt)
-  below_insert x k (y ∷ ks) e h = elim (R k y) as (λ o. AllByRecursion (λ z. R x z ≡ Less) (match_ordering o (k ∷ y ∷ ks) (y ∷ ks) (y ∷ insert_key R ks k))) [
-    | Less ↦ (e, h)
-    | Equal ↦ h
-    | Greater ↦ (h.0, below_insert x k ks e h.1)
-  ]
+  below_insert x k (y ∷ ks) e h =
+      elim (R k y) as (λ o. AllByRecursion (λ z. R x z ≡ Less) (match_ordering o (k ∷ y ∷ ks) (y ∷ ks) (y ∷ insert_key R ks k))) [
+        | Less ↦ (e, h)
+        | Equal ↦ h
+        | Greater ↦ (h.0, below_insert x k ks e h.1)
+      ]
 
   sorted_insert : (ks : List K) (k : K) → IsStrictlySortedBy R ks → IsStrictlySortedBy R (insert_key R ks k)
   unfolding IsStrictlySortedBy
   sorted_insert [] k h = (tt, tt)
-  sorted_insert (y ∷ ks) k h = elim (R k y) as (λ o. R k y ≡ o → IsStrictlySortedBy R (match_ordering o (k ∷ y ∷ ks) (y ∷ ks) (y ∷ insert_key R ks k))) [
-    | Less ↦ λ e. ((e, all_below k y ks e h.0), h)
-    | Equal ↦ λ e. h
-    | Greater ↦ λ e. (below_insert y k ks (total.antisymm y k ∙ ap ordering_reverse e) h.0, sorted_insert ks k h.1)
-  ] refl
+  sorted_insert (y ∷ ks) k h =
+      elim (R k y) as (λ o. R k y ≡ o → IsStrictlySortedBy R (match_ordering o (k ∷ y ∷ ks) (y ∷ ks) (y ∷ insert_key R ks k))) [
+        | Less ↦ λ e. ((e, all_below k y ks e h.0), h)
+        | Equal ↦ λ e. h
+        | Greater ↦ λ e. (below_insert y k ks (total.antisymm y k ∙ ap ordering_reverse e) h.0, sorted_insert ks k h.1)
+      ] refl
 
   in_insert : (ks : List K) (k m : K) → IsIn (insert_key R ks k) m → IsIn ks m ⊎ (k ≡ m)
   in_insert [] k m (inl e) = inr e
   in_insert [] k m (inr h) = absurd h
-  in_insert (y ∷ ks) k m h = elim (R k y) as (λ o. IsIn (match_ordering o (k ∷ y ∷ ks) (y ∷ ks) (y ∷ insert_key R ks k)) m → IsIn (y ∷ ks) m ⊎ (k ≡ m)) [
-    | Less ↦ λ g. swapped g
-    | Equal ↦ λ g. inl g
-    | Greater ↦ λ g. elim g [ inl e ↦ inl (inl e) | inr i ↦ elim (in_insert ks k m i) [ inl j ↦ inl (inr j) | inr e ↦ inr e ] ]
-  ] h
+  in_insert (y ∷ ks) k m h =
+      elim (R k y) as (λ o. IsIn (match_ordering o (k ∷ y ∷ ks) (y ∷ ks) (y ∷ insert_key R ks k)) m → IsIn (y ∷ ks) m ⊎ (k ≡ m)) [
+        | Less ↦ λ g. swapped g
+        | Equal ↦ λ g. inl g
+        | Greater ↦ λ g. elim g [ inl e ↦ inl (inl e) | inr i ↦ elim (in_insert ks k m i) [ inl j ↦ inl (inr j) | inr e ↦ inr e ] ]
+      ] h
 
   insert_in : (ks : List K) (k m : K) → IsIn ks m ⊎ (k ≡ m) → IsIn (insert_key R ks k) m
   insert_in [] k m (inl h) = absurd h

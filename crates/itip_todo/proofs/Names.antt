@@ -20,7 +20,8 @@ text_is [] (y ∷ ys) e = cc
 text_is (x ∷ xs) [] e = cc
 text_is (x ∷ xs) (y ∷ ys) e = let parts = both (x == y) (same_text xs ys) e in λ i. eqb-true x y parts.0 i ∷ text_is xs ys parts.1 i
 
-spelled_next : (text : List ℕ) (b : Bool) (p rest : PropertyName) → (b ≡ true → text ≡ name_text p) → IsSpelled rest text → IsSpelled (cond b p rest) text
+spelled_next : (text : List ℕ) (b : Bool) (p rest : PropertyName) → (b ≡ true → text ≡ name_text p) → IsSpelled rest text →
+    IsSpelled (cond b p rest) text
 spelled_next text true p rest here later = λ _. here refl
 spelled_next text false p rest here later = later
 
@@ -94,7 +95,8 @@ same_is p q e = sym (placed p) ∙ ap at_place (place_is p q e) ∙ placed q
 pub all_named : (lines : List Line) (p : PropertyName) → AllByRecursion (λ (l : Line). property_of l ≡ p) (lines_of lines p)
 all_named [] p = tt
 all_named (l ∷ lines) p =
-    elim (is_same (property_of l) p) as (λ b. is_same (property_of l) p ≡ b → AllByRecursion (λ (m : Line). property_of m ≡ p) (cond b (l ∷ lines_of lines p) (lines_of lines p))) [
+    elim (is_same (property_of l) p) as (λ b. is_same (property_of l) p ≡ b →
+    AllByRecursion (λ (m : Line). property_of m ≡ p) (cond b (l ∷ lines_of lines p) (lines_of lines p))) [
       | true ↦ λ yes. (same_is (property_of l) p yes, all_named lines p)
       | false ↦ λ _. all_named lines p
     ] refl
@@ -110,7 +112,9 @@ first_named_is lines p line e = first (lines_of lines p) (all_named lines p) e
 pub has_name : (line : Line) (p : PropertyName) → property_of line ≡ p → place_of p < 16 → line.name ≡ name_text p
 unfolding property_of
 has_name line p e few =
-    elim (is_same (property_named line.name) name.RDate && list_any (λ c. c == 47) line.value) as (λ b. cond b name.Others (property_named line.name) ≡ p → line.name ≡ name_text p) [
+    elim (is_same (property_named line.name) name.RDate && list_any (λ c. c == 47) line.value) as
+    (λ b. cond b name.Others (property_named line.name) ≡ p → line.name ≡ name_text p) [
       | true ↦ λ other. absurd (let at : 16 ≡ place_of p = ap place_of other in omega arith)
-      | false ↦ λ is. spelled line.name (let at : place_of (property_named line.name) ≡ place_of p = ap place_of is in omega arith) ∙ ap name_text is
+      | false ↦ λ is. spelled line.name (let at : place_of (property_named line.name) ≡ place_of p = ap place_of is in omega arith) ∙
+          ap name_text is
     ] e

@@ -33,18 +33,26 @@ put_none params text old = record {
 }
 
 one_listed : (seen : List Moment) (one m : Moment) → is_listed (seen ++ one ∷ []) m ≡ (is_listed seen m || eq_by_cmp moment_cmp one m)
-one_listed seen one m = list_any-append (λ x. eq_by_cmp moment_cmp x m) seen (one ∷ []) ∙ ap (λ b. is_listed seen m || b) (or-false (eq_by_cmp moment_cmp one m))
+one_listed seen one m = list_any-append (λ x. eq_by_cmp moment_cmp x m) seen (one ∷ []) ∙
+    ap (λ b. is_listed seen m || b) (or-false (eq_by_cmp moment_cmp one m))
 
-each_more : (seen : List Moment) (one : Moment) (old set new : BTreeSet Moment) → ((m : Moment) → contains moment_cmp set m ≡ (contains moment_cmp old m || is_listed seen m))
-    → ((m : Moment) → contains moment_cmp new m ≡ (contains moment_cmp set m || eq_by_cmp moment_cmp one m)) → (m : Moment) → contains moment_cmp new m ≡ (contains moment_cmp old m || is_listed (seen ++ one ∷ []) m)
+each_more : (seen : List Moment) (one : Moment) (old set new : BTreeSet Moment) →
+    ((m : Moment) → contains moment_cmp set m ≡ (contains moment_cmp old m || is_listed seen m))
+    → ((m : Moment) → contains moment_cmp new m ≡ (contains moment_cmp set m || eq_by_cmp moment_cmp one m)) → (m : Moment) →
+    contains moment_cmp new m ≡ (contains moment_cmp old m || is_listed (seen ++ one ∷ []) m)
 each_more seen one old set new h k m =
-    k m ∙ ap (λ b. b || eq_by_cmp moment_cmp one m) (h m) ∙ or_assoc (contains moment_cmp old m) (is_listed seen m) (eq_by_cmp moment_cmp one m) ∙ ap (λ b. contains moment_cmp old m || b) (sym (one_listed seen one m))
+    k m ∙ ap (λ b. b || eq_by_cmp moment_cmp one m) (h m) ∙
+    or_assoc (contains moment_cmp old m) (is_listed seen m) (eq_by_cmp moment_cmp one m) ∙
+    ap (λ b. contains moment_cmp old m || b) (sym (one_listed seen one m))
 
-pub put_more : (params : List Param) (text rest front after : List ℕ) (one : Moment) (old set new : BTreeSet Moment) → HasPut params text rest old set → rest ≡ front ++ 44 ∷ after → HasNoComma front → IsMomentText params front one
-    → ((m : Moment) → contains moment_cmp new m ≡ (contains moment_cmp set m || eq_by_cmp moment_cmp one m)) → HasPut params text after old new
+pub put_more : (params : List Param) (text rest front after : List ℕ) (one : Moment) (old set new : BTreeSet Moment) →
+    HasPut params text rest old set → rest ≡ front ++ 44 ∷ after → HasNoComma front → IsMomentText params front one
+    → ((m : Moment) → contains moment_cmp new m ≡ (contains moment_cmp set m || eq_by_cmp moment_cmp one m)) →
+    HasPut params text after old new
 put_more params text rest front after one old set new h e none is k = record {
   seen = h.seen ++ one ∷ [];
-  joined = λ ms later. subst (λ (all : List Moment). AreMoments params text all) (sym (append_assoc h.seen (one ∷ []) ms)) (h.joined (one ∷ ms) (with_first params rest front after one ms e is later));
+  joined = λ ms later. subst (λ (all : List Moment). AreMoments params text all) (sym (append_assoc h.seen (one ∷ []) ms))
+      (h.joined (one ∷ ms) (with_first params rest front after one ms e is later));
   left = λ ms all.
       let later = h.left ms all in
       let cut = behind_comma params rest front after later.0 e none later.1 in
@@ -52,8 +60,10 @@ put_more params text rest front after one old set new h e none is k = record {
   each = each_more h.seen one old set new h.each k;
 }
 
-pub put_last : (params : List Param) (text rest : List ℕ) (one : Moment) (old set new : BTreeSet Moment) → HasPut params text rest old set → IsMomentText params rest one
-    → ((m : Moment) → contains moment_cmp new m ≡ (contains moment_cmp set m || eq_by_cmp moment_cmp one m)) → PutsMoments params text old new
+pub put_last : (params : List Param) (text rest : List ℕ) (one : Moment) (old set new : BTreeSet Moment) →
+    HasPut params text rest old set → IsMomentText params rest one
+    → ((m : Moment) → contains moment_cmp new m ≡ (contains moment_cmp set m || eq_by_cmp moment_cmp one m)) →
+    PutsMoments params text old new
 put_last params text rest one old set new h is k = record {
   listed = h.seen ++ one ∷ [];
   are = h.joined (one ∷ []) is;
@@ -61,14 +71,16 @@ put_last params text rest one old set new h is k = record {
 }
 
 -- a stretch that is no moment
-pub bad_front : (params : List Param) (text rest front after : List ℕ) (old set : BTreeSet Moment) → HasPut params text rest old set → rest ≡ front ++ 44 ∷ after → HasNoComma front → ((m : Moment) → IsMomentText params front m → ⊥)
+pub bad_front : (params : List Param) (text rest front after : List ℕ) (old set : BTreeSet Moment) → HasPut params text rest old set →
+    rest ≡ front ++ 44 ∷ after → HasNoComma front → ((m : Moment) → IsMomentText params front m → ⊥)
     → (ms : List Moment) → AreMoments params text ms → ⊥
 bad_front params text rest front after old set h e none bad ms all =
     let later = h.left ms all in
     let cut = behind_comma params rest front after later.0 e none later.1 in
     bad cut.0 cut.3
 
-pub bad_last : (params : List Param) (text rest : List ℕ) (old set : BTreeSet Moment) → HasPut params text rest old set → HasNoComma rest → ((m : Moment) → IsMomentText params rest m → ⊥) → (ms : List Moment) → AreMoments params text ms → ⊥
+pub bad_last : (params : List Param) (text rest : List ℕ) (old set : BTreeSet Moment) → HasPut params text rest old set → HasNoComma rest →
+    ((m : Moment) → IsMomentText params rest m → ⊥) → (ms : List Moment) → AreMoments params text ms → ⊥
 bad_last params text rest old set h none bad ms all =
     let later = h.left ms all in
     let one = no_comma_one params rest later.0 none later.1 in

@@ -1,5 +1,6 @@
 -- Lines are read as one to-do, or refused for one cause in one place, and not both.
-use Rattle.std.proofs.Common.{◌≡◌, ◌∙◌, sym, ap, refl, ℕ, Bool, true, false, List, [], ◌∷◌, ◌++◌, subst, inl, inr, arith, Option, Some, None}
+use Rattle.std.proofs.Common.{◌≡◌, ◌∙◌, sym, ap, refl, ℕ, Bool, true, false, List, [], ◌∷◌, ◌++◌, subst, inl, inr, arith, Option, Some}
+use Rattle.std.proofs.Common.{None}
 use Rattle.std.proofs.lemmas.Map.Lookups.{btree_set_from_contains}
 use Rattle.std.specs.BTreeMap.{is_at}
 use Rattle.std.specs.BTreeSet.{BTreeSet}
@@ -16,7 +17,9 @@ use Rattle.itip_moment.specs.declared.moment.Moment.{Moment}
 use Rattle.itip_moment.proofs.Same.{moment_equal}
 use Rattle.itip_moment.proofs.ValueLaws.{stamp_text-one, moment_text-one}
 use Rattle.itip_todo.specs.Participation.{param_value}
-use Rattle.itip_todo.specs.Reading.{AreGood, HasCause, FirstRefusal, IsGoodAs, HasCauseAs, IsOptional, IsOrNought, IsUidOf, IsStampOf, IsSequenceOf, IsPercentOf, IsPriorityOf, IsMomentOf, IsStatusOf, IsPropertyOf, IsOrganizerOf, ListMoments, AreMomentsOf, ReadsTodo, RefusesTodo, first_named, lines_of}
+use Rattle.itip_todo.specs.Reading.{AreGood, HasCause, FirstRefusal, IsGoodAs, HasCauseAs, IsOptional, IsOrNought, IsUidOf, IsStampOf}
+use Rattle.itip_todo.specs.Reading.{IsSequenceOf, IsPercentOf, IsPriorityOf, IsMomentOf, IsStatusOf, IsPropertyOf, IsOrganizerOf}
+use Rattle.itip_todo.specs.Reading.{ListMoments, AreMomentsOf, ReadsTodo, RefusesTodo, first_named, lines_of}
 use Rattle.itip_todo.specs.Table.{property_of, sequence_limit, percent_limit, priority_limit}
 use Rattle.itip_todo.specs.Values.{IsNumberUpTo, AreMoments}
 use Rattle.itip_todo.specs.declared.error.TodoCause.{TodoCause}
@@ -32,7 +35,8 @@ use Rattle.itip_todo.proofs.Sets.{contains_any, itself, only_at}
 
 -- values that stand so to one line are one
 
-one_optional : {A : Type 0} (P : Line → A → Type 0) → ((line : Line) (a b : A) → P line a → P line b → a ≡ b) → (o : Option Line) (v w : Option A) → IsOptional P o v → IsOptional P o w → v ≡ w
+one_optional : {A : Type 0} (P : Line → A → Type 0) → ((line : Line) (a b : A) → P line a → P line b → a ≡ b) →
+    (o : Option Line) (v w : Option A) → IsOptional P o v → IsOptional P o w → v ≡ w
 one_optional P one None None None h k = refl
 one_optional P one None None (Some b) h k = absurd k
 one_optional P one None (Some a) w h k = absurd h
@@ -40,7 +44,8 @@ one_optional P one (Some line) None w h k = absurd h
 one_optional P one (Some line) (Some a) None h k = absurd k
 one_optional P one (Some line) (Some a) (Some b) h k = ap Some (one line a b h k)
 
-one_some : {A : Type 0} (P : Line → A → Type 0) → ((line : Line) (a b : A) → P line a → P line b → a ≡ b) → (o : Option Line) (a b : A) → IsOptional P o (Some a) → IsOptional P o (Some b) → a ≡ b
+one_some : {A : Type 0} (P : Line → A → Type 0) → ((line : Line) (a b : A) → P line a → P line b → a ≡ b) → (o : Option Line) (a b : A) →
+    IsOptional P o (Some a) → IsOptional P o (Some b) → a ≡ b
 one_some P one None a b h k = absurd h
 one_some P one (Some line) a b h k = one line a b h k
 
@@ -100,7 +105,8 @@ one_order lines ms ns h k =
     let here = contains_any (is_at (moment_cmp m)) ms m (itself m) (only_at m) in
     let there = contains_any (is_at (moment_cmp m)) ns m (itself m) (only_at m) in
     let listed : h.listed ≡ k.listed = one_listing lines h.listed k.listed h.list k.list in
-    same_tests (list_any (is_at (moment_cmp m)) ms) (list_any (is_at (moment_cmp m)) ns) (λ e. there.0 ((k.each m).1 (subst (λ (xs : List Moment). Contains xs m) listed ((h.each m).0 (here.1 e)))))
+    same_tests (list_any (is_at (moment_cmp m)) ms) (list_any (is_at (moment_cmp m)) ns)
+    (λ e. there.0 ((k.each m).1 (subst (λ (xs : List Moment). Contains xs m) listed ((h.each m).0 (here.1 e)))))
     (λ e. here.0 ((h.each m).1 (subst (λ (xs : List Moment). Contains xs m) (sym listed) ((k.each m).0 (there.1 e))))))
     moment_equal
 
@@ -109,16 +115,21 @@ one_todo lines a b h k = same_todo a b (λ i. record {
   uid = one_some IsUidOf (λ line x y p q. p.0 ∙ sym q.0) (first_named name.Uid lines) a.uid b.uid h.uid k.uid i;
   stamp = one_some IsStampOf (λ line. stamp_text-one line.value) (first_named name.DtStamp lines) a.stamp b.stamp h.stamp k.stamp i;
   seq = one_or_nought (first_named name.Sequence lines) a.seq b.seq h.seq k.seq i;
-  base = one_optional IsSequenceOf (λ line. one_number sequence_limit line.value) (first_named name.DeskBase lines) a.base b.base h.base k.base i;
+  base = one_optional IsSequenceOf (λ line. one_number sequence_limit line.value) (first_named name.DeskBase lines) a.base b.base h.base
+      k.base i;
   rid = one_optional IsMomentOf one_moment (first_named name.RecurrenceId lines) a.rid b.rid h.rid k.rid i;
   range = (h.range ∙ sym k.range) i;
   start = one_optional IsMomentOf one_moment (first_named name.DtStart lines) a.start b.start h.start k.start i;
   due = one_optional IsMomentOf one_moment (first_named name.Due lines) a.due b.due h.due k.due i;
   status = one_optional IsStatusOf one_status (first_named name.Status lines) a.status b.status h.status k.status i;
-  percent = one_optional IsPercentOf (λ line. one_number percent_limit line.value) (first_named name.PercentComplete lines) a.percent b.percent h.percent k.percent i;
-  priority = one_optional IsPriorityOf (λ line. one_number priority_limit line.value) (first_named name.Priority lines) a.priority b.priority h.priority k.priority i;
-  summary = one_optional IsPropertyOf (λ line x y p q. p ∙ sym q) (first_named name.Summary lines) a.summary b.summary h.summary k.summary i;
-  organizer = one_optional IsOrganizerOf (λ line x y p q. p.0 ∙ sym q.0) (first_named name.Organizer lines) a.organizer b.organizer h.organizer k.organizer i;
+  percent = one_optional IsPercentOf (λ line. one_number percent_limit line.value) (first_named name.PercentComplete lines) a.percent
+      b.percent h.percent k.percent i;
+  priority = one_optional IsPriorityOf (λ line. one_number priority_limit line.value) (first_named name.Priority lines) a.priority
+      b.priority h.priority k.priority i;
+  summary = one_optional IsPropertyOf (λ line x y p q. p ∙ sym q) (first_named name.Summary lines) a.summary b.summary h.summary k.summary
+      i;
+  organizer = one_optional IsOrganizerOf (λ line x y p q. p.0 ∙ sym q.0) (first_named name.Organizer lines) a.organizer b.organizer
+      h.organizer k.organizer i;
   attendees = (h.attendees ∙ sym k.attendees) i;
   rule = (h.rule ∙ sym k.rule) i;
   rdates = one_order (lines_of lines name.RDate) a.rdates b.rdates h.rdates k.rdates i;
@@ -131,7 +142,8 @@ one_todo lines a b h k = same_todo a b (λ i. record {
 never : {b : Bool} → b ≡ false → b ≡ true → ⊥
 never h k = let e : false ≡ true = sym h ∙ k in absurd cc
 
-good_cause : (above : PropertyName → List Line) (p : PropertyName) (line : Line) (f : TodoCause) → IsGoodAs above p line → HasCauseAs above p line f → ⊥
+good_cause : (above : PropertyName → List Line) (p : PropertyName) (line : Line) (f : TodoCause) → IsGoodAs above p line →
+    HasCauseAs above p line f → ⊥
 good_cause above p line (cause.Missing q) h k = k
 good_cause above p line (cause.Twice q) h k = never h.once k.1
 good_cause above p line cause.Range h k = never h.range k.1
@@ -139,7 +151,8 @@ good_cause above p line (cause.BadValue q) h k = k.3 h.value
 good_cause above p line cause.TooMany h k = never h.few k.3
 good_cause above p line cause.SameAttendee h k = never h.new k.4
 
-one_here : (above : PropertyName → List Line) (p : PropertyName) (line : Line) (f g : TodoCause) → HasCauseAs above p line f → HasCauseAs above p line g → f ≡ g
+one_here : (above : PropertyName → List Line) (p : PropertyName) (line : Line) (f g : TodoCause) → HasCauseAs above p line f →
+    HasCauseAs above p line g → f ≡ g
 one_here above p line (cause.Missing q) g h k = absurd h
 one_here above p line (cause.Twice q) (cause.Missing r) h k = absurd k
 one_here above p line (cause.Twice q) (cause.Twice r) h k = ap (λ s. cause.Twice s) (h.0 ∙ sym k.0)
@@ -172,7 +185,8 @@ one_here above p line cause.SameAttendee (cause.BadValue r) h k = absurd (k.3 h.
 one_here above p line cause.SameAttendee cause.TooMany h k = absurd (never h.3 k.3)
 one_here above p line cause.SameAttendee cause.SameAttendee h k = refl
 
-good_first : (above : List Line) (lines : List NumberedLine) (r : TodoRefusal) → AreGood above (plain_lines lines) → FirstRefusal above lines r → ⊥
+good_first : (above : List Line) (lines : List NumberedLine) (r : TodoRefusal) → AreGood above (plain_lines lines) →
+    FirstRefusal above lines r → ⊥
 good_first above [] r h k = k
 good_first above (l ∷ lines) r h (inl k) = good_cause (lines_of above) (property_of l.line) l.line r.cause h.0 k.1
 good_first above (l ∷ lines) r h (inr k) = good_first (above ++ l.line ∷ []) lines r h.1 k.1
@@ -180,9 +194,11 @@ good_first above (l ∷ lines) r h (inr k) = good_first (above ++ l.line ∷ [])
 same_refusal : (r s : TodoRefusal) → r.cause ≡ s.cause → r.line ≡ s.line → r ≡ s
 same_refusal r s p q = λ i. record { cause = p i; line = q i }
 
-one_first : (above : List Line) (lines : List NumberedLine) (r s : TodoRefusal) → FirstRefusal above lines r → FirstRefusal above lines s → r ≡ s
+one_first : (above : List Line) (lines : List NumberedLine) (r s : TodoRefusal) → FirstRefusal above lines r → FirstRefusal above lines s →
+    r ≡ s
 one_first above [] r s h k = absurd h
-one_first above (l ∷ lines) r s (inl h) (inl k) = same_refusal r s (one_here (lines_of above) (property_of l.line) l.line r.cause s.cause h.1 k.1) (h.0 ∙ sym k.0)
+one_first above (l ∷ lines) r s (inl h) (inl k) =
+    same_refusal r s (one_here (lines_of above) (property_of l.line) l.line r.cause s.cause h.1 k.1) (h.0 ∙ sym k.0)
 one_first above (l ∷ lines) r s (inl h) (inr k) = absurd (good_cause (lines_of above) (property_of l.line) l.line r.cause k.0 h.1)
 one_first above (l ∷ lines) r s (inr h) (inl k) = absurd (good_cause (lines_of above) (property_of l.line) l.line s.cause h.0 k.1)
 one_first above (l ∷ lines) r s (inr h) (inr k) = one_first (above ++ l.line ∷ []) lines r s h.1 k.1
@@ -202,7 +218,8 @@ has_line : {A : Type 0} (P : Line → A → Type 0) (o : Option Line) (a : A) �
 has_line P None a h e = h
 has_line P (Some line) a h e = cc
 
-pub read_or_refused : (lines : List NumberedLine) (todo : Todo) (r : TodoRefusal) → ReadsTodo (plain_lines lines) todo → RefusesTodo lines r → ⊥
+pub read_or_refused : (lines : List NumberedLine) (todo : Todo) (r : TodoRefusal) → ReadsTodo (plain_lines lines) todo →
+    RefusesTodo lines r → ⊥
 read_or_refused lines todo r h (inl k) = good_first [] lines r h.good k
 read_or_refused lines todo r h (inr (inl k)) = has_line IsUidOf (first_named name.Uid (plain_lines lines)) todo.uid h.uid k.1
 read_or_refused lines todo r h (inr (inr k)) = has_line IsStampOf (first_named name.DtStamp (plain_lines lines)) todo.stamp h.stamp k.2
@@ -217,10 +234,12 @@ LacksPlace r = (r.line ≡ None) ↔ ((p : PropertyName) × (r.cause ≡ cause.M
 
 first_placed : (above : List Line) (lines : List NumberedLine) (r : TodoRefusal) → FirstRefusal above lines r → LacksPlace r
 first_placed above [] r h = absurd h
-first_placed above (l ∷ lines) r (inl h) = (λ e. absurd (some_is_not_none l.number r.line h.0 e), λ (p, e). absurd (subst (λ (x : TodoCause). HasCause above l.line x) e h.1))
+first_placed above (l ∷ lines) r (inl h) =
+    (λ e. absurd (some_is_not_none l.number r.line h.0 e), λ (p, e). absurd (subst (λ (x : TodoCause). HasCause above l.line x) e h.1))
 first_placed above (l ∷ lines) r (inr h) = first_placed (above ++ l.line ∷ []) lines r h.1
 
 pub refusal_place : (lines : List NumberedLine) (r : TodoRefusal) → RefusesTodo lines r → LacksPlace r
 refusal_place lines r (inl h) = first_placed [] lines r h
 refusal_place lines r (inr (inl h)) = (λ e. (name.Uid, ap (λ (x : TodoRefusal). x.cause) h.2), λ e. ap (λ (x : TodoRefusal). x.line) h.2)
-refusal_place lines r (inr (inr h)) = (λ e. (name.DtStamp, ap (λ (x : TodoRefusal). x.cause) h.3), λ e. ap (λ (x : TodoRefusal). x.line) h.3)
+refusal_place lines r (inr (inr h)) =
+    (λ e. (name.DtStamp, ap (λ (x : TodoRefusal). x.cause) h.3), λ e. ap (λ (x : TodoRefusal). x.line) h.3)

@@ -4,14 +4,16 @@ use Rattle.std.specs.List.{AllByRecursion}
 use Rattle.std.specs.Fmt.{decimal}
 use Rattle.itip_todo.specs.Parts.{Parts}
 use Rattle.itip_todo.specs.StatusText.{status_text}
-use Rattle.itip_todo.specs.Written.{Content, content_of, plain, moment_line, rid_line, property_line, optional, head_contents, parts_contents}
+use Rattle.itip_todo.specs.Written.{Content, content_of, plain, moment_line, rid_line, property_line, optional, head_contents}
+use Rattle.itip_todo.specs.Written.{parts_contents}
 use Rattle.itip_todo.specs.declared.property_name.PropertyName.TheVariants as name
 
 pub all_append : {A : Type 0} (P : A → Type 0) (xs ys : List A) → AllByRecursion P xs → AllByRecursion P ys → AllByRecursion P (xs ++ ys)
 all_append P [] ys h k = k
 all_append P (x ∷ xs) ys h k = (h.0, all_append P xs ys h.1 k)
 
-pub all_optional : {A : Type 0} (P : Content → Type 0) (f : A → Content) (v : Option A) → ((a : A) → v ≡ Some a → P (f a)) → AllByRecursion P (optional f v)
+pub all_optional : {A : Type 0} (P : Content → Type 0) (f : A → Content) (v : Option A) → ((a : A) → v ≡ Some a → P (f a)) →
+    AllByRecursion P (optional f v)
 all_optional P f None h = tt
 all_optional P f (Some a) h = (h a refl, tt)
 

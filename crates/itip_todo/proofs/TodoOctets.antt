@@ -25,14 +25,19 @@ written_todo todo = record {
   lines = lines_from (todo_contents (parts_of todo)) (lawful todo);
   inside = lines_from (parts_contents (parts_of todo)) todo.lawful.lines;
   spelled = ap contents_octets (sym (contents_of (todo_contents (parts_of todo)) (lawful todo)));
-  are = λ few short. reads_from (todo_contents (parts_of todo)) (lawful todo) (omega (arith, few, length_from (todo_contents (parts_of todo)) (lawful todo))) short;
+  are = λ few short. reads_from (todo_contents (parts_of todo)) (lawful todo)
+      (omega (arith, few, length_from (todo_contents (parts_of todo)) (lawful todo))) short;
   framed =
       contents_of (todo_contents (parts_of todo)) (lawful todo)
-      ∙ ap (λ (cs : List Content). bare (codes "BEGIN") (codes "VTODO") ∷ (cs ++ bare (codes "END") (codes "VTODO") ∷ [])) (sym (contents_of (parts_contents (parts_of todo)) todo.lawful.lines));
-  reads = read_again (lines_from (parts_contents (parts_of todo)) todo.lawful.lines) todo (contents_of (parts_contents (parts_of todo)) todo.lawful.lines);
+      ∙ ap (λ (cs : List Content). bare (codes "BEGIN") (codes "VTODO") ∷ (cs ++ bare (codes "END") (codes "VTODO") ∷ []))
+      (sym (contents_of (parts_contents (parts_of todo)) todo.lawful.lines));
+  reads = read_again (lines_from (parts_contents (parts_of todo)) todo.lawful.lines) todo
+      (contents_of (parts_contents (parts_of todo)) todo.lawful.lines);
 }
 
 -- what was appended is read as the to-do
-pub appended_todo : (old new : List ℕ) (todo : Todo) → new ≡ old ++ contents_octets (todo_contents (parts_of todo)) → (octets : List ℕ) → new ≡ old ++ octets → AreReadAs octets todo
+pub appended_todo : (old new : List ℕ) (todo : Todo) → new ≡ old ++ contents_octets (todo_contents (parts_of todo)) → (octets : List ℕ) →
+    new ≡ old ++ octets → AreReadAs octets todo
 appended_todo old new todo is octets same =
-    subst (λ (text : List ℕ). AreReadAs text todo) (append_cancel_left old (contents_octets (todo_contents (parts_of todo))) octets (sym is ∙ same)) (written_todo todo)
+    subst (λ (text : List ℕ). AreReadAs text todo)
+    (append_cancel_left old (contents_octets (todo_contents (parts_of todo))) octets (sym is ∙ same)) (written_todo todo)

@@ -1,5 +1,6 @@
 -- What each property is written as is a value that it may have.
-use Rattle.std.proofs.Common.{◌≡◌, ◌∙◌, ap, refl, sym, subst, ℕ, zero, suc, ◌==◌, ◌<◌, ◌≤◌, ◌^◌, Bool, true, false, cond, ◌&&◌, List, [], ◌∷◌, ◌++◌, append-nil, drop, get_or, arith, inr, Some, map}
+use Rattle.std.proofs.Common.{◌≡◌, ◌∙◌, ap, refl, sym, subst, ℕ, zero, suc, ◌==◌, ◌<◌, ◌≤◌, ◌^◌, Bool, true, false, cond, ◌&&◌, List, []}
+use Rattle.std.proofs.Common.{◌∷◌, ◌++◌, append-nil, drop, get_or, arith, inr, Some, map}
 use Rattle.std.specs.Prelude.{IsTrue, codes, not}
 use Rattle.std.specs.Fmt.{decimal}
 use Rattle.std.specs.List.{AllByRecursion, list_any, list_all}
@@ -20,7 +21,8 @@ use Rattle.itip_todo.specs.Parts.{Parts}
 use Rattle.itip_todo.specs.StatusText.{status_text, status_of}
 use Rattle.itip_todo.specs.Table.{property_of, is_same, is_other, sequence_limit, percent_limit, priority_limit}
 use Rattle.itip_todo.specs.Values.{IsNumberUpTo, IsMomentText, IsGoodValue}
-use Rattle.itip_todo.specs.Written.{Content, content_of, plain, moment_line, rid_line, property_line, moment_params, range_params, parts_contents}
+use Rattle.itip_todo.specs.Written.{Content, content_of, plain, moment_line, rid_line, property_line, moment_params, range_params}
+use Rattle.itip_todo.specs.Written.{parts_contents}
 use Rattle.itip_todo.specs.declared.property_name.PropertyName.{PropertyName}
 use Rattle.itip_todo.specs.declared.property_name.PropertyName.TheVariants as name
 use Rattle.itip_todo.specs.declared.status.Status.{Status}
@@ -106,7 +108,8 @@ every P [] h = tt
 every P (x ∷ xs) h = (h x, every P xs h)
 
 -- what is known of a line's property is known of the line
-read_as_one : (line : Line) (p : PropertyName) → property_of line ≡ p → (is_same p name.RecurrenceId && bad_in line.params) ≡ false → IsGoodValue p line → IsGoodAlone line
+read_as_one : (line : Line) (p : PropertyName) → property_of line ≡ p → (is_same p name.RecurrenceId && bad_in line.params) ≡ false →
+    IsGoodValue p line → IsGoodAlone line
 read_as_one line p e range value = record {
   range = subst (λ (q : PropertyName). (is_same q name.RecurrenceId && bad_in line.params) ≡ false) (sym e) range;
   value = subst (λ (q : PropertyName). IsGoodValue q line) (sym e) value;
@@ -116,8 +119,11 @@ others_good : (lines : List Line) → IsTrue (list_all is_other lines) → AllBy
 unfolding property_of
 others_good [] h = tt
 others_good (l ∷ lines) h =
-    let two = and_parts _ _ h in
-    (λ lawful. read_as_one (record { name = l.name; params = l.params; value = l.value; lawful = lawful }) name.Others (same_is (property_of l) name.Others two.0) refl tt, others_good lines two.1)
+    let two = and_parts _ _ h in (
+      λ lawful. read_as_one (record { name = l.name; params = l.params; value = l.value; lawful = lawful }) name.Others
+          (same_is (property_of l) name.Others two.0) refl tt,
+      others_good lines two.1,
+    )
 
 parts_good : (parts : Parts) → IsLawful parts → AllParts IsGoodContent parts
 unfolding property_of
@@ -129,19 +135,28 @@ parts_good parts lawful = record {
       (λ h. record { range = refl; value = (parts.seq, number_back sequence_limit parts.seq lawful.seq (omega arith)) }, tt),
     ),
   );
-  base = all_optional IsGoodContent (λ (n : ℕ). plain name.DeskBase (decimal n)) parts.base (λ n e h. record { range = refl; value = (n, number_back sequence_limit n (lawful.base n e) (omega arith)) });
-  rid = all_optional IsGoodContent (rid_line parts.range) parts.rid (λ m e h. record { range = good_range m parts.range; value = (m, rid_back m parts.range) });
+  base = all_optional IsGoodContent (λ (n : ℕ). plain name.DeskBase (decimal n)) parts.base
+      (λ n e h. record { range = refl; value = (n, number_back sequence_limit n (lawful.base n e) (omega arith)) });
+  rid = all_optional IsGoodContent (rid_line parts.range) parts.rid
+      (λ m e h. record { range = good_range m parts.range; value = (m, rid_back m parts.range) });
   start = all_optional IsGoodContent (moment_line name.DtStart) parts.start (λ m e h. record { range = refl; value = (m, moment_back m) });
   due = all_optional IsGoodContent (moment_line name.Due) parts.due (λ m e h. record { range = refl; value = (m, moment_back m) });
-  status = all_optional IsGoodContent (λ (s : Status). plain name.Status (status_text s)) parts.status (λ s e h. record { range = refl; value = (s, status_back s) });
-  percent = all_optional IsGoodContent (λ (n : ℕ). plain name.PercentComplete (decimal n)) parts.percent (λ n e h. record { range = refl; value = (n, number_back percent_limit n (lawful.percent n e) (omega arith)) });
-  priority = all_optional IsGoodContent (λ (n : ℕ). plain name.Priority (decimal n)) parts.priority (λ n e h. record { range = refl; value = (n, number_back priority_limit n (lawful.priority n e) (omega arith)) });
+  status = all_optional IsGoodContent (λ (s : Status). plain name.Status (status_text s)) parts.status
+      (λ s e h. record { range = refl; value = (s, status_back s) });
+  percent = all_optional IsGoodContent (λ (n : ℕ). plain name.PercentComplete (decimal n)) parts.percent
+      (λ n e h. record { range = refl; value = (n, number_back percent_limit n (lawful.percent n e) (omega arith)) });
+  priority = all_optional IsGoodContent (λ (n : ℕ). plain name.Priority (decimal n)) parts.priority
+      (λ n e h. record { range = refl; value = (n, number_back priority_limit n (lawful.priority n e) (omega arith)) });
   summary = all_optional IsGoodContent (property_line name.Summary) parts.summary (λ p e h. record { range = refl; value = tt });
-  organizer = all_optional IsGoodContent (property_line name.Organizer) parts.organizer (λ p e h. record { range = refl; value = lawful.organizer p e });
-  attendee = all_map IsGoodContent (property_line name.Attendee) parts.attendees (all_weaker HasValue _ parts.attendees (λ p some h. record { range = refl; value = some }) lawful.attendee_values);
+  organizer = all_optional IsGoodContent (property_line name.Organizer) parts.organizer
+      (λ p e h. record { range = refl; value = lawful.organizer p e });
+  attendee = all_map IsGoodContent (property_line name.Attendee) parts.attendees
+      (all_weaker HasValue _ parts.attendees (λ p some h. record { range = refl; value = some }) lawful.attendee_values);
   rule = all_map IsGoodContent (plain name.RRule) parts.rule (every _ parts.rule (λ v h. record { range = refl; value = tt }));
-  rdate = all_map IsGoodContent (moment_line name.RDate) parts.rdates (every _ parts.rdates (λ m h. read_as_one _ name.RDate (rdate_property m) refl (m ∷ [], moment_back m)));
-  exdate = all_map IsGoodContent (moment_line name.ExDate) parts.exdates (every _ parts.exdates (λ m h. record { range = refl; value = (m ∷ [], moment_back m) }));
+  rdate = all_map IsGoodContent (moment_line name.RDate) parts.rdates
+      (every _ parts.rdates (λ m h. read_as_one _ name.RDate (rdate_property m) refl (m ∷ [], moment_back m)));
+  exdate = all_map IsGoodContent (moment_line name.ExDate) parts.exdates
+      (every _ parts.exdates (λ m h. record { range = refl; value = (m ∷ [], moment_back m) }));
   other = others_good parts.others lawful.others;
 }
 
@@ -150,5 +165,8 @@ lines_good [] h = tt
 lines_good (l ∷ lines) h = (h.0 l.lawful, lines_good lines h.1)
 
 -- nor with the lines of the contents that a lawful to-do is written as
-pub good_alone : (lines : List Line) (parts : Parts) → IsLawful parts → map content_of lines ≡ parts_contents parts → AllByRecursion IsGoodAlone lines
-good_alone lines parts lawful e = lines_good lines (subst (λ (cs : List Content). AllByRecursion IsGoodContent cs) (sym e) (all_parts IsGoodContent parts (parts_good parts lawful)))
+pub good_alone : (lines : List Line) (parts : Parts) → IsLawful parts → map content_of lines ≡ parts_contents parts →
+    AllByRecursion IsGoodAlone lines
+good_alone lines parts lawful e =
+    lines_good lines (subst (λ (cs : List Content). AllByRecursion IsGoodContent cs) (sym e)
+    (all_parts IsGoodContent parts (parts_good parts lawful)))

@@ -13,7 +13,9 @@ use Rattle.itip_moment.specs.declared.stamp.Stamp.{Stamp}
 use Rattle.itip_todo.specs.Lawful.{IsLawful, HasValue}
 use Rattle.itip_todo.specs.Participation.{same_text}
 use Rattle.itip_todo.specs.Parts.{Parts}
-use Rattle.itip_todo.specs.Reading.{IsGoodAs, HasCauseAs, IsOptional, IsUidOf, IsStampOf, IsSequenceOf, IsPercentOf, IsPriorityOf, IsMomentOf, IsStatusOf, IsPropertyOf, IsOrganizerOf, whole_property, value_of, ListMoments, first_of, range_of, key_of}
+use Rattle.itip_todo.specs.Reading.{IsGoodAs, HasCauseAs, IsOptional, IsUidOf, IsStampOf, IsSequenceOf, IsPercentOf, IsPriorityOf}
+use Rattle.itip_todo.specs.Reading.{IsMomentOf, IsStatusOf, IsPropertyOf, IsOrganizerOf, whole_property, value_of, ListMoments, first_of}
+use Rattle.itip_todo.specs.Reading.{range_of, key_of}
 use Rattle.itip_todo.specs.Table.{is_same, attendee_limit}
 use Rattle.itip_todo.specs.Values.{AreMoments}
 use Rattle.itip_todo.specs.declared.draft.Draft.{Draft}
@@ -119,4 +121,5 @@ draft_parts uid stamp draft = record {
 -- the to-do of a draft is lawful
 abbrev pub IsLawfulDraft : Draft → Type 0
 IsLawfulDraft draft =
-    (uid : List ℕ) (stamp : Stamp) → draft.uid ≡ Some uid → draft.stamp ≡ Some stamp → IsOrdered moment_cmp draft.rdates → IsOrdered moment_cmp draft.exdates → IsLawful (draft_parts uid stamp draft)
+    (uid : List ℕ) (stamp : Stamp) → draft.uid ≡ Some uid → draft.stamp ≡ Some stamp
+    → IsOrdered moment_cmp draft.rdates → IsOrdered moment_cmp draft.exdates → IsLawful (draft_parts uid stamp draft)

@@ -1,4 +1,5 @@
--- What a to-do keeps of itself: the values, counts and orders of the table of properties (RFC 5545 3.6.2; the limits and orders are our own).
+-- What a to-do keeps of itself: the values, counts and orders of the table of properties (RFC 5545 3.6.2; the limits
+-- and orders are our own).
 use Rattle.std.specs.Prelude.{◌≡◌, ◌≤◌, ◌<◌, ℕ, List, length, map, IsTrue, Some}
 use Rattle.std.specs.Option.{is_some}
 use Rattle.std.specs.List.{AllByRecursion, IsDistinct, list_all}

@@ -4,7 +4,8 @@ use Rattle.std.specs.Cmp.Lexicographic.{pointwise}
 use Rattle.std.specs.Char.{to_ascii_lowercase}
 use Rattle.itip_lines.specs.declared.line.Param.{Param}
 use Rattle.itip_todo.specs.declared.attendee.PartStat.{PartStat}
-use Rattle.itip_todo.specs.declared.attendee.PartStat.TheVariants.{NeedsAction, Accepted, Declined, Tentative, Delegated, Completed, InProcess}
+use Rattle.itip_todo.specs.declared.attendee.PartStat.TheVariants.{NeedsAction, Accepted, Declined, Tentative, Delegated, Completed}
+use Rattle.itip_todo.specs.declared.attendee.PartStat.TheVariants.{InProcess}
 
 abbrev pub same_text : List ℕ → List ℕ → Bool
 same_text = pointwise nat_eq

@@ -1,5 +1,7 @@
--- What the lines between BEGIN:VTODO and END:VTODO read as: a to-do, or why and where they are refused (RFC 5545 3.6.2; the order of causes is our own).
-use Rattle.std.specs.Prelude.{◌≡◌, ◌≢◌, ◌<◌, ◌↔◌, ℕ, ◌⊎◌, Bool, false, not, ◌&&◌, nat_le, IsTrue, List, [], ◌∷◌, ◌++◌, length, map, codes, Option, Some, None}
+-- What the lines between BEGIN:VTODO and END:VTODO read as: a to-do, or why and where they are refused (RFC 5545 3.6.2;
+-- the order of causes is our own).
+use Rattle.std.specs.Prelude.{◌≡◌, ◌≢◌, ◌<◌, ◌↔◌, ℕ, ◌⊎◌, Bool, false, not, ◌&&◌, nat_le, IsTrue, List, [], ◌∷◌, ◌++◌, length, map, codes}
+use Rattle.std.specs.Prelude.{Option, Some, None}
 use Rattle.std.specs.Option.{is_some}
 use Rattle.std.specs.List.{list_any, filter, Contains}
 use Rattle.std.specs.List.Sorted.{IsStrictlySortedBy}
@@ -14,7 +16,8 @@ use Rattle.itip_moment.specs.declared.moment.Moment.{Moment}
 use Rattle.itip_moment.specs.declared.stamp.Stamp.{Stamp}
 use Rattle.itip_todo.specs.Participation.{same_text, param_value}
 use Rattle.itip_todo.specs.StatusText.{status_of}
-use Rattle.itip_todo.specs.Table.{property_of, is_same, stands_once, attendee_key, attendee_limit, sequence_limit, percent_limit, priority_limit}
+use Rattle.itip_todo.specs.Table.{property_of, is_same, stands_once, attendee_key, attendee_limit, sequence_limit, percent_limit}
+use Rattle.itip_todo.specs.Table.{priority_limit}
 use Rattle.itip_todo.specs.Values.{IsNumberUpTo, IsMomentText, AreMoments, IsGoodValue}
 use Rattle.itip_todo.specs.declared.property.Property.{Property}
 use Rattle.itip_todo.specs.declared.property_name.PropertyName.{PropertyName}
@@ -54,7 +57,8 @@ range_of (Some line) = has_range line
 
 -- RECURRENCE-ID with RANGE of another value
 abbrev pub has_bad_range : PropertyName → Line → Bool
-has_bad_range p line = is_same p name.RecurrenceId && (list_any (λ (param : Param). same_text param.name (codes "RANGE")) line.params && not (has_range line))
+has_bad_range p line = is_same p name.RecurrenceId &&
+    (list_any (λ (param : Param). same_text param.name (codes "RANGE")) line.params && not (has_range line))
 
 -- one ATTENDEE too many
 abbrev pub is_too_many : (PropertyName → List Line) → PropertyName → Bool
@@ -81,9 +85,11 @@ HasCauseAs above p line (cause.Missing q) = ⊥
 HasCauseAs above p line (cause.Twice q) = (q ≡ p) × IsTrue (is_twice above p)
 HasCauseAs above p line cause.Range = (is_twice above p ≡ false) × IsTrue (has_bad_range p line)
 HasCauseAs above p line (cause.BadValue q) = (q ≡ p) × (is_twice above p ≡ false) × (has_bad_range p line ≡ false) × (¬ IsGoodValue p line)
-HasCauseAs above p line cause.TooMany = (is_twice above p ≡ false) × (has_bad_range p line ≡ false) × IsGoodValue p line × IsTrue (is_too_many above p)
+HasCauseAs above p line cause.TooMany = (is_twice above p ≡ false) × (has_bad_range p line ≡ false) × IsGoodValue p line ×
+    IsTrue (is_too_many above p)
 HasCauseAs above p line cause.SameAttendee =
-    (is_twice above p ≡ false) × (has_bad_range p line ≡ false) × IsGoodValue p line × (is_too_many above p ≡ false) × IsTrue (is_same_attendee above p line)
+    (is_twice above p ≡ false) × (has_bad_range p line ≡ false) × IsGoodValue p line × (is_too_many above p ≡ false) ×
+    IsTrue (is_same_attendee above p line)
 
 -- nothing is wrong with a line, where these stand above it
 abbrev pub IsGood : List Line → Line → Type 0
@@ -155,7 +161,9 @@ value_of line = line.value
 -- the moments that these lines list, in order of appearance
 abbrev pub ListMoments : List Line → List Moment → Type 0
 ListMoments [] moments = moments ≡ []
-ListMoments (line ∷ lines) moments = (here : List Moment) × (later : List Moment) × (moments ≡ here ++ later) × AreMoments line.params line.value here × ListMoments lines later
+ListMoments (line ∷ lines) moments =
+    (here : List Moment) × (later : List Moment) × (moments ≡ here ++ later) × AreMoments line.params line.value here ×
+    ListMoments lines later
 
 -- these moments, each once and in their order, are those that the lines list
 pub record AreMomentsOf (lines : List Line) (moments : List Moment) : Type 0 where

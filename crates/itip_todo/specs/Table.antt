@@ -5,7 +5,9 @@ use Rattle.std.specs.List.{list_any}
 use Rattle.itip_lines.specs.declared.line.Line.{Line}
 use Rattle.itip_todo.specs.Participation.{same_text}
 use Rattle.itip_todo.specs.declared.property_name.PropertyName.{PropertyName}
-use Rattle.itip_todo.specs.declared.property_name.PropertyName.TheVariants.{Uid, DtStamp, Sequence, DeskBase, RecurrenceId, DtStart, Due, Status, PercentComplete, Priority, Summary, Organizer, Attendee, RRule, RDate, ExDate, Others}
+use Rattle.itip_todo.specs.declared.property_name.PropertyName.TheVariants.{Uid, DtStamp, Sequence, DeskBase, RecurrenceId, DtStart, Due}
+use Rattle.itip_todo.specs.declared.property_name.PropertyName.TheVariants.{Status, PercentComplete, Priority, Summary, Organizer, Attendee}
+use Rattle.itip_todo.specs.declared.property_name.PropertyName.TheVariants.{RRule, RDate, ExDate, Others}
 
 -- the name of a property as it is written; that of the others is not one name
 abbrev pub name_text : PropertyName → List ℕ

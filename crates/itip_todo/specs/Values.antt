@@ -27,7 +27,8 @@ pub record AreDigitsUpTo (limit : ℕ) (text : List ℕ) (n : ℕ) : Type 0 wher
   pub value : n ≡ digits_value 10 (without_leading_plus text)
   pub small : n ≤ limit
 
--- a whole number of at most this value: a sign or none, and digits; behind a minus it can only be 0 (RFC 5545 3.3.8; the limits are our own)
+-- a whole number of at most this value: a sign or none, and digits; behind a minus it can only be 0 (RFC 5545 3.3.8;
+-- the limits are our own)
 abbrev pub IsNumberUpTo : ℕ → List ℕ → ℕ → Type 0
 IsNumberUpTo limit text n = (AreNoughts text × (n ≡ 0)) ⊎ AreDigitsUpTo limit text n
 
@@ -39,7 +40,8 @@ IsMomentText params text moment = MomentText text (Some (param_value (codes "TZI
 abbrev pub AreMoments : List Param → List ℕ → List Moment → Type 0
 AreMoments params text [] = ⊥
 AreMoments params text (m ∷ []) = IsMomentText params text m
-AreMoments params text (m ∷ (n ∷ ns)) = (front : List ℕ) × (rest : List ℕ) × (text ≡ front ++ 44 ∷ rest) × IsMomentText params front m × AreMoments params rest (n ∷ ns)
+AreMoments params text (m ∷ (n ∷ ns)) =
+    (front : List ℕ) × (rest : List ℕ) × (text ≡ front ++ 44 ∷ rest) × IsMomentText params front m × AreMoments params rest (n ∷ ns)
 
 -- the value of a line is one that the property may have
 abbrev pub IsGoodValue : PropertyName → Line → Type 0

@@ -7,7 +7,7 @@ use crate::uid::Uid;
 use itip_lines::{Line, ListOf, NoMemory, Text};
 use itip_moment::Moment;
 
-/// When a to-do is, and which instance of a series it is.
+/// When a to-do is, and its recurrence id.
 #[derive(Drop)]
 pub(crate) struct Times {
     pub rid: Option<Moment>,
@@ -34,7 +34,8 @@ pub(crate) struct Subject {
 }
 
 fn copy_subject(todo: &Todo) -> Result<Subject, NoMemory>
-    ensures { IfOk result (λ copy. copy ≡ record { summary = todo.now.summary; organizer = todo.now.organizer; attendees = todo.now.attendees }) }
+    ensures { IfOk result (λ copy. copy
+        ≡ record { summary = todo.now.summary; organizer = todo.now.organizer; attendees = todo.now.attendees }) }
 {
     Ok(Subject {
         summary: todo.summary.clone()?,
@@ -47,7 +48,8 @@ fn copy_subject(todo: &Todo) -> Result<Subject, NoMemory>
 pub(crate) fn copy_head(todo: &Todo) -> Result<(Uid, Times, Subject), NoMemory>
     ensures uid { IfOk result (λ copy. copy.0 ≡ todo.now.uid) }
     ensures times { IfOk result (λ copy. copy.1 ≡ record { rid = todo.now.rid; start = todo.now.start; due = todo.now.due }) }
-    ensures subject { IfOk result (λ copy. copy.2 ≡ record { summary = todo.now.summary; organizer = todo.now.organizer; attendees = todo.now.attendees }) }
+    ensures subject { IfOk result (λ copy. copy.2
+        ≡ record { summary = todo.now.summary; organizer = todo.now.organizer; attendees = todo.now.attendees }) }
 {
     let uid = todo.uid.clone()?;
     let times = copy_times(todo)?;
@@ -71,7 +73,8 @@ pub(crate) struct Lists {
 }
 
 pub(crate) fn copy_lists(todo: &Todo) -> Result<Lists, NoMemory>
-    ensures { IfOk result (λ copy. copy ≡ record { rule = todo.now.rule; rdates = todo.now.rdates; exdates = todo.now.exdates; others = todo.now.others }) }
+    ensures { IfOk result (λ copy. copy
+        ≡ record { rule = todo.now.rule; rdates = todo.now.rdates; exdates = todo.now.exdates; others = todo.now.others }) }
 {
     Ok(Lists {
         rule: todo.rule.clone()?,

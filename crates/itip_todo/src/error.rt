@@ -35,6 +35,7 @@ pub enum TodoCause {
 /// Why lines are refused: what is wrong, and where. The first faulty line decides, and then what is missing.
 #[derive(Clone, Copy, PartialEq, Eq, Debug)]
 pub struct TodoRefusal {
+    /// What is wrong.
     pub cause: TodoCause,
     /// The number of the first faulty line. `None` exactly for `Missing`.
     pub line: Option<usize>,
@@ -52,7 +53,7 @@ impl std::error::Error for TodoRefusal {}
 /// Why no to-do was given.
 #[derive(Debug, Drop, Error)]
 pub enum TodoError {
-    /// Memory was refused.
+    /// An allocation failed.
     #[error("no memory to read a to-do")]
     NoMemory,
     /// The lines are not those of a to-do.

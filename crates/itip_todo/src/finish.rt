@@ -74,8 +74,8 @@ fn values_of(
 {
     let uid = present(uid, PropertyName::Uid)?;
     let stamp = present(stamp, PropertyName::DtStamp)?;
-    let rdates = in_order(alloc, rdates)?;
-    let exdates = in_order(alloc, exdates)?;
+    let rdates = sorted_moments(alloc, rdates)?;
+    let exdates = sorted_moments(alloc, exdates)?;
     Ok(Needed {
         uid,
         stamp,
@@ -85,7 +85,7 @@ fn values_of(
 }
 
 /// The moments of a set, in their order.
-fn in_order(alloc: Global, set: BTreeSet<Moment>) -> Result<ListOf<Moment>, NoMemory>
+fn sorted_moments(alloc: Global, set: BTreeSet<Moment>) -> Result<ListOf<Moment>, NoMemory>
     ensures list { IfOk result (λ list. list ≡ set.keys) }
     ensures ordered { OnOk result (IsOrdered moment_cmp set) }
 {

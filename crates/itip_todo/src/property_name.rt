@@ -11,7 +11,7 @@ pub enum PropertyName {
     Uid,
     DtStamp,
     Sequence,
-    /// `X-DESK-BASE`: the effective sequence of an instance item, where it exceeds its own.
+    /// `X-DESK-BASE`: the effective sequence of an instance or range item, where it exceeds its own.
     DeskBase,
     RecurrenceId,
     DtStart,

@@ -51,7 +51,47 @@ pub struct Todo {
     pub exdates: ListOf<Moment>,
     /// The lines of all other properties as they stand, and those of RDATE with a `/` in the value.
     pub others: ListOf<Line>,
-    pub ghost lawful: { IsLawful (record { uid = uid; stamp = stamp; seq = seq; base = base; rid = rid; range = range; start = start; due = due; status = status; percent = percent; priority = priority; summary = summary; organizer = organizer; attendees = attendees; rule = rule; rdates = rdates; exdates = exdates; others = others }) } by { IsLawful-prop (record { uid = uid; stamp = stamp; seq = seq; base = base; rid = rid; range = range; start = start; due = due; status = status; percent = percent; priority = priority; summary = summary; organizer = organizer; attendees = attendees; rule = rule; rdates = rdates; exdates = exdates; others = others }) },
+    pub ghost lawful: { IsLawful (record {
+      uid = uid;
+      stamp = stamp;
+      seq = seq;
+      base = base;
+      rid = rid;
+      range = range;
+      start = start;
+      due =
+          due;
+      status = status;
+      percent = percent;
+      priority = priority;
+      summary = summary;
+      organizer = organizer;
+      attendees = attendees;
+      rule = rule;
+      rdates = rdates;
+      exdates = exdates;
+      others = others;
+    }) } by { IsLawful-prop (record {
+      uid = uid;
+      stamp = stamp;
+      seq = seq;
+      base = base;
+      rid = rid;
+      range = range;
+      start = start;
+      due = due;
+      status = status;
+      percent = percent;
+      priority = priority;
+      summary = summary;
+      organizer = organizer;
+      attendees = attendees;
+      rule =
+          rule;
+      rdates = rdates;
+      exdates = exdates;
+      others = others;
+    }) },
 }
 
 impl Clone for Todo {

@@ -1,7 +1,8 @@
 //! Writing a to-do.
 ghost use Rattle.std.specs.Prelude.{◌≡◌, ◌++◌, ◌∷◌, [], List, ℕ, map, OnOk, OnErr};
 ghost use Rattle.std.specs.Fmt.{decimal};
-ghost use Rattle.itip_todo.specs.Written.{content_of, contents_octets, todo_contents, head_contents, bare, plain, moment_line, property_line, optional};
+ghost use Rattle.itip_todo.specs.Written.{content_of, contents_octets, todo_contents, head_contents, bare, plain, moment_line};
+ghost use Rattle.itip_todo.specs.Written.{property_line, optional};
 ghost use Rattle.itip_todo.specs.Octets.{AreReadAs};
 ghost use Rattle.itip_todo.specs.PartsOf.{parts_of};
 ghost use Rattle.itip_todo.specs.StatusText.{status_text};

@@ -67,7 +67,8 @@ fn write_beside(
     moment: &Moment,
     out: &mut Vec<u8>,
 ) -> Result<(), AllocError>
-    ensures { OnOk result (out.new.items ≡ out.old.items ++ contents_octets ((record { name = name_text property; params = params.now; value = moment_text moment.now }) ∷ [])) }
+    ensures { OnOk result (out.new.items
+        ≡ out.old.items ++ contents_octets ((record { name = name_text property; params = params.now; value = moment_text moment.now }) ∷ [])) }
 {
     let mut value = Vec::new(*out.allocator());
     write_moment(moment, &mut value)?;

@@ -23,7 +23,7 @@ pub(crate) fn answer(alloc: Global, word: &str, texts: &[&str]) -> Result<Vec<u8
 pub(crate) fn rule_of(alloc: Global, text: &str) -> Result<Rule, CallError> {
     match read_rule(alloc, text)? {
         Reading::Plain(rule) => Ok(rule),
-        Reading::Opaque => Err(CallError::Opaque),
+        Reading::OutsideProfile => Err(CallError::Opaque),
     }
 }
 

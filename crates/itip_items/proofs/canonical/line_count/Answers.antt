@@ -20,6 +20,7 @@ returns c = λ k.
     let f = step top _ _ c.len-5.result _ e c.saturating_add-6.ensures in
     let parts : Parts = parts_of c.args.todo.now in
     let is = count_is k parts in
-    let total : 7 + c.single_count.result + c.len.result + c.len-2.result + c.len-3.result + c.len-4.result + c.len-5.result ≡ length (canonical_contents k parts) =
+    let total : 7 + c.single_count.result + c.len.result + c.len-2.result + c.len-3.result + c.len-4.result + c.len-5.result ≡ length
+    (canonical_contents k parts) =
     omega (arith, is, c.single_count.ensures.count, c.len.ensures, c.len-2.ensures, c.len-3.ensures, c.len-4.ensures, c.len-5.ensures) in
     f ∙ ap (λ n. min n top) total

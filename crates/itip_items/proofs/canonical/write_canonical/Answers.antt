@@ -5,6 +5,7 @@ use Rattle.itip_items.proofs.canonical.write_canonical.Goals as goal
 
 pub returns : goal.returns
 returns c =
-    canonical_is c.args.kind (parts_of c.args.todo.now) _ _ _ _ (c.in_ok-extend_from_slice.ensures.items ∙ ap (λ (front : List ℕ). front ++ _) c.in_ok-octets.ensures.items)
+    canonical_is c.args.kind (parts_of c.args.todo.now) _ _ _ _ (c.in_ok-extend_from_slice.ensures.items ∙
+    ap (λ (front : List ℕ). front ++ _) c.in_ok-octets.ensures.items)
     (c.in_ok-extend_from_slice-2.ensures.items ∙ ap (λ (line : List ℕ). c.extend_from_slice.new.self.items ++ line) c.method_line.ensures)
     c.in_ok-write_todo.ensures.ok (c.shrink_to_fit.ensures.items ∙ c.in_ok-extend_from_slice-3.ensures.items)

@@ -26,33 +26,43 @@ not_started : (start : Option Moment) (make : Moment → Key) → None ≡ optio
 not_started None make e = refl
 not_started (Some id) make e = absurd cc
 
-of_started : (eff : _) (parts : Parts) (key : Key) → Started parts.start (instance_key false parts.uid) key → add_drafts eff parts.start parts ≡ instance_draft kind.Add eff key parts ∷ []
-of_started eff parts key m = ap (λ (s : Option Moment). add_drafts eff s parts) m.some ∙ ap (λ (n : Key). instance_draft kind.Add eff n parts ∷ []) (sym m.key_is)
+of_started : (eff : _) (parts : Parts) (key : Key) → Started parts.start (instance_key false parts.uid) key →
+    add_drafts eff parts.start parts ≡ instance_draft kind.Add eff key parts ∷ []
+of_started eff parts key m = ap (λ (s : Option Moment). add_drafts eff s parts) m.some ∙
+    ap (λ (n : Key). instance_draft kind.Add eff n parts ∷ []) (sym m.key_is)
 
 pub instance_item-requires : goal.instance_item-requires
 instance_item-requires c =
     let parts : Parts = parts_of c.args.todo in
-    let m = started c.args.todo.start (instance_key false c.args.todo.uid) c.in-Ok-Some.key (sym c.in-Ok-Some.field-0-is ∙ c.in-Ok-Some.ensures) in (
-      subst (λ (key : Key). IsCanonical (instance_draft kind.Add (raised parts c.args.above) key parts)) (sym m.key_is) (add_canonical parts m.id c.args.above c.requires.0 m.some),
+    let m = started c.args.todo.start (instance_key false c.args.todo.uid) c.in-Ok-Some.key (sym c.in-Ok-Some.field-0-is ∙
+    c.in-Ok-Some.ensures) in (
+      subst (λ (key : Key). IsCanonical (instance_draft kind.Add (raised parts c.args.above) key parts)) (sym m.key_is)
+          (add_canonical parts m.id c.args.above c.requires.0 m.some),
       c.requires.1,
     )
 
 pub returns-in_ok-push-in-Ok-Some-clause-found : goal.returns-in_ok-push-in-Ok-Some-clause-found
 returns-in_ok-push-in-Ok-Some-clause-found c =
     let parts : Parts = parts_of c.args.todo in
-    let m = started c.args.todo.start (instance_key false c.args.todo.uid) c.in-Ok-Some.key (sym c.in-Ok-Some.field-0-is ∙ c.in-Ok-Some.ensures) in
-    subst (λ (ds : List ItemDraft). Adds ds c.args.items.now.items c.push.new.self.items) (sym (of_started (raised parts c.args.above) parts c.in-Ok-Some.key m))
-    (adds_one _ c.in_ok-instance_item-in-Ok-Some.field-0 c.args.items.now.items c.push.new.self.items c.in_ok-instance_item-in-Ok-Some.ensures.found c.in_ok-push-in-Ok-Some.ensures.items)
+    let m = started c.args.todo.start (instance_key false c.args.todo.uid) c.in-Ok-Some.key (sym c.in-Ok-Some.field-0-is ∙
+    c.in-Ok-Some.ensures) in
+    subst (λ (ds : List ItemDraft). Adds ds c.args.items.now.items c.push.new.self.items)
+    (sym (of_started (raised parts c.args.above) parts c.in-Ok-Some.key m))
+    (adds_one _ c.in_ok-instance_item-in-Ok-Some.field-0 c.args.items.now.items c.push.new.self.items
+    c.in_ok-instance_item-in-Ok-Some.ensures.found c.in_ok-push-in-Ok-Some.ensures.items)
 
 pub returns-in_err-instance_item-in-Ok-Some-clause-large : goal.returns-in_err-instance_item-in-Ok-Some-clause-large
 returns-in_err-instance_item-in-Ok-Some-clause-large c =
     let p = err_from_is_err_and c.from_residual.result c.from_residual.ensures.1 in
     let parts : Parts = parts_of c.args.todo in
-    let m = started c.args.todo.start (instance_key false c.args.todo.uid) c.in-Ok-Some.key (sym c.in-Ok-Some.field-0-is ∙ c.in-Ok-Some.ensures) in
-    rw (p.1, p.2) (subst (λ (ds : List ItemDraft). IfLarge c.in_err-instance_item-in-Ok-Some.field-0.0 (IsOver ds)) (sym (of_started (raised parts c.args.above) parts c.in-Ok-Some.key m)) c.in_err-instance_item-in-Ok-Some.ensures.large)
+    let m = started c.args.todo.start (instance_key false c.args.todo.uid) c.in-Ok-Some.key (sym c.in-Ok-Some.field-0-is ∙
+    c.in-Ok-Some.ensures) in
+    rw (p.1, p.2) (subst (λ (ds : List ItemDraft). IfLarge c.in_err-instance_item-in-Ok-Some.field-0.0 (IsOver ds))
+    (sym (of_started (raised parts c.args.above) parts c.in-Ok-Some.key m)) c.in_err-instance_item-in-Ok-Some.ensures.large)
 
 pub returns-in-Ok-None-clause-found : goal.returns-in-Ok-None-clause-found
 returns-in-Ok-None-clause-found c =
     let parts : Parts = parts_of c.args.todo in
     let none = not_started c.args.todo.start (instance_key false c.args.todo.uid) (sym c.in-Ok-None.field-0-is ∙ c.in-Ok-None.ensures) in
-    subst (λ (ds : List ItemDraft). Adds ds c.args.items.now.items c.args.items.now.items) (sym (ap (λ (s : Option Moment). add_drafts (raised parts c.args.above) s parts) none)) (adds_none c.args.items.now.items)
+    subst (λ (ds : List ItemDraft). Adds ds c.args.items.now.items c.args.items.now.items)
+    (sym (ap (λ (s : Option Moment). add_drafts (raised parts c.args.above) s parts) none)) (adds_none c.args.items.now.items)

@@ -27,8 +27,10 @@ none_made (Some id) make e = absurd cc
 pub instance_item-requires : goal.instance_item-requires
 instance_item-requires c =
     let parts : Parts = parts_of c.args.todo in
-    let m = made c.args.todo.rid (instance_key c.args.todo.range c.args.todo.uid) c.in-Ok-Some.key (sym c.in-Ok-Some.field-0-is ∙ c.in-Ok-Some.ensures) in (
-      subst (λ (key : Key). IsCanonical (instance_draft c.args.kind (raised parts c.args.above) key parts)) (sym m.key_is) (instance_canonical c.args.kind parts m.id c.args.above c.requires.0 c.requires.1 m.some),
+    let m = made c.args.todo.rid (instance_key c.args.todo.range c.args.todo.uid) c.in-Ok-Some.key (sym c.in-Ok-Some.field-0-is ∙
+    c.in-Ok-Some.ensures) in (
+      subst (λ (key : Key). IsCanonical (instance_draft c.args.kind (raised parts c.args.above) key parts)) (sym m.key_is)
+          (instance_canonical c.args.kind parts m.id c.args.above c.requires.0 c.requires.1 m.some),
       c.requires.2,
     )
 
@@ -37,20 +39,26 @@ series_item-requires c =
     series_canonical c.args.kind (parts_of c.args.todo) c.requires.0 c.requires.1
     (none_made c.args.todo.rid (instance_key c.args.todo.range c.args.todo.uid) (sym c.in-Ok-None.field-0-is ∙ c.in-Ok-None.ensures))
 
-of_instance : (k : _) (eff : _) (parts : Parts) (key : Key) → Made parts.rid (instance_key parts.range parts.uid) key → task_draft k eff parts.rid parts ≡ instance_draft k eff key parts
-of_instance k eff parts key m = ap (λ (r : Option Moment). task_draft k eff r parts) m.some ∙ ap (λ (n : Key). instance_draft k eff n parts) (sym m.key_is)
+of_instance : (k : _) (eff : _) (parts : Parts) (key : Key) → Made parts.rid (instance_key parts.range parts.uid) key →
+    task_draft k eff parts.rid parts ≡ instance_draft k eff key parts
+of_instance k eff parts key m = ap (λ (r : Option Moment). task_draft k eff r parts) m.some ∙
+    ap (λ (n : Key). instance_draft k eff n parts) (sym m.key_is)
 
 pub returns-in-Ok-Some-clause-found : goal.returns-in-Ok-Some-clause-found
 returns-in-Ok-Some-clause-found c =
     let parts : Parts = parts_of c.args.todo in
-    let m = made c.args.todo.rid (instance_key c.args.todo.range c.args.todo.uid) c.in-Ok-Some.key (sym c.in-Ok-Some.field-0-is ∙ c.in-Ok-Some.ensures) in
-    subst (λ (d : ItemDraft). IfOk c.instance_item.result (Gives d)) (sym (of_instance c.args.kind (raised parts c.args.above) parts c.in-Ok-Some.key m)) c.instance_item.ensures.found
+    let m = made c.args.todo.rid (instance_key c.args.todo.range c.args.todo.uid) c.in-Ok-Some.key (sym c.in-Ok-Some.field-0-is ∙
+    c.in-Ok-Some.ensures) in
+    subst (λ (d : ItemDraft). IfOk c.instance_item.result (Gives d))
+    (sym (of_instance c.args.kind (raised parts c.args.above) parts c.in-Ok-Some.key m)) c.instance_item.ensures.found
 
 pub returns-in-Ok-Some-clause-large : goal.returns-in-Ok-Some-clause-large
 returns-in-Ok-Some-clause-large c =
     let parts : Parts = parts_of c.args.todo in
-    let m = made c.args.todo.rid (instance_key c.args.todo.range c.args.todo.uid) c.in-Ok-Some.key (sym c.in-Ok-Some.field-0-is ∙ c.in-Ok-Some.ensures) in
-    subst (λ (d : ItemDraft). IfErr c.instance_item.result (λ e. IfLarge e (IsOver (d ∷ [])))) (sym (of_instance c.args.kind (raised parts c.args.above) parts c.in-Ok-Some.key m)) c.instance_item.ensures.large
+    let m = made c.args.todo.rid (instance_key c.args.todo.range c.args.todo.uid) c.in-Ok-Some.key (sym c.in-Ok-Some.field-0-is ∙
+    c.in-Ok-Some.ensures) in
+    subst (λ (d : ItemDraft). IfErr c.instance_item.result (λ e. IfLarge e (IsOver (d ∷ []))))
+    (sym (of_instance c.args.kind (raised parts c.args.above) parts c.in-Ok-Some.key m)) c.instance_item.ensures.large
 
 of_series : (k : _) (eff : _) (parts : Parts) → parts.rid ≡ None → task_draft k eff parts.rid parts ≡ series_draft k parts
 of_series k eff parts none = ap (λ (r : Option Moment). task_draft k eff r parts) none
@@ -58,11 +66,15 @@ of_series k eff parts none = ap (λ (r : Option Moment). task_draft k eff r part
 pub returns-in-Ok-None-clause-found : goal.returns-in-Ok-None-clause-found
 returns-in-Ok-None-clause-found c =
     let parts : Parts = parts_of c.args.todo in
-    let none = none_made c.args.todo.rid (instance_key c.args.todo.range c.args.todo.uid) (sym c.in-Ok-None.field-0-is ∙ c.in-Ok-None.ensures) in
-    subst (λ (d : ItemDraft). IfOk c.series_item.result (Gives d)) (sym (of_series c.args.kind (raised parts c.args.above) parts none)) c.series_item.ensures.found
+    let none = none_made c.args.todo.rid (instance_key c.args.todo.range c.args.todo.uid) (sym c.in-Ok-None.field-0-is ∙
+    c.in-Ok-None.ensures) in
+    subst (λ (d : ItemDraft). IfOk c.series_item.result (Gives d)) (sym (of_series c.args.kind (raised parts c.args.above) parts none))
+    c.series_item.ensures.found
 
 pub returns-in-Ok-None-clause-large : goal.returns-in-Ok-None-clause-large
 returns-in-Ok-None-clause-large c =
     let parts : Parts = parts_of c.args.todo in
-    let none = none_made c.args.todo.rid (instance_key c.args.todo.range c.args.todo.uid) (sym c.in-Ok-None.field-0-is ∙ c.in-Ok-None.ensures) in
-    subst (λ (d : ItemDraft). IfErr c.series_item.result (λ e. IfLarge e (IsOver (d ∷ [])))) (sym (of_series c.args.kind (raised parts c.args.above) parts none)) c.series_item.ensures.large
+    let none = none_made c.args.todo.rid (instance_key c.args.todo.range c.args.todo.uid) (sym c.in-Ok-None.field-0-is ∙
+    c.in-Ok-None.ensures) in
+    subst (λ (d : ItemDraft). IfErr c.series_item.result (λ e. IfLarge e (IsOver (d ∷ []))))
+    (sym (of_series c.args.kind (raised parts c.args.above) parts none)) c.series_item.ensures.large

@@ -13,6 +13,7 @@ returns c = λ uid.
     let k = c.in_ok-clone.field-0 in
     let same : k ≡ c.args.todo.now.uid = c.in_ok-clone.ensures.cases in
     let value : c.max-seq.result ≡ max (unwrap_or (old k) 0) c.args.todo.now.seq =
-    c.max-seq.ensures ∙ ap (λ (n : ℕ). max n c.args.todo.now.seq) c.sequence_in.ensures ∙ ap (λ (u : List ℕ). max (unwrap_or (old u) 0) c.args.todo.now.seq) (sym same) in
+    c.max-seq.ensures ∙ ap (λ (n : ℕ). max n c.args.todo.now.seq) c.sequence_in.ensures ∙
+    ap (λ (u : List ℕ). max (unwrap_or (old u) 0) c.args.todo.now.seq) (sym same) in
     subst (λ (u : List ℕ). unwrap_or (new uid) 0 ≡ max (unwrap_or (old uid) 0) (cond (pointwise nat_eq u uid) c.args.todo.now.seq 0)) same
     (raised old new k uid c.max-seq.result c.args.todo.now.seq value (c.in_ok-insert.ensures.updates.0 uid))

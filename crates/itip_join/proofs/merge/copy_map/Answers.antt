@@ -10,7 +10,8 @@ loop-key-preserved g c =
     record {
       ordered = c.insert.ensures.ordered;
       walk = walk_step g.met.K.Ord.total g.met.K.Exact.exact w _ _
-          (put_here g.met.K.Ord.total _ _ _ c.in_ok-insert.ensures.updates.0 c.in_ok-copy.ensures c.in_ok-copy-2.ensures ∙ sym (walk_found g.met.K.Ord.total g.met.K.Exact.exact w))
+          (put_here g.met.K.Ord.total _ _ _ c.in_ok-insert.ensures.updates.0 c.in_ok-copy.ensures c.in_ok-copy-2.ensures ∙
+          sym (walk_found g.met.K.Ord.total g.met.K.Exact.exact w))
           (λ q e p. put_apart g.met.K.Ord.total _ _ _ c.in_ok-insert.ensures.updates.0 c.in_ok-copy.ensures q e ∙ p)
           (λ q e u. u);
     }
@@ -21,11 +22,13 @@ loop-key-preserved-in_ok-insert g c =
     record {
       ordered = c.insert.ensures.ordered;
       walk = walk_step g.met.K.Ord.total g.met.K.Exact.exact w _ _
-          (put_here g.met.K.Ord.total _ _ _ c.in_ok-insert.ensures.updates.0 c.in_ok-copy.ensures c.in_ok-copy-2.ensures ∙ sym (walk_found g.met.K.Ord.total g.met.K.Exact.exact w))
+          (put_here g.met.K.Ord.total _ _ _ c.in_ok-insert.ensures.updates.0 c.in_ok-copy.ensures c.in_ok-copy-2.ensures ∙
+          sym (walk_found g.met.K.Ord.total g.met.K.Exact.exact w))
           (λ q e p. put_apart g.met.K.Ord.total _ _ _ c.in_ok-insert.ensures.updates.0 c.in_ok-copy.ensures q e ∙ p)
           (λ q e u. u);
     }
 
 pub returns : goal.returns
-returns g c = entries_from_values g.met.K.Ord.total g.met.K.Exact.exact c.loop-key.copy.entries c.args.map.now.entries c.loop-key.invariant.ordered c.into_iter-key-iterator.ensures.into_iter_gives.5
+returns g c = entries_from_values g.met.K.Ord.total g.met.K.Exact.exact c.loop-key.copy.entries c.args.map.now.entries
+    c.loop-key.invariant.ordered c.into_iter-key-iterator.ensures.into_iter_gives.5
     (walk_end g.met.K.Ord.total g.met.K.Exact.exact c.in-None.ensures.steps.0 c.loop-key.invariant.walk)

@@ -6,7 +6,8 @@ use Rattle.itip_join.proofs.merge.is_below.Goals as goal
 
 pub loop-key-preserved-then-kills : goal.loop-key-preserved-then-kills
 loop-key-preserved-then-kills g c = step_dead g.met.K.Ord.total g.met.K.Exact.exact g.V.Join.le (g.S.Guard.is_dead c.args.guard.now)
-    (get g.K.Ord.cmp c.args.map.now) (get g.K.Ord.cmp c.args.other.now) c.in-Some.ensures.steps c.loop-key.invariant (sym c.kills.ensures ∙ c.if-kills.true)
+    (get g.K.Ord.cmp c.args.map.now) (get g.K.Ord.cmp c.args.other.now) c.in-Some.ensures.steps c.loop-key.invariant (sym c.kills.ensures ∙
+    c.if-kills.true)
 
 pub loop-key-preserved : goal.loop-key-preserved
 loop-key-preserved g c = step_alive g.met.K.Ord.total g.met.K.Exact.exact g.V.Join.le (g.S.Guard.is_dead c.args.guard.now)

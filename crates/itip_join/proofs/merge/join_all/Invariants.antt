@@ -7,5 +7,6 @@ abbrev pub invariant-loop-key : goal.invariant-loop-key
 invariant-loop-key g l = record {
   ordered : IsOrdered g.K.Ord.cmp l.map;
   undo : TakesBack g.K.Ord.cmp (get g.K.Ord.cmp l.initial.map) (get g.K.Ord.cmp l.map) (keys_in l.undo) (pairs_in l.undo);
-  walk : IsMergeWalk g.met.K.Ord.total g.met.K.Exact.exact g.V.Join.le (g.S.Guard.is_dead l.guard) (get g.K.Ord.cmp l.initial.map) (get g.K.Ord.cmp l.other) (get g.K.Ord.cmp l.map) l.key-iterator;
+  walk : IsMergeWalk g.met.K.Ord.total g.met.K.Exact.exact g.V.Join.le (g.S.Guard.is_dead l.guard) (get g.K.Ord.cmp l.initial.map)
+      (get g.K.Ord.cmp l.other) (get g.K.Ord.cmp l.map) l.key-iterator;
 }

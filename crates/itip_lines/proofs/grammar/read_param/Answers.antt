@@ -13,7 +13,8 @@ returns-then-is_empty c = lacks_name _ _ _ c.cut_run.ensures (empty_from_test _ 
 
 pub read_values-requires : goal.read_values-requires
 read_values-requires c =
-    utf8_behind 61 _ (subst IsUtf8 c.in-Some.ensures (utf8_past_name _ _ c.cut_run.ensures.passes (subst IsUtf8 c.cut_run.ensures.whole c.requires))) (omega arith)
+    utf8_behind 61 _ (subst IsUtf8 c.in-Some.ensures
+    (utf8_past_name _ _ c.cut_run.ensures.passes (subst IsUtf8 c.cut_run.ensures.whole c.requires))) (omega arith)
 
 pub returns-in_default-2 : goal.returns-in_default-2
 returns-in_default-2 c = lacks_values _ _ _ _ c.cut_run.ensures c.in-Some.ensures (rw c.in_default-2.is at c.in_ok-values.ensures)

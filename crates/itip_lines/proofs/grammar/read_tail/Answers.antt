@@ -14,18 +14,22 @@ returns-in_default-2 c = lacks_next_param _ _ _ _ c.loop-after.invariant c.in-So
 
 pub loop-after-preserved : goal.loop-after-preserved
 loop-after-preserved c =
-    rw c.in_ok-push.ensures.items (more_params _ _ _ _ _ _ c.loop-after.invariant c.in-Some.ensures (rw c.in-Some-2.is at c.in_ok-param.ensures))
+    rw c.in_ok-push.ensures.items (more_params _ _ _ _ _ _ c.loop-after.invariant c.in-Some.ensures
+    (rw c.in-Some-2.is at c.in_ok-param.ensures))
 
 pub returns-in_default-strip : goal.returns-in_default-strip
 returns-in_default-strip c = lacks_colon _ _ _ c.loop-after.invariant c.in_default.ensures c.in_default-strip.ensures
 
 pub returns-then-run_len-value : goal.returns-then-run_len-value
 returns-then-run_len-value c =
-    lacks_value _ _ _ _ c.loop-after.invariant c.in-Some-strip.ensures (not_all_in_run is_value_octet _ _ c.run_len.ensures c.if-run_len-value.true)
+    lacks_value _ _ _ _ c.loop-after.invariant c.in-Some-strip.ensures
+    (not_all_in_run is_value_octet _ _ c.run_len.ensures c.if-run_len-value.true)
 
 pub copy-requires : goal.copy-requires
 copy-requires c = utf8_behind 58 _ (subst IsUtf8 c.in-Some-strip.ensures c.loop-after.invariant.utf8) (omega arith)
 
 pub returns : goal.returns
 returns c =
-    rw (c.from_vec.ensures, c.in_ok-copy.ensures) (all_params _ _ _ _ c.loop-after.invariant c.in-Some-strip.ensures (all_in_run is_value_octet _ _ c.run_len.ensures c.if-run_len-value.false))
+    rw (c.from_vec.ensures, c.in_ok-copy.ensures)
+    (all_params _ _ _ _ c.loop-after.invariant c.in-Some-strip.ensures
+    (all_in_run is_value_octet _ _ c.run_len.ensures c.if-run_len-value.false))

@@ -20,6 +20,7 @@ upper_name-requires c = utf8_name _ c.cut_run.ensures.passes
 pub invariant_of-result : goal.invariant_of-result
 invariant_of-result c = record {
   lawful = lawful_line c.args.text.now _ _ _
-      (spelled_line _ _ _ _ _ _ c.cut_run.ensures (some_from_test _ (sym c.if-is_empty.ensures)) c.in_ok-name.ensures (rw c.in-Some.is at c.in_ok-params.ensures))
+      (spelled_line _ _ _ _ _ _ c.cut_run.ensures (some_from_test _ (sym c.if-is_empty.ensures)) c.in_ok-name.ensures
+      (rw c.in-Some.is at c.in_ok-params.ensures))
       c.requires.utf8 c.requires.short;
 }

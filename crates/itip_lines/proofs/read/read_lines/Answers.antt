@@ -6,7 +6,8 @@ use Rattle.itip_lines.proofs.read.read_lines.Goals as goal
 pub returns-in_err-rest-clause-refused : goal.returns-in_err-rest-clause-refused
 returns-in_err-rest-clause-refused c =
     let p = err_from_is_err_and c.from_residual-in_err-rest.result c.from_residual-in_err-rest.ensures.1 in
-    rw (p.1, p.2) (refused_line _ _ c.in-Some.left _ c.if-text-gt-TEXT_LIMIT.false (rw c.in-Some.is at c.loop-rest.invariant).0 c.in_err-rest.ensures.refused)
+    rw (p.1, p.2) (refused_line _ _ c.in-Some.left _ c.if-text-gt-TEXT_LIMIT.false (rw c.in-Some.is at c.loop-rest.invariant).0
+    c.in_err-rest.ensures.refused)
 
 pub loop-rest-preserved : goal.loop-rest-preserved
 loop-rest-preserved c =

@@ -1,6 +1,6 @@
 use Rattle.std.proofs.Common.{◌≤◌}
-use Rattle.itip_lines.specs.Scan.{HasRead}
-use Rattle.itip_lines.specs.Scanned.{left_behind, last_behind, number_limit}
+use Rattle.itip_lines.specs.Stretches.{HasRead}
+use Rattle.itip_lines.specs.ScanSteps.{left_behind, last_behind, number_limit}
 use Rattle.itip_lines.proofs.read.read_lines.Given as goal
 
 abbrev pub invariant-loop-rest : goal.invariant-loop-rest

@@ -1,7 +1,7 @@
 use Rattle.std.proofs.Common.{◌∙◌, [], ap}
 use Rattle.std.proofs.lemmas.Result.{err_from_is_err_and}
-use Rattle.itip_lines.specs.Scan.{texts_behind}
-use Rattle.itip_lines.specs.Scanned.{texts_by}
+use Rattle.itip_lines.specs.Stretches.{texts_behind}
+use Rattle.itip_lines.specs.ScanSteps.{texts_by}
 use Rattle.itip_lines.proofs.Scans.{next_refusal}
 use Rattle.itip_lines.proofs.read.read_next.Goals as goal
 
@@ -18,5 +18,6 @@ pub returns-in_err-push_line-in-Fold-clause-refused :
 returns-in_err-push_line-in-Fold-clause-refused c =
     let p = err_from_is_err_and c.from_residual-in_err-push_line-in-Fold.result c.from_residual-in_err-push_line-in-Fold.ensures.1 in
     rw (p.1, p.2) (next_refusal c.args.left _ c.in_ok-line-in-Fold.line.items (texts_behind c.in_ok-line-in-Fold.after) _
-    (c.cut_stretch.ensures.lines c.args.left.number [] ∙ ap (texts_by c.args.left.number c.cut_stretch.result.0.now) c.in-Fold.is ∙ c.in_ok-line-in-Fold.ensures.lines c.args.left.number)
+    (c.cut_stretch.ensures.lines c.args.left.number [] ∙ ap (texts_by c.args.left.number c.cut_stretch.result.0.now) c.in-Fold.is ∙
+    c.in_ok-line-in-Fold.ensures.lines c.args.left.number)
     (rw c.as_slice.ensures.value at c.in_err-push_line-in-Fold.ensures.refused))

@@ -1,6 +1,6 @@
 use Rattle.std.proofs.Common.{◌≡◌, ◌≤◌, ℕ, length}
-use Rattle.itip_lines.specs.Scan.{texts_onto}
-use Rattle.itip_lines.specs.Scanned.{last_number}
+use Rattle.itip_lines.specs.Stretches.{texts_onto}
+use Rattle.itip_lines.specs.ScanSteps.{last_number}
 use Rattle.itip_lines.proofs.scan.unfold.Given as goal
 
 abbrev pub invariant-loop-line : goal.invariant-loop-line

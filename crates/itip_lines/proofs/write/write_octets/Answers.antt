@@ -5,5 +5,7 @@ use Rattle.itip_lines.proofs.write.write_octets.Goals as goal
 
 pub returns-clause-wrote : goal.returns-clause-wrote
 returns-clause-wrote c =
-    subst (λ (new : List ℕ). Writes c.args.out.now.items c.args.used c.args.octets.now new (c.args.used + length c.args.octets.now)) (sym c.in_ok-extend_from_slice.ensures.items)
-    (writes_whole c.args.out.now.items c.args.used c.args.octets.now _ refl (omega (arith, c.saturating_sub.ensures, c.if-octets-saturating_sub.false)))
+    subst (λ (new : List ℕ). Writes c.args.out.now.items c.args.used c.args.octets.now new (c.args.used + length c.args.octets.now))
+    (sym c.in_ok-extend_from_slice.ensures.items)
+    (writes_whole c.args.out.now.items c.args.used c.args.octets.now _ refl
+    (omega (arith, c.saturating_sub.ensures, c.if-octets-saturating_sub.false)))

@@ -6,6 +6,7 @@ use Rattle.itip_message.proofs.components.read_components.Given as goal
 
 abbrev pub invariant-loop-at : goal.invariant-loop-at
 invariant-loop-at l = record {
-  found : (more : List Todo) → AreComponents l.method (drop l.at l.components) more → AreComponents l.method l.components (l.all.items ++ more);
+  found : (more : List Todo) → AreComponents l.method (drop l.at l.components) more →
+      AreComponents l.method l.components (l.all.items ++ more);
   refused : (f : MessageRefusal) → FirstRefused l.method (l.at + 1) (drop l.at l.components) f → FirstRefused l.method 1 l.components f;
 }

@@ -15,7 +15,10 @@ returns-clause-placed c = λ lines.
     let r = innermost_length c.args.inside.now.items in
     let some = c.requires.1 in
     let pushed : innermost_first c.push.new.self.items ≡ component_name c.args.line.now.line ∷ innermost_first c.args.inside.now.items =
-    ap innermost_first c.in_ok-push.ensures.items ∙ innermost_more c.args.inside.now.items c.in_ok-name.name ∙ ap (λ (name : List ℕ). name ∷ innermost_first c.args.inside.now.items) c.in_ok-name.ensures in
-    let front : option_to_list c.opening-placed.result ≡ opening (innermost_first c.args.inside.now.items) (component_name c.args.line.now.line) c.args.line.now.number =
+    ap innermost_first c.in_ok-push.ensures.items ∙ innermost_more c.args.inside.now.items c.in_ok-name.name ∙
+    ap (λ (name : List ℕ). name ∷ innermost_first c.args.inside.now.items) c.in_ok-name.ensures in
+    let front : option_to_list c.opening-placed.result ≡ opening (innermost_first c.args.inside.now.items)
+    (component_name c.args.line.now.line) c.args.line.now.number =
     c.opening-placed.ensures ∙ (λ i. opening (innermost_first (c.deref.ensures.value i)) (c.in_ok-name.ensures i) c.args.line.now.number) in
-    begins_so (innermost_first c.args.inside.now.items) (innermost_first c.push.new.self.items) c.args.line.now lines (option_to_list c.opening-placed.result) (omega arith) c.requires.0 (omega arith) front pushed
+    begins_so (innermost_first c.args.inside.now.items) (innermost_first c.push.new.self.items) c.args.line.now lines
+    (option_to_list c.opening-placed.result) (omega arith) c.requires.0 (omega arith) front pushed

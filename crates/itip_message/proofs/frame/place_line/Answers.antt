@@ -24,4 +24,5 @@ returns-clause-placed c = λ lines.
     let no_end : is_end c.args.line.line ≡ false = sym c.is_end.ensures ∙ c.if-is_end.false in
     let front : option_to_list c.property.result ≡ property (innermost_first c.args.inside.now.items) c.args.line =
     c.property.ensures ∙ (λ i. property (innermost_first (c.deref.ensures.value i)) c.args.line) in
-    property_so (innermost_first c.args.inside.now.items) c.args.line lines (option_to_list c.property.result) (omega arith) no_begin no_end front
+    property_so (innermost_first c.args.inside.now.items) c.args.line lines (option_to_list c.property.result) (omega arith) no_begin
+    no_end front

@@ -6,5 +6,6 @@ use Rattle.itip_message.proofs.frame.place_lines.Given as goal
 abbrev pub invariant-loop-line : goal.invariant-loop-line
 invariant-loop-line l = record {
   length_is : into_iter_len l.line-iterator ≡ length (into_iter_items l.line-iterator);
-  completes : with_front l.placed.items (place (innermost_first l.inside.items) (into_iter_items l.line-iterator)) ≡ place (l.fn.name ∷ []) (into_iter_items l.initial.line-iterator);
+  completes : with_front l.placed.items (place (innermost_first l.inside.items) (into_iter_items l.line-iterator)) ≡ place (l.fn.name ∷ [])
+      (into_iter_items l.initial.line-iterator);
 }

@@ -4,7 +4,8 @@ use Rattle.itip_moment.proofs.DigitLemmas.{AreDateDigits, date_text-found, date_
 use Rattle.itip_moment.proofs.OptionLemmas.{IfNone-weaker}
 use Rattle.itip_moment.proofs.read.date.Goals as goal
 
-digits : (c : goal.After-day_of) → AreDateDigits c.args.text.now c.in_ok-century.century c.in_ok-year.year c.in_ok-month.month c.in_ok-day.day
+digits : (c : goal.After-day_of) → AreDateDigits c.args.text.now c.in_ok-century.century c.in_ok-year.year c.in_ok-month.month
+    c.in_ok-day.day
 digits c =
     let long : length c.args.text.now ≡ 8 = omega arith in
     record {

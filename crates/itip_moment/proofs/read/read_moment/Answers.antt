@@ -4,4 +4,5 @@ use Rattle.itip_moment.proofs.read.read_moment.Goals as goal
 
 pub returns-in_default-local-clause-none : goal.returns-in_default-local-clause-none
 returns-in_default-local-clause-none c =
-    rw (← c.as_bytes-bytes.ensures.value) (no_moment _ (option_copied c.args.tzid) c.in_default.ensures.none c.in_default-utc.ensures.none c.in_default-local.ensures.none)
+    rw (← c.as_bytes-bytes.ensures.value) (no_moment _ (option_copied c.args.tzid) c.in_default.ensures.none c.in_default-utc.ensures.none
+    c.in_default-local.ensures.none)

@@ -6,7 +6,10 @@ use Rattle.itip_moment.specs.Shift.{seconds_at, moved_by}
 use Rattle.itip_moment.proofs.shift.moved_by.Goals as goal
 
 -- no step of the sum leaves 128 bits
-sum : (a : ℤ) (s : ℕ) (d e : ℤ) → FitsSigned w32 a → s < 2 ^ 32 → FitsSigned w64 d → FitsSigned w64 e → to_z w128 (of_z w128 (to_z w128 (of_z w128 (to_z w128 (of_z w128 (to_z w128 (of_z w128 (to_z w32 (of_z w32 a))) +ℤ to_z w128 (of_z w128 (to_z w64 (of_z w64 d))))) *ℤ pos 86_400)) +ℤ to_z w128 (of_z w128 (to_z w128 s +ℤ to_z w128 (of_z w128 (to_z w64 (of_z w64 e))))))) ≡ moved_by (seconds_at a s) d e
+sum : (a : ℤ) (s : ℕ) (d e : ℤ) → FitsSigned w32 a → s < 2 ^ 32 → FitsSigned w64 d → FitsSigned w64 e →
+    to_z w128 (of_z w128 (to_z w128 (of_z w128
+    (to_z w128 (of_z w128 (to_z w128 (of_z w128 (to_z w32 (of_z w32 a))) +ℤ to_z w128 (of_z w128 (to_z w64 (of_z w64 d))))) *ℤ pos 86_400))
+    +ℤ to_z w128 (of_z w128 (to_z w128 s +ℤ to_z w128 (of_z w128 (to_z w64 (of_z w64 e))))))) ≡ moved_by (seconds_at a s) d e
 sum a s d e fits_a below fits_d fits_e =
     let wide_a : FitsSigned w128 a = omega (arith, signed_arith) in
     let wide_d : FitsSigned w128 d = omega (arith, signed_arith) in

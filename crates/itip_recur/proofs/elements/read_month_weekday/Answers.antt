@@ -17,4 +17,5 @@ returns-in_err-read_weekday-in-len2-up c =
 
 pub returns-in_ok-read_weekday-in-len2-up : goal.returns-in_ok-read_weekday-in-len2-up
 returns-in_ok-read_weekday-in-len2-up c =
-    IsNthText-of c.args.text.now c.in_ok-read_place-in-len2-up.field-0 c.in_ok-read_weekday-in-len2-up.field-0 (omega arith) (record { place_is = c.in_ok-read_place-in-len2-up.ensures; letters = c.in_ok-read_weekday-in-len2-up.ensures })
+    IsNthText-of c.args.text.now c.in_ok-read_place-in-len2-up.field-0 c.in_ok-read_weekday-in-len2-up.field-0 (omega arith)
+    (record { place_is = c.in_ok-read_place-in-len2-up.ensures; letters = c.in_ok-read_weekday-in-len2-up.ensures })

@@ -9,7 +9,8 @@ invariant-loop-day l =
     record {
       in_years : IsDayOrEnd l.day;
       not_before : l.from ≤ℤ l.day;
-      so_far : Adds l.limit (λ m. IsBetween l.series l.rule l.from l.end m × (moment_day m <ℤ l.day)) l.initial.found.moments.items l.found.moments.items;
+      so_far : Adds l.limit (λ m. IsBetween l.series l.rule l.from l.end m × (moment_day m <ℤ l.day)) l.initial.found.moments.items
+          l.found.moments.items;
     }
 
 abbrev pub decreases-loop-day : goal.decreases-loop-day

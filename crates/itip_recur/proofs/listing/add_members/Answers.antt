@@ -11,7 +11,9 @@ returns-in-Some c =
     let to : FitsSigned w32 c.args.to = c.ranges.to in
     let first = simp to_z-of_z at c.in_ok-add_start.ensures in
     let step = simp to_z-of_z at c.add_repeats.ensures in
-    IsStep-after c.args.limit (IsStart series c.args.from c.args.to) (IsRepeatOf series c.in-Some.rule c.args.from c.args.to) (IsMemberIn series c.args.from c.args.to) c.args.found.now.moments.items c.add_start.new.found.moments.items c.add_repeats.new.found.moments.items c.add_repeats.result
+    IsStep-after c.args.limit (IsStart series c.args.from c.args.to) (IsRepeatOf series c.in-Some.rule c.args.from c.args.to)
+    (IsMemberIn series c.args.from c.args.to) c.args.found.now.moments.items c.add_start.new.found.moments.items
+    c.add_repeats.new.found.moments.items c.add_repeats.result
     (members_of_rule series c.in-Some.rule c.args.from c.args.to c.in-Some.is) first step
 
 pub returns-in-None : goal.returns-in-None
@@ -20,4 +22,5 @@ returns-in-None c =
     let from : FitsSigned w32 c.args.from = c.ranges.from in
     let to : FitsSigned w32 c.args.to = c.ranges.to in
     let first = simp to_z-of_z at c.in_ok-add_start.ensures in
-    Adds-like c.args.limit (IsStart series c.args.from c.args.to) (IsMemberIn series c.args.from c.args.to) c.args.found.now.moments.items c.add_start.new.found.moments.items (members_of_none series c.args.from c.args.to c.in-None.is) first
+    Adds-like c.args.limit (IsStart series c.args.from c.args.to) (IsMemberIn series c.args.from c.args.to) c.args.found.now.moments.items
+    c.add_start.new.found.moments.items (members_of_none series c.args.from c.args.to c.in-None.is) first

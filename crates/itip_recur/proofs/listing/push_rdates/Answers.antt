@@ -14,7 +14,8 @@ loop-moment-preserved c =
     let step = simp to_z-of_z at c.in_ok-push_kept.ensures in
     simp to_z-of_z (record {
       items = c.as_slice-moment-items.ensures;
-      so_far = list_more items series c.args.from c.args.to c.loop-moment.moment-index c.args.moments.now.items c.loop-moment.moments.items c.push_kept.new.moments.items c.moment-item.result c.loop-moment-test.true c.moment-item.is so_far step;
+      so_far = list_more items series c.args.from c.args.to c.loop-moment.moment-index c.args.moments.now.items c.loop-moment.moments.items
+          c.push_kept.new.moments.items c.moment-item.result c.loop-moment-test.true c.moment-item.is so_far step;
     })
 
 pub returns : goal.returns
@@ -24,5 +25,7 @@ returns c =
     let from : FitsSigned w32 c.args.from = c.ranges.from in
     let to : FitsSigned w32 c.args.to = c.ranges.to in
     let so_far = simp to_z-of_z at c.loop-moment.invariant.so_far in
-    subst (λ (ms : List Moment). Gains (IsOneOf ms series c.args.from c.args.to) c.args.moments.now.items c.loop-moment.moments.items) c.as_slice-moment-items.ensures
-    (list_end items series c.args.from c.args.to c.loop-moment.moment-index c.args.moments.now.items c.loop-moment.moments.items c.loop-moment-test.false so_far)
+    subst (λ (ms : List Moment). Gains (IsOneOf ms series c.args.from c.args.to) c.args.moments.now.items c.loop-moment.moments.items)
+    c.as_slice-moment-items.ensures
+    (list_end items series c.args.from c.args.to c.loop-moment.moment-index c.args.moments.now.items c.loop-moment.moments.items
+    c.loop-moment-test.false so_far)

@@ -26,8 +26,10 @@ returns-in_default-clause-exact c =
     let start : FitsSigned w32 c.args.start = c.ranges.start in
     let end : FitsSigned w32 c.args.end = c.ranges.end in
     let start_is : c.new-walk.result.start.number ≡ c.args.start = simp to_z-of_z at c.new-walk.ensures.start in
-    let counted : Counted rule c.args.start c.args.count c.loop-seen.seen (to_z w32 c.loop-seen.day-bits) = simp to_z-of_z at c.loop-seen.invariant.counted in
-    let none : IsNoDay rule c.args.start (to_z w32 c.loop-seen.day-bits) c.args.end = rw (c.new-walk.ensures.rule, start_is) at (simp to_z-of_z at c.in_default.ensures) in
+    let counted : Counted rule c.args.start c.args.count c.loop-seen.seen (to_z w32 c.loop-seen.day-bits) =
+    simp to_z-of_z at c.loop-seen.invariant.counted in
+    let none : IsNoDay rule c.args.start (to_z w32 c.loop-seen.day-bits) c.args.end =
+    rw (c.new-walk.ensures.rule, start_is) at (simp to_z-of_z at c.in_default.ensures) in
     simp to_z-of_z (Counted-none rule c.args.start c.args.count c.loop-seen.seen (to_z w32 c.loop-seen.day-bits) c.args.end counted none)
 
 pub loop-seen-preserved : goal.loop-seen-preserved
@@ -36,8 +38,10 @@ loop-seen-preserved c =
     let start : FitsSigned w32 c.args.start = c.ranges.start in
     let end : FitsSigned w32 c.args.end = c.ranges.end in
     let start_is : c.new-walk.result.start.number ≡ c.args.start = simp to_z-of_z at c.new-walk.ensures.start in
-    let counted : Counted rule c.args.start c.args.count c.loop-seen.seen (to_z w32 c.loop-seen.day-bits) = simp to_z-of_z at c.loop-seen.invariant.counted in
-    let next : IsNextDay rule c.args.start (to_z w32 c.loop-seen.day-bits) c.args.end c.in-Some.found = rw (c.new-walk.ensures.rule, start_is) at (simp to_z-of_z at c.in-Some.ensures) in
+    let counted : Counted rule c.args.start c.args.count c.loop-seen.seen (to_z w32 c.loop-seen.day-bits) =
+    simp to_z-of_z at c.loop-seen.invariant.counted in
+    let next : IsNextDay rule c.args.start (to_z w32 c.loop-seen.day-bits) c.args.end c.in-Some.found =
+    rw (c.new-walk.ensures.rule, start_is) at (simp to_z-of_z at c.in-Some.ensures) in
     let low = next.not_before in
     let high = next.before_end in
     let found : FitsSigned w32 c.in-Some.found = omega (arith, signed_arith) in
@@ -45,11 +49,14 @@ loop-seen-preserved c =
     let day : Day = record { number = c.in-Some.found; in_years = (omega (arith, signed_arith), omega (arith, signed_arith)) } in
     simp to_z-of_z (record {
       in_years = (omega (arith, signed_arith), omega (arith, signed_arith));
-      counted = Counted-more rule c.args.start c.args.count c.loop-seen.seen (to_z w32 c.loop-seen.day-bits) c.args.end day counted next c.loop-seen-test.true;
+      counted = Counted-more rule c.args.start c.args.count c.loop-seen.seen (to_z w32 c.loop-seen.day-bits) c.args.end day counted next
+          c.loop-seen-test.true;
     })
 
 pub returns-clause-exact : goal.returns-clause-exact
 returns-clause-exact c =
     let start : FitsSigned w32 c.args.start = c.ranges.start in
-    let counted : Counted c.args.rule.now c.args.start c.args.count c.loop-seen.seen (to_z w32 c.loop-seen.day-bits) = simp to_z-of_z at c.loop-seen.invariant.counted in
-    Counted-end c.args.rule.now c.args.start c.args.count c.loop-seen.seen (to_z w32 c.loop-seen.day-bits) c.args.end counted c.loop-seen-test.false
+    let counted : Counted c.args.rule.now c.args.start c.args.count c.loop-seen.seen (to_z w32 c.loop-seen.day-bits) =
+    simp to_z-of_z at c.loop-seen.invariant.counted in
+    Counted-end c.args.rule.now c.args.start c.args.count c.loop-seen.seen (to_z w32 c.loop-seen.day-bits) c.args.end counted
+    c.loop-seen-test.false

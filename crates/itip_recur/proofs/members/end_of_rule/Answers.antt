@@ -12,7 +12,8 @@ returns-in-Count-clause-exact c =
     let last : FitsSigned w32 c.end_of_count.result = omega (arith, signed_arith) in
     let in_years = moment_day-in_years c.args.start.now in
     let start : FitsSigned w32 c.day.result = omega (arith, signed_arith, c.day.ensures) in
-    let by_day : IsEndOfCount rule c.day.result c.in-Count.count c.args.end c.end_of_count.result = simp to_z-of_z at c.end_of_count.ensures.exact in
+    let by_day : IsEndOfCount rule c.day.result c.in-Count.count c.args.end c.end_of_count.result =
+    simp to_z-of_z at c.end_of_count.ensures.exact in
     let ends : IsEndOfCount rule (moment_day c.args.start.now) c.in-Count.count c.args.end c.end_of_count.result =
     subst (λ (z : ℤ). IsEndOfCount rule z c.in-Count.count c.args.end c.end_of_count.result) c.day.ensures by_day in
     simp to_z-of_z (within_end-Count rule c.args.start.now c.in-Count.count c.args.end c.end_of_count.result c.in-Count.is ends)

@@ -16,7 +16,8 @@ loop-found-preserved c =
     let found : FitsSigned w32 c.in-Some.found = omega (arith, signed_arith) in
     let more : FitsSigned w32 (c.in-Some.found +ℤ pos 1) = omega (arith, signed_arith) in
     let few : (c.args.from +ℤ pos c.loop-found.seen) ≤ℤ to_z w32 c.loop-found.day-bits = simp to_z-of_z at c.loop-found.invariant.few in
-    let rest : (k : ℕ) → Walked rule start (to_z w32 c.loop-found.day-bits) k c.args.end → Walked rule start c.args.from (c.loop-found.seen + k) c.args.end = simp to_z-of_z at c.loop-found.invariant.rest in
+    let rest : (k : ℕ) → Walked rule start (to_z w32 c.loop-found.day-bits) k c.args.end →
+    Walked rule start c.args.from (c.loop-found.seen + k) c.args.end = simp to_z-of_z at c.loop-found.invariant.rest in
     simp to_z-of_z (record {
       in_years = (omega (arith, signed_arith), omega (arith, signed_arith));
       before_end = omega (arith, signed_arith, high);
@@ -35,6 +36,7 @@ returns c =
     let end : FitsSigned w32 c.args.end = c.ranges.end in
     let none : IsNoDay rule start (to_z w32 c.loop-found.day-bits) c.args.end = simp to_z-of_z at c.in_default.ensures in
     let before : to_z w32 c.loop-found.day-bits ≤ℤ c.args.end = simp to_z-of_z at c.loop-found.invariant.before_end in
-    let rest : (k : ℕ) → Walked rule start (to_z w32 c.loop-found.day-bits) k c.args.end → Walked rule start c.args.from (c.loop-found.seen + k) c.args.end = simp to_z-of_z at c.loop-found.invariant.rest in
+    let rest : (k : ℕ) → Walked rule start (to_z w32 c.loop-found.day-bits) k c.args.end →
+    Walked rule start c.args.from (c.loop-found.seen + k) c.args.end = simp to_z-of_z at c.loop-found.invariant.rest in
     let same : c.loop-found.seen + 0 ≡ c.loop-found.seen = omega arith in
     subst (λ (n : ℕ). Walked rule start c.args.from n c.args.end) same (rest 0 (before, none))

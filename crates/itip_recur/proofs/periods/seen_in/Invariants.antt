@@ -9,7 +9,8 @@ invariant-loop-found l =
       in_years : IsDayOrEnd l.day;
       before_end : l.day ≤ℤ l.end;
       few : (l.from +ℤ pos l.seen) ≤ℤ l.day;
-      rest : (k : ℕ) → Walked l.walk.rule.now l.walk.start.number l.day k l.end → Walked l.walk.rule.now l.walk.start.number l.from (l.seen + k) l.end;
+      rest : (k : ℕ) → Walked l.walk.rule.now l.walk.start.number l.day k l.end →
+          Walked l.walk.rule.now l.walk.start.number l.from (l.seen + k) l.end;
     }
 
 abbrev pub decreases-loop-found : goal.decreases-loop-found

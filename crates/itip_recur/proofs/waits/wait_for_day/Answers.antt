@@ -4,7 +4,8 @@ use Rattle.jiff_core.proofs.SignedLemmas.{signed_arith}
 use Rattle.itip_recur.specs.Calendar.{day_of_month}
 use Rattle.itip_recur.proofs.InMonth.{IsInMonth}
 use Rattle.itip_recur.proofs.WaitDays.{for_day, in_rest, past, too_long}
-use Rattle.itip_recur.proofs.waits.wait_for_day.Goals.{else-day-wanted-via-then-day-wanted+else-wanted-day, else-day-wanted-via-else-day-wanted}
+use Rattle.itip_recur.proofs.waits.wait_for_day.Goals.{else-day-wanted-via-then-day-wanted+else-wanted-day}
+use Rattle.itip_recur.proofs.waits.wait_for_day.Goals.{else-day-wanted-via-else-day-wanted}
 use Rattle.itip_recur.proofs.waits.wait_for_day.Goals as goal
 
 pub returns-then-wanted-day-clause-wait : goal.returns-then-wanted-day-clause-wait
@@ -19,7 +20,9 @@ returns-else-day-wanted-clause-wait c =
     let rest : FitsSigned w32 c.rest_of_month.result = omega (arith, signed_arith) in
     let none : (x : ℤ) → IsInMonth day.number x → day.number ≤ℤ x → day_of_month x ≡ c.args.wanted → ⊥ =
     elim c.else-day-wanted.branch [
-      | else-day-wanted-via-then-day-wanted+else-wanted-day w ↦ λ x at low same. too_long day.number x c.args.wanted (omega (arith, day.length_is)) at same
+      | else-day-wanted-via-then-day-wanted+else-wanted-day w ↦ λ x at low same. too_long day.number x c.args.wanted
+          (omega (arith, day.length_is)) at same
       | else-day-wanted-via-else-day-wanted w ↦ λ x at low same. past day.number x c.args.wanted (omega (arith, day.day_is)) at low same
     ] in
-    rw to_z-of_z (in_rest (λ x. day_of_month x ≡ c.args.wanted) day.number c.rest_of_month.result day.in_years c.rest_of_month.ensures.low c.rest_of_month.ensures.value none)
+    rw to_z-of_z (in_rest (λ x. day_of_month x ≡ c.args.wanted) day.number c.rest_of_month.result day.in_years c.rest_of_month.ensures.low
+    c.rest_of_month.ensures.value none)

@@ -26,4 +26,5 @@ returns-then-day-stop c =
     let stop : FitsSigned w32 c.args.stop = c.ranges.stop in
     let low : c.args.from ≤ℤ day = omega (arith, signed_arith, c.if-from-day.true) in
     let high : day <ℤ c.args.stop = omega (arith, signed_arith, c.if-day-stop.true) in
-    rw to_z-of_z (inside c.args.year start.month start.day start.number c.args.from c.args.stop c.requires.from_in c.requires.stop_in c.requires.in_year start.month_is start.day_is day is low high)
+    rw to_z-of_z (inside c.args.year start.month start.day start.number c.args.from c.args.stop c.requires.from_in c.requires.stop_in
+    c.requires.in_year start.month_is start.day_is day is low high)

@@ -18,7 +18,8 @@ returns-then-days-le0 c =
     let low : c.args.from ≤ℤ day.number = simp to_z-of_z at inv.not_before in
     let none : IsNone P c.args.from day.number = simp to_z-of_z at inv.none in
     let at_once : c.wait-days.result ≡ pos 0 = omega (arith, signed_arith, c.if-days-le0.true, c.wait-days.ensures.low) in
-    rw to_z-of_z (found_at P c.args.from c.args.stop day.number c.wait-days.result low (omega (arith, signed_arith, left, c.loop-left-test.true)) none c.wait-days.ensures.wait at_once)
+    rw to_z-of_z (found_at P c.args.from c.args.stop day.number c.wait-days.result low
+    (omega (arith, signed_arith, left, c.loop-left-test.true)) none c.wait-days.ensures.wait at_once)
 
 pub loop-left-preserved : goal.loop-left-preserved
 loop-left-preserved c =
@@ -60,4 +61,6 @@ returns-then-days-left c =
     let inv = c.loop-left.invariant in
     let left : to_z w32 c.loop-left.left-bits ≡ c.args.stop -ℤ day.number = simp to_z-of_z at inv.left in
     let none : IsNone P c.args.from day.number = simp to_z-of_z at inv.none in
-    up_to P c.args.from (day.number +ℤ c.wait-days.result) c.args.stop (then P c.args.from day.number (day.number +ℤ c.wait-days.result) none c.wait-days.ensures.wait.none) (omega (arith, signed_arith, left, c.if-days-left.true))
+    up_to P c.args.from (day.number +ℤ c.wait-days.result) c.args.stop
+    (then P c.args.from day.number (day.number +ℤ c.wait-days.result) none c.wait-days.ensures.wait.none)
+    (omega (arith, signed_arith, left, c.if-days-left.true))

@@ -11,9 +11,11 @@ take_back-requires c = (c.args.held.now, c.hear_noted.ensures.noted c.args.held.
 pub loop-item-preserved : goal.loop-item-preserved
 loop-item-preserved c =
     let before : List Item = map (λ item. item.now) (take c.loop-item.item-index c.args.items.now) in
-    let more : map (λ item. item.now) (take (c.loop-item.item-index + 1) c.args.items.now) ≡ before ++ c.item-item-in-loop-item.result.now ∷ [] =
+    let more : map (λ item. item.now) (take (c.loop-item.item-index + 1) c.args.items.now) ≡ before ++
+    c.item-item-in-loop-item.result.now ∷ [] =
     ap (map (λ item. item.now)) (take_more c.args.items.now c.loop-item.item-index c.item-item-in-loop-item.result c.loop-item-test.true
-    ∙ ap (λ x. take c.loop-item.item-index c.args.items.now ++ x ∷ []) (sym c.item-item-in-loop-item.is)) ∙ map-append (λ item. item.now) (take c.loop-item.item-index c.args.items.now) (c.item-item-in-loop-item.result ∷ []) in
+    ∙ ap (λ x. take c.loop-item.item-index c.args.items.now ++ x ∷ []) (sym c.item-item-in-loop-item.is)) ∙
+    map-append (λ item. item.now) (take c.loop-item.item-index c.args.items.now) (c.item-item-in-loop-item.result ∷ []) in
     record {
       hold = λ heard h. subst (λ (xs : List Item). HoldKept xs c.hear_noted.new.held)
           (append_assoc heard before (c.item-item-in-loop-item.result.now ∷ []) ∙ ap (λ xs. heard ++ xs) (sym more))

@@ -6,6 +6,7 @@ use Rattle.itip_state.proofs.hear.hear_all.Given as goal
 
 abbrev pub invariant-loop-item : goal.invariant-loop-item
 invariant-loop-item l = record {
-  hold : (heard : List Item) → HoldKept heard l.initial.held → HoldKept (heard ++ map (λ item. item.now) (take l.item-index l.items)) l.held;
+  hold : (heard : List Item) → HoldKept heard l.initial.held →
+      HoldKept (heard ++ map (λ item. item.now) (take l.item-index l.items)) l.held;
   undo : AreUndone l.changes.items l.held l.initial.held;
 }

@@ -18,7 +18,8 @@ returns-clause-noted c = λ start all.
     (noted_stays c.in_ok-before.before c.args.item.now (at old u) c.in_ok-before.ensures.noted))
     c.hear-2.ensures.joined c.hear-2.ensures.err in
     subst (λ cs. AreUndone cs now start) (sym c.in_ok-push.ensures.items)
-    (undone_push c.args.changes.now.items (record { item = c.args.item; before = c.in_ok-before.before }) now old start all (record { there = leads; others = c.hear-2.ensures.others; ordered = c.note.ensures.ordered }))
+    (undone_push c.args.changes.now.items (record { item = c.args.item; before = c.in_ok-before.before }) now old start all
+    (record { there = leads; others = c.hear-2.ensures.others; ordered = c.note.ensures.ordered }))
 
 pub returns-then-notes_all-clause-noted : goal.returns-then-notes_all-clause-noted
 returns-then-notes_all-clause-noted c = λ start all.
@@ -29,4 +30,6 @@ returns-then-notes_all-clause-noted c = λ start all.
     (λ joined _. joined_some (at now u) (alone c.args.item.now) (at next u) joined)
     (λ same there. subst (λ es. is_some (at es u) ≡ true) (sym same) there)
     c.hear.ensures.joined c.hear.ensures.err in
-    undone_still c.args.changes.now.items u now next start (notes_same c.deref.result.now c.args.changes.now.items c.uid.result.now u c.deref.ensures.value c.uid.ensures (c.notes_all.ensures.0 c.if-notes_all.true)) some c.hear.ensures.others all
+    undone_still c.args.changes.now.items u now next start
+    (notes_same c.deref.result.now c.args.changes.now.items c.uid.result.now u c.deref.ensures.value c.uid.ensures
+    (c.notes_all.ensures.0 c.if-notes_all.true)) some c.hear.ensures.others all

@@ -11,7 +11,11 @@ returns-in-None-get-clause-noted c =
     let w : UidState = uid_state c.in-Some.series.now in (
       w,
       sym (ap (at c.args.held.now) c.uid.ensures) ∙ sym c.in-Some.ensures.found,
-      noted_at c.args.item.now.key None w (record { sorted = c.in-Some.series.now.entries.ordered; alive = c.in-Some.series.now.no_dead_entry })
+      noted_at c.args.item.now.key None w (record {
+        sorted = c.in-Some.series.now.entries.ordered;
+        alive =
+            c.in-Some.series.now.no_dead_entry;
+      })
           (c.in-None-get.ensures ∙ ap (value_at slot_cmp w.entries) c.in-Some-slot.ensures.0),
       c.in-Some-slot.ensures.1,
       c.in-Some-slot.ensures.0,
@@ -22,7 +26,8 @@ returns-in_ok-copy-in-Some-get-clause-noted c =
     let w : UidState = uid_state c.in-Some.series.now in (
       w,
       sym (ap (at c.args.held.now) c.uid.ensures) ∙ sym c.in-Some.ensures.found,
-      noted_at c.args.item.now.key (Some c.in_ok-copy-in-Some-get.field-0) w (record { sorted = c.in-Some.series.now.entries.ordered; alive = c.in-Some.series.now.no_dead_entry })
+      noted_at c.args.item.now.key (Some c.in_ok-copy-in-Some-get.field-0) w
+          (record { sorted = c.in-Some.series.now.entries.ordered; alive = c.in-Some.series.now.no_dead_entry })
           (ap Some c.in_ok-copy-in-Some-get.ensures ∙ c.in-Some-get.ensures ∙ ap (value_at slot_cmp w.entries) c.in-Some-slot.ensures.0),
       c.in-Some-slot.ensures.1,
       c.in-Some-slot.ensures.0,

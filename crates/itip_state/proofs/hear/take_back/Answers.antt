@@ -5,7 +5,8 @@ use Rattle.itip_state.proofs.hear.take_back.Goals as goal
 
 pub undo-requires : goal.undo-requires
 undo-requires c =
-    let all = subst (λ cs. AreUndone cs c.loop-change.held c.requires.0) c.in-Some.ensures.items (c.loop-change.invariant c.requires.0 c.requires.1) in
+    let all = subst (λ cs. AreUndone cs c.loop-change.held c.requires.0) c.in-Some.ensures.items
+    (c.loop-change.invariant c.requires.0 c.requires.1) in
     let last = undone_pop c.pop.new.self.items c.in-Some.change c.loop-change.held c.requires.0 all in
     (last.0, last.1)
 

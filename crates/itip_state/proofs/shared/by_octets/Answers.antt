@@ -22,6 +22,7 @@ returns c =
       ascend = rw is (pairs_ascend octets_cmp _ (IsStrictlySortedBy-dedup octets_total (λ x y. refl) _ sort.sorted));
       same = λ item. (
         (λ (h : _). Contains-permutation _ _ item (IsPermutation-sym _ _ moved) (Contains-from_dedup _ _ item (rw is at h))),
-        (λ (h : _). rw is (Contains-dedup (eq_by_cmp_equiv octets_total) (tells_apart exact) _ item (Contains-permutation _ _ item moved h))),
+        (λ (h : _). rw is (Contains-dedup (eq_by_cmp_equiv octets_total) (tells_apart exact) _ item
+            (Contains-permutation _ _ item moved h))),
       );
     }

@@ -30,12 +30,17 @@ returns c =
     let once = ap (map (λ uid. uid.now)) is ∙ dedup_map (λ uid. uid.now) (pointwise nat_eq) c.sort.new.self.items in
     let moved = IsPermutation-map (λ uid. uid.now) _ _ sort.permutation in
     let raw : map (λ uid. uid.now) c.loop-item.uids.items ≡ map (λ item. uid_of item.now.key) c.args.items.now =
-    c.loop-item.invariant ∙ ap (map (λ item. uid_of item.now.key)) (take_all c.loop-item.item-index c.args.items.now c.loop-item-test.false) in
+    c.loop-item.invariant ∙ ap (map (λ item. uid_of item.now.key))
+    (take_all c.loop-item.item-index c.args.items.now c.loop-item-test.false) in
     record {
-      ascend = rw once (pairs_ascend (slice_cmp nat_cmp) _ (IsStrictlySortedBy-dedup nat_list_cmp_total texts_ties (map (λ uid. uid.now) c.sort.new.self.items)
+      ascend = rw once (pairs_ascend (slice_cmp nat_cmp) _
+          (IsStrictlySortedBy-dedup nat_list_cmp_total texts_ties (map (λ uid. uid.now) c.sort.new.self.items)
           (sorted_map (λ uid. uid.now) (slice_cmp nat_cmp) c.sort.new.self.items sort.sorted)));
       each = λ uid (h : _). uid_from (λ item. item.now) c.args.items.now uid
-          (subst (λ us. Contains us uid) raw (Contains-permutation _ _ uid (IsPermutation-sym _ _ moved) (Contains-from_dedup _ _ uid (rw once at h))));
-      all = λ item (h : _). rw once (Contains-dedup nat_list_eq_equiv (λ x y e. tells_apart exact_bytes x y (sym (texts_ties x y) ∙ e)) _ (uid_of item.key)
-          (Contains-permutation _ _ (uid_of item.key) moved (subst (λ us. Contains us (uid_of item.key)) (sym raw) (uid_among (λ item. item.now) c.args.items.now item h))));
+          (subst (λ us. Contains us uid) raw (Contains-permutation _ _ uid (IsPermutation-sym _ _ moved)
+          (Contains-from_dedup _ _ uid (rw once at h))));
+      all = λ item (h : _). rw once (Contains-dedup nat_list_eq_equiv (λ x y e. tells_apart exact_bytes x y (sym (texts_ties x y) ∙ e)) _
+          (uid_of item.key)
+          (Contains-permutation _ _ (uid_of item.key) moved
+          (subst (λ us. Contains us (uid_of item.key)) (sym raw) (uid_among (λ item. item.now) c.args.items.now item h))));
     }

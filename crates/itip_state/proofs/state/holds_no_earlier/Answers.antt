@@ -20,5 +20,6 @@ returns-in-Some-get c =
     sym (ap (value_at slot_cmp c.args.series.now.entries.map) c.in-Some.ensures.0) ∙ sym c.in-Some-get.ensures in
     let holds = entry_holds (uid_state c.args.series.now) c.args.item.now c.in-Some-get.best.now c.in-Some.ensures.1 there in
     let test : IsTrue c.is_no_later-in-Some-get.result ↔ (¬ IsLater c.args.item.now c.in-Some-get.best.now.value) =
-    subst (λ (i : Item). IsTrue c.is_no_later-in-Some-get.result ↔ (¬ IsLater i c.in-Some-get.best.now.value)) c.item-in-Some-get.ensures c.is_no_later-in-Some-get.ensures in
+    subst (λ (i : Item). IsTrue c.is_no_later-in-Some-get.result ↔ (¬ IsLater i c.in-Some-get.best.now.value)) c.item-in-Some-get.ensures
+    c.is_no_later-in-Some-get.ensures in
     (λ t. holds.1 (test.0 t), λ h. test.1 (holds.0 h))

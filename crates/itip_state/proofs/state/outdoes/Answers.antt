@@ -7,7 +7,8 @@ use Rattle.itip_state.proofs.state.outdoes.Goals as goal
 pub returns-in_default : goal.returns-in_default
 returns-in_default c = λ is. (
   λ t. let x : false ≡ true = t in absurd (cc),
-  λ old. absurd (not_outdone c.args.held.now is c.args.item.now (sym (ap (at c.args.held.now) c.uid.ensures) ∙ sym c.in_default.ensures.found) old),
+  λ old. absurd (not_outdone c.args.held.now is c.args.item.now (sym (ap (at c.args.held.now) c.uid.ensures) ∙
+      sym c.in_default.ensures.found) old),
 )
 
 pub returns-then-holds_no_earlier : goal.returns-then-holds_no_earlier

@@ -5,7 +5,8 @@ use Rattle.itip_lines.specs.declared.line.Line.{Line}
 use Rattle.itip_todo.specs.Drafts.{draft_parts, IsDraftOf}
 use Rattle.itip_todo.specs.Lawful.{IsLawful}
 use Rattle.itip_todo.specs.Parts.{Parts}
-use Rattle.itip_todo.specs.Reading.{IsOptional, IsOrNought, IsUidOf, IsStampOf, IsSequenceOf, IfRefused, AreGood, LacksProperty, missing, first_named, lines_of}
+use Rattle.itip_todo.specs.Reading.{IsOptional, IsOrNought, IsUidOf, IsStampOf, IsSequenceOf, IfRefused, AreGood, LacksProperty, missing}
+use Rattle.itip_todo.specs.Reading.{first_named, lines_of}
 use Rattle.itip_todo.specs.declared.draft.Draft.{Draft}
 use Rattle.itip_todo.specs.declared.error.TodoRefusal.{TodoRefusal}
 use Rattle.itip_todo.specs.declared.error.TodoError.{TodoError}
@@ -56,14 +57,20 @@ invariant_of-result c =
       exdates = c.in_ok-needed.ensures.exdates i;
       others = c.from_vec-3.ensures i;
     } in
-    record { lawful = subst IsLawful (sym same) (c.requires c.in_ok-needed.needed.uid c.in_ok-needed.needed.stamp c.in_ok-needed.ensures.uid c.in_ok-needed.ensures.stamp c.in_ok-needed.ensures.ordered.0 c.in_ok-needed.ensures.ordered.1) }
+    record {
+      lawful = subst IsLawful (sym same)
+          (c.requires c.in_ok-needed.needed.uid c.in_ok-needed.needed.stamp c.in_ok-needed.ensures.uid c.in_ok-needed.ensures.stamp
+          c.in_ok-needed.ensures.ordered.0 c.in_ok-needed.ensures.ordered.1);
+    }
 
 pub returns-clause-found : goal.returns-clause-found
 returns-clause-found c = λ lines good is. record {
   good = good;
   uid = subst (λ (v : Option (List ℕ)). IsOptional IsUidOf (first_named name.Uid lines) v) c.in_ok-needed.ensures.uid (is name.Uid);
-  stamp = subst (λ (v : Option Stamp). IsOptional IsStampOf (first_named name.DtStamp lines) v) c.in_ok-needed.ensures.stamp (is name.DtStamp);
-  seq = subst (λ n. IsOrNought IsSequenceOf (first_named name.Sequence lines) n) (sym c.unwrap_or.ensures) (or_nought IsSequenceOf (first_named name.Sequence lines) c.args.draft.seq (is name.Sequence));
+  stamp = subst (λ (v : Option Stamp). IsOptional IsStampOf (first_named name.DtStamp lines) v) c.in_ok-needed.ensures.stamp
+      (is name.DtStamp);
+  seq = subst (λ n. IsOrNought IsSequenceOf (first_named name.Sequence lines) n) (sym c.unwrap_or.ensures)
+      (or_nought IsSequenceOf (first_named name.Sequence lines) c.args.draft.seq (is name.Sequence));
   base = is name.DeskBase;
   rid = (is name.RecurrenceId).0;
   range = (is name.RecurrenceId).1;
@@ -76,8 +83,10 @@ returns-clause-found c = λ lines good is. record {
   organizer = is name.Organizer;
   attendees = c.from_vec.ensures ∙ (is name.Attendee).whole;
   rule = c.from_vec-2.ensures ∙ is name.RRule;
-  rdates = moments_of (lines_of lines name.RDate) c.args.draft.rdates c.in_ok-needed.needed.rdates (is name.RDate) c.in_ok-needed.ensures.rdates c.in_ok-needed.ensures.ordered.0;
-  exdates = moments_of (lines_of lines name.ExDate) c.args.draft.exdates c.in_ok-needed.needed.exdates (is name.ExDate) c.in_ok-needed.ensures.exdates c.in_ok-needed.ensures.ordered.1;
+  rdates = moments_of (lines_of lines name.RDate) c.args.draft.rdates c.in_ok-needed.needed.rdates (is name.RDate)
+      c.in_ok-needed.ensures.rdates c.in_ok-needed.ensures.ordered.0;
+  exdates = moments_of (lines_of lines name.ExDate) c.args.draft.exdates c.in_ok-needed.needed.exdates (is name.ExDate)
+      c.in_ok-needed.ensures.exdates c.in_ok-needed.ensures.ordered.1;
   others = c.from_vec-3.ensures ∙ is name.Others;
 }
 
@@ -89,12 +98,14 @@ uidless : (e : TodoError) (draft : Draft) → draft.uid ≡ None → IfRefused e
 uidless error.NoMemory draft none missing = tt
 uidless (error.Refused r) draft none same = λ lines good is. inl (
   good,
-  is_absent IsUidOf (first_named name.Uid lines) (subst (λ (v : Option (List ℕ)). IsOptional IsUidOf (first_named name.Uid lines) v) none (is name.Uid)),
+  is_absent IsUidOf (first_named name.Uid lines)
+      (subst (λ (v : Option (List ℕ)). IsOptional IsUidOf (first_named name.Uid lines) v) none (is name.Uid)),
   same,
 )
 
 lacking : (e : TodoError) (draft : Draft) → (draft.uid ≡ None → IfRefused e (λ r. r ≡ missing name.Uid))
-    → ((text : List ℕ) → draft.uid ≡ Some text → IfRefused e (λ r. (r ≡ missing name.DtStamp) × (draft.stamp ≡ None))) → IfRefused e (Lacks draft)
+    → ((text : List ℕ) → draft.uid ≡ Some text → IfRefused e (λ r. (r ≡ missing name.DtStamp) × (draft.stamp ≡ None))) →
+    IfRefused e (Lacks draft)
 lacking e draft no_uid no_stamp =
     elim draft.uid as (λ (uid : Option (List ℕ)). draft.uid ≡ uid → IfRefused e (Lacks draft)) [
       | None ↦ λ none. uidless e draft none (no_uid none)

@@ -5,7 +5,8 @@ use Rattle.itip_todo.proofs.HeadOrder.{room_for, room_next, head_next}
 use Rattle.itip_todo.proofs.head.head.Goals as goal
 
 pub overflow_mul-head : goal.overflow_mul-head
-overflow_mul-head c = let fits = room_for c.loop-left.left c.loop-left.head 0 c.loop-left-test.true (omega arith) c.loop-left.invariant.1 in omega arith
+overflow_mul-head c = let fits =
+    room_for c.loop-left.left c.loop-left.head 0 c.loop-left-test.true (omega arith) c.loop-left.invariant.1 in omega arith
 
 pub overflow_add-head : goal.overflow_add-head
 overflow_add-head c =
@@ -32,6 +33,7 @@ pub returns : goal.returns
 returns c =
     let ended : c.loop-left.left ≡ 0 = omega arith in
     record {
-      number = subst (λ (left : ℕ). head_from c.loop-left.head left c.loop-left.rest.now ≡ head_of c.args.octets.now) ended c.loop-left.invariant.0;
+      number = subst (λ (left : ℕ). head_from c.loop-left.head left c.loop-left.rest.now ≡ head_of c.args.octets.now) ended
+          c.loop-left.invariant.0;
       octets = λ place. (c.type_inv.octets place).fits;
     }

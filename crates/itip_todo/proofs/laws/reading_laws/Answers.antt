@@ -3,4 +3,11 @@ use Rattle.itip_todo.proofs.SomeTodo.{some_todo}
 use Rattle.itip_todo.proofs.laws.reading_laws.Goals as goal
 
 pub returns : goal.returns
-returns c = record { some = some_todo; one_todo = one_todo; read_or_refused = read_or_refused; one_refusal = one_refusal; place = refusal_place }
+returns c = record {
+  some = some_todo;
+  one_todo = one_todo;
+  read_or_refused = read_or_refused;
+  one_refusal = one_refusal;
+  place =
+      refusal_place;
+}

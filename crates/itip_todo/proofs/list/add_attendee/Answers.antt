@@ -17,9 +17,14 @@ pub returns-clause-taken : goal.returns-clause-taken
 returns-clause-taken c =
     let key : c.in_ok-key.key ≡ key_of c.args.line.now = c.in_ok-key.ensures ∙ ap attendee_key c.as_str-2.ensures in
     let free : contains (slice_cmp nat_cmp) c.args.draft.now.keys (key_of c.args.line.now) ≡ false =
-    subst (λ (k : List ℕ). contains (slice_cmp nat_cmp) c.args.draft.now.keys k ≡ false) key (was_new (contains (slice_cmp nat_cmp) c.args.draft.now.keys c.in_ok-key.key) c.in_ok-insert.field-0 c.in_ok-insert.ensures.added c.if-not-branch.false) in
-    let updates : Updates (slice_cmp nat_cmp) c.args.draft.now.keys c.insert.new.self (key_of c.args.line.now) true = subst (λ (k : List ℕ). Updates (slice_cmp nat_cmp) c.args.draft.now.keys c.insert.new.self k true) key c.in_ok-insert.ensures.updates in
-    let pushed : c.push.new.self.items ≡ c.args.draft.now.attendees.items ++ whole_property c.args.line.now ∷ [] = c.in_ok-push.ensures.items ∙ ap (λ (p : Property). c.args.draft.now.attendees.items ++ p ∷ []) c.in_ok-property.ensures.value in
+    subst (λ (k : List ℕ). contains (slice_cmp nat_cmp) c.args.draft.now.keys k ≡ false) key
+    (was_new (contains (slice_cmp nat_cmp) c.args.draft.now.keys c.in_ok-key.key) c.in_ok-insert.field-0 c.in_ok-insert.ensures.added
+    c.if-not-branch.false) in
+    let updates : Updates (slice_cmp nat_cmp) c.args.draft.now.keys c.insert.new.self (key_of c.args.line.now) true =
+    subst (λ (k : List ℕ). Updates (slice_cmp nat_cmp) c.args.draft.now.keys c.insert.new.self k true) key
+    c.in_ok-insert.ensures.updates in
+    let pushed : c.push.new.self.items ≡ c.args.draft.now.attendees.items ++ whole_property c.args.line.now ∷ [] =
+    c.in_ok-push.ensures.items ∙ ap (λ (p : Property). c.args.draft.now.attendees.items ++ p ∷ []) c.in_ok-property.ensures.value in
     let some : 0 < length c.args.line.now.value = grind (arith, common_steps) in
     let few : length c.args.draft.now.attendees.items < 2000 = omega (arith, c.if-len-ge-ATTENDEE_LIMIT.false, c.len.ensures) in
     takes_attendee c.args.line.now c.args.draft.now _ some few free updates pushed refl

@@ -11,6 +11,7 @@ use Rattle.itip_todo.proofs.list.put_moment.Goals as goal
 pub returns-clause-put : goal.returns-clause-put
 returns-clause-put c = record {
   moment = c.in-Some.moment;
-  is = subst (λ (o : Option Moment). IfSome o (MomentText c.args.text.now (Some c.args.zone.now))) c.in-Some.is c.in_ok-moment.ensures.found;
+  is = subst (λ (o : Option Moment). IfSome o (MomentText c.args.text.now (Some c.args.zone.now))) c.in-Some.is
+      c.in_ok-moment.ensures.found;
   each = λ m. c.in_ok-insert.ensures.updates.0 m ∙ cond_or (eq_by_cmp moment_cmp c.in-Some.moment m) (contains moment_cmp c.args.set.now m);
 }

@@ -21,21 +21,31 @@ returns-in_err-put_moment-clause-cause c =
     let params : List Param = c.args.line.now.params in
     let text : List ℕ = c.args.line.now.value in
     let front : List ℕ = c.in-Some.front.now in
-    let zone : c.first_value-zone.result.now ≡ param_value (codes "TZID") params = c.first_value-zone.ensures ∙ ap (λ (ps : List Param). param_value (codes "TZID") ps) c.as_slice.ensures in
+    let zone : c.first_value-zone.result.now ≡ param_value (codes "TZID") params = c.first_value-zone.ensures ∙
+    ap (λ (ps : List Param). param_value (codes "TZID") ps) c.as_slice.ensures in
     let p = err_from_is_err_and c.from_residual.result c.from_residual.ensures.1 in
-    rw (p.1, p.2) (IfCause-weaker c.in_err-put_moment.field-0.0 (λ f. (f ≡ cause.BadValue c.args.property) × ((m : Moment) → MomentText front (Some c.first_value-zone.result.now) m → ⊥))
+    rw (p.1, p.2) (IfCause-weaker c.in_err-put_moment.field-0.0 (λ f. (f ≡ cause.BadValue c.args.property) ×
+    ((m : Moment) → MomentText front (Some c.first_value-zone.result.now) m → ⊥))
     (λ f. (f ≡ cause.BadValue c.args.property) × ((ms : List Moment) → AreMoments params text ms → ⊥))
-    (λ f h. (h.0, bad_front params text c.loop-front.rest.now front c.in-Some.after.now c.args.set.now c.loop-front.set c.loop-front.invariant.1 c.in-Some.ensures.0 c.in-Some.ensures.1 (subst (λ (z : List ℕ). (m : Moment) → MomentText front (Some z) m → ⊥) zone h.1)))
+    (λ f h. (
+      h.0,
+      bad_front params text c.loop-front.rest.now front c.in-Some.after.now c.args.set.now c.loop-front.set
+          c.loop-front.invariant.1 c.in-Some.ensures.0 c.in-Some.ensures.1
+          (subst (λ (z : List ℕ). (m : Moment) → MomentText front (Some z) m → ⊥) zone h.1),
+    ))
     c.in_err-put_moment.ensures.cause)
 
 pub loop-front-preserved : goal.loop-front-preserved
 loop-front-preserved c =
     let params : List Param = c.args.line.now.params in
     let front : List ℕ = c.in-Some.front.now in
-    let zone : c.first_value-zone.result.now ≡ param_value (codes "TZID") params = c.first_value-zone.ensures ∙ ap (λ (ps : List Param). param_value (codes "TZID") ps) c.as_slice.ensures in
+    let zone : c.first_value-zone.result.now ≡ param_value (codes "TZID") params = c.first_value-zone.ensures ∙
+    ap (λ (ps : List Param). param_value (codes "TZID") ps) c.as_slice.ensures in
     let puts : PutsMoment front c.first_value-zone.result.now c.loop-front.set c.put_moment.new.set = c.in_ok-put_moment.ensures.put in (
-      utf8_behind 44 c.in-Some.after.now (utf8_from front 44 c.in-Some.after.now (subst IsUtf8 c.in-Some.ensures.0 c.loop-front.invariant.0) (omega arith)) (omega arith),
-      put_more params c.args.line.now.value c.loop-front.rest.now front c.in-Some.after.now puts.moment c.args.set.now c.loop-front.set c.put_moment.new.set c.loop-front.invariant.1 c.in-Some.ensures.0 c.in-Some.ensures.1
+      utf8_behind 44 c.in-Some.after.now (utf8_from front 44 c.in-Some.after.now
+          (subst IsUtf8 c.in-Some.ensures.0 c.loop-front.invariant.0) (omega arith)) (omega arith),
+      put_more params c.args.line.now.value c.loop-front.rest.now front c.in-Some.after.now puts.moment c.args.set.now c.loop-front.set
+          c.put_moment.new.set c.loop-front.invariant.1 c.in-Some.ensures.0 c.in-Some.ensures.1
           (subst (λ (z : List ℕ). MomentText front (Some z) puts.moment) zone puts.is) puts.each,
     )
 
@@ -43,10 +53,12 @@ pub returns-clause-put : goal.returns-clause-put
 returns-clause-put c =
     let params : List Param = c.args.line.now.params in
     let rest : List ℕ = c.loop-front.rest.now in
-    let zone : c.first_value-zone.result.now ≡ param_value (codes "TZID") params = c.first_value-zone.ensures ∙ ap (λ (ps : List Param). param_value (codes "TZID") ps) c.as_slice.ensures in
+    let zone : c.first_value-zone.result.now ≡ param_value (codes "TZID") params = c.first_value-zone.ensures ∙
+    ap (λ (ps : List Param). param_value (codes "TZID") ps) c.as_slice.ensures in
     on_ok_weaker c.put_moment-2.result
     (λ (puts : PutsMoment rest c.first_value-zone.result.now c.loop-front.set c.put_moment-2.new.set).
-    put_last params c.args.line.now.value rest puts.moment c.args.set.now c.loop-front.set c.put_moment-2.new.set c.loop-front.invariant.1 (subst (λ (z : List ℕ). MomentText rest (Some z) puts.moment) zone puts.is) puts.each)
+    put_last params c.args.line.now.value rest puts.moment c.args.set.now c.loop-front.set c.put_moment-2.new.set c.loop-front.invariant.1
+    (subst (λ (z : List ℕ). MomentText rest (Some z) puts.moment) zone puts.is) puts.each)
     c.put_moment-2.ensures.put
 
 pub returns-clause-cause : goal.returns-clause-cause
@@ -54,9 +66,17 @@ returns-clause-cause c =
     let params : List Param = c.args.line.now.params in
     let text : List ℕ = c.args.line.now.value in
     let rest : List ℕ = c.loop-front.rest.now in
-    let zone : c.first_value-zone.result.now ≡ param_value (codes "TZID") params = c.first_value-zone.ensures ∙ ap (λ (ps : List Param). param_value (codes "TZID") ps) c.as_slice.ensures in
-    IfErr-weaker c.put_moment-2.result (λ (e : CauseError). IfCause e (λ f. (f ≡ cause.BadValue c.args.property) × ((m : Moment) → MomentText rest (Some c.first_value-zone.result.now) m → ⊥)))
+    let zone : c.first_value-zone.result.now ≡ param_value (codes "TZID") params = c.first_value-zone.ensures ∙
+    ap (λ (ps : List Param). param_value (codes "TZID") ps) c.as_slice.ensures in
+    IfErr-weaker c.put_moment-2.result (λ (e : CauseError). IfCause e (λ f. (f ≡ cause.BadValue c.args.property) ×
+    ((m : Moment) → MomentText rest (Some c.first_value-zone.result.now) m → ⊥)))
     (λ (e : CauseError). IfCause e (λ f. (f ≡ cause.BadValue c.args.property) × ((ms : List Moment) → AreMoments params text ms → ⊥)))
-    (λ e. IfCause-weaker e (λ f. (f ≡ cause.BadValue c.args.property) × ((m : Moment) → MomentText rest (Some c.first_value-zone.result.now) m → ⊥)) (λ f. (f ≡ cause.BadValue c.args.property) × ((ms : List Moment) → AreMoments params text ms → ⊥))
-    (λ f h. (h.0, bad_last params text rest c.args.set.now c.loop-front.set c.loop-front.invariant.1 c.in_default.ensures (subst (λ (z : List ℕ). (m : Moment) → MomentText rest (Some z) m → ⊥) zone h.1))))
+    (λ e. IfCause-weaker e (λ f. (f ≡ cause.BadValue c.args.property) ×
+    ((m : Moment) → MomentText rest (Some c.first_value-zone.result.now) m → ⊥)) (λ f. (f ≡ cause.BadValue c.args.property) ×
+    ((ms : List Moment) → AreMoments params text ms → ⊥))
+    (λ f h. (
+      h.0,
+      bad_last params text rest c.args.set.now c.loop-front.set c.loop-front.invariant.1 c.in_default.ensures
+          (subst (λ (z : List ℕ). (m : Moment) → MomentText rest (Some z) m → ⊥) zone h.1),
+    )))
     c.put_moment-2.ensures.cause

@@ -21,9 +21,14 @@ returns-in_err-add_numbered-clause-refused c =
     let front : List NumberedLine = take c.loop-line.line-index lines in
     let rest : List NumberedLine = drop (c.loop-line.line-index + 1) lines in
     let whole : lines ≡ front ++ line ∷ rest = parted lines c.loop-line.line-index line c.loop-line-test.true c.line-item.is in
-    let Has : TodoRefusal → Type 0 = λ r. (r.line ≡ Some line.number) × Refuses (property_of line.line) line.line c.loop-line.draft r.cause in
+    let Has : TodoRefusal → Type 0 = λ r. (r.line ≡ Some line.number) ×
+    Refuses (property_of line.line) line.line c.loop-line.draft r.cause in
     let here : (r : TodoRefusal) → Has r → RefusesTodo lines r = λ r has.
-    inl (subst (λ (ls : List NumberedLine). FirstRefusal [] ls r) (sym whole) (first_refusal_at [] front line rest r c.loop-line.invariant.0 (has.0, has.1 (lines_of (plain_lines front)) c.loop-line.invariant.1))) in
+    inl (subst (λ (ls : List NumberedLine). FirstRefusal [] ls r) (sym whole)
+    (first_refusal_at [] front line rest r c.loop-line.invariant.0 (
+      has.0,
+      has.1 (lines_of (plain_lines front)) c.loop-line.invariant.1,
+    ))) in
     rw (p.1, p.2) (IfRefused-weaker c.in_err-add_numbered.field-0.0 Has (RefusesTodo lines) here c.in_err-add_numbered.ensures.refused)
 
 pub loop-line-preserved : goal.loop-line-preserved
@@ -31,10 +36,17 @@ loop-line-preserved c =
     let lines : List NumberedLine = c.args.lines.now in
     let line : NumberedLine = c.line-item.result in
     let front : List NumberedLine = take c.loop-line.line-index lines in
-    let more : take (c.loop-line.line-index + 1) lines ≡ front ++ line ∷ [] = take_more lines c.loop-line.line-index line c.loop-line-test.true ∙ ap (λ (l : NumberedLine). front ++ l ∷ []) (sym c.line-item.is) in
-    let plain : plain_lines (take (c.loop-line.line-index + 1) lines) ≡ plain_lines front ++ line.line ∷ [] = ap plain_lines more ∙ map-append (λ (l : NumberedLine). l.line) front (line ∷ []) in (
-      subst (λ (ls : List Line). AreGood [] ls) (sym plain) (are_good_more [] (plain_lines front) line.line c.loop-line.invariant.0 (c.in_ok-add_numbered.ensures.taken.good (lines_of (plain_lines front)) c.loop-line.invariant.1)),
-      subst (λ (ls : List Line). IsDraftOf (lines_of ls) c.add_numbered.new.draft) (sym plain) (draft_more (plain_lines front) line.line c.add_numbered.new.draft (c.in_ok-add_numbered.ensures.taken.draft (lines_of (plain_lines front)) c.loop-line.invariant.1)),
+    let more : take (c.loop-line.line-index + 1) lines ≡ front ++ line ∷ [] =
+    take_more lines c.loop-line.line-index line c.loop-line-test.true ∙
+    ap (λ (l : NumberedLine). front ++ l ∷ []) (sym c.line-item.is) in
+    let plain : plain_lines (take (c.loop-line.line-index + 1) lines) ≡ plain_lines front ++ line.line ∷ [] = ap plain_lines more ∙
+    map-append (λ (l : NumberedLine). l.line) front (line ∷ []) in (
+      subst (λ (ls : List Line). AreGood [] ls) (sym plain)
+          (are_good_more [] (plain_lines front) line.line c.loop-line.invariant.0
+          (c.in_ok-add_numbered.ensures.taken.good (lines_of (plain_lines front)) c.loop-line.invariant.1)),
+      subst (λ (ls : List Line). IsDraftOf (lines_of ls) c.add_numbered.new.draft) (sym plain)
+          (draft_more (plain_lines front) line.line c.add_numbered.new.draft
+          (c.in_ok-add_numbered.ensures.taken.draft (lines_of (plain_lines front)) c.loop-line.invariant.1)),
     )
 
 pub finish-requires : goal.finish-requires
@@ -44,8 +56,11 @@ pub returns-clause-found : goal.returns-clause-found
 returns-clause-found c =
     let lines : List NumberedLine = c.args.lines.now in
     let all : take c.loop-line.line-index lines ≡ lines = take_all c.loop-line.line-index lines c.loop-line-test.false in
-    IfOk-weaker c.finish.result (λ todo. (ls : List Line) → AreGood [] ls → IsDraftOf (lines_of ls) c.loop-line.draft → ReadsTodo ls todo) (ReadsTodo (plain_lines lines))
-    (λ todo h. h (plain_lines lines) (subst (λ (ls : List NumberedLine). AreGood [] (plain_lines ls)) all c.loop-line.invariant.0) (subst (λ (ls : List NumberedLine). IsDraftOf (lines_of (plain_lines ls)) c.loop-line.draft) all c.loop-line.invariant.1)) c.finish.ensures.found
+    IfOk-weaker c.finish.result (λ todo. (ls : List Line) → AreGood [] ls → IsDraftOf (lines_of ls) c.loop-line.draft → ReadsTodo ls todo)
+    (ReadsTodo (plain_lines lines))
+    (λ todo h. h (plain_lines lines) (subst (λ (ls : List NumberedLine). AreGood [] (plain_lines ls)) all c.loop-line.invariant.0)
+    (subst (λ (ls : List NumberedLine). IsDraftOf (lines_of (plain_lines ls)) c.loop-line.draft) all c.loop-line.invariant.1))
+    c.finish.ensures.found
 
 pub returns-clause-refused : goal.returns-clause-refused
 returns-clause-refused c =
@@ -53,4 +68,7 @@ returns-clause-refused c =
     let all : take c.loop-line.line-index lines ≡ lines = take_all c.loop-line.line-index lines c.loop-line-test.false in
     let Q : TodoRefusal → Type 0 = λ r. (ls : List Line) → AreGood [] ls → IsDraftOf (lines_of ls) c.loop-line.draft → LacksProperty ls r in
     IfErr-weaker c.finish.result (λ (e : TodoError). IfRefused e Q) (λ (e : TodoError). IfRefused e (RefusesTodo lines))
-    (λ e. IfRefused-weaker e Q (RefusesTodo lines) (λ r h. inr (h (plain_lines lines) (subst (λ (ls : List NumberedLine). AreGood [] (plain_lines ls)) all c.loop-line.invariant.0) (subst (λ (ls : List NumberedLine). IsDraftOf (lines_of (plain_lines ls)) c.loop-line.draft) all c.loop-line.invariant.1)))) c.finish.ensures.refused
+    (λ e. IfRefused-weaker e Q (RefusesTodo lines)
+    (λ r h. inr (h (plain_lines lines) (subst (λ (ls : List NumberedLine). AreGood [] (plain_lines ls)) all c.loop-line.invariant.0)
+    (subst (λ (ls : List NumberedLine). IsDraftOf (lines_of (plain_lines ls)) c.loop-line.draft) all c.loop-line.invariant.1))))
+    c.finish.ensures.refused

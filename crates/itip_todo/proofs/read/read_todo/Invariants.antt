@@ -6,4 +6,5 @@ use Rattle.itip_todo.proofs.read.read_todo.Given as goal
 
 -- the lines so far are good, and the draft is theirs
 abbrev pub invariant-loop-line : goal.invariant-loop-line
-invariant-loop-line l = AreGood [] (plain_lines (take l.line-index l.lines)) × IsDraftOf (lines_of (plain_lines (take l.line-index l.lines))) l.draft
+invariant-loop-line l = AreGood [] (plain_lines (take l.line-index l.lines)) ×
+    IsDraftOf (lines_of (plain_lines (take l.line-index l.lines))) l.draft

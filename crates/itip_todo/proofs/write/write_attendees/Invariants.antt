@@ -5,4 +5,5 @@ use Rattle.itip_todo.proofs.write.write_attendees.Given as goal
 
 -- the lines so far are written
 abbrev pub invariant-loop-attendee : goal.invariant-loop-attendee
-invariant-loop-attendee l = l.out.items ≡ l.fn.out.items ++ contents_octets (map (property_line name.Attendee) (take l.attendee-index l.attendees))
+invariant-loop-attendee l = l.out.items ≡ l.fn.out.items ++
+    contents_octets (map (property_line name.Attendee) (take l.attendee-index l.attendees))

@@ -14,7 +14,11 @@ pub returns : goal.returns
 returns c =
     on_ok_weaker c.write_value-2.result
     (λ (last : c.write_value-2.new.out.items ≡ c.write_others.new.out.items ++ contents_octets (bare (codes "END") (codes "VTODO") ∷ [])).
-    all_written (parts_of c.args.todo.now) c.args.out.now.items c.write_value.new.out.items c.write_head.new.out.items c.write_count.new.out.items c.write_rid.new.out.items c.write_optional_moment.new.out.items c.write_optional_moment-2.new.out.items c.write_status.new.out.items c.write_small.new.out.items c.write_small-2.new.out.items c.write_optional_whole.new.out.items c.write_optional_whole-2.new.out.items c.write_attendees.new.out.items c.write_rule.new.out.items c.write_moments.new.out.items c.write_moments-2.new.out.items c.write_others.new.out.items c.write_value-2.new.out.items
+    all_written (parts_of c.args.todo.now) c.args.out.now.items c.write_value.new.out.items c.write_head.new.out.items
+    c.write_count.new.out.items c.write_rid.new.out.items c.write_optional_moment.new.out.items c.write_optional_moment-2.new.out.items
+    c.write_status.new.out.items c.write_small.new.out.items c.write_small-2.new.out.items c.write_optional_whole.new.out.items
+    c.write_optional_whole-2.new.out.items c.write_attendees.new.out.items c.write_rule.new.out.items c.write_moments.new.out.items
+    c.write_moments-2.new.out.items c.write_others.new.out.items c.write_value-2.new.out.items
     c.in_ok-write_value.ensures c.in_ok-write_head.ensures
     c.in_ok-write_count.ensures
     c.in_ok-write_rid.ensures
@@ -25,10 +29,15 @@ returns c =
     c.in_ok-write_small-2.ensures
     c.in_ok-write_optional_whole.ensures
     c.in_ok-write_optional_whole-2.ensures
-    (c.in_ok-write_attendees.ensures ∙ ap (λ (xs : List Property). c.write_optional_whole-2.new.out.items ++ contents_octets (map (property_line name.Attendee) xs)) c.as_slice.ensures)
-    (c.in_ok-write_rule.ensures ∙ ap (λ (xs : List (List ℕ)). c.write_attendees.new.out.items ++ contents_octets (map (plain name.RRule) xs)) c.as_slice-2.ensures)
-    (c.in_ok-write_moments.ensures ∙ ap (λ (xs : List Moment). c.write_rule.new.out.items ++ contents_octets (map (moment_line name.RDate) xs)) c.as_slice-3.ensures)
-    (c.in_ok-write_moments-2.ensures ∙ ap (λ (xs : List Moment). c.write_moments.new.out.items ++ contents_octets (map (moment_line name.ExDate) xs)) c.as_slice-4.ensures)
-    (c.in_ok-write_others.ensures ∙ ap (λ (xs : List Line). c.write_moments-2.new.out.items ++ contents_octets (map content_of xs)) c.as_slice-5.ensures)
+    (c.in_ok-write_attendees.ensures ∙ ap (λ (xs : List Property). c.write_optional_whole-2.new.out.items ++
+    contents_octets (map (property_line name.Attendee) xs)) c.as_slice.ensures)
+    (c.in_ok-write_rule.ensures ∙ ap (λ (xs : List (List ℕ)). c.write_attendees.new.out.items ++
+    contents_octets (map (plain name.RRule) xs)) c.as_slice-2.ensures)
+    (c.in_ok-write_moments.ensures ∙ ap (λ (xs : List Moment). c.write_rule.new.out.items ++
+    contents_octets (map (moment_line name.RDate) xs)) c.as_slice-3.ensures)
+    (c.in_ok-write_moments-2.ensures ∙ ap (λ (xs : List Moment). c.write_moments.new.out.items ++
+    contents_octets (map (moment_line name.ExDate) xs)) c.as_slice-4.ensures)
+    (c.in_ok-write_others.ensures ∙ ap (λ (xs : List Line). c.write_moments-2.new.out.items ++ contents_octets (map content_of xs))
+    c.as_slice-5.ensures)
     last)
     c.write_value-2.ensures

@@ -7,5 +7,7 @@ use Rattle.itip_todo.proofs.write.write_others.Goals as goal
 pub loop-line-preserved : goal.loop-line-preserved
 unfolding written unfolded_text
 loop-line-preserved c =
-    one_more content_of c.args.lines.now c.loop-line.line-index c.line-item.result c.args.out.now.items c.loop-line.out.items c.write_line.new.out.items c.loop-line-test.true c.line-item.is c.loop-line.invariant
-    (c.in_ok-write_line.ensures.appended ∙ ap (λ (bytes : List ℕ). c.loop-line.out.items ++ bytes) (sym (append-nil (content_octets (content_of c.line-item.result)))))
+    one_more content_of c.args.lines.now c.loop-line.line-index c.line-item.result c.args.out.now.items c.loop-line.out.items
+    c.write_line.new.out.items c.loop-line-test.true c.line-item.is c.loop-line.invariant
+    (c.in_ok-write_line.ensures.appended ∙ ap (λ (bytes : List ℕ). c.loop-line.out.items ++ bytes)
+    (sym (append-nil (content_octets (content_of c.line-item.result)))))

@@ -6,5 +6,7 @@ use Rattle.itip_todo.proofs.write.write_rule.Goals as goal
 
 pub loop-value-preserved : goal.loop-value-preserved
 loop-value-preserved c =
-    one_more (plain name.RRule) c.args.rule.now c.loop-value.value-index c.value-item.result c.args.out.now.items c.loop-value.out.items c.write_value.new.out.items c.loop-value-test.true c.value-item.is c.loop-value.invariant
-    (c.in_ok-write_value.ensures ∙ ap (λ (v : List ℕ). c.loop-value.out.items ++ contents_octets (plain name.RRule v ∷ [])) (c.as_bytes.ensures.value ∙ c.as_str.ensures))
+    one_more (plain name.RRule) c.args.rule.now c.loop-value.value-index c.value-item.result c.args.out.now.items c.loop-value.out.items
+    c.write_value.new.out.items c.loop-value-test.true c.value-item.is c.loop-value.invariant
+    (c.in_ok-write_value.ensures ∙ ap (λ (v : List ℕ). c.loop-value.out.items ++ contents_octets (plain name.RRule v ∷ []))
+    (c.as_bytes.ensures.value ∙ c.as_str.ensures))

@@ -15,4 +15,5 @@ pub returns-in_err-join-clause-err : goal.returns-in_err-join-clause-err
 returns-in_err-join-clause-err g c = on_err c.from_residual-in_err-join.result (guarded_equal _ _ refl refl)
 
 pub returns-in_err-join_under-clause-err : goal.returns-in_err-join_under-clause-err
-returns-in_err-join_under-clause-err g c = on_err c.from_residual-in_err-join_under.result (guarded_equal _ _ refl c.in_err-join_under.ensures.err)
+returns-in_err-join_under-clause-err g c =
+    on_err c.from_residual-in_err-join_under.result (guarded_equal _ _ refl c.in_err-join_under.ensures.err)

@@ -13,7 +13,8 @@ returns-clause-joined g c = on_ok_then c.merge.result
       above_second = λ k. subst (λ (o : Option g.row.V.Denot). IsBelowAt g.V.Join.le o (value_at g.K.Ord.cmp c.merge.new.self k))
           (alive_part_all (value_at g.K.Ord.cmp c.args.other.now.map k)) (joined k).above_second;
       least = λ bound p q k. (joined k).least (value_at g.K.Ord.cmp bound.map k) (p k)
-          (subst (λ (o : Option g.row.V.Denot). IsBelowAt g.V.Join.le o (value_at g.K.Ord.cmp bound.map k)) (sym (alive_part_all (value_at g.K.Ord.cmp c.args.other.now.map k))) (q k));
+          (subst (λ (o : Option g.row.V.Denot). IsBelowAt g.V.Join.le o (value_at g.K.Ord.cmp bound.map k))
+          (sym (alive_part_all (value_at g.K.Ord.cmp c.args.other.now.map k))) (q k));
     })
     c.merge.ensures.ok
 

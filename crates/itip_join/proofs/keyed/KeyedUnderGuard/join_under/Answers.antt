@@ -25,10 +25,14 @@ returns-clause-joined g c =
     ∙ value_at-kept dead g.met.K.Ord.total g.met.K.Exact.exact c.merge.new.self c.merge.ensures.ordered k in
     record {
       above_first = λ k. subst (λ (o : Option g.row.V.Denot). IsBelowUnder (dead k) g.V.Join.le (old k) o) (sym (is k))
-          (above_first_under g.V.Join.le (dead k) (λ v w. g.met.S.Guard.below_dead c.args.guard.now k v w) (old k) (other k) (merged k) (c.in_ok-merge.ensures.ok k));
+          (above_first_under g.V.Join.le (dead k) (λ v w. g.met.S.Guard.below_dead c.args.guard.now k v w) (old k) (other k) (merged k)
+          (c.in_ok-merge.ensures.ok k));
       above_second = λ k. subst (λ (o : Option g.row.V.Denot). IsBelowUnder (dead k) g.V.Join.le (other k) o) (sym (is k))
-          (above_second_under g.V.Join.le (dead k) (λ v w. g.met.S.Guard.below_dead c.args.guard.now k v w) (old k) (other k) (merged k) (c.in_ok-merge.ensures.ok k));
-      least = λ t bound grows p q k. subst (λ (o : Option g.row.V.Denot). IsBelowUnder (g.S.Guard.is_dead t k) g.V.Join.le o (value_at g.K.Ord.cmp bound.map k)) (sym (is k))
-          (least_under g.V.Join.le g.met.V.Join.reflexive g.met.V.Join.antisymmetric g.met.V.Chain.comparable (dead k) (g.S.Guard.is_dead t k)
+          (above_second_under g.V.Join.le (dead k) (λ v w. g.met.S.Guard.below_dead c.args.guard.now k v w) (old k) (other k) (merged k)
+          (c.in_ok-merge.ensures.ok k));
+      least = λ t bound grows p q k. subst (λ (o : Option g.row.V.Denot). IsBelowUnder (g.S.Guard.is_dead t k) g.V.Join.le o
+          (value_at g.K.Ord.cmp bound.map k)) (sym (is k))
+          (least_under g.V.Join.le g.met.V.Join.reflexive g.met.V.Join.antisymmetric g.met.V.Chain.comparable (dead k)
+          (g.S.Guard.is_dead t k)
           (old k) (other k) (merged k) (value_at g.K.Ord.cmp bound.map k) (c.in_ok-merge.ensures.ok k) (p k) (q k));
     }

@@ -8,7 +8,11 @@ returns-in-Date-clause-done c =
     let seconds : FitsSigned w64 c.args.seconds = c.ranges.seconds in
     let done = simp to_z-of_z at c.shift_day.ensures.done in
     rw c.in-Date.is (
-      λ ok. record { in_years = day_in_years c.in-Date.day.number c.args.days c.args.seconds (done.0 ok).0 (done.0 ok).1; whole_days = λ e. (done.0 ok).0 },
+      λ ok. record {
+        in_years = day_in_years c.in-Date.day.number c.args.days c.args.seconds (done.0 ok).0 (done.0 ok).1;
+        whole_days =
+            λ e. (done.0 ok).0;
+      },
       λ can. done.1 (can.whole_days refl, years_of_day c.in-Date.day.number c.args.days c.args.seconds (can.whole_days refl) can.in_years),
     )
 
@@ -19,7 +23,13 @@ returns-in-Date-clause-moved c =
     let done = simp to_z-of_z at c.shift_day.ensures.done in
     let moved = simp to_z-of_z at c.shift_day.ensures.moved in
     rw c.in-Date.is
-    (OnTrue-weaker c.shift_day.result (λ ok e. record { sum = day_moved c.in-Date.day.number c.args.days c.args.seconds c.shift_day.new.day.number (done.0 ok).0 e; form = refl; zone = refl }) moved)
+    (OnTrue-weaker c.shift_day.result (λ ok e. record {
+      sum =
+          day_moved c.in-Date.day.number c.args.days c.args.seconds c.shift_day.new.day.number (done.0 ok).0 e;
+      form = refl;
+      zone = refl;
+    })
+    moved)
 
 pub returns-in-Floating-clause-done : goal.returns-in-Floating-clause-done
 returns-in-Floating-clause-done c =

@@ -14,8 +14,10 @@ days_in_month-requires-clause-year_in c =
     let number : FitsSigned w32 day.number = omega (arith, signed_arith, day.in_years) in
     let x = day.number +ℤ pos (day.days_in_month + 1 - day.day) in
     let x_in : IsDayNumber x = c.requires.in_years in
-    let at = first_of_next day.number x day.in_years (omega (arith, day.day_is, day.length_is, day.bounds)) (omega (arith, signed_arith, day.day_is, day.length_is)) in
-    let parts = parts_behind day.number x day.year day.month c.month_behind-year.result.0 c.month_behind-year.result.1 at day.year_is day.month_is c.month_behind-year.ensures.number c.month_behind-year.ensures.month in
+    let at = first_of_next day.number x day.in_years (omega (arith, day.day_is, day.length_is, day.bounds))
+    (omega (arith, signed_arith, day.day_is, day.length_is)) in
+    let parts = parts_behind day.number x day.year day.month c.month_behind-year.result.0 c.month_behind-year.result.1 at day.year_is
+    day.month_is c.month_behind-year.ensures.number c.month_behind-year.ensures.month in
     omega (arith, parts.0, year_high x x_in)
 
 pub invariant_of-result : goal.invariant_of-result
@@ -25,8 +27,10 @@ invariant_of-result c =
     let number : FitsSigned w32 day.number = omega (arith, signed_arith, day.in_years) in
     let x = day.number +ℤ pos (day.days_in_month + 1 - day.day) in
     let x_in : IsDayNumber x = c.requires.in_years in
-    let at = first_of_next day.number x day.in_years (omega (arith, day.day_is, day.length_is, day.bounds)) (omega (arith, signed_arith, day.day_is, day.length_is)) in
-    let parts = parts_behind day.number x day.year day.month c.month_behind-year.result.0 c.month_behind-year.result.1 at day.year_is day.month_is c.month_behind-year.ensures.number c.month_behind-year.ensures.month in
+    let at = first_of_next day.number x day.in_years (omega (arith, day.day_is, day.length_is, day.bounds))
+    (omega (arith, signed_arith, day.day_is, day.length_is)) in
+    let parts = parts_behind day.number x day.year day.month c.month_behind-year.result.0 c.month_behind-year.result.1 at day.year_is
+    day.month_is c.month_behind-year.ensures.number c.month_behind-year.ensures.month in
     let sum : FitsSigned w32 x = omega (arith, signed_arith, x_in) in
     let long : c.days_in_month.result ≡ month_length x = c.days_in_month.ensures.value ∙ rw (parts.0, parts.1) refl in
     let within = c.month_behind-year.ensures.month in
@@ -36,5 +40,11 @@ invariant_of-result c =
       month_is = simp (to_z-of_z, unsigned) parts.1;
       day_is = simp (to_z-of_z, unsigned) (sym at.day);
       length_is = simp (to_z-of_z, unsigned) long;
-      bounds = (omega (arith, parts.0, year_high x x_in), within.1, omega arith, omega (arith, c.days_in_month.ensures.low), c.days_in_month.ensures.high);
+      bounds = (
+        omega (arith, parts.0, year_high x x_in),
+        within.1,
+        omega arith,
+        omega (arith, c.days_in_month.ensures.low),
+        c.days_in_month.ensures.high,
+      );
     }

@@ -12,7 +12,8 @@ invariant_of-result c =
     let unsigned : to_z w32 c.args.days ≡ pos c.args.days = omega (arith, ints, c.ranges.days.fits) in
     let number : FitsSigned w32 day.number = omega (arith, signed_arith, day.in_years) in
     let sum : FitsSigned w32 (day.number +ℤ pos c.args.days) = omega (arith, signed_arith, c.requires.in_years) in
-    let at = in_month day.number (day.number +ℤ pos c.args.days) day.in_years (omega (arith, signed_arith)) (omega (arith, signed_arith, day.day_is, day.length_is, c.requires.in_month)) in
+    let at = in_month day.number (day.number +ℤ pos c.args.days) day.in_years (omega (arith, signed_arith))
+    (omega (arith, signed_arith, day.day_is, day.length_is, c.requires.in_month)) in
     let day_at : day.day + c.args.days ≡ day_of_month (day.number +ℤ pos c.args.days) = omega (arith, signed_arith, day.day_is, at.at) in
     record {
       in_years = simp (to_z-of_z, unsigned) c.requires.in_years;

@@ -5,7 +5,8 @@ use Rattle.itip_recur.specs.Walk.{IsNoDay, IsUnitFrom}
 use Rattle.itip_recur.specs.Waits.{IsNone, IsFirst}
 use Rattle.itip_recur.proofs.Units.{unit_number-small}
 use Rattle.itip_recur.proofs.Walks.{IsNoDay-up_to}
-use Rattle.itip_recur.proofs.UnitWalks.{passes, finds, in_unit, none_left, closer, starts_before, stop_in_years, goes_on, IsUnitFrom-day, IsUnitFrom-number}
+use Rattle.itip_recur.proofs.UnitWalks.{passes, finds, in_unit, none_left, closer, starts_before, stop_in_years, goes_on, IsUnitFrom-day}
+use Rattle.itip_recur.proofs.UnitWalks.{IsUnitFrom-number}
 use Rattle.itip_recur.proofs.walk.Walk.next_day.Goals as goal
 
 pub first_selected-requires-clause-before : goal.first_selected-requires-clause-before
@@ -26,7 +27,8 @@ first_selected-requires-clause-before c =
     let bound : stop ≤ℤ next = simp to_z-of_z at c.earlier-stop.ensures.bound in
     let stop_in = stop_in_years next c.args.end stop begins.bounds c.requires.end_in one in
     let stop_fits : FitsSigned w32 stop = omega (arith, signed_arith, stop_in) in
-    rw to_z-of_z (starts_before rule start c.args.from unit.number unit.day next c.args.end stop here begins.before before_end c.requires.end_in one)
+    rw to_z-of_z (starts_before rule start c.args.from unit.number unit.day next c.args.end stop here begins.before before_end
+    c.requires.end_in one)
 
 pub first_selected-requires-clause-in_unit : goal.first_selected-requires-clause-in_unit
 first_selected-requires-clause-in_unit c =
@@ -69,7 +71,8 @@ returns-in-Some c =
     let other : stop ≤ℤ c.args.end = simp to_z-of_z at c.earlier-stop.ensures.other_bound in
     let is : IsFirst (IsSelected rule.frequency start) unit.day stop c.in-Some.found = simp to_z-of_z at c.in-Some.ensures in
     let found : FitsSigned w32 c.in-Some.found = omega (arith, signed_arith, is.not_before, is.before_stop, here.bounds, stop_in) in
-    rw to_z-of_z (finds rule start c.args.from unit.number unit.day next stop here begins.before bound stop_in c.args.end c.in-Some.found other is)
+    rw to_z-of_z (finds rule start c.args.from unit.number unit.day next stop here begins.before bound stop_in
+    c.args.end c.in-Some.found other is)
 
 pub unit_behind-unit-requires-clause-number : goal.unit_behind-unit-requires-clause-number
 unit_behind-unit-requires-clause-number c =
@@ -151,13 +154,19 @@ loop-unit-preserved c =
     let stop_fits : FitsSigned w32 stop = omega (arith, signed_arith, stop_in) in
     let day_in = IsUnitFrom-day rule start c.args.from unit.number unit.day c.args.end here before_end c.requires.end_in in
     let none : IsNone (IsSelected rule.frequency start) unit.day stop = simp to_z-of_z at c.in_default.ensures in
-    let passed : IsNoDay rule start c.args.from stop = passes rule start c.args.from unit.number unit.day next stop here begins.before bound stop_in none in
+    let passed : IsNoDay rule start c.args.from stop =
+    passes rule start c.args.from unit.number unit.day next stop here begins.before bound stop_in none in
     let number = IsUnitFrom-number rule start c.args.from unit.number unit.day here day_in in
     let later : unit.day <ℤ next = (begins.before unit.day day_in).1 (omega (arith, number)) in
     let whole : stop ≡ next = elim one [ inl e ↦ e | inr e ↦ absurd (omega (arith, signed_arith, e, bound, c.if-next-end.false)) ] in
     let to_next : IsNoDay rule start c.args.from next = subst (IsNoDay rule start c.args.from) whole passed in
-    let behind : IsUnitFrom rule start next c.unit_behind-unit.result.number c.unit_behind-unit.result.day = simp to_z-of_z at c.unit_behind-unit.ensures in
-    simp to_z-of_z (record { unit = goes_on rule start c.args.from next c.unit_behind-unit.result.number c.unit_behind-unit.result.day (omega (arith, signed_arith, later, here.not_before)) to_next behind })
+    let behind : IsUnitFrom rule start next c.unit_behind-unit.result.number c.unit_behind-unit.result.day =
+    simp to_z-of_z at c.unit_behind-unit.ensures in
+    simp to_z-of_z (record {
+      unit =
+          goes_on rule start c.args.from next c.unit_behind-unit.result.number c.unit_behind-unit.result.day
+          (omega (arith, signed_arith, later, here.not_before)) to_next behind;
+    })
 
 pub returns-after-loop-unit : goal.returns-after-loop-unit
 returns-after-loop-unit c =
@@ -189,6 +198,8 @@ returns-then-next-end c =
     let stop_in = stop_in_years next c.args.end stop begins.bounds c.requires.end_in one in
     let stop_fits : FitsSigned w32 stop = omega (arith, signed_arith, stop_in) in
     let none : IsNone (IsSelected rule.frequency start) unit.day stop = simp to_z-of_z at c.in_default.ensures in
-    let passed : IsNoDay rule start c.args.from stop = passes rule start c.args.from unit.number unit.day next stop here begins.before bound stop_in none in
-    let at_end : c.args.end ≤ℤ stop = elim one [ inl e ↦ omega (arith, signed_arith, e, c.if-next-end.true) | inr e ↦ omega (arith, signed_arith, e) ] in
+    let passed : IsNoDay rule start c.args.from stop =
+    passes rule start c.args.from unit.number unit.day next stop here begins.before bound stop_in none in
+    let at_end : c.args.end ≤ℤ stop =
+    elim one [ inl e ↦ omega (arith, signed_arith, e, c.if-next-end.true) | inr e ↦ omega (arith, signed_arith, e) ] in
     IsNoDay-up_to rule start c.args.from stop c.args.end passed at_end

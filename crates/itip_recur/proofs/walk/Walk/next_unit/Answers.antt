@@ -19,7 +19,8 @@ returns-then-number-here c =
       bounds = (omega (arith, signed_arith, day_in), omega (arith, signed_arith, day_in));
       not_before = omega (arith, signed_arith);
       skipped = IsNoDay-none rule c.args.self.now.start.number c.args.day;
-      low = λ x x_in low. let rises = unit_number-rises rule.frequency rule.week_start c.args.day x day_in x_in low in omega (arith, here, c.if-number-here.true, rises);
+      low = λ x x_in low. let rises = unit_number-rises rule.frequency rule.week_start c.args.day x day_in x_in low in
+          omega (arith, here, c.if-number-here.true, rises);
       high = λ first_in. omega (arith, here, c.if-number-here.true);
       small = omega (arith, c.unit_number-here.ensures.bound, next.near);
       congruent = next.congruent ∙ c.args.self.now.residue_is;
@@ -36,7 +37,9 @@ returns-else-number-here c =
     let next = c.next_congruent-number.ensures in
     rw to_z-of_z (record {
       bounds = c.first_day-day.ensures.bounds;
-      not_before = (let later = (c.first_day-day.ensures.before c.args.day day_in).1 (omega (arith, here, next.near, next.not_before, c.if-number-here.false)) in omega (arith, signed_arith, later));
+      not_before = (let later =
+          (c.first_day-day.ensures.before c.args.day day_in).1 (omega (arith, here, next.near, next.not_before, c.if-number-here.false)) in
+          omega (arith, signed_arith, later));
       skipped = λ x low high in_pattern.
           let x_in : IsDayNumber x = (omega (arith, signed_arith), omega (arith, signed_arith)) in
           let rises = unit_number-rises rule.frequency rule.week_start c.args.day x day_in x_in low in
@@ -47,10 +50,13 @@ returns-else-number-here c =
         | inr le ↦ le
       ];
       high = λ first_in.
-          let later = (c.first_day-day.ensures.before c.args.day day_in).1 (omega (arith, here, next.near, next.not_before, c.if-number-here.false)) in
-          let before_in : IsDayNumber (c.first_day-day.result -ℤ pos 1) = (omega (arith, signed_arith, later, day_in), omega (arith, signed_arith, first_in)) in
+          let later = (c.first_day-day.ensures.before c.args.day day_in).1
+          (omega (arith, here, next.near, next.not_before, c.if-number-here.false)) in
+          let before_in : IsDayNumber (c.first_day-day.result -ℤ pos 1) =
+          (omega (arith, signed_arith, later, day_in), omega (arith, signed_arith, first_in)) in
           let below = (c.first_day-day.ensures.before (c.first_day-day.result -ℤ pos 1) before_in).0 (omega (arith, signed_arith)) in
-          let near = unit_number-near rule.frequency rule.week_start (c.first_day-day.result -ℤ pos 1) c.first_day-day.result before_in first_in (omega (arith, signed_arith)) in
+          let near = unit_number-near rule.frequency rule.week_start (c.first_day-day.result -ℤ pos 1) c.first_day-day.result before_in
+          first_in (omega (arith, signed_arith)) in
           omega (arith, below, near);
       small = omega (arith, c.unit_number-here.ensures.bound, next.near);
       congruent = next.congruent ∙ c.args.self.now.residue_is;

@@ -12,7 +12,8 @@ returns-then-interval-eq1 c =
     let next : FitsSigned w32 c.args.next = c.ranges.next in
     let one : rule.interval ≡ 1 = omega (arith, c.if-interval-eq1.true) in
     let begins : IsFirstDay rule (unit.number + rule.interval) c.args.next = rw one c.requires.first in
-    rw to_z-of_z (unit_behind rule walk.start.number unit.day unit.number c.args.next c.args.next c.requires.day_in c.requires.number c.requires.congruent (omega arith) c.requires.small c.requires.next_in c.requires.first c.requires.next_in begins)
+    rw to_z-of_z (unit_behind rule walk.start.number unit.day unit.number c.args.next c.args.next c.requires.day_in
+    c.requires.number c.requires.congruent (omega arith) c.requires.small c.requires.next_in c.requires.first c.requires.next_in begins)
 
 pub returns-else-interval-eq1 : goal.returns-else-interval-eq1
 returns-else-interval-eq1 c =
@@ -21,4 +22,5 @@ returns-else-interval-eq1 c =
     let unit = c.args.unit in
     let first = c.first_day-day.ensures in
     let day : FitsSigned w32 c.first_day-day.result = omega (arith, signed_arith, first.bounds) in
-    rw to_z-of_z (unit_behind rule walk.start.number unit.day unit.number c.args.next c.first_day-day.result c.requires.day_in c.requires.number c.requires.congruent (omega arith) c.requires.small c.requires.next_in c.requires.first first.bounds first.before)
+    rw to_z-of_z (unit_behind rule walk.start.number unit.day unit.number c.args.next c.first_day-day.result c.requires.day_in
+    c.requires.number c.requires.congruent (omega arith) c.requires.small c.requires.next_in c.requires.first first.bounds first.before)

@@ -12,7 +12,15 @@ loop-series-preserved-in-Known c =
     let step : length (items_of (uid_states c.loop-series.series-iterator uid_state)) ≡ 1 + length sh.entries + length rest =
     ap (λ es. length (items_of (uid_states es uid_state))) c.in-Some.ensures.steps ∙ one_more sh c.in-Known.field-0 rest c.in-Known.is in
     record {
-      counted = omega (arith, step, c.loop-series.invariant.counted, c.loop-series.invariant.fits, c.len.ensures, c.saturating_add-count.ensures, c.saturating_add-count-in-Known.ensures);
+      counted = omega (
+        arith,
+        step,
+        c.loop-series.invariant.counted,
+        c.loop-series.invariant.fits,
+        c.len.ensures,
+        c.saturating_add-count.ensures,
+        c.saturating_add-count-in-Known.ensures,
+      );
       fits = omega (arith, c.saturating_add-count-in-Known.ensures);
     }
 
@@ -23,6 +31,13 @@ loop-series-preserved c =
     let step : length (items_of (uid_states c.loop-series.series-iterator uid_state)) ≡ length sh.entries + length rest =
     ap (λ es. length (items_of (uid_states es uid_state))) c.in-Some.ensures.steps ∙ none_more sh rest c.in_default.not-Known in
     record {
-      counted = omega (arith, step, c.loop-series.invariant.counted, c.loop-series.invariant.fits, c.len.ensures, c.saturating_add-count.ensures);
+      counted = omega (
+        arith,
+        step,
+        c.loop-series.invariant.counted,
+        c.loop-series.invariant.fits,
+        c.len.ensures,
+        c.saturating_add-count.ensures,
+      );
       fits = omega (arith, c.saturating_add-count.ensures);
     }

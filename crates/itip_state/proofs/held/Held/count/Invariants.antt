@@ -5,6 +5,7 @@ use Rattle.itip_state.proofs.held.Held.count.Given as goal
 
 abbrev pub invariant-loop-series : goal.invariant-loop-series
 invariant-loop-series l = record {
-  counted : min (l.count + length (items_of (uid_states l.series-iterator uid_state))) 18446744073709551615 ≡ min (length (items_of l.self)) 18446744073709551615;
+  counted : min (l.count + length (items_of (uid_states l.series-iterator uid_state))) 18446744073709551615 ≡ min
+      (length (items_of l.self)) 18446744073709551615;
   fits : l.count ≤ 18446744073709551615;
 }

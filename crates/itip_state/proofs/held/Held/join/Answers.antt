@@ -9,11 +9,15 @@ use Rattle.itip_state.proofs.held.Held.join.Goals as goal
 
 pub returns-clause-joined : goal.returns-clause-joined
 returns-clause-joined c = on_ok_then c.join.result
-    (λ j q. subst (λ (es : List (List ℕ × UidState)). IsJoinedAt (at es q) (at c.args.other.now q) (at (uid_states c.join.new.self.map uid_state) q)) c.self.view_is
-    (subst (λ (es : List (List ℕ × UidState)). IsJoinedAt (at (uid_states c.self.inside.map.map uid_state) q) (at es q) (at (uid_states c.join.new.self.map uid_state) q)) c.other.view_is
+    (λ j q. subst (λ (es : List (List ℕ × UidState)). IsJoinedAt (at es q) (at c.args.other.now q)
+    (at (uid_states c.join.new.self.map uid_state) q)) c.self.view_is
+    (subst (λ (es : List (List ℕ × UidState)). IsJoinedAt (at (uid_states c.self.inside.map.map uid_state) q) (at es q)
+    (at (uid_states c.join.new.self.map uid_state) q)) c.other.view_is
     (joined_all uid_state (λ v. record { sorted = v.entries.ordered; alive = v.no_dead_entry })
-    (λ sh w. record { guard = sh.series; entries = record { map = sh.entries; ordered = w.sorted }; no_dead_entry = w.alive }) (λ sh w. refl)
-    (λ k. k.map) (λ k. k.ordered) (λ es s. record { map = es; ordered = s }) (λ es s. refl) c.self.inside.map c.other.inside.map c.join.new.self j q)))
+    (λ sh w. record { guard = sh.series; entries = record { map = sh.entries; ordered = w.sorted }; no_dead_entry = w.alive })
+    (λ sh w. refl)
+    (λ k. k.map) (λ k. k.ordered) (λ es s. record { map = es; ordered = s }) (λ es s. refl) c.self.inside.map c.other.inside.map
+    c.join.new.self j q)))
     c.join.ensures.joined
 
 pub returns-clause-ordered : goal.returns-clause-ordered

@@ -8,7 +8,8 @@ use Rattle.itip_state.proofs.Seeing.{put_seen, in_order}
 use Rattle.itip_state.proofs.held.Held.remove.Goals as goal
 
 pub returns-clause-without : goal.returns-clause-without
-returns-clause-without c = λ q. put_seen uid_state c.self.inside.map.map c.remove.new.self.map c.args.uid.now None c.remove.ensures.without q
+returns-clause-without c =
+    λ q. put_seen uid_state c.self.inside.map.map c.remove.new.self.map c.args.uid.now None c.remove.ensures.without q
     ∙ ap (λ es. cond (is_eq (slice_cmp nat_cmp c.args.uid.now q)) None (at es q)) c.self.view_is
 
 pub returns-clause-ordered : goal.returns-clause-ordered

@@ -9,11 +9,14 @@ use Rattle.itip_state.proofs.Seeing.{seen_at, replaced_seen, in_order}
 use Rattle.itip_state.proofs.held.Held.replace.Goals as goal
 
 pub returns-clause-before : goal.returns-clause-before
-returns-clause-before c = ap (option_map uid_state) c.replace.ensures.before ∙ seen_at uid_state c.self.inside.map.map c.args.uid.now ∙ ap (λ es. at es c.args.uid.now) c.self.view_is
+returns-clause-before c = ap (option_map uid_state) c.replace.ensures.before ∙ seen_at uid_state c.self.inside.map.map c.args.uid.now ∙
+    ap (λ es. at es c.args.uid.now) c.self.view_is
 
 pub returns-clause-with : goal.returns-clause-with
-returns-clause-with c = λ q. replaced_seen uid_state c.self.inside.map.map c.replace.new.self.map c.args.uid.now c.args.series c.replace.ensures.with q
-    ∙ ap (λ es. cond (is_eq (slice_cmp nat_cmp c.args.uid.now q)) (replaced (at es c.args.uid.now) (uid_state c.args.series)) (at es q)) c.self.view_is
+returns-clause-with c =
+    λ q. replaced_seen uid_state c.self.inside.map.map c.replace.new.self.map c.args.uid.now c.args.series c.replace.ensures.with q
+    ∙ ap (λ es. cond (is_eq (slice_cmp nat_cmp c.args.uid.now q)) (replaced (at es c.args.uid.now) (uid_state c.args.series)) (at es q))
+    c.self.view_is
 
 pub returns-clause-ordered : goal.returns-clause-ordered
 returns-clause-ordered c = in_order uid_state c.replace.new.self.map c.replace.new.self.ordered

@@ -6,5 +6,6 @@ use Rattle.itip_state.proofs.held.Held.uids.Goals as goal
 
 pub loop-uid-init : goal.loop-uid-init
 loop-uid-init c =
-    let start : map (λ uid. uid.now) c.new-uids.result.items ++ keys_of c.into_iter-uid-iterator.result ≡ keys_of c.self.inside.map.map = search rules in
+    let start : map (λ uid. uid.now) c.new-uids.result.items ++ keys_of c.into_iter-uid-iterator.result ≡ keys_of c.self.inside.map.map =
+    search rules in
     start ∙ sym (keys_seen uid_state c.self.inside.map.map) ∙ ap keys_of c.self.view_is

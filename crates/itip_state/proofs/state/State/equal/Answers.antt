@@ -9,7 +9,8 @@ pub returns-then-below : goal.returns-then-below
 returns-then-below c = (
   λ t. subst (λ (v : List Item). SameItems v c.args.other.now) c.self.view_is
       (subst (λ (v : List Item). SameItems (items_of c.self.inside.held) v) c.other.view_is
-      (same_held c.self.inside.held c.other.inside.held c.self.invariant c.other.invariant (c.below.ensures.0 c.if-below.true) (c.below-then-below.ensures.0 t))),
+      (same_held c.self.inside.held c.other.inside.held c.self.invariant c.other.invariant (c.below.ensures.0 c.if-below.true)
+      (c.below-then-below.ensures.0 t))),
   λ same. c.below-then-below.ensures.1 (below_same c.other.inside.held c.self.inside.held c.other.invariant c.self.invariant
       (subst (λ (v : List Item). SameItems v (items_of c.self.inside.held)) (sym c.other.view_is)
       (subst (λ (v : List Item). SameItems c.args.other.now v) (sym c.self.view_is) (λ item. ((same item).1, (same item).0))))),

@@ -9,7 +9,8 @@ use Rattle.itip_state.proofs.state.State.hear.Goals as goal
 
 pub invariant_of-self : goal.invariant_of-self
 invariant_of-self c = on_both c.hear_all.result
-    (λ kept. (kept (items_of c.self.inside.held) (record { held = c.self.invariant; kept = held_state c.self.inside.held c.self.invariant })).held)
+    (λ kept. (kept (items_of c.self.inside.held)
+    (record { held = c.self.invariant; kept = held_state c.self.inside.held c.self.invariant })).held)
     (λ same. subst AreHeld (sym same) c.self.invariant)
     c.hear_all.ensures.ok c.hear_all.ensures.err
 

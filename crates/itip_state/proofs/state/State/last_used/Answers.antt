@@ -10,10 +10,12 @@ use Rattle.itip_state.proofs.state.State.last_used.Goals as goal
 
 pub returns-in-None : goal.returns-in-None
 returns-in-None c = subst (λ (v : List Item). IsLastUsed v c.args.uid.now None) c.self.view_is
-    (last_is c.args.uid.now [] _ (held_no_part c.self.inside.held c.self.invariant c.args.uid.now (sym c.in-None.ensures.found)) (held_state c.self.inside.held c.self.invariant))
+    (last_is c.args.uid.now [] _ (held_no_part c.self.inside.held c.self.invariant c.args.uid.now (sym c.in-None.ensures.found))
+    (held_state c.self.inside.held c.self.invariant))
 
 pub returns-in-Some : goal.returns-in-Some
 returns-in-Some c = subst (λ (v : List Item). IsLastUsed v c.args.uid.now c.greatest.result) c.self.view_is
     (subst (IsLastUsed _ c.args.uid.now) (sym c.greatest.ensures)
     (last_is c.args.uid.now (uid_state_items (uid_state c.in-Some.series.now)) _
-    (held_part c.self.inside.held c.self.invariant c.args.uid.now (uid_state c.in-Some.series.now) (sym c.in-Some.ensures.found)) (held_state c.self.inside.held c.self.invariant)))
+    (held_part c.self.inside.held c.self.invariant c.args.uid.now (uid_state c.in-Some.series.now) (sym c.in-Some.ensures.found))
+    (held_state c.self.inside.held c.self.invariant)))

@@ -11,7 +11,8 @@ use Rattle.itip_state.proofs.state.State.merge.Goals as goal
 
 pub invariant_of-self : goal.invariant_of-self
 invariant_of-self c = on_both c.join.result
-    (λ j. (joined_held c.self.inside.held c.other.inside.held c.join.new.self c.self.invariant c.other.invariant c.join.ensures.ordered j).held)
+    (λ j. (joined_held c.self.inside.held c.other.inside.held c.join.new.self c.self.invariant c.other.invariant c.join.ensures.ordered
+    j).held)
     (λ same. subst AreHeld (sym same) c.self.invariant)
     c.join.ensures.joined c.join.ensures.err
 
@@ -26,12 +27,14 @@ pub returns-clause-least : goal.returns-clause-least
 returns-clause-least c = on_ok_then c.join.result
     (λ j. subst (λ (v : List Item). IsLeastUpperBound v c.args.other.now (items_of c.join.new.self)) c.self.view_is
     (subst (λ (v : List Item). IsLeastUpperBound (items_of c.self.inside.held) v (items_of c.join.new.self)) c.other.view_is
-    (least_upper (items_of c.self.inside.held) (items_of c.other.inside.held) (items_of c.join.new.self) (held_state c.self.inside.held c.self.invariant) (held_state c.other.inside.held c.other.invariant)
+    (least_upper (items_of c.self.inside.held) (items_of c.other.inside.held) (items_of c.join.new.self)
+    (held_state c.self.inside.held c.self.invariant) (held_state c.other.inside.held c.other.invariant)
     (joined_held c.self.inside.held c.other.inside.held c.join.new.self c.self.invariant c.other.invariant c.join.ensures.ordered j).kept)))
     c.join.ensures.joined
 
 pub returns-clause-succeeds : goal.returns-clause-succeeds
-returns-clause-succeeds c = λ below. c.join.ensures.succeeds (held_below c.other.inside.held c.self.inside.held c.other.invariant c.self.invariant
+returns-clause-succeeds c =
+    λ below. c.join.ensures.succeeds (held_below c.other.inside.held c.self.inside.held c.other.invariant c.self.invariant
     (subst (λ (v : List Item). IsBelow v (items_of c.self.inside.held)) (sym c.other.view_is)
     (subst (λ (v : List Item). IsBelow c.args.other.now v) (sym c.self.view_is) below)))
 

@@ -13,11 +13,13 @@ pub loop-item-preserved : goal.loop-item-preserved
 loop-item-preserved c = subst (λ (xs : List Item). HoldKept xs c.hear.new.held)
     (sym (take_more c.args.items.now c.loop-item.item-index c.item-item.result c.loop-item-test.true
     ∙ ap (λ x. take c.loop-item.item-index c.args.items.now ++ x ∷ []) (sym c.item-item.is)))
-    (subst (λ (i : Item). HoldKept (take c.loop-item.item-index c.args.items.now ++ i ∷ []) c.hear.new.held) (c.in_ok-item.ensures ∙ c.in_ok-clone.ensures.cases)
+    (subst (λ (i : Item). HoldKept (take c.loop-item.item-index c.args.items.now ++ i ∷ []) c.hear.new.held) (c.in_ok-item.ensures ∙
+    c.in_ok-clone.ensures.cases)
     (c.in_ok-hear.ensures.kept (take c.loop-item.item-index c.args.items.now) c.loop-item.invariant))
 
 pub invariant_of-result : goal.invariant_of-result
 invariant_of-result c = c.loop-item.invariant.held
 
 pub returns : goal.returns
-returns c = subst (λ (xs : List Item). AreKept (items_of c.loop-item.held) xs) (take_all c.loop-item.item-index c.args.items.now c.loop-item-test.false) c.loop-item.invariant.kept
+returns c = subst (λ (xs : List Item). AreKept (items_of c.loop-item.held) xs)
+    (take_all c.loop-item.item-index c.args.items.now c.loop-item-test.false) c.loop-item.invariant.kept

@@ -11,15 +11,22 @@ use Rattle.itip_state.proofs.state.State.part.Goals as goal
 use Rattle.itip_state.proofs.state.State.part.Goals.{After-loop-uid}
 
 pub loop-uid-init : goal.loop-uid-init
-loop-uid-init c = record { values = λ q. ap (λ es. at es q) c.empty-held.ensures; ordered = rw c.empty-held.ensures hold_nothing.held.ordered }
+loop-uid-init c = record {
+  values = λ q. ap (λ es. at es q) c.empty-held.ensures;
+  ordered =
+      rw c.empty-held.ensures hold_nothing.held.ordered;
+}
 
 pub loop-uid-preserved : goal.loop-uid-preserved
 loop-uid-preserved c =
     let done : List (List ℕ) = map (λ uid. uid.now) (take c.loop-uid.uid-index c.args.uids.now) in
     record {
-      values = λ q. put_more (at c.self.inside.held) done (map (λ uid. uid.now) (take (c.loop-uid.uid-index + 1) c.args.uids.now)) c.uid-item.result.now
-          (map_more (λ uid. uid.now) c.args.uids.now c.loop-uid.uid-index c.uid-item.result c.loop-uid-test.true ∙ ap (λ x. done ++ x.now ∷ []) (sym c.uid-item.is)) q
-          (uid_state c.in-Some.series.now) (at c.loop-uid.held q) (at c.put.new.self q) c.in-Some.ensures.found (c.in_ok-put.ensures.put q) (c.loop-uid.invariant.values q);
+      values = λ q. put_more (at c.self.inside.held) done (map (λ uid. uid.now) (take (c.loop-uid.uid-index + 1) c.args.uids.now))
+          c.uid-item.result.now
+          (map_more (λ uid. uid.now) c.args.uids.now c.loop-uid.uid-index c.uid-item.result c.loop-uid-test.true ∙
+          ap (λ x. done ++ x.now ∷ []) (sym c.uid-item.is)) q
+          (uid_state c.in-Some.series.now) (at c.loop-uid.held q) (at c.put.new.self q) c.in-Some.ensures.found (c.in_ok-put.ensures.put q)
+          (c.loop-uid.invariant.values q);
       ordered = c.in_ok-put.ensures.ordered;
     }
 
@@ -27,17 +34,23 @@ pub loop-uid-preserved-in_default : goal.loop-uid-preserved-in_default
 loop-uid-preserved-in_default c =
     let done : List (List ℕ) = map (λ uid. uid.now) (take c.loop-uid.uid-index c.args.uids.now) in
     record {
-      values = λ q. pass_more (at c.self.inside.held) done (map (λ uid. uid.now) (take (c.loop-uid.uid-index + 1) c.args.uids.now)) c.uid-item.result.now
-          (map_more (λ uid. uid.now) c.args.uids.now c.loop-uid.uid-index c.uid-item.result c.loop-uid-test.true ∙ ap (λ x. done ++ x.now ∷ []) (sym c.uid-item.is)) q
+      values = λ q. pass_more (at c.self.inside.held) done (map (λ uid. uid.now) (take (c.loop-uid.uid-index + 1) c.args.uids.now))
+          c.uid-item.result.now
+          (map_more (λ uid. uid.now) c.args.uids.now c.loop-uid.uid-index c.uid-item.result c.loop-uid-test.true ∙
+          ap (λ x. done ++ x.now ∷ []) (sym c.uid-item.is)) q
           (at c.loop-uid.held q) c.in_default.ensures.found (c.loop-uid.invariant.values q);
       ordered = c.loop-uid.invariant.ordered;
     }
 
-all : (c : After-loop-uid) (q : List ℕ) → at c.loop-uid.held q ≡ cond (is_listed (map (λ uid. uid.now) c.args.uids.now) q) (at c.self.inside.held q) None
-all c q = c.loop-uid.invariant.values q ∙ ap (λ us. cond (is_listed (map (λ uid. uid.now) us) q) (at c.self.inside.held q) None) (take_all c.loop-uid.uid-index c.args.uids.now c.loop-uid-test.false)
+all : (c : After-loop-uid) (q : List ℕ) → at c.loop-uid.held q ≡ cond (is_listed (map (λ uid. uid.now) c.args.uids.now) q)
+    (at c.self.inside.held q) None
+all c q = c.loop-uid.invariant.values q ∙ ap (λ us. cond (is_listed (map (λ uid. uid.now) us) q) (at c.self.inside.held q) None)
+    (take_all c.loop-uid.uid-index c.args.uids.now c.loop-uid-test.false)
 
 pub invariant_of-result : goal.invariant_of-result
-invariant_of-result c = part_held c.self.inside.held c.loop-uid.held c.self.invariant c.loop-uid.invariant.ordered (map (λ uid. uid.now) c.args.uids.now) (all (goal.at.invariant_of-result c).After-loop-uid)
+invariant_of-result c =
+    part_held c.self.inside.held c.loop-uid.held c.self.invariant c.loop-uid.invariant.ordered (map (λ uid. uid.now) c.args.uids.now)
+    (all (goal.at.invariant_of-result c).After-loop-uid)
 
 pub returns : goal.returns
 returns c =

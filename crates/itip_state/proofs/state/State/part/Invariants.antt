@@ -8,6 +8,7 @@ use Rattle.itip_state.proofs.state.State.part.Given as goal
 
 abbrev pub invariant-loop-uid : goal.invariant-loop-uid
 invariant-loop-uid l = record {
-  values : (q : List ℕ) → at l.held q ≡ cond (list_any (λ u. is_eq (slice_cmp nat_cmp u q)) (map (λ uid. uid.now) (take l.uid-index l.uids))) (at l.self-inside.held q) None;
+  values : (q : List ℕ) → at l.held q ≡ cond (list_any (λ u. is_eq (slice_cmp nat_cmp u q))
+      (map (λ uid. uid.now) (take l.uid-index l.uids))) (at l.self-inside.held q) None;
   ordered : AreOrdered l.held;
 }

@@ -7,7 +7,9 @@ use Rattle.itip_state.proofs.Ordered.{series_of}
 use Rattle.itip_state.proofs.state.State.series.Goals as goal
 
 pub returns : goal.returns
-returns c = if_ok_then (λ series. map (λ item. item.now) series.items ≡ series_list c.self.inside.held) (λ series. AreSeriesOf (map (λ item. item.now) series.items) c.args.self.now) c.series.result
+returns c = if_ok_then (λ series. map (λ item. item.now) series.items ≡ series_list c.self.inside.held)
+    (λ series. AreSeriesOf (map (λ item. item.now) series.items) c.args.self.now) c.series.result
     (λ series e. subst (λ (xs : List Item). AreSeriesOf xs c.args.self.now) (sym e)
-    (subst (λ (v : List Item). AreSeriesOf (series_list c.self.inside.held) v) c.self.view_is (series_of c.self.inside.held c.self.invariant)))
+    (subst (λ (v : List Item). AreSeriesOf (series_list c.self.inside.held) v) c.self.view_is
+    (series_of c.self.inside.held c.self.invariant)))
     c.series.ensures

@@ -10,10 +10,15 @@ use Rattle.itip_state.proofs.state.State.shared_of.Goals as goal
 use Rattle.itip_state.proofs.state.State.shared_of.Goals.{in-Some+in_ok-share, in_default}
 
 pub share-requires : goal.share-requires
-share-requires c = (c.uid-item.result.now, (held_sound c.self.inside.held c.self.invariant c.uid-item.result.now (uid_state c.in-Some.series.now) (sym c.in-Some.ensures.found)).placed)
+share-requires c = (
+  c.uid-item.result.now,
+  (held_sound c.self.inside.held c.self.invariant c.uid-item.result.now
+      (uid_state c.in-Some.series.now) (sym c.in-Some.ensures.found)).placed,
+)
 
 pub loop-uid-init : goal.loop-uid-init
-loop-uid-init c = subst (λ (xs : List Item). ArePartOf xs (items_of c.self.inside.held) []) (sym c.new-items.ensures.items) (of_none (items_of c.self.inside.held))
+loop-uid-init c = subst (λ (xs : List Item). ArePartOf xs (items_of c.self.inside.held) []) (sym c.new-items.ensures.items)
+    (of_none (items_of c.self.inside.held))
 
 pub loop-uid-preserved : goal.loop-uid-preserved
 loop-uid-preserved c =
@@ -22,7 +27,8 @@ loop-uid-preserved c =
     let before : List (List ℕ) = map (λ u. u.now) (take i c.args.uids.now) in
     let now : List (List ℕ) = map (λ u. u.now) (take (i + 1) c.args.uids.now) in
     let more : now ≡ before ++ c.uid-item.result.now ∷ [] =
-    ap (map (λ u. u.now)) (take_more c.args.uids.now i c.uid-item.result c.loop-uid-test.true ∙ ap (λ x. take i c.args.uids.now ++ x ∷ []) (sym c.uid-item.is))
+    ap (map (λ u. u.now)) (take_more c.args.uids.now i c.uid-item.result c.loop-uid-test.true ∙
+    ap (λ x. take i c.args.uids.now ++ x ∷ []) (sym c.uid-item.is))
     ∙ map-append (λ u. u.now) (take i c.args.uids.now) (c.uid-item.result ∷ []) in
     elim c.match-get.branch [
       | in-Some+in_ok-share w ↦
@@ -38,4 +44,5 @@ loop-uid-preserved c =
 
 pub returns : goal.returns
 returns c = subst (λ (v : List Item). ArePartOf c.loop-uid.items.items v (map (λ u. u.now) c.args.uids.now)) c.self.view_is
-    (subst (λ us. ArePartOf c.loop-uid.items.items (items_of c.self.inside.held) (map (λ u. u.now) us)) (take_all c.loop-uid.uid-index c.args.uids.now c.loop-uid-test.false) c.loop-uid.invariant)
+    (subst (λ us. ArePartOf c.loop-uid.items.items (items_of c.self.inside.held) (map (λ u. u.now) us))
+    (take_all c.loop-uid.uid-index c.args.uids.now c.loop-uid-test.false) c.loop-uid.invariant)

@@ -9,7 +9,9 @@ use Rattle.itip_state.proofs.Ordered.{uids_of}
 use Rattle.itip_state.proofs.state.State.uids.Goals as goal
 
 pub returns-clause-uids : goal.returns-clause-uids
-returns-clause-uids c = if_ok_then (λ uids. map (λ uid. uid.now) uids.items ≡ keys_of c.self.inside.held) (λ uids. AreUidsOf (map (λ uid. uid.now) uids.items) c.args.self.now) c.uids.result
+returns-clause-uids c =
+    if_ok_then (λ uids. map (λ uid. uid.now) uids.items ≡ keys_of c.self.inside.held)
+    (λ uids. AreUidsOf (map (λ uid. uid.now) uids.items) c.args.self.now) c.uids.result
     (λ uids e. subst (λ (us : List (List ℕ)). AreUidsOf us c.args.self.now) (sym e)
     (subst (λ (v : List Item). AreUidsOf (keys_of c.self.inside.held) v) c.self.view_is (uids_of c.self.inside.held c.self.invariant)))
     c.uids.ensures

@@ -1,0 +1,134 @@
+//! What a state holds of one UID.
+ghost use Rattle.std.specs.Prelude.{◌≡◌, ◌++◌, [], ℕ, List, cond, IfOk, OnOk};
+ghost use Rattle.itip_join.specs.declared.lift.Lift.TheVariants.{Nothing};
+ghost use Rattle.itip_state.specs.Held.{can_die as key_can_die, is_below as item_is_below, kills as series_kills, alone, UidState};
+ghost use Rattle.itip_state.specs.Held.{uid_state_items, IsPlaced};
+ghost use Rattle.itip_state.specs.UidStates.{uid_state};
+ghost use Rattle.std.specs.Ordering.{is_eq};
+ghost use Rattle.itip_join.specs.KeyByKey.{value_at};
+ghost use Rattle.itip_items.specs.declared.key.Key.{Key};
+ghost use Rattle.itip_state.specs.Slots.{slot_cmp};
+ghost use Rattle.itip_state.specs.Changes.{IsBackAt, in_place_of};
+ghost use Rattle.itip_state.specs.DyingLaws.{kills_below, kills_more};
+
+use crate::NoMemory;
+use crate::revision::Best;
+use crate::shared::SharedItem;
+use crate::slot::Slot;
+use itip_items::{Item, Key};
+use itip_join::{Exact, Greatest, Guard, Guarded, Keyed, Lift};
+use std::alloc::Global;
+
+/// The kept items of one UID: the best series item, or none, and under it the best items of the other keys. It makes
+/// those dead that are below it.
+pub(crate) type HeldOfUid = Guarded<Lift<Best>, Keyed<Slot, Best>>;
+
+/// A series item kills what can die and is below it.
+impl Guard<Slot, Best> for Lift<Best> {
+    ghost is_dead = { λ s k v. series_kills s k v.value };
+
+    ghost below_dead = { λ s k v w. kills_below s k v.value w.value };
+
+    ghost dead_stays_dead = { λ s t k v. kills_more s t k v.value };
+
+    fn kills(&self, key: &Slot, value: &Best) -> bool {
+        is_dead_below(self, key.key(), value.value.item())
+    }
+}
+
+/// Whether items of this key can die.
+fn can_die(key: &Key) -> bool
+    ensures { result ≡ key_can_die key.now }
+{
+    match key {
+        Key::Instance(_, _) | Key::Range(_, _) | Key::Answer(_, None, _) => true,
+        Key::Series(_) | Key::Answer(_, Some(_), _) | Key::Refresh(_, _, _) => false,
+    }
+}
+
+/// Whether `item` is dead where `series` is the best series item.
+pub(crate) fn is_below(series: &Item, item: &Item) -> bool
+    ensures { result ≡ item_is_below series.now item.now }
+{
+    can_die(&item.key) && series.key.uid().cmp(item.key.uid()).is_eq() && item.eff < series.eff
+}
+
+/// Whether a series item, where there is one, makes an item of this key dead.
+pub(crate) fn is_dead_below(series: &Lift<Best>, key: &Key, item: &Item) -> bool
+    ensures { result ≡ series_kills series.now key.now item.now }
+{
+    match series {
+        Lift::Nothing => false,
+        Lift::Known(series) => can_die(key) && item.eff < series.value.item().eff,
+    }
+}
+
+/// No item.
+pub(crate) fn of_nothing(alloc: Global) -> HeldOfUid
+    ensures series { result.guard ≡ Nothing }
+    ensures entries { result.entries.map ≡ [] }
+{
+    Guarded {
+        guard: Lift::Nothing,
+        entries: Keyed::empty(alloc),
+    }
+}
+
+/// What is held where this item alone was heard.
+pub(crate) fn of_item(alloc: Global, item: &SharedItem) -> Result<HeldOfUid, NoMemory>
+    ensures { IfOk result (λ one. uid_state one ≡ alone item.now) }
+{
+    let best = Greatest {
+        value: item.revision().copy()?,
+    };
+    match item.slot() {
+        None => Ok(Guarded {
+            guard: Lift::Known(best),
+            entries: Keyed::empty(alloc),
+        }),
+        Some(slot) => Ok(Guarded {
+            guard: Lift::Nothing,
+            entries: Keyed::of_one(alloc, slot.copy()?, best)?,
+        }),
+    }
+}
+
+/// Adds the items of one UID, the series item first.
+pub(crate) fn share(series: &HeldOfUid, items: &mut Vec<SharedItem>) -> Result<(), NoMemory>
+    requires { (uid : List ℕ) × IsPlaced uid (uid_state series.now) }
+    ensures { OnOk result (items.new.items ≡ items.old.items ++ uid_state_items (uid_state series.now)) }
+{
+    if let Lift::Known(best) = &series.guard {
+        items.push(SharedItem::held_at(None, &best.value)?)?;
+    }
+    for (slot, best) in series.entries.map.iter() {
+        items.push(SharedItem::held_at(Some(slot), &best.value)?)?;
+    }
+    Ok(())
+}
+
+/// What is held of one UID, with what stood at a key put back.
+pub(crate) fn put_back(series: HeldOfUid, slot: &Slot, before: Option<Best>) -> HeldOfUid
+    requires { (old : UidState) × IsBackAt slot.now before (uid_state series) old }
+    ensures { (old : UidState) → IsBackAt slot.now before (uid_state series) old
+        → uid_state result ≡ old }
+{
+    let Guarded { guard, mut entries } = series;
+    put_entry(&mut entries, slot, before);
+    Guarded { guard, entries }
+}
+
+/// Puts another entry in the place of one, or takes it out. Where none stands, nothing changes.
+fn put_entry(entries: &mut Keyed<Slot, Best>, slot: &Slot, entry: Option<Best>)
+    ensures { (q : Key) → value_at slot_cmp entries.new.map q
+        ≡ cond (is_eq (slot_cmp slot.now q)) (in_place_of (value_at slot_cmp entries.old.map slot.now) entry) (value_at slot_cmp entries.old.map q) }
+{
+    match entry {
+        None => {
+            entries.remove(slot);
+        }
+        Some(best) => {
+            entries.replace(slot, best);
+        }
+    }
+}
