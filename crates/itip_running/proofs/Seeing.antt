@@ -20,12 +20,14 @@ use Rattle.itip_running.specs.declared.error.PassError.TheVariants as pass
 use Rattle.itip_running.specs.Deltas.{IsDeltaAfter}
 
 -- a desk that takes a batch is the desk of one batch more
-pub stepped : (steps : List (List Item)) (old new : Shown) (batch : List Item) → ((s : List (List Item)) (start : ℕ) → IsDeskOf s start old → IsDeskOf (s ++ batch ∷ []) start new)
+pub stepped : (steps : List (List Item)) (old new : Shown) (batch : List Item) →
+    ((s : List (List Item)) (start : ℕ) → IsDeskOf s start old → IsDeskOf (s ++ batch ∷ []) start new)
     → ∥ IsDeskOf steps 0 old ∥₁ → ∥ IsDeskOf (steps ++ batch ∷ []) 0 new ∥₁
 stepped steps old new batch step is = ∥∥₁_map is (step steps 0)
 
 -- what a desk tells since a tick is what is kept of the UIDs that moved after it
-pub delta_after : (steps : List (List Item)) (desk : Shown) (since : ℕ) (batch : List Item) → IsDeltaOf desk since batch → IsDeskOf steps 0 desk → IsDeltaAfter steps since batch
+pub delta_after : (steps : List (List Item)) (desk : Shown) (since : ℕ) (batch : List Item) → IsDeltaOf desk since batch →
+    IsDeskOf steps 0 desk → IsDeltaAfter steps since batch
 delta_after steps desk since batch delta is = record {
   ascend = delta.ascend;
   same = λ item.
@@ -66,7 +68,8 @@ module _ (part kept all : List Item) (are : AreKept kept all) (window : Window) 
 
   module _ (address : List ℕ) (same : (row : Row) → Shows address row → IsRow part window row ↔ IsRow kept window row) where
     pub listed_text_for : (text : List ℕ) → IsListTextFor address part window text → IsListTextFor address all window text
-    listed_text_for text is = text_for_of_kept address kept all are window text (text_for_of_same_rows address part kept window same text is)
+    listed_text_for text is =
+        text_for_of_kept address kept all are window text (text_for_of_same_rows address part kept window same text is)
 
     pub listed_many_for : AreTooManyWhere (Shows address) part window → AreTooManyWhere (Shows address) all window
     listed_many_for over = many_where_of_kept (Shows address) kept all are window (many_for_of_same_rows address part kept window same over)

@@ -1,6 +1,6 @@
 -- The history of a running desk, a list of batches that only grows: the rule of its book, and what a step on it tells (our own form).
 use Rattle.std.specs.Prelude.{ℕ, ◌≡◌, ◌==◌, true, List, [], ◌∷◌, ◌++◌, length, MatchBool}
-use Rattle.logbook.specs.Pages.{Cell, Step, KnownHistory, Book, Named}
+use Rattle.logbook.specs.Pages.{Cell, Step, View, Book, Named}
 use Rattle.itip_items.specs.declared.item.Item.{Item}
 
 -- a batch, as contracts see it
@@ -16,5 +16,5 @@ abbrev pub head_of : Book → Named
 head_of b = record { tracked = true; key = 0; book = b }
 
 -- the batch was added to all that had been seen, or the history was of another length
-abbrev pub Adds : Step Items → KnownHistory Items ℕ → ℕ → KnownHistory Items ℕ → Type 0
+abbrev pub Adds : Step Items → View Items ℕ → ℕ → View Items ℕ → Type 0
 Adds s v found w = MatchBool (found == s.old) (w.0 ≡ v.0 ++ s.ask ∷ []) (length w.0 ≡ found)

@@ -1,5 +1,5 @@
 -- What the two copies of a running desk hold, and what a look at them tells (our own form).
-use Rattle.std.specs.Prelude.{◌≡◌, ℕ, true, List, [], ◌∷◌, ◌++◌}
+use Rattle.std.specs.Prelude.{◌≡◌, ℕ, true, List, [], ◌∷◌, ◌++◌, drop}
 use mathlib.Core.Option.{some}
 use lib.ListN.{get_elem?}
 use Rattle.logbook.specs.Pages.{Book}
@@ -27,9 +27,18 @@ takes [] = []
 takes (Take b ∷ ops) = b ∷ takes ops
 takes (Mark f ∷ ops) = takes ops
 
+-- the batches that are published where this value is shown
+abbrev pub published_log : Published → List Items
+published_log x = x.front.seen.log
+
+-- the batches among the operations that readers do not see yet: all but so many at the front
+abbrev pub pending_log : ℕ → List Op → List Items
+pending_log behind ops = takes (drop behind ops)
+
 -- the pair's rule: the value's history is its front's, and every seat that knows a history knows this one
 abbrev pub Tied : Published → List KnownHistory → Type 0
-Tied x views = (x.history ≡ x.front.seen.log) × ((seat : ℕ) (v : KnownHistory) → get_elem? views seat ≡ some v → v.known ≡ true → v ≡ name_of x.front.seen.book)
+Tied x views = (x.history ≡ x.front.seen.log)
+    × ((seat : ℕ) (v : KnownHistory) → get_elem? views seat ≡ some v → v.known ≡ true → v ≡ name_of x.front.seen.book)
 
 -- what entering and publishing tell
 abbrev pub Sights : KnownHistory → Published → Published → KnownHistory → Type 0

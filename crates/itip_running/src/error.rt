@@ -10,10 +10,11 @@ use thiserror::Error;
 /// Why a keeper published nothing, or a pair was not made or not taken apart.
 #[derive(Clone, Copy, PartialEq, Eq, Debug, Drop, Error)]
 pub enum LiveError {
-    /// Memory was refused (40).
+    /// Out of memory (40).
     #[error("no memory for a running desk")]
     NoMemory,
-    /// The pair gave no place to a reader, or a pass or the history is ahead of its keeper, which no run of one pair meets (41).
+    /// The pair gave no place to a reader, or a pass or the history is ahead of its keeper, which no run of one pair meets
+    /// (41).
     #[error("no place at a running desk")]
     NoPlace,
     /// The number of published batches would pass `u64::MAX` (21).
@@ -27,13 +28,14 @@ pub enum PassError {
     /// More than 100,000 rows stand in the window (31).
     #[error("there are too many rows")]
     TooManyRows,
-    /// Memory was refused to a list (32).
+    /// Out of memory for a list (32).
     #[error("no memory to list")]
     NoListMemory,
-    /// Memory was refused to a delta (40).
+    /// Out of memory for a delta (40).
     #[error("no memory for a delta")]
     NoMemory,
-    /// The pair refused the entry, as it does once it is taken apart, or showed less than the pass has seen, which no run of one pair meets (45).
+    /// The pair refused the entry, as it does once it is taken apart, or showed less than the pass has seen, which no run of
+    /// one pair meets (45).
     #[error("no entry to a running desk")]
     NoEntry,
 }

@@ -12,6 +12,7 @@ use std::snapshot::Snapshot;
 #[derive(Drop)]
 pub(crate) struct Front {
     pub(crate) count: u64,
+    /// The beginning itself, which exists in the proofs alone (`logbook`).
     pub(crate) seen: Seen<Batch, u64, Law>,
     ghost counted: { count ≡ length seen.log },
 }
@@ -42,7 +43,8 @@ impl Front {
     /// Whether the other begins with all of this. Of two beginnings of one history the shorter begins the longer, so their lengths tell.
     pub(crate) fn begins(&self, other: &Front) -> bool
         requires book { other.now.seen.book ≡ self.now.seen.book }
-        ensures { MatchBool result (IsPrefix self.now.seen.log other.now.seen.log) (IsPrefix other.now.seen.log self.now.seen.log × (length other.now.seen.log < length self.now.seen.log)) }
+        ensures { MatchBool result (IsPrefix self.now.seen.log other.now.seen.log)
+            (IsPrefix other.now.seen.log self.now.seen.log × (length other.now.seen.log < length self.now.seen.log)) }
     {
         let mut both = self.seen.again();
         both.learn(&other.seen);
@@ -55,7 +57,8 @@ impl Front {
     /// The history with one batch more. Nothing where it can't be counted, or where another has added to the history, as nobody else can.
     pub(crate) fn followed_by(&self, head: &Head, batch: &Snapshot<Batch>) -> Option<Front>
         requires head { head.now ≡ head_of self.now.seen.book }
-        ensures { IfSome result (λ front. (front.seen.book ≡ self.now.seen.book) × (front.seen.log ≡ self.now.seen.log ++ batch.now.value ∷ [])) }
+        ensures { IfSome result (λ front. (front.seen.book ≡ self.now.seen.book)
+            × (front.seen.log ≡ self.now.seen.log ++ batch.now.value ∷ [])) }
     {
         let count = self.count;
         if count == u64::MAX {

@@ -1,5 +1,6 @@
 //! The keeper of a desk.
-ghost use Rattle.std.specs.Prelude.{◌≡◌, ◌↔◌, ◌+◌, ◌<◌, [], ◌∷◌, ◌++◌, length, IsSome, MatchResult, OnErr, OnOk, IfOk, IsErrOf};
+ghost use Rattle.std.specs.Prelude.{◌≡◌, ◌↔◌, ◌+◌, ◌<◌, [], ◌∷◌, ◌++◌, length, IsSome};
+ghost use Rattle.std.specs.Prelude.{MatchResult, OnErr, OnOk, IfOk, IsErrOf};
 
 use crate::error::LiveError;
 use crate::receipt::Receipt;
@@ -8,9 +9,10 @@ use itip_desk::Batch;
 use std::mem;
 use std::sync::Wait;
 
-/// The one that merges batches into a running desk. Contracts see two lists of batches: those that are published, and those that are pending.
+/// The one that merges batches into a running desk. Contracts see two lists of batches: those that are published, and
+/// those that are pending.
 ///
-/// It is not `Drop`, since its end waits for readers: hand it to `meet`.
+/// It is not `Drop`, since taking it apart waits for readers: hand it to `meet`.
 pub struct Keeper {
     pub(crate) end: Option<WriteEnd>,
     ghost there: { IsSome end },
@@ -19,10 +21,13 @@ pub struct Keeper {
 impl Keeper {
     ghost use Rattle.itip_running.specs.Ends.{published, pending, keeper_pair, told, receipt_pair};
 
-    /// Puts a batch behind those that are pending. It comes back where memory is refused, or where `usize::MAX` batches are pending, and nothing has changed then.
+    /// Adds a batch after those that are pending.
+    ///
+    /// The batch comes back when out of memory, or where `usize::MAX` batches are pending, and nothing has changed then.
     pub fn submit(&mut self, batch: Batch) -> Result<(), Batch>
         ensures published { published self.new ≡ published self.old }
-        ensures pending { MatchResult result (λ _. pending self.new ≡ pending self.old ++ batch ∷ []) (λ back. (back ≡ batch) × (pending self.new ≡ pending self.old)) }
+        ensures pending { MatchResult result (λ _. pending self.new ≡ pending self.old ++ batch ∷ [])
+            (λ back. (back ≡ batch) × (pending self.new ≡ pending self.old)) }
         ensures pair { keeper_pair self.new ≡ keeper_pair self.old }
     {
         match &mut self.end {
@@ -41,10 +46,12 @@ impl Keeper {
         }
     }
 
-    /// Publishes all that is pending, at once, and gives a receipt of all that is published then. It waits for passes that read.
+    /// Publishes all that is pending, at once, and gives a receipt of all that is published then. It waits for passes that
+    /// read.
     ///
-    /// Refused where memory was refused (40), and exactly where the number of published batches would pass `u64::MAX` (21). A refusal publishes nothing and leaves
-    /// what is pending. 41 where the history has more batches than the keeper submitted, which no run meets.
+    /// Refused when out of memory (40), and exactly where the number of published batches would pass `u64::MAX` (21). 41
+    /// where a submitted batch could not be added to the history, which no run meets. After a refusal nothing more is
+    /// published, and what was pending is still pending.
     pub fn publish<R: Wait>(&mut self, rt: &R) -> Result<Receipt, LiveError>
         ensures whole { OnOk result ((published self.new ≡ published self.old ++ pending self.old) × (pending self.new ≡ [])) }
         ensures receipt { IfOk result (λ r. (told r ≡ published self.new) × (receipt_pair r ≡ keeper_pair self.old)) }

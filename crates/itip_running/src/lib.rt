@@ -1,9 +1,10 @@
 //! Running desks: one keeper merges batches into a desk while passes read it, each on a thread of its own, with no lock.
 //!
-//! A keeper submits batches and publishes them, all that are pending at once. A pass lists the desk as it was published last, and never goes back. A
-//! receipt tells a pass what was published when it was given. `meet` ends it all, once the threads have returned. There are two copies of the desk: passes
-//! read one while the keeper merges into the other, and publishing exchanges them (`left_right`). What was submitted, in order, is a history whose list
-//! exists in the proofs alone (`logbook`); what was published is a beginning of it.
+//! A keeper submits batches and publishes them, all that are pending at once. A pass lists the desk as it was published,
+//! and never goes back. A receipt tells a pass what was published when it was given. `meet` ends it all, once the threads
+//! have returned. There are two copies of the desk: passes read one while the keeper merges into the other, and
+//! publishing exchanges them (`left_right`). What was submitted, in order, is a history whose list exists in the proofs
+//! alone (`logbook`); what was published is a beginning of it.
 #![tactic(auto)]
 
 mod error;

@@ -9,7 +9,8 @@ use crate::receipt::Receipt;
 use itip_desk::Batch;
 use itip_view::Window;
 
-/// The right to read a running desk, on any thread. It waits for nobody. Contracts see the list of the published batches that it has seen, which only grows.
+/// The right to read a running desk, on any thread. It waits for nobody. Contracts see the list of the published batches
+/// that it has seen, which only grows.
 #[derive(Drop)]
 pub struct Pass {
     pub(crate) end: Option<ReadEnd>,
@@ -24,10 +25,11 @@ impl Pass {
     ghost use Rattle.itip_running.specs.Deltas.{IsDeltaAfter};
     ghost use Rattle.itip_running.specs.Ends.{seen, pass_pair, told, receipt_pair};
 
-    /// The text of the task list in a window, of a list of published batches that begins with all that this pass had seen; it has seen these then.
+    /// The text of the task list in a window, of a list of published batches that begins with all that this pass had seen;
+    /// it has seen these then.
     ///
-    /// Refused where more than 100,000 rows stand there (31), or where memory was refused (32); it has seen the batches all the same. Refused too where the pair
-    /// lets nobody in or shows less than was seen (45): then nothing more is seen.
+    /// Refused where more than 100,000 rows are there (31), or when out of memory (32); it has seen the batches all the
+    /// same. Refused too where the pair lets nobody in or shows less than was seen (45): then nothing more is seen.
     pub fn list(&mut self, window: Window) -> Result<Vec<u8>, PassError>
         ensures text { IfOk result (λ text. IsListText (heard (seen self.new)) window text.items) }
         ensures many { IsErrOf result PassError.TooManyRows → AreTooMany (heard (seen self.new)) window }
@@ -44,8 +46,9 @@ impl Pass {
 
     /// The text of the rows in a window that show the attendee of an address, of a list of published batches as in `list`.
     ///
-    /// Refused where more than 100,000 rows there show the attendee (31), or where memory was refused (32); it has seen the batches all the same. Refused too where
-    /// the pair lets nobody in or shows less than was seen (45): then nothing more is seen.
+    /// Refused where more than 100,000 rows there show the attendee (31), or when out of memory (32); it has seen the
+    /// batches all the same. Refused too where the pair lets nobody in or shows less than was seen (45): then nothing more
+    /// is seen.
     pub fn list_for(&mut self, window: Window, address: &str) -> Result<Vec<u8>, PassError>
         ensures text { IfOk result (λ text. IsListTextFor address.now (heard (seen self.new)) window text.items) }
         ensures many { IsErrOf result PassError.TooManyRows → AreTooManyWhere (Shows address.now) (heard (seen self.new)) window }
@@ -60,10 +63,11 @@ impl Pass {
         text
     }
 
-    /// The kept items of the UIDs that moved after this tick of the desk, of a list of published batches as in `list`; the desk began at tick 0.
+    /// The kept items of the UIDs that moved after this tick of the desk, of a list of published batches as in `list`; the
+    /// desk began at tick 0.
     ///
-    /// Refused where memory was refused (40); it has seen the batches all the same. Refused too where the pair lets nobody in or shows less than was seen (45): then
-    /// nothing more is seen.
+    /// Refused when out of memory (40); it has seen the batches all the same. Refused too where the pair lets nobody in or
+    /// shows less than was seen (45): then nothing more is seen.
     pub fn delta_since(&mut self, tick: u64) -> Result<Batch, PassError>
         ensures delta { IfOk result (λ batch. IsDeltaAfter (seen self.new) tick batch) }
         ensures causes { IfErr result (λ e. (e ≡ PassError.NoMemory) ⊎ (e ≡ PassError.NoEntry)) }
@@ -77,7 +81,8 @@ impl Pass {
         delta
     }
 
-    /// Takes in what was published when the receipt was given: what is listed from now on begins with it. The receipt, of the pass's own desk, stays as it is.
+    /// Takes in what was published when the receipt was given: what is listed from now on begins with it. The receipt, of
+    /// the pass's own desk, stays as it is.
     pub fn learn(&mut self, receipt: &mut Receipt)
         requires pair { receipt_pair receipt.old ≡ pass_pair self.old }
         ensures receipt { receipt.new ≡ receipt.old }

@@ -30,18 +30,24 @@ impl Published {
     }
 }
 
-/// What a seat of the pair knows: which history it is. No value of it is made.
+/// What a seat of the pair, a keeper's or a pass's, knows: which history it is. No value of it is made.
 pub(crate) struct KnownHistory {
+    /// Whether it knows any.
     pub known: bool,
+    /// The number of the history's book (`logbook`).
     pub number: u64,
+    /// The name of the book's list.
     pub log_name: u64,
+    /// The name of the book's words.
     pub cells_name: u64,
 }
 
 /// What the keeper hands to both copies: a batch, or how long the history is with all before it.
 #[derive(Drop)]
 pub(crate) enum Op {
+    /// The desk takes a batch.
     Take(Batch),
+    /// So long is the history with all that was handed over before.
     Mark(Front),
 }
 
@@ -56,7 +62,8 @@ impl Absorb<Op> for Published {
 
     fn absorb_first(&mut self, operation: &Op, _other: &Self) -> Result<(), AllocError> {
         match operation {
-            // The ticks are never spent here: a batch raises the tick by at most one, and no more than u64::MAX batches are published.
+            // The ticks are never spent here: a batch raises the tick by at most one, and no more than u64::MAX batches are
+            // published.
             Op::Take(batch) => match self.desk.take(batch) {
                 Ok(_) => {
                     self.history = self.history.followed_by(batch);

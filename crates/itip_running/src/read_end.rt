@@ -31,7 +31,7 @@ pub(crate) struct ReadEnd {
     ghost tied: { view reader.place ≡ name_of front.seen.book },
 }
 
-/// An open read of what is published. It is not `Drop`: end it by `close`.
+/// An open read of what is published. It is not `Drop`: leave it by `close`.
 pub(crate) struct Look {
     alloc: Global,
     reading: PublishedReading,
@@ -41,10 +41,14 @@ pub(crate) struct Look {
 }
 
 impl ReadEnd {
-    /// Looks at what is published, which begins with all that was seen.
+    ghost use Rattle.itip_running.specs.Ends.{reader_seen, reader_pair, told};
+
+    /// Looks at what is published, which begins with all that was seen. Where the pair lets nobody in or shows less, the
+    /// end comes back as it was.
     fn look(self) -> Result<Look, ReadEnd>
-        ensures seen { MatchResult result (λ look. IsPrefix self.front.seen.log look.front.seen.log) (λ end. end.front.seen ≡ self.front.seen) }
-        ensures book { IfOk result (λ look. look.front.seen.book ≡ self.front.seen.book) }
+        ensures seen { MatchResult result (λ look. IsPrefix (reader_seen self) look.front.seen.log)
+            (λ end. end.front.seen ≡ self.front.seen) }
+        ensures book { IfOk result (λ look. look.front.seen.book ≡ reader_pair self) }
     {
         let ReadEnd {
             alloc,
@@ -76,14 +80,15 @@ impl ReadEnd {
         }
     }
 
-    /// The text of the task list in a window. During the read only what it is made of is taken, each item shared, so that the keeper waits for no row.
+    /// The text of the task list in a window. During the read only what it is made of is taken, each item shared, so that
+    /// the keeper waits for no row.
     pub(crate) fn list(self, window: Window) -> (ReadEnd, Result<Vec<u8>, PassError>)
-        ensures text { IfOk result.1 (λ text. IsListText (heard result.0.front.seen.log) window text.items) }
-        ensures many { IsErrOf result.1 PassError.TooManyRows → AreTooMany (heard result.0.front.seen.log) window }
+        ensures text { IfOk result.1 (λ text. IsListText (heard (reader_seen result.0)) window text.items) }
+        ensures many { IsErrOf result.1 PassError.TooManyRows → AreTooMany (heard (reader_seen result.0)) window }
         ensures causes { IsErrOf result.1 PassError.NoMemory → ⊥ }
-        ensures grows { IsPrefix self.front.seen.log result.0.front.seen.log }
-        ensures no_entry { IsErrOf result.1 PassError.NoEntry → result.0.front.seen.log ≡ self.front.seen.log }
-        ensures book { result.0.front.seen.book ≡ self.front.seen.book }
+        ensures grows { IsPrefix (reader_seen self) (reader_seen result.0) }
+        ensures no_entry { IsErrOf result.1 PassError.NoEntry → reader_seen result.0 ≡ reader_seen self }
+        ensures book { reader_pair result.0 ≡ reader_pair self }
     {
         match self.look() {
             Ok(look) => {
@@ -101,18 +106,20 @@ impl ReadEnd {
         }
     }
 
-    /// The text of the rows in a window that show the attendee of an address. It is made once the read is over, as that of the task list is.
+    /// The text of the rows in a window that show the attendee of an address. It is made once the read is over, as that of
+    /// the task list is.
     pub(crate) fn list_for(
         self,
         window: Window,
         address: &str,
     ) -> (ReadEnd, Result<Vec<u8>, PassError>)
-        ensures text { IfOk result.1 (λ text. IsListTextFor address.now (heard result.0.front.seen.log) window text.items) }
-        ensures many { IsErrOf result.1 PassError.TooManyRows → AreTooManyWhere (Shows address.now) (heard result.0.front.seen.log) window }
+        ensures text { IfOk result.1 (λ text. IsListTextFor address.now (heard (reader_seen result.0)) window text.items) }
+        ensures many { IsErrOf result.1 PassError.TooManyRows
+            → AreTooManyWhere (Shows address.now) (heard (reader_seen result.0)) window }
         ensures causes { IsErrOf result.1 PassError.NoMemory → ⊥ }
-        ensures grows { IsPrefix self.front.seen.log result.0.front.seen.log }
-        ensures no_entry { IsErrOf result.1 PassError.NoEntry → result.0.front.seen.log ≡ self.front.seen.log }
-        ensures book { result.0.front.seen.book ≡ self.front.seen.book }
+        ensures grows { IsPrefix (reader_seen self) (reader_seen result.0) }
+        ensures no_entry { IsErrOf result.1 PassError.NoEntry → reader_seen result.0 ≡ reader_seen self }
+        ensures book { reader_pair result.0 ≡ reader_pair self }
     {
         match self.look() {
             Ok(look) => {
@@ -132,11 +139,11 @@ impl ReadEnd {
 
     /// The kept items of the UIDs that moved after this tick.
     pub(crate) fn delta_since(self, tick: u64) -> (ReadEnd, Result<Batch, PassError>)
-        ensures delta { IfOk result.1 (λ batch. IsDeltaAfter result.0.front.seen.log tick batch) }
+        ensures delta { IfOk result.1 (λ batch. IsDeltaAfter (reader_seen result.0) tick batch) }
         ensures causes { IfErr result.1 (λ e. (e ≡ PassError.NoMemory) ⊎ (e ≡ PassError.NoEntry)) }
-        ensures grows { IsPrefix self.front.seen.log result.0.front.seen.log }
-        ensures no_entry { IsErrOf result.1 PassError.NoEntry → result.0.front.seen.log ≡ self.front.seen.log }
-        ensures book { result.0.front.seen.book ≡ self.front.seen.book }
+        ensures grows { IsPrefix (reader_seen self) (reader_seen result.0) }
+        ensures no_entry { IsErrOf result.1 PassError.NoEntry → reader_seen result.0 ≡ reader_seen self }
+        ensures book { reader_pair result.0 ≡ reader_pair self }
     {
         match self.look() {
             Ok(look) => {
@@ -153,11 +160,11 @@ impl ReadEnd {
 
     /// Takes in what was published when the receipt was given.
     pub(crate) fn learn(&mut self, receipt: &Receipt)
-        requires book { receipt.now.front.seen.book ≡ self.old.front.seen.book }
-        ensures longer { (self.new.front.seen.log ≡ self.old.front.seen.log) ⊎ (self.new.front.seen.log ≡ receipt.now.front.seen.log) }
-        ensures own { IsPrefix self.old.front.seen.log self.new.front.seen.log }
-        ensures told { IsPrefix receipt.now.front.seen.log self.new.front.seen.log }
-        ensures book { self.new.front.seen.book ≡ self.old.front.seen.book }
+        requires book { receipt.now.front.seen.book ≡ reader_pair self.old }
+        ensures longer { (reader_seen self.new ≡ reader_seen self.old) ⊎ (reader_seen self.new ≡ told receipt.now) }
+        ensures own { IsPrefix (reader_seen self.old) (reader_seen self.new) }
+        ensures told { IsPrefix (told receipt.now) (reader_seen self.new) }
+        ensures book { reader_pair self.new ≡ reader_pair self.old }
     {
         if !receipt.front.begins(&self.front) {
             self.front = receipt.front.again();

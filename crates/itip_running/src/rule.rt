@@ -1,6 +1,6 @@
 //! The rule of the pair.
 
-use crate::published::{Op, Published, KnownHistory};
+use crate::published::{KnownHistory, Op, Published};
 use atomic_table::{Join, Split};
 use crossbeam_utils::rule::{Outcome, Protocol};
 use left_right::reader::{Reader, Reading};

@@ -16,10 +16,11 @@ use left_right::writer::Writer;
 use std::alloc::Global;
 use std::sync::Wait;
 
-// One pass of the pair, which knows whose history it is.
+/// One pass of the pair, which knows whose history it is. Refused where the pair gives no place to a reader (41).
 fn seat(alloc: Global, writer: &mut PublishedWriter, last: &Front) -> Result<Pass, LiveError>
     requires known { view writer.old.desk.place ≡ name_of last.now.seen.book }
-    ensures writer { (writer.new.desk.shown ≡ writer.old.desk.shown) × (writer.new.log ≡ writer.old.log) × (writer.new.behind ≡ writer.old.behind) }
+    ensures writer { (writer.new.desk.shown ≡ writer.old.desk.shown) × (writer.new.log ≡ writer.old.log)
+        × (writer.new.behind ≡ writer.old.behind) }
     ensures known { view writer.new.desk.place ≡ view writer.old.desk.place }
     ensures pass { IfOk result (λ p. (seen p ≡ last.now.seen.log) × (pass_pair p ≡ Some last.now.seen.book)) }
     ensures cause { IfErr result (λ e. e ≡ LiveError.NoPlace) }
@@ -37,6 +38,7 @@ fn seat(alloc: Global, writer: &mut PublishedWriter, last: &Front) -> Result<Pas
     Ok(Pass { end: Some(end) })
 }
 
+/// The passes of the pair. Refused when out of memory (40), or where the pair gives no place to a reader (41).
 fn seats(
     alloc: Global,
     writer: &mut PublishedWriter,
@@ -44,7 +46,8 @@ fn seats(
     passes: usize,
 ) -> Result<Vec<Pass>, LiveError>
     requires known { view writer.old.desk.place ≡ name_of last.now.seen.book }
-    ensures writer { (writer.new.desk.shown ≡ writer.old.desk.shown) × (writer.new.log ≡ writer.old.log) × (writer.new.behind ≡ writer.old.behind) }
+    ensures writer { (writer.new.desk.shown ≡ writer.old.desk.shown) × (writer.new.log ≡ writer.old.log)
+        × (writer.new.behind ≡ writer.old.behind) }
     ensures count { IfOk result (λ ps. length ps.items ≡ passes) }
     ensures each { IfOk result (λ ps. All (λ p. (seen p ≡ last.now.seen.log) × (pass_pair p ≡ Some last.now.seen.book)) ps.items) }
     ensures causes { IfErr result (λ e. (e ≡ LiveError.NoMemory) ⊎ (e ≡ LiveError.NoPlace)) }
@@ -61,7 +64,8 @@ fn seats(
 
 /// A desk that has heard nothing, at tick 0: its keeper, and its passes, which have seen nothing. There are one to eight passes.
 ///
-/// Refused where memory was refused (40), or where the pair gives no place to a reader (41). A pair that was made is taken apart before a refusal.
+/// Refused when out of memory (40), or where the pair gives no place to a reader (41). A pair that was made is taken apart
+/// before a refusal.
 pub fn start_desk<R: AllocGlobal + Wait>(
     rt: &R,
     passes: usize,

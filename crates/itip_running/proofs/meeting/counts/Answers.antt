@@ -10,10 +10,17 @@ pub loop-pass-preserved : goal.loop-pass-preserved
 loop-pass-preserved c =
     let P : Pass → Type 0 = λ p. IsPrefix (seen p) c.args.front.now.seen.log in
     let i = c.loop-pass.pass-index in
-    let more : take (i + 1) c.args.passes.now ≡ take i c.args.passes.now ++ c.pass-item.result ∷ [] = take_more c.args.passes.now i c.pass-item.result c.loop-pass-test.true ∙ ap (λ (z : Pass). take i c.args.passes.now ++ z ∷ []) (sym c.pass-item.is) in
+    let more : take (i + 1) c.args.passes.now ≡ take i c.args.passes.now ++ c.pass-item.result ∷ [] =
+    take_more c.args.passes.now i c.pass-item.result c.loop-pass-test.true ∙
+    ap (λ (z : Pass). take i c.args.passes.now ++ z ∷ []) (sym c.pass-item.is) in
     let within : P c.pass-item.result = search rules in
-    let pushed : c.push.new.self.items ≡ c.loop-pass.all.items ++ length (seen c.pass-item.result) ∷ [] = search rules in
-    (pushed ∙ ap (λ (l : List ℕ). l ++ length (seen c.pass-item.result) ∷ []) c.loop-pass.invariant.0 ∙ sym (ap (λ (l : List Pass). map (λ p. length (seen p)) l) more ∙ map-append (λ (p : Pass). length (seen p)) (take i c.args.passes.now) (c.pass-item.result ∷ [])), subst (λ (l : List Pass). All P l) (sym more) (All-push P (take i c.args.passes.now) c.pass-item.result c.loop-pass.invariant.1 within))
+    let pushed : c.push.new.self.items ≡ c.loop-pass.all.items ++ length (seen c.pass-item.result) ∷ [] = search rules in (
+      pushed ∙ ap (λ (l : List ℕ). l ++ length (seen c.pass-item.result) ∷ []) c.loop-pass.invariant.0 ∙
+          sym (ap (λ (l : List Pass). map (λ p. length (seen p)) l) more ∙
+          map-append (λ (p : Pass). length (seen p)) (take i c.args.passes.now) (c.pass-item.result ∷ [])),
+      subst (λ (l : List Pass). All P l) (sym more)
+          (All-push P (take i c.args.passes.now) c.pass-item.result c.loop-pass.invariant.1 within),
+    )
 
 pub returns-clause-within : goal.returns-clause-within
 returns-clause-within c =

@@ -10,7 +10,8 @@ use Rattle.itip_running.proofs.meeting.meet.Goals as goal
 pub returns-clause-within : goal.returns-clause-within
 returns-clause-within g c =
     let log : c.again-front.result.seen.log ≡ published c.args.keeper = search rules in
-    let all = subst (λ (l : List Pass). All (λ p. IsPrefix (seen p) c.again-front.result.seen.log) l) c.as_slice.ensures.value c.in_ok-seen.ensures.within in
+    let all = subst (λ (l : List Pass). All (λ p. IsPrefix (seen p) c.again-front.result.seen.log) l) c.as_slice.ensures.value
+    c.in_ok-seen.ensures.within in
     subst (λ (l : List Items). All (λ p. IsPrefix (seen p) l) c.args.passes.items) log all
 
 pub returns-clause-desk : goal.returns-clause-desk
@@ -19,4 +20,5 @@ returns-clause-desk g c =
     let shown = c.into_inner-shown.result in
     let value : shown.history ≡ end.writer.desk.shown.value.history = search rules in
     let front : end.writer.desk.shown.value.front.seen.log ≡ published c.args.keeper = search rules in
-    desk_of (published c.args.keeper) 0 shown.desk (subst (λ (l : List Items). ∥ IsDeskOf l 0 shown.desk ∥₁) (value ∙ (end.kept_is ∙ front)) shown.is)
+    desk_of (published c.args.keeper) 0 shown.desk
+    (subst (λ (l : List Items). ∥ IsDeskOf l 0 shown.desk ∥₁) (value ∙ (end.kept_is ∙ front)) shown.is)

@@ -8,17 +8,23 @@ use Rattle.itip_running.proofs.read_end.text_in.Goals as goal
 
 pub returns-in-Ok-clause-text : goal.returns-in-Ok-clause-text
 returns-in-Ok-clause-text c =
-    if_ok_then (λ text. text.items ≡ list_text c.in-Ok.rows.items) (λ text. IsListText c.args.state.now c.args.window text.items) c.text_of.result
-    (λ text is. record { rows = c.in-Ok.rows.items; are_rows = c.in-Ok.ensures.rows; few = c.in-Ok.ensures.few; text_is = is }) c.text_of.ensures.text
+    if_ok_then (λ text. text.items ≡ list_text c.in-Ok.rows.items) (λ text. IsListText c.args.state.now c.args.window text.items)
+    c.text_of.result
+    (λ text is. record { rows = c.in-Ok.rows.items; are_rows = c.in-Ok.ensures.rows; few = c.in-Ok.ensures.few; text_is = is })
+    c.text_of.ensures.text
 
 pub returns-in-Ok-clause-many : goal.returns-in-Ok-clause-many
-returns-in-Ok-clause-many c e = absurd (cc (error_is (λ (f : PassError). f ≡ pass.NoListMemory) c.text_of.result pass.TooManyRows c.text_of.ensures.fault e))
+returns-in-Ok-clause-many c e =
+    absurd (cc (error_is (λ (f : PassError). f ≡ pass.NoListMemory) c.text_of.result pass.TooManyRows c.text_of.ensures.fault e))
 
 pub returns-in-Ok-clause-causes : goal.returns-in-Ok-clause-causes
-returns-in-Ok-clause-causes c = if_err_then (λ (f : PassError). f ≡ pass.NoListMemory) (λ (f : PassError). (f ≡ pass.TooManyRows) ⊎ (f ≡ pass.NoListMemory)) c.text_of.result (λ f is. inr is) c.text_of.ensures.fault
+returns-in-Ok-clause-causes c =
+    if_err_then (λ (f : PassError). f ≡ pass.NoListMemory) (λ (f : PassError). (f ≡ pass.TooManyRows) ⊎ (f ≡ pass.NoListMemory))
+    c.text_of.result (λ f is. inr is) c.text_of.ensures.fault
 
 pub returns-in-Err-clause-many : goal.returns-in-Err-clause-many
 returns-in-Err-clause-many c e = c.in-Err.ensures.many (ap Err (too_many_rows c.in-Err.fault (sym c.into.ensures ∙ cc e)))
 
 pub returns-in-Err-clause-causes : goal.returns-in-Err-clause-causes
-returns-in-Err-clause-causes c = subst (λ (f : PassError). (f ≡ pass.TooManyRows) ⊎ (f ≡ pass.NoListMemory)) (sym c.into.ensures) (list_causes c.in-Err.fault)
+returns-in-Err-clause-causes c =
+    subst (λ (f : PassError). (f ≡ pass.TooManyRows) ⊎ (f ≡ pass.NoListMemory)) (sym c.into.ensures) (list_causes c.in-Err.fault)

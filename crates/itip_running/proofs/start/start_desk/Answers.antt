@@ -7,5 +7,6 @@ use Rattle.itip_running.proofs.start.start_desk.Goals as goal
 pub publish_as-writer-requires : goal.publish_as-writer-requires
 publish_as-writer-requires g c next is =
     let shown = c.in-Ok.writer.desk.shown.value in
-    let s : state_of next ≡ state_of shown = subst (λ (l : List Op). state_of next ≡ fold applied_to (state_of shown) l) c.in-Ok.ensures.1 is in
+    let s : state_of next ≡ state_of shown =
+    subst (λ (l : List Op). state_of next ≡ fold applied_to (state_of shown) l) c.in-Ok.ensures.1 is in
     sees _ _ shown next (λ e. ap (λ t. t.0) s ∙ (e ∙ sym (ap (λ t. t.2) s))) (ap (λ t. t.1) s)

@@ -12,5 +12,6 @@ compare_exchange-found-requires c =
       ap (λ s. s.book) again ∙ sym (ap (λ w. w.book) h),
       pen.0 ∙ (ap (λ s. s.book) again ∙ sym (ap (λ w. w.book) h)),
       offer.0,
-      rw (ap (λ w. w.key) h, pen.1, offer.1, offer.3, ap (λ s. s.log) again) (adds_moves c.args.self.now.seen.log c.args.batch.now.value c.args.self.now.count (sym c.args.self.now.counted)),
+      rw (ap (λ w. w.key) h, pen.1, offer.1, offer.3, ap (λ s. s.log) again)
+          (adds_moves c.args.self.now.seen.log c.args.batch.now.value c.args.self.now.count (sym c.args.self.now.counted)),
     )

@@ -9,4 +9,7 @@ invariant_of-self c =
     let k = c.args.self.now in
     let b : Items = c.in-Take.batch in
     let log : c.followed_by.result ≡ k.history ++ b ∷ [] = search rules in
-    record { is = subst (λ (l : List Items). ∥ IsDeskOf l 0 c.take.new.self ∥₁) (sym log) (stepped k.history k.desk c.take.new.self b c.in-Ok.ensures.step k.is) }
+    record {
+      is = subst (λ (l : List Items). ∥ IsDeskOf l 0 c.take.new.self ∥₁) (sym log)
+          (stepped k.history k.desk c.take.new.self b c.in-Ok.ensures.step k.is);
+    }

@@ -11,25 +11,32 @@ use Rattle.itip_running.proofs.read_end.ReadEnd.list_for.Goals as goal
 pub returns-in-Ok-part-clause-text : goal.returns-in-Ok-part-clause-text
 returns-in-Ok-part-clause-text c =
     let same : c.close-end.result.front.seen.log ≡ c.in-Ok.look.front.seen.log = ap (λ s. s.log) c.close-end.ensures in
-    if_ok_then (λ text. IsListTextFor c.args.address.now c.in-Ok-part.part c.args.window text.items) (λ text. IsListTextFor c.args.address.now (heard c.close-end.result.front.seen.log) c.args.window text.items) c.text_for-text.result
+    if_ok_then (λ text. IsListTextFor c.args.address.now c.in-Ok-part.part c.args.window text.items)
+    (λ text. IsListTextFor c.args.address.now (heard c.close-end.result.front.seen.log) c.args.window text.items) c.text_for-text.result
     (λ text is. subst (λ (l : List Items). IsListTextFor c.args.address.now (heard l) c.args.window text.items) (sym same)
-    (listed_text_for c.in-Ok-part.part c.desk.result.now.kept (heard c.in-Ok.look.front.seen.log) c.desk.ensures.kept c.args.window c.args.address.now (c.in-Ok-part.ensures.rows c.args.window) text.items is))
+    (listed_text_for c.in-Ok-part.part c.desk.result.now.kept (heard c.in-Ok.look.front.seen.log) c.desk.ensures.kept c.args.window
+    c.args.address.now (c.in-Ok-part.ensures.rows c.args.window) text.items is))
     c.text_for-text.ensures.text
 
 pub returns-in-Ok-part-clause-many : goal.returns-in-Ok-part-clause-many
 returns-in-Ok-part-clause-many c e =
     let same : c.close-end.result.front.seen.log ≡ c.in-Ok.look.front.seen.log = ap (λ s. s.log) c.close-end.ensures in
     subst (λ (l : List Items). AreTooManyWhere (Shows c.args.address.now) (heard l) c.args.window) (sym same)
-    (listed_many_for c.in-Ok-part.part c.desk.result.now.kept (heard c.in-Ok.look.front.seen.log) c.desk.ensures.kept c.args.window c.args.address.now (c.in-Ok-part.ensures.rows c.args.window) (c.text_for-text.ensures.many e))
+    (listed_many_for c.in-Ok-part.part c.desk.result.now.kept (heard c.in-Ok.look.front.seen.log) c.desk.ensures.kept c.args.window
+    c.args.address.now (c.in-Ok-part.ensures.rows c.args.window) (c.text_for-text.ensures.many e))
 
 pub returns-in-Ok-part-clause-causes : goal.returns-in-Ok-part-clause-causes
-returns-in-Ok-part-clause-causes c e = elim (error_is (λ (f : PassError). (f ≡ pass.TooManyRows) ⊎ (f ≡ pass.NoListMemory)) c.text_for-text.result pass.NoMemory c.text_for-text.ensures.causes e) [
-  | inl same ↦ absurd (cc same)
-  | inr same ↦ absurd (cc same)
-]
+returns-in-Ok-part-clause-causes c e =
+    elim (error_is (λ (f : PassError). (f ≡ pass.TooManyRows) ⊎ (f ≡ pass.NoListMemory)) c.text_for-text.result pass.NoMemory
+    c.text_for-text.ensures.causes e) [
+      | inl same ↦ absurd (cc same)
+      | inr same ↦ absurd (cc same)
+    ]
 
 pub returns-in-Ok-part-clause-no_entry : goal.returns-in-Ok-part-clause-no_entry
-returns-in-Ok-part-clause-no_entry c e = elim (error_is (λ (f : PassError). (f ≡ pass.TooManyRows) ⊎ (f ≡ pass.NoListMemory)) c.text_for-text.result pass.NoEntry c.text_for-text.ensures.causes e) [
-  | inl same ↦ absurd (cc same)
-  | inr same ↦ absurd (cc same)
-]
+returns-in-Ok-part-clause-no_entry c e =
+    elim (error_is (λ (f : PassError). (f ≡ pass.TooManyRows) ⊎ (f ≡ pass.NoListMemory)) c.text_for-text.result pass.NoEntry
+    c.text_for-text.ensures.causes e) [
+      | inl same ↦ absurd (cc same)
+      | inr same ↦ absurd (cc same)
+    ]

@@ -30,9 +30,11 @@ invariant_of-end-in-Err-done g c =
     let shown : p.desk.shown.value ≡ w.desk.shown.value = search rules in
     let rest : drop p.behind p.log.items ≡ drop w.behind w.log.items = search rules in
     let same : p.desk.shown.value ≡ o.desk.shown.value = shown ∙ ap (λ d. d.shown.value) c.in-Ok.ensures.desk in
-    let taken : takes (drop p.behind p.log.items) ≡ takes ops = ap takes (rest ∙ c.in-Ok.ensures.pending) ∙ takes_mark ops (Mark c.again.result) refl in
+    let taken : takes (drop p.behind p.log.items) ≡ takes ops = ap takes (rest ∙ c.in-Ok.ensures.pending) ∙
+    takes_mark ops (Mark c.again.result) refl in
     record {
-      whole = λ s. c.args.self.whole s ∙ sym (ap (λ (x : Published). x.front.seen.log ++ takes ops) same ∙ refl) ∙ sym (ap (λ (l : List Items). p.desk.shown.value.front.seen.log ++ l) taken);
+      whole = λ s. c.args.self.whole s ∙ sym (ap (λ (x : Published). x.front.seen.log ++ takes ops) same ∙ refl) ∙
+          sym (ap (λ (l : List Items). p.desk.shown.value.front.seen.log ++ l) taken);
       book = c.args.self.book ∙ sym (ap (λ (x : Published). x.front.seen.book) same);
       head_is = c.args.self.head_is;
       kept_is = ap (λ (x : Published). x.history) same ∙ (c.args.self.kept_is ∙ sym (ap (λ (x : Published). x.front.seen.log) same));
@@ -46,5 +48,8 @@ returns-in-Err-done-clause-err g c =
     let p = c.publish_as-writer.result.0 in
     let ops : List Op = drop o.behind o.log.items in
     let shown : p.desk.shown.value ≡ w.desk.shown.value = search rules in
-    let rest : drop p.behind p.log.items ≡ drop w.behind w.log.items = search rules in
-    (shown ∙ ap (λ d. d.shown.value) c.in-Ok.ensures.desk, ap takes (rest ∙ c.in-Ok.ensures.pending) ∙ takes_mark ops (Mark c.again.result) refl)
+    let rest : drop p.behind p.log.items ≡ drop w.behind w.log.items = search rules in (
+      shown ∙ ap (λ d. d.shown.value) c.in-Ok.ensures.desk,
+      ap takes (rest ∙ c.in-Ok.ensures.pending) ∙
+          takes_mark ops (Mark c.again.result) refl,
+    )

@@ -16,7 +16,7 @@ invariant_of-self-in-Some c =
     let same : w.desk.shown.value ≡ o.desk.shown.value = ap (λ d. d.shown.value) c.in-Ok.ensures.desk in
     let more : takes (drop w.behind w.log.items) ≡ takes ops ++ b ∷ [] = ap takes c.in-Ok.ensures.pending ∙ takes_take ops b in
     record {
-      whole = λ s. c.in-Some.ensures.1 ∙ (ap (λ (t : Items). k.last.seen.log ++ t ∷ []) c.of-told.ensures
+      whole = λ s. c.in-Some.ensures.1 ∙ (ap (λ (t : Items). k.last.seen.log ++ t ∷ []) c.of-copy.ensures
           ∙ (ap (λ (l : List Items). l ++ b ∷ []) (k.whole s)
           ∙ (append_assoc o.desk.shown.value.front.seen.log (takes ops) (b ∷ [])
           ∙ (ap (λ (l : List Items). o.desk.shown.value.front.seen.log ++ l) (sym more)
