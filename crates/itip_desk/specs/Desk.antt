@@ -32,8 +32,8 @@ pub record IsCarriedOn (old new : Shown) (step : List Item) : Type 0 where
   pub moved : (since : ℕ) (uid : List ℕ) → Moves old.kept step uid → CarriesAfter new.changed since uid ↔ (since < new.tick)
   pub others : (since : ℕ) (uid : List ℕ) → KeepSame uid old.kept (old.kept ++ step) → CarriesAfter new.changed since uid ↔ CarriesAfter old.changed since uid
 
--- The desk is that of these steps from a starting tick: it keeps what is kept of all heard, its tick is that of the steps, and each UID that moved carries
--- the tick of the last step that moved it.
+-- The desk is that of these steps from a starting tick: it keeps what is kept of all heard, its tick is that of the
+-- steps, and each UID that moved carries the tick of the last step that moved it.
 pub record IsDeskOf (steps : List (List Item)) (start : ℕ) (desk : Shown) : Type 0 where
   pub kept : AreKept desk.kept (heard steps)
   pub tick : Ticks [] start steps desk.tick

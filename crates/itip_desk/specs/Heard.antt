@@ -27,4 +27,5 @@ MovedAfter before tick (step ∷ steps) since uid =
 
 -- These are all items heard in these steps from a starting tick that are of UIDs which moved after a tick, kept or not.
 abbrev pub TellsAfter : ℕ → List (List Item) → ℕ → List Item → Type 0
-TellsAfter start steps since told = (item : Item) → Contains told item ↔ (Contains (heard steps) item × MovedAfter [] start steps since (uid_of item.key))
+TellsAfter start steps since told =
+    (item : Item) → Contains told item ↔ (Contains (heard steps) item × MovedAfter [] start steps since (uid_of item.key))

@@ -1,7 +1,7 @@
 -- The number under which a refusal is shown, and its line (our own).
 use Rattle.std.specs.Prelude.{ℕ, List, [], ◌∷◌, ◌++◌, codes}
 use Rattle.std.specs.Fmt.{decimal}
-use Rattle.itip_message.specs.Numbers as message
+use Rattle.itip_message.specs.RefusalNumbers as message
 use Rattle.itip_desk.specs.declared.refusal.Refusal.{Refusal}
 use Rattle.itip_desk.specs.declared.refusal.Refusal.TheVariants.{Message, TicksSpent, TooManyRows, NoDesk, NoPacket, NoCommand, LongScript}
 

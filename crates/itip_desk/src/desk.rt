@@ -115,8 +115,10 @@ impl Desk {
         ensures tick { IfOk result (λ changed. changed.tick ≡ self.new.tick) }
         ensures rises { OnOk result (TickStep self.old.kept batch.now self.old.tick self.new.tick) }
         ensures carried { OnOk result (IsCarriedOn self.old self.new batch.now) }
-        ensures step { OnOk result ((steps : List (List Item)) (start : ℕ) → IsDeskOf steps start self.old → IsDeskOf (steps ++ batch.now ∷ []) start self.new) }
-        ensures spent { IsErrOf result DeskError.TicksSpent → (self.old.tick ≡ u64.MAX) × ((uid : List ℕ) × Moves self.old.kept batch.now uid) }
+        ensures step { OnOk result ((steps : List (List Item)) (start : ℕ)
+            → IsDeskOf steps start self.old → IsDeskOf (steps ++ batch.now ∷ []) start self.new) }
+        ensures spent { IsErrOf result DeskError.TicksSpent
+            → (self.old.tick ≡ u64.MAX) × ((uid : List ℕ) × Moves self.old.kept batch.now uid) }
         ensures err { OnErr result (self.new ≡ self.old) }
     {
         let news = self.kept.state().news(batch.as_slice())?;
@@ -144,7 +146,8 @@ impl Desk {
         })
     }
 
-    /// The kept items of the UIDs that carry a tick above this one: what a desk that was at this tick lacks. At most one other UID is looked at.
+    /// The kept items of the UIDs that carry a tick above this one: what a desk that was at this tick lacks. At most
+    /// one other UID is looked at.
     pub fn delta_since(&self, tick: u64) -> Result<Batch, AllocError>
         ensures { IfOk result (IsDeltaOf self.now tick) }
     {
@@ -154,22 +157,26 @@ impl Desk {
 
     /// The UIDs that are looked at for the list of a window, perhaps more than once. One that isn't among them has no row there.
     pub fn uids_in(&self, window: Window) -> Result<Vec<&Uid>, AllocError>
-        ensures { IfOk result (λ uids. (heard : List Item) (row : Row) → AreKept self.now.kept heard → IsRow heard window row → Contains (map (λ u. u.now) uids.items) row.uid) }
+        ensures { IfOk result (λ uids. (heard : List Item) (row : Row)
+            → AreKept self.now.kept heard → IsRow heard window row → Contains (map (λ u. u.now) uids.items) row.uid) }
     {
         let found = self.kept.uids_in(window)?;
         Ok(found)
     }
 
-    /// The UIDs that are looked at for the rows of the attendee of an address. One that isn't among them has no row that shows the attendee.
+    /// The UIDs that are looked at for the rows of the attendee of an address. One that isn't among them has no row
+    /// that shows the attendee.
     pub fn uids_naming(&self, address: &str) -> Result<Vec<&Uid>, AllocError>
-        ensures { IfOk result (λ uids. (heard : List Item) (window : Window) (row : Row) → AreKept self.now.kept heard → IsRow heard window row → Shows address.now row →
-            Contains (map (λ u. u.now) uids.items) row.uid) }
+        ensures { IfOk result (λ uids. (heard : List Item) (window : Window) (row : Row)
+            → AreKept self.now.kept heard → IsRow heard window row → Shows address.now row
+            → Contains (map (λ u. u.now) uids.items) row.uid) }
     {
         let found = self.kept.uids_naming(address)?;
         Ok(found)
     }
 
-    /// What the rows of a window are made of, shared with this desk: the kept items of the UIDs that are looked at for them. It has the same rows there.
+    /// What the rows of a window are made of, shared with this desk: the kept items of the UIDs that are looked at for
+    /// them. It has the same rows there.
     ///
     /// Refused when out of memory.
     pub fn part_in(&self, window: Window) -> Result<State, AllocError>
@@ -180,13 +187,14 @@ impl Desk {
         self.kept.state().part(&there)
     }
 
-    /// What the rows of the attendee of an address are made of, shared with this desk: the kept items of the UIDs that are looked at for them. In each window the
-    /// rows that show the attendee are those of the desk.
+    /// What the rows of the attendee of an address are made of, shared with this desk: the kept items of the UIDs that
+    /// are looked at for them. In each window the rows that show the attendee are those of the desk.
     ///
     /// Refused when out of memory.
     pub fn part_naming(&self, address: &str) -> Result<State, AllocError>
         ensures part { IfOk result (λ part. (uids : List (List ℕ)) × ArePartOf part self.now.kept uids) }
-        ensures rows { IfOk result (λ part. (window : Window) (row : Row) → Shows address.now row → IsRow part window row ↔ IsRow self.now.kept window row) }
+        ensures rows { IfOk result (λ part. (window : Window) (row : Row)
+            → Shows address.now row → IsRow part window row ↔ IsRow self.now.kept window row) }
     {
         let naming = in_order(self.kept.uids_naming(address)?)?;
         self.kept.state().part(&naming)
@@ -204,7 +212,8 @@ impl Desk {
         rows_among(self.alloc, self.kept.state(), uids, window, None)
     }
 
-    /// The rows in a window that show the attendee of an address, in their order, at most 100,000. No UID is looked at whose items don't name the attendee.
+    /// The rows in a window that show the attendee of an address, in their order, at most 100,000. No UID is looked at
+    /// whose items don't name the attendee.
     ///
     /// Refused where more rows there show the attendee (31), or when out of memory (32).
     pub fn rows_for(&self, window: Window, address: &str) -> Result<Vec<Row>, ViewError>
@@ -231,8 +240,10 @@ impl Desk {
     ///
     /// Refused where more than 100,000 rows there show the attendee (31), or when out of memory (32).
     pub fn list_for(&self, window: Window, address: &str) -> Result<Vec<u8>, ViewError>
-        ensures text { IfOk result (λ text. (heard : List Item) → AreKept self.now.kept heard → IsListTextFor address.now heard window text.items) }
-        ensures many { IsErrOf result ViewError.TooManyRows → (heard : List Item) → AreKept self.now.kept heard → AreTooManyWhere (Shows address.now) heard window }
+        ensures text { IfOk result (λ text. (heard : List Item)
+            → AreKept self.now.kept heard → IsListTextFor address.now heard window text.items) }
+        ensures many { IsErrOf result ViewError.TooManyRows
+            → (heard : List Item) → AreKept self.now.kept heard → AreTooManyWhere (Shows address.now) heard window }
     {
         let shown = self.rows_for(window, address)?;
         Ok(list_text(self.alloc, &shown)?)

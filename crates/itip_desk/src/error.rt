@@ -8,7 +8,7 @@ use thiserror::Error;
 /// Why a batch was not taken.
 #[derive(Clone, Copy, PartialEq, Eq, Debug, Drop, Error)]
 pub enum DeskError {
-    /// Memory was refused (20).
+    /// An allocation failed (20).
     #[error("no memory to take a batch")]
     NoMemory,
     /// A UID would move at the last tick, `u64::MAX` (21).

@@ -22,8 +22,10 @@ pub(crate) fn find_in<'a>(
     index: &'a BTreeSet<IndexEntry>,
     window: Window,
 ) -> Result<Vec<&'a Uid>, AllocError>
-    ensures days { IfOk result (λ uids. (uid : List ℕ) (day : ℤ) → window.from ≤ℤ day → day <ℤ window.to → has index.now (entry_at uid (Day day)) ≡ true → Contains (map (λ u. u.now) uids.items) uid) }
-    ensures always { IfOk result (λ uids. (uid : List ℕ) → has index.now (entry_at uid Always) ≡ true → Contains (map (λ u. u.now) uids.items) uid) }
+    ensures days { IfOk result (λ uids. (uid : List ℕ) (day : ℤ)
+        → window.from ≤ℤ day → day <ℤ window.to → has index.now (entry_at uid (Day day)) ≡ true → Contains (map (λ u. u.now) uids.items) uid) }
+    ensures always { IfOk result (λ uids. (uid : List ℕ)
+        → has index.now (entry_at uid Always) ≡ true → Contains (map (λ u. u.now) uids.items) uid) }
 {
     let mut uids = Vec::new(alloc);
     let from = bound(alloc, Mark::Day(window.from));
@@ -41,7 +43,8 @@ pub(crate) fn find_named<'a>(
     index: &'a BTreeSet<IndexEntry>,
     key: &Text,
 ) -> Result<Vec<&'a Uid>, AllocError>
-    ensures { IfOk result (λ uids. (uid : List ℕ) → has index.now (entry_at uid (Attendee key.now)) ≡ true → Contains (map (λ u. u.now) uids.items) uid) }
+    ensures { IfOk result (λ uids. (uid : List ℕ)
+        → has index.now (entry_at uid (Attendee key.now)) ≡ true → Contains (map (λ u. u.now) uids.items) uid) }
 {
     let mut uids = Vec::new(alloc);
     let from = bound(alloc, Mark::Attendee(key.clone()?));
@@ -77,7 +80,8 @@ fn find_between<'a>(
     uids: &mut Vec<&'a Uid>,
 ) -> Result<(), AllocError>
     requires { IsLeBy entry_cmp from to }
-    ensures { OnOk result (map (λ u. u.now) uids.new.items ≡ map (λ u. u.now) uids.old.items ++ map (λ e. e.uid) (keys_between entry_cmp (Included from) (Excluded to) index.now)) }
+    ensures { OnOk result (map (λ u. u.now) uids.new.items
+        ≡ map (λ u. u.now) uids.old.items ++ map (λ e. e.uid) (keys_between entry_cmp (Included from) (Excluded to) index.now)) }
 {
     for entry in index.range(from..to) {
         uids.push(&entry.uid)?;

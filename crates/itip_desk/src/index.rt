@@ -60,7 +60,8 @@ fn note_attendees(
 }
 
 fn put(entries: &mut BTreeSet<IndexEntry>, uid: &Uid, mark: Mark) -> Result<(), AllocError>
-    ensures { OnOk result ((e : IndexEntry) → has entries.new e ≡ (has entries.old e || is_eq (entry_cmp e (record { mark = mark; uid = uid.now })))) }
+    ensures { OnOk result ((e : IndexEntry)
+        → has entries.new e ≡ (has entries.old e || is_eq (entry_cmp e (record { mark = mark; uid = uid.now })))) }
 {
     entries.insert(IndexEntry {
         mark,
@@ -97,7 +98,11 @@ fn add(index: &mut BTreeSet<IndexEntry>, entry: &IndexEntry) -> Result<(), Alloc
 }
 
 /// Takes out the entries of `these` that `others` lacks. It takes no memory.
-pub(crate) fn shrink(index: &mut BTreeSet<IndexEntry>, these: &BTreeSet<IndexEntry>, others: &BTreeSet<IndexEntry>)
+pub(crate) fn shrink(
+    index: &mut BTreeSet<IndexEntry>,
+    these: &BTreeSet<IndexEntry>,
+    others: &BTreeSet<IndexEntry>,
+)
     ensures { (e : IndexEntry) → has index.new e ≡ (has index.old e && not (has these.now e && not (has others.now e))) }
 {
     for entry in these.difference(others) {

@@ -82,7 +82,8 @@ impl IndexedState {
 
     /// The UIDs whose rows can show the attendee of an address.
     pub(crate) fn uids_naming(&self, address: &str) -> Result<Vec<&Uid>, AllocError>
-        ensures { IfOk result (λ uids. (uid : List ℕ) → NamesIn self.now (attendee_key address.now) uid → Contains (map (λ u. u.now) uids.items) uid) }
+        ensures { IfOk result (λ uids. (uid : List ℕ)
+            → NamesIn self.now (attendee_key address.now) uid → Contains (map (λ u. u.now) uids.items) uid) }
     {
         let key = attendee_key(self.alloc, address)?;
         find_named(self.alloc, &self.index, &key)
@@ -153,10 +154,16 @@ fn is_of_rows(key: &Key) -> bool
 }
 
 /// What hearing these items changes in the entries of the UIDs that they are about.
-fn changes_of(alloc: Global, state: &State, found: &[&SharedItem]) -> Result<IndexChange, AllocError>
+fn changes_of(
+    alloc: Global,
+    state: &State,
+    found: &[&SharedItem],
+) -> Result<IndexChange, AllocError>
     ensures old { IfOk result (λ change. AreEntriesOf state.now (map (λ item. item.now) found.now) change.old) }
-    ensures new { IfOk result (λ change. (news after : List Item) → AreOfRows (map (λ item. item.now) found.now) news → AreKept after (state.now ++ news) → AreEntriesOf after (map (λ item. item.now) found.now) change.new) }
-    ensures about { IfOk result (λ change. (e : IndexEntry) → IsTrue (has change.new e) → IsTouched (map (λ item. item.now) found.now) e.uid) }
+    ensures new { IfOk result (λ change. (news after : List Item)
+        → AreOfRows (map (λ item. item.now) found.now) news → AreKept after (state.now ++ news) → AreEntriesOf after (map (λ item. item.now) found.now) change.new) }
+    ensures about { IfOk result (λ change. (e : IndexEntry)
+        → IsTrue (has change.new e) → IsTouched (map (λ item. item.now) found.now) e.uid) }
     ensures state { OnOk result (IsState state.now) }
 {
     match found {
@@ -186,8 +193,10 @@ fn changes_in_part(
     found: &[&SharedItem],
 ) -> Result<IndexChange, AllocError>
     ensures old { IfOk result (λ change. AreEntriesOf state.now (map (λ item. item.now) found.now) change.old) }
-    ensures new { IfOk result (λ change. (news after : List Item) → AreOfRows (map (λ item. item.now) found.now) news → AreKept after (state.now ++ news) → AreEntriesOf after (map (λ item. item.now) found.now) change.new) }
-    ensures about { IfOk result (λ change. (e : IndexEntry) → IsTrue (has change.new e) → IsTouched (map (λ item. item.now) found.now) e.uid) }
+    ensures new { IfOk result (λ change. (news after : List Item)
+        → AreOfRows (map (λ item. item.now) found.now) news → AreKept after (state.now ++ news) → AreEntriesOf after (map (λ item. item.now) found.now) change.new) }
+    ensures about { IfOk result (λ change. (e : IndexEntry)
+        → IsTrue (has change.new e) → IsTouched (map (λ item. item.now) found.now) e.uid) }
     ensures state { OnOk result (IsState state.now) }
 {
     let uids = uids(alloc, found)?;
@@ -200,7 +209,11 @@ fn changes_in_part(
 }
 
 /// The entries of the items of these UIDs.
-fn entries_of(alloc: Global, part: &State, uids: &[&Uid]) -> Result<BTreeSet<IndexEntry>, AllocError>
+fn entries_of(
+    alloc: Global,
+    part: &State,
+    uids: &[&Uid],
+) -> Result<BTreeSet<IndexEntry>, AllocError>
     ensures { IfOk result (λ entries. HaveEntries part.now (map (λ uid. uid.now) uids.now) entries) }
 {
     let mut entries = BTreeSet::new(alloc);
@@ -212,8 +225,13 @@ fn entries_of(alloc: Global, part: &State, uids: &[&Uid]) -> Result<BTreeSet<Ind
 }
 
 /// Adds the entries of these items.
-fn note_all(entries: &mut BTreeSet<IndexEntry>, alloc: Global, items: &[&Item]) -> Result<(), AllocError>
-    ensures { OnOk result ((e : IndexEntry) → IsTrue (has entries.new e) ↔ (IsTrue (has entries.old e) ⊎ IsNoted (map (λ item. item.now) items.now) e)) }
+fn note_all(
+    entries: &mut BTreeSet<IndexEntry>,
+    alloc: Global,
+    items: &[&Item],
+) -> Result<(), AllocError>
+    ensures { OnOk result ((e : IndexEntry)
+        → IsTrue (has entries.new e) ↔ (IsTrue (has entries.old e) ⊎ IsNoted (map (λ item. item.now) items.now) e)) }
 {
     for item in items {
         note(entries, alloc, item)?;

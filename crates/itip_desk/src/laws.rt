@@ -15,8 +15,8 @@ pub fn desks_converge()
         SameItems (heard steps) (heard others) → SameItems desk.kept other.kept }
 {}
 
-/// An older state of a desk, joined with what the desk gives as its delta since then, is what the desk keeps now; so it is joined with all that the desk
-/// has heard of the UIDs that moved since then (our own rule).
+/// An older state of a desk, joined with what the desk gives as its delta since then, is what the desk keeps now; so it
+/// is joined with all that the desk has heard of the UIDs that moved since then (our own rule).
 pub fn delta_brings_up_to_date()
     ensures kept { (steps more : List (List Item)) (start : ℕ) (older newer : Shown) (delta : List Item) →
         IsDeskOf steps start older → IsDeskOf (steps ++ more) start newer → IsDeltaOf newer older.tick delta →
@@ -33,8 +33,11 @@ pub fn delta_read_again()
 
 /// Octets are read as one batch, or refused for one cause, and not both.
 pub fn one_delta()
-    ensures some { (bytes : List ℕ) → ((batch : List Item) × ReadsDelta bytes batch) ⊎ ((refusal : MessageRefusal) × RefusesDelta bytes refusal) }
+    ensures some { (bytes : List ℕ)
+        → ((batch : List Item) × ReadsDelta bytes batch) ⊎ ((refusal : MessageRefusal) × RefusesDelta bytes refusal) }
     ensures batch { (bytes : List ℕ) (batch other : List Item) → ReadsDelta bytes batch → ReadsDelta bytes other → batch ≡ other }
-    ensures refusal { (bytes : List ℕ) (refusal other : MessageRefusal) → RefusesDelta bytes refusal → RefusesDelta bytes other → refusal ≡ other }
-    ensures apart { (bytes : List ℕ) (batch : List Item) (refusal : MessageRefusal) → ReadsDelta bytes batch → RefusesDelta bytes refusal → ⊥ }
+    ensures refusal { (bytes : List ℕ) (refusal other : MessageRefusal)
+        → RefusesDelta bytes refusal → RefusesDelta bytes other → refusal ≡ other }
+    ensures apart { (bytes : List ℕ) (batch : List Item) (refusal : MessageRefusal)
+        → ReadsDelta bytes batch → RefusesDelta bytes refusal → ⊥ }
 {}

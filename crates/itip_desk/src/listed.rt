@@ -12,7 +12,8 @@ pub fn write_listed(desk: u64, rows: &[Row], output: &mut Vec<u8>) -> Result<(),
     write_headed("list", desk, rows, output)
 }
 
-/// Appends a line with a word, the number of the desk and how many rows there are, and the text of the rows. If an allocation fails a part of it may be there.
+/// Appends a line with a word, the number of the desk and how many rows there are, and the text of the rows. If an
+/// allocation fails a part of it may be there.
 pub fn write_headed(
     word: &str,
     desk: u64,

@@ -49,7 +49,8 @@ impl MovedUids {
     /// Makes a place with tick 0, behind all others, for each of these UIDs that has none. A refusal changes nothing.
     pub(crate) fn add_places(&mut self, uids: &[Uid]) -> Result<(), AllocError>
         ensures places { OnOk result ((places : List (List ℕ × ℕ)) × (self.new ≡ self.old ++ places) × ArePlaces places) }
-        ensures all { OnOk result ((uid : List ℕ) → is_listed uids.now uid ≡ true → is_some (value_at (slice_cmp nat_cmp) self.new uid) ≡ true) }
+        ensures all { OnOk result ((uid : List ℕ)
+            → is_listed uids.now uid ≡ true → is_some (value_at (slice_cmp nat_cmp) self.new uid) ≡ true) }
         ensures err { OnErr result (self.new ≡ self.old) }
     {
         let mut cache = opened(self.alloc, self.cache.take())?;
@@ -70,7 +71,8 @@ impl MovedUids {
     /// Has these UIDs, which have places, carry the tick. They then stand first.
     pub(crate) fn mark(&mut self, uids: &[Uid], tick: u64)
         requires { (uid : List ℕ) → is_listed uids.now uid ≡ true → is_some (value_at (slice_cmp nat_cmp) self.old uid) ≡ true }
-        ensures marked { (uid : List ℕ) → value_at (slice_cmp nat_cmp) self.new uid ≡ cond (is_listed uids.now uid) (Some tick) (value_at (slice_cmp nat_cmp) self.old uid) }
+        ensures marked { (uid : List ℕ) → value_at (slice_cmp nat_cmp) self.new uid
+            ≡ cond (is_listed uids.now uid) (Some tick) (value_at (slice_cmp nat_cmp) self.old uid) }
         ensures falls { FallFrom tick self.old → FallFrom tick self.new }
     {
         if let Some(cache) = &mut self.cache {
@@ -82,7 +84,8 @@ impl MovedUids {
 
     /// The UIDs that carry a tick above `since`, the last moved first. No other is looked at but the one behind them.
     pub(crate) fn after(&self, since: u64) -> Result<Vec<&Uid>, AllocError>
-        ensures { IfOk result (λ uids. (top : ℕ) → FallFrom top self.now → (uid : List ℕ) → Contains (map (λ u. u.now) uids.items) uid ↔ CarriesAfter self.now since uid) }
+        ensures { IfOk result (λ uids. (top : ℕ)
+            → FallFrom top self.now → (uid : List ℕ) → Contains (map (λ u. u.now) uids.items) uid ↔ CarriesAfter self.now since uid) }
     {
         let mut uids = Vec::new(self.alloc);
         let Some(cache) = &self.cache else {
@@ -136,7 +139,8 @@ fn has(cache: &LruCache<Uid, u64>, uid: &Uid) -> bool
 /// Makes a place for each of these UIDs that has none, or where memory is refused for none of them.
 fn add_all(cache: &mut LruCache<Uid, u64>, uids: &[Uid]) -> Result<(), AllocError>
     ensures places { OnOk result ((places : List (List ℕ × ℕ)) × (cache.new.entries ≡ cache.old.entries ++ places) × ArePlaces places) }
-    ensures all { OnOk result ((uid : List ℕ) → is_listed uids.now uid ≡ true → is_some (value_at (slice_cmp nat_cmp) cache.new.entries uid) ≡ true) }
+    ensures all { OnOk result ((uid : List ℕ)
+        → is_listed uids.now uid ≡ true → is_some (value_at (slice_cmp nat_cmp) cache.new.entries uid) ≡ true) }
     ensures err { OnErr result (cache.new.entries ≡ cache.old.entries) }
 {
     let len = cache.len();
@@ -164,7 +168,8 @@ fn truncate_to(cache: &mut LruCache<Uid, u64>, len: usize)
 /// Has a UID that has a place carry the tick, and puts it first.
 fn mark_one(cache: &mut LruCache<Uid, u64>, uid: &Uid, tick: u64)
     requires { is_some (value_at (slice_cmp nat_cmp) cache.old.entries uid.now) ≡ true }
-    ensures marked { (q : List ℕ) → value_at (slice_cmp nat_cmp) cache.new.entries q ≡ cond (is_eq (slice_cmp nat_cmp uid.now q)) (Some tick) (value_at (slice_cmp nat_cmp) cache.old.entries q) }
+    ensures marked { (q : List ℕ) → value_at (slice_cmp nat_cmp) cache.new.entries q
+        ≡ cond (is_eq (slice_cmp nat_cmp uid.now q)) (Some tick) (value_at (slice_cmp nat_cmp) cache.old.entries q) }
     ensures falls { FallFrom tick cache.old.entries → FallFrom tick cache.new.entries }
 {
     if let Some(carried) = cache.get_mut(uid) {

@@ -15,11 +15,12 @@ use Rattle.itip_view.proofs.OneList.{one_list_text, text_or_too_many, one_text_f
 use Rattle.itip_view.proofs.OfKept.{text_of_kept, text_for_of_kept, too_many_of_kept, many_where_of_kept}
 use Rattle.itip_desk.specs.Delta.{delta_octets}
 use Rattle.itip_desk.proofs.ReadDeltas.{one_order}
-use Rattle.itip_streams.specs.Written.{AppendsFront, MovesOut}
+use Rattle.itip_streams.specs.Written.{AppendsFront, MovesOut, WritesOutput}
+use Rattle.itip_streams.proofs.Writing.{front_none}
 use Rattle.itip_inbox.specs.declared.refused.RefusedMessage.{RefusedMessage}
 use Rattle.itip_inbox.specs.Inbox.{Holds, is_some_refused}
-use Rattle.itip_inbox.specs.Compaction.{IsCompaction, WritesCompaction, WritesSoFar}
-use Rattle.itip_inbox.specs.TaskList.{IsTextFor, AreRowsFor, AreTooManyFor, IsListed, IsTaskList, WritesTaskList}
+use Rattle.itip_inbox.specs.Compaction.{IsCompaction, WritesSoFar}
+use Rattle.itip_inbox.specs.TaskList.{IsTextFor, AreRowsFor, AreTooManyFor, IsListed, IsTaskList}
 use Rattle.itip_inbox.proofs.Octets.{octets_none, octets_both, octets_push}
 use Rattle.itip_inbox.proofs.OneInbox.{one_inbox}
 
@@ -27,12 +28,6 @@ use Rattle.itip_inbox.proofs.OneInbox.{one_inbox}
 pub on_err : {T E P : Type 0} (r : Result T E) → P → OnErr r P
 on_err (Ok x) p = tt
 on_err (Err e) p = p
-
--- ---- a front
-
--- nothing of an output is written yet
-pub front_none : (o : Option (List ℕ)) (output : List ℕ) → AppendsFront o o output
-front_none o output = record { front = []; rest = output; whole = refl; appended = Appends-nil o }
 
 -- ---- items, one after another
 
@@ -85,11 +80,11 @@ kept_items : (batch kept heard : List Item) → IsItemsOf batch kept → AreKept
 kept_items batch kept heard is keeps i = (λ h. (keeps i).0 ((is.same i).0 h), λ k. (is.same i).1 ((keeps i).1 k))
 
 pub compaction_written : (old new read : Option (List ℕ)) (kept batch : List Item) (refusals : List RefusedMessage) (count : ℕ) (refused : Bool) → IfSome read (λ input. Holds input kept refusals count) → IsItemsOf batch kept
-    → Appends old new (delta_octets batch) → refused ≡ is_some_refused refusals → IfSome read (λ input. WritesCompaction old new input refused)
+    → Appends old new (delta_octets batch) → refused ≡ is_some_refused refusals → IfSome read (λ input. WritesOutput (IsCompaction input) old new refused)
 compaction_written old new None kept batch refusals count refused holds items appended is = tt
 compaction_written old new (Some input) kept batch refusals count refused holds items appended is = record {
-  octets = delta_octets batch;
-  compaction = record {
+  output = delta_octets batch;
+  is_output = record {
     heard = holds.heard;
     refusals = refusals;
     inbox = holds.inbox;
@@ -149,11 +144,11 @@ listed_once heard window attendee text other refusal more (inr a) (inr b) = a.1 
 
 pub list_written : (old new read : Option (List ℕ)) (kept : List Item) (refusals : List RefusedMessage) (count : ℕ) (window : Window) (attendee : Option (List ℕ)) (text : List ℕ) (refusal refused : Bool)
     → IfSome read (λ input. Holds input kept refusals count) → ((heard : List Item) → AreKept kept heard → IsListed heard window attendee text refusal) → Appends old new text
-    → refused ≡ (is_some_refused refusals || refusal) → IfSome read (λ input. WritesTaskList old new input window attendee refused)
+    → refused ≡ (is_some_refused refusals || refusal) → IfSome read (λ input. WritesOutput (IsTaskList input window attendee) old new refused)
 list_written old new None kept refusals count window attendee text refusal refused holds listed appended is = tt
 list_written old new (Some input) kept refusals count window attendee text refusal refused holds listed appended is = record {
-  text = text;
-  list = record { heard = holds.heard; refusals = refusals; inbox = holds.inbox; refusal = refusal; listed = listed holds.heard holds.keeps; refused_is = is };
+  output = text;
+  is_output = record { heard = holds.heard; refusals = refusals; inbox = holds.inbox; refusal = refusal; listed = listed holds.heard holds.keeps; refused_is = is };
   appended = appended;
 }
 

@@ -5,16 +5,17 @@ use Rattle.std.specs.Io.KnownBytes.{Appends}
 use Rattle.itip_lines.specs.Reading.{too_long}
 use Rattle.itip_items.specs.declared.item.Item.{Item}
 use Rattle.itip_message.specs.Message.{at_lines}
-use Rattle.itip_message.specs.Numbers.{number_of}
+use Rattle.itip_message.specs.RefusalNumbers.{number_of}
 use Rattle.itip_message.specs.declared.error.MessageRefusal.{MessageRefusal}
 use Rattle.itip_message.specs.Refusals.{of_lines}
 use Rattle.itip_message.proofs.OneMessage.{one_message, one_cause, message_apart}
 use Rattle.itip_desk.specs.Refusals.{refused_text}
-use Rattle.itip_streams.specs.Written.{AppendsFront}
+use Rattle.itip_streams.specs.Written.{AppendsFront, WritesOutput}
 use Rattle.itip_streams.specs.declared.fault.StreamFault.{StreamFault}
 use Rattle.itip_inbox.specs.declared.shown.Shown.{Shown}
-use Rattle.itip_inbox.specs.Shown.{items_text, IsItemsText, IsShownAs, IsShown, WritesShown}
-use Rattle.itip_inbox.proofs.Outputs.{front_none, same_items}
+use Rattle.itip_inbox.specs.Shown.{items_text, IsItemsText, IsShownAs, IsShown}
+use Rattle.itip_streams.proofs.Writing.{front_none}
+use Rattle.itip_inbox.proofs.Outputs.{same_items}
 
 -- ---- what was read
 
@@ -61,10 +62,10 @@ as_shown text shown (Some refusal) is = inr ((refusal, is), refl)
 -- ---- what was written
 
 pub shown_written : (old new read : Option (List ℕ)) (shown : List ℕ) (refusal : Option MessageRefusal) (refused : Bool) → IfSome read (λ text. IsShownAs text refusal shown) → Appends old new shown → refused ≡ is_some refusal
-    → IfSome read (λ text. WritesShown old new text refused)
+    → IfSome read (λ text. WritesOutput (IsShown text) old new refused)
 shown_written old new None shown refusal refused is appended known = tt
 shown_written old new (Some text) shown refusal refused is appended known =
-    record { shown = shown; is_shown = subst (λ (b : Bool). IsShown text shown b) (sym known) (as_shown text shown refusal is); appended = appended }
+    record { output = shown; is_output = subst (λ (b : Bool). IsShown text shown b) (sym known) (as_shown text shown refusal is); appended = appended }
 
 pub shown_front : (old new read : Option (List ℕ)) (shown : List ℕ) (refusal : Option MessageRefusal) → IfSome read (λ text. IsShownAs text refusal shown) → AppendsFront old new shown
     → IfSome read (λ text. (other : List ℕ) (refused : Bool) → IsShown text other refused → AppendsFront old new other)

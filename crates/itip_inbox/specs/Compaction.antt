@@ -25,12 +25,6 @@ pub record IsCompaction (input octets : List ℕ) (refused : Bool) : Type 0 wher
   pub kept : AreKeptOctets heard octets
   pub refused_is : refused ≡ is_some_refused refusals
 
--- The compaction of an input was written.
-pub record WritesCompaction (old new : Option (List ℕ)) (input : List ℕ) (refused : Bool) : Type 0 where
-  pub octets : List ℕ
-  pub compaction : IsCompaction input octets refused
-  pub appended : Appends old new octets
-
 -- What was written, and what is kept to be written, are the octets of these items.
 pub record WritesSoFar (old new : Option (List ℕ)) (done : List Item) (kept : List ℕ) : Type 0 where
   pub written : List ℕ
@@ -75,7 +69,8 @@ SomeTellsItem (text ∷ texts) item = TellsItem text item ⊎ SomeTellsItem text
 abbrev pub HasSameItems : List ℕ → List (List ℕ) → Type 0
 HasSameItems whole parts = (item : Item) → TellsItem whole item ↔ SomeTellsItem parts item
 
--- A part ends between two messages, where the rest follows: it has nothing but whole calendars, and behind none of these stands a blank, which would make its last break a fold.
+-- A part ends between two messages, where the rest follows: it has nothing but whole calendars, and behind none of these stands a
+-- blank, which would make its last break a fold.
 pub record EndsBetween (part rest : List ℕ) : Type 0 where
   pub calendars : List (List ℕ)
   pub whole : part ≡ concat calendars

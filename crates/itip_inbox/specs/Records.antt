@@ -1,11 +1,12 @@
--- The rows of the task list of an input as records for other programs. Nothing is said of how a record is spelled.
-use Rattle.std.specs.Prelude.{◌≡◌, ◌≤◌, ◌⊎◌, ℕ, Bool, true, false, ◌||◌, List, length, Option}
+-- The rows of the task list of an input as records for other programs (our own rule). Nothing is said of the text of records.
+use Rattle.std.specs.Prelude.{◌≡◌, ◌≤◌, ◌⊎◌, ℕ, Bool, true, false, ◌||◌, List, [], length, Option}
 use Rattle.std.specs.Io.KnownBytes.{Appends}
 use Rattle.itip_items.specs.declared.item.Item.{Item}
 use Rattle.itip_view.specs.Rows.{row_limit}
 use Rattle.itip_view.specs.declared.row.Row.{Row}
 use Rattle.itip_view.specs.declared.window.Window.{Window}
 use Rattle.itip_desk.specs.Refusals.{refused_text}
+use Rattle.itip_streams.specs.Written.{AppendsFront}
 use Rattle.itip_inbox.specs.Inbox.{IsInbox, is_some_refused}
 use Rattle.itip_inbox.specs.TaskList.{AreRowsFor, AreTooManyFor}
 use Rattle.itip_inbox.specs.declared.refused.RefusedMessage.{RefusedMessage}
@@ -22,13 +23,16 @@ IsRecorded heard window attendee text refusal =
     (HasRowsFor attendee heard window × (refusal ≡ false))
     ⊎ (AreTooManyFor attendee heard window × (text ≡ refused_text 31) × (refusal ≡ true))
 
--- The records of all messages of an input that are not refused were written, and whether a message or the list is.
-pub record WritesRecords (old new : Option (List ℕ)) (input : List ℕ) (window : Window) (attendee : Option (List ℕ)) (refused : Bool) : Type 0 where
+-- The records of all messages of an input that are not refused, and whether a message or the list is.
+pub record AreRecords (input : List ℕ) (window : Window) (attendee : Option (List ℕ)) (text : List ℕ) (refused : Bool) : Type 0 where
   pub heard : List Item
   pub refusals : List RefusedMessage
   pub inbox : IsInbox input heard refusals
-  pub text : List ℕ
   pub refusal : Bool
   pub recorded : IsRecorded heard window attendee text refusal
   pub refused_is : refused ≡ (is_some_refused refusals || refusal)
-  pub appended : Appends old new text
+
+-- Nothing was written, or a front of the records.
+abbrev pub WritesRecordsFront : List ℕ → Window → Option (List ℕ) → Option (List ℕ) → Option (List ℕ) → Type 0
+WritesRecordsFront input window attendee old new =
+    Appends old new [] ⊎ ((text : List ℕ) × (refused : Bool) × AreRecords input window attendee text refused × AppendsFront old new text)

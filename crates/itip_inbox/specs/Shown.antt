@@ -1,10 +1,9 @@
 -- What is shown of a text: its items, or the number of its refusal (our own format). Each line of ours ends with LF.
 use Rattle.std.specs.Prelude.{◌≡◌, ◌⊎◌, ℕ, Bool, true, false, List, ◌∷◌, ◌++◌, length, Option, Some, None, codes}
 use Rattle.std.specs.Fmt.{decimal}
-use Rattle.std.specs.Io.KnownBytes.{Appends}
 use Rattle.itip_items.specs.declared.item.Item.{Item}
 use Rattle.itip_message.specs.Message.{ReadsMessage, RefusesMessage}
-use Rattle.itip_message.specs.Numbers.{number_of}
+use Rattle.itip_message.specs.RefusalNumbers.{number_of}
 use Rattle.itip_message.specs.declared.error.MessageRefusal.{MessageRefusal}
 use Rattle.itip_state.specs.Kept.{IsItemsOf}
 use Rattle.itip_desk.specs.Delta.{delta_octets}
@@ -40,9 +39,3 @@ IsShownAs text (Some refusal) shown = ShowsRefusal text refusal shown
 abbrev pub IsShown : List ℕ → List ℕ → Bool → Type 0
 IsShown text shown refused =
     (ShowsItems text shown × (refused ≡ false)) ⊎ (((refusal : MessageRefusal) × ShowsRefusal text refusal shown) × (refused ≡ true))
-
--- What is shown of a text was written.
-pub record WritesShown (old new : Option (List ℕ)) (text : List ℕ) (refused : Bool) : Type 0 where
-  pub shown : List ℕ
-  pub is_shown : IsShown text shown refused
-  pub appended : Appends old new shown

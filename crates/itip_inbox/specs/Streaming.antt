@@ -14,7 +14,9 @@ use Rattle.itip_inbox.specs.declared.refused.RefusedMessage.{RefusedMessage}
 
 -- what reading a text beside a set of kept items may give, memory aside: those of its items that are news beside the set
 abbrev pub MayTell : List Item → List ℕ → Result (List Item) ReadError → Type 0
-MayTell kept text answer = IfOk answer (λ news. (items : List Item) × ReadsMessage text items × AreNews kept items news) × IfErr answer (λ e. IfRefused e (RefusesMessage text))
+MayTell kept text answer =
+    IfOk answer (λ news. (items : List Item) × ReadsMessage text items × AreNews kept items news)
+    × IfErr answer (λ e. IfRefused e (RefusesMessage text))
 
 -- The octets that are held, and those that are not read, are together the same as before.
 abbrev pub MovesIn : Option (List ℕ) → Option (List ℕ) → List ℕ → List ℕ → Type 0
@@ -40,13 +42,16 @@ pub record KeepsMessages (messages : List (List ℕ)) (kept : List Item) (refusa
   pub count_is : count ≡ length messages
 
 -- The messages of an input so far, and what is left of it.
-pub record ReadsSoFar (old new : Option (List ℕ)) (held : List ℕ) (kept : List Item) (refusals : List RefusedMessage) (count : ℕ) : Type 0 where
+pub record ReadsSoFar (old new : Option (List ℕ)) (held : List ℕ)
+    (kept : List Item) (refusals : List RefusedMessage) (count : ℕ) : Type 0 where
   pub messages : List (List ℕ)
   pub keeps : KeepsMessages messages kept refusals count
   pub leaves : LeavesMessages old new messages held
 
--- Some of these answers were gone through, of texts that stand behind messages that came before; they were read beside the items that were kept at first.
-pub record TakesSoFar (before texts : List (List ℕ)) (first : List Item) (left : List (Result (List Item) ReadError)) (kept : List Item) (refusals : List RefusedMessage) (count : ℕ) : Type 0 where
+-- Some of these answers were gone through, of texts that stand behind messages that came before; they were read beside the items that
+-- were kept at first.
+pub record TakesSoFar (before texts : List (List ℕ)) (first : List Item) (left : List (Result (List Item) ReadError))
+    (kept : List Item) (refusals : List RefusedMessage) (count : ℕ) : Type 0 where
   pub done : List (List ℕ)
   pub rest : List (List ℕ)
   pub heard : List Item

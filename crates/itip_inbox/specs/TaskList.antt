@@ -1,6 +1,5 @@
 -- The task list of an input (our own format).
 use Rattle.std.specs.Prelude.{◌≡◌, ◌⊎◌, ℕ, Bool, true, false, ◌||◌, List, Option, Some, None}
-use Rattle.std.specs.Io.KnownBytes.{Appends}
 use Rattle.itip_items.specs.declared.item.Item.{Item}
 use Rattle.itip_view.specs.ListText.{IsListText}
 use Rattle.itip_view.specs.Rows.{AreRows, AreTooMany}
@@ -40,9 +39,3 @@ pub record IsTaskList (input : List ℕ) (window : Window) (attendee : Option (L
   pub refusal : Bool
   pub listed : IsListed heard window attendee text refusal
   pub refused_is : refused ≡ (is_some_refused refusals || refusal)
-
--- The task list of an input was written.
-pub record WritesTaskList (old new : Option (List ℕ)) (input : List ℕ) (window : Window) (attendee : Option (List ℕ)) (refused : Bool) : Type 0 where
-  pub text : List ℕ
-  pub list : IsTaskList input window attendee text refused
-  pub appended : Appends old new text

@@ -2,8 +2,8 @@
 ghost use Rattle.std.specs.Prelude.{◌≡◌, ◌≢◌, ◌++◌, ℕ, Bool, List, IfOk, IfErr, OnOk, OnErr, IsErrOf, IfSome};
 ghost use Rattle.std.specs.Io.KnownBytes.{Appends, Keeps};
 ghost use Rattle.itip_desk.specs.Delta.{delta_octets};
-ghost use Rattle.itip_streams.specs.Written.{AppendsFront};
-ghost use Rattle.itip_inbox.specs.Compaction.{IsCompaction, WritesCompaction};
+ghost use Rattle.itip_streams.specs.Written.{AppendsFront, WritesOutput};
+ghost use Rattle.itip_inbox.specs.Compaction.{IsCompaction};
 ghost use Rattle.itip_inbox.specs.Inbox.{is_some_refused};
 
 use crate::read::read_inbox;
@@ -28,9 +28,10 @@ pub fn compact<R: Read, W: Write, S: Watch>(
     threads: usize,
     watch: &mut S,
 ) -> Result<bool, StreamFault>
-    ensures output { IfOk result (λ refused. IfSome (R.remaining reader.old) (λ input. WritesCompaction (W.contents writer.old) (W.contents writer.new) input refused)) }
-    ensures front { OnErr result (IfSome (R.remaining reader.old) (λ input. (octets : List ℕ) (refused : Bool) → IsCompaction input octets refused →
-        AppendsFront (W.contents writer.old) (W.contents writer.new) octets)) }
+    ensures output { IfOk result (λ refused. IfSome (R.remaining reader.old) (λ input.
+        WritesOutput (IsCompaction input) (W.contents writer.old) (W.contents writer.new) refused)) }
+    ensures front { OnErr result (IfSome (R.remaining reader.old) (λ input. (octets : List ℕ) (refused : Bool) →
+        IsCompaction input octets refused → AppendsFront (W.contents writer.old) (W.contents writer.new) octets)) }
     ensures unread { IsErrOf result StreamFault.Read → Keeps (W.contents writer.old) (W.contents writer.new) }
 {
     let inbox = read_inbox(rt, alloc, reader, threads, watch)?;

@@ -45,7 +45,8 @@ impl Inbox {
         texts: &[&[u8]],
         threads: usize,
     ) -> Result<(), StreamFault>
-        ensures keeps { OnOk result ((messages : List (List ℕ)) → KeepsMessages messages self.old.state self.old.refusals.items self.old.messages →
+        ensures keeps { OnOk result ((messages : List (List ℕ)) →
+            KeepsMessages messages self.old.state self.old.refusals.items self.old.messages →
             KeepsMessages (messages ++ map (λ text. text.now) texts.now) self.new.state self.new.refusals.items self.new.messages) }
         ensures fault { IfErr result (λ fault. fault ≢ StreamFault.Write) }
     {
@@ -58,7 +59,8 @@ impl Inbox {
         &mut self,
         answers: Vec<Result<ListOf<SharedItem>, ReadError>>,
     ) -> Result<(), StreamFault>
-        ensures takes { OnOk result ((before texts : List (List ℕ)) (first : List Item) → TakesSoFar before texts first answers.items self.old.state self.old.refusals.items self.old.messages →
+        ensures takes { OnOk result ((before texts : List (List ℕ)) (first : List Item) →
+            TakesSoFar before texts first answers.items self.old.state self.old.refusals.items self.old.messages →
             TakesSoFar before texts first [] self.new.state self.new.refusals.items self.new.messages) }
         ensures fault { IfErr result (λ fault. fault ≢ StreamFault.Write) }
     {

@@ -9,11 +9,11 @@
 //! in any order, and the results once more.
 #![tactic(auto)]
 
+mod compact;
 mod csv_records;
 mod cut;
 mod inbox;
 mod json_records;
-mod compact;
 mod laws;
 mod read;
 mod records;
@@ -24,10 +24,10 @@ mod tasks;
 mod texts;
 mod watch;
 
+pub use compact::{compact, write_items};
 pub use csv_records::csv_text;
 pub use inbox::Inbox;
 pub use json_records::json_text;
-pub use compact::{compact, write_items};
 pub use laws::{compaction_of_compactions, items_of_parts, one_compaction};
 pub use read::read_inbox;
 pub use records::{Notation, list_records};

@@ -30,7 +30,8 @@ pub fn read_inbox<R: Read, W: Watch>(
     threads: usize,
     watch: &mut W,
 ) -> Result<Inbox, StreamFault>
-    ensures holds { IfOk result (λ inbox. IfSome (R.remaining reader.old) (λ input. Holds input inbox.state inbox.refusals.items inbox.messages)) }
+    ensures holds { IfOk result (λ inbox. IfSome (R.remaining reader.old) (λ input.
+        Holds input inbox.state inbox.refusals.items inbox.messages)) }
     ensures fault { IfErr result (λ fault. fault ≢ StreamFault.Write) }
 {
     let mut inbox = Inbox::empty(alloc);
@@ -59,7 +60,8 @@ fn hear_all(
     octets: &[u8],
     threads: usize,
 ) -> Result<(), StreamFault>
-    ensures hears { OnOk result ((messages : List (List ℕ)) → KeepsMessages messages inbox.old.state inbox.old.refusals.items inbox.old.messages →
+    ensures hears { OnOk result ((messages : List (List ℕ)) →
+        KeepsMessages messages inbox.old.state inbox.old.refusals.items inbox.old.messages →
         KeepsMessages (messages ++ messages_of octets.now) inbox.new.state inbox.new.refusals.items inbox.new.messages) }
     ensures fault { IfErr result (λ fault. fault ≢ StreamFault.Write) }
 {
@@ -75,7 +77,8 @@ fn hear_first(
     octets: &[u8],
     threads: usize,
 ) -> Result<Vec<u8>, StreamFault>
-    ensures hears { IfOk result (λ left. HearsFirst octets.now left.items inbox.old.state inbox.new.state inbox.old.refusals.items inbox.new.refusals.items inbox.old.messages inbox.new.messages) }
+    ensures hears { IfOk result (λ left. HearsFirst octets.now left.items inbox.old.state inbox.new.state
+        inbox.old.refusals.items inbox.new.refusals.items inbox.old.messages inbox.new.messages) }
     ensures fault { IfErr result (λ fault. fault ≢ StreamFault.Write) }
 {
     let share = first_messages(alloc, octets)?;

@@ -1,14 +1,15 @@
 //! The task list of an input, as records for other programs.
-ghost use Rattle.std.specs.Prelude.{◌≡◌, List, IfOk, IfErr, IsErrOf, IfSome};
+ghost use Rattle.std.specs.Prelude.{◌≡◌, List, IfOk, IfErr, OnErr, IsErrOf, IfSome};
 ghost use Rattle.std.specs.Io.KnownBytes.{Keeps};
 ghost use Rattle.std.specs.Option.{option_map};
 ghost use Rattle.itip_items.specs.declared.item.Item.{Item};
 ghost use Rattle.itip_state.specs.Kept.{AreKept};
-ghost use Rattle.itip_inbox.specs.Records.{IsRecorded, WritesRecords};
+ghost use Rattle.itip_streams.specs.Written.{WritesOutput};
+ghost use Rattle.itip_inbox.specs.Records.{IsRecorded, AreRecords, WritesRecordsFront};
 
+use crate::compact::tell;
 use crate::csv_records::csv_text;
 use crate::json_records::json_text;
-use crate::compact::tell;
 use crate::read::read_inbox;
 use crate::refused::refusal_text;
 use crate::tasks::{Listed, rows_for};
@@ -47,7 +48,11 @@ pub fn list_records<R: Read, W: Write, S: Watch>(
     threads: usize,
     watch: &mut S,
 ) -> Result<bool, StreamFault>
-    ensures output { IfOk result (λ refused. IfSome (R.remaining reader.old) (λ input. WritesRecords (W.contents writer.old) (W.contents writer.new) input window (option_map (λ a. a.now) attendee.entry) refused)) }
+    ensures output { IfOk result (λ refused. IfSome (R.remaining reader.old) (λ input.
+        WritesOutput (AreRecords input window (option_map (λ a. a.now) attendee.entry))
+        (W.contents writer.old) (W.contents writer.new) refused)) }
+    ensures front { OnErr result (IfSome (R.remaining reader.old) (λ input.
+        WritesRecordsFront input window (option_map (λ a. a.now) attendee.entry) (W.contents writer.old) (W.contents writer.new))) }
     ensures unread { IsErrOf result StreamFault.Read → Keeps (W.contents writer.old) (W.contents writer.new) }
 {
     let inbox = read_inbox(rt, alloc, reader, threads, watch)?;
@@ -64,7 +69,8 @@ fn records_of(
     attendee: Option<&str>,
     notation: Notation,
 ) -> Result<Listed, StreamFault>
-    ensures recorded { IfOk result (λ recorded. (heard : List Item) → AreKept state.now heard → IsRecorded heard window (option_map (λ a. a.now) attendee.entry) recorded.text.items recorded.is_refusal) }
+    ensures recorded { IfOk result (λ recorded. (heard : List Item) → AreKept state.now heard →
+        IsRecorded heard window (option_map (λ a. a.now) attendee.entry) recorded.text.items recorded.is_refusal) }
     ensures fault { IfErr result (λ fault. fault ≡ StreamFault.Memory) }
 {
     match rows_for(alloc, state, window, attendee) {

@@ -1,10 +1,10 @@
 //! A message, shown as its items.
 ghost use Rattle.std.specs.Prelude.{◌≡◌, ◌≢◌, ℕ, Bool, List, Some, IfOk, IfErr, OnErr, IsErrOf, IfSome};
 ghost use Rattle.std.specs.Io.KnownBytes.{Keeps};
-ghost use Rattle.itip_message.specs.Numbers.{number_of};
+ghost use Rattle.itip_message.specs.RefusalNumbers.{number_of};
 ghost use Rattle.itip_desk.specs.Refusals.{refused_text};
-ghost use Rattle.itip_streams.specs.Written.{AppendsFront};
-ghost use Rattle.itip_inbox.specs.Shown.{IsItemsText, IsShown, IsShownAs, WritesShown};
+ghost use Rattle.itip_streams.specs.Written.{AppendsFront, WritesOutput};
+ghost use Rattle.itip_inbox.specs.Shown.{IsItemsText, IsShown, IsShownAs};
 
 use crate::refused::refusal_text;
 use crate::watch::Watch;
@@ -27,18 +27,20 @@ const TOO_LONG: LineRefusal = LineRefusal {
 /// Reads one message and writes `items N` and the canonical octets of its N items, by these octets and each once, or
 /// `refused N` where the text is no message; one of more than 1,048,576 octets is `refused 1`. Says whether it was refused.
 ///
-/// A refusal is told to `watch`, as that of message 1. After a fault of reading nothing was written, after another fault a
-/// front of the output. One read more than [`MAX_READS`](itip_streams::MAX_READS) is a fault of reading.
+/// A refusal is told to `watch`, as that of message 1, once it is written. After a fault of reading nothing was written, after
+/// another fault a front of the output. One read more than [`MAX_READS`](itip_streams::MAX_READS) is a fault of reading.
 pub fn check<R: Read, W: Write, S: Watch>(
     alloc: Global,
     reader: &mut R,
     writer: &mut W,
     watch: &mut S,
 ) -> Result<bool, StreamFault>
-    ensures output { IfOk result (λ refused. IfSome (R.remaining reader.old) (λ text. WritesShown (W.contents writer.old) (W.contents writer.new) text refused)) }
-    ensures front { OnErr result (IfSome (R.remaining reader.old) (λ text. (shown : List ℕ) (refused : Bool) → IsShown text shown refused →
-        AppendsFront (W.contents writer.old) (W.contents writer.new) shown)) }
+    ensures output { IfOk result (λ refused. IfSome (R.remaining reader.old) (λ text.
+        WritesOutput (IsShown text) (W.contents writer.old) (W.contents writer.new) refused)) }
+    ensures front { OnErr result (IfSome (R.remaining reader.old) (λ text. (shown : List ℕ) (refused : Bool) →
+        IsShown text shown refused → AppendsFront (W.contents writer.old) (W.contents writer.new) shown)) }
     ensures unread { IsErrOf result StreamFault.Read → Keeps (W.contents writer.old) (W.contents writer.new) }
+    ensures untold { OnErr result (watch.new ≡ watch.old) }
 {
     let shown = read_shown(alloc, reader)?;
     write_output(writer, shown.text.as_slice())?;

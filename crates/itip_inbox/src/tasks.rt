@@ -4,8 +4,8 @@ ghost use Rattle.std.specs.Io.KnownBytes.{Keeps};
 ghost use Rattle.std.specs.Option.{option_map};
 ghost use Rattle.itip_items.specs.declared.item.Item.{Item};
 ghost use Rattle.itip_state.specs.Kept.{AreKept};
-ghost use Rattle.itip_streams.specs.Written.{AppendsFront};
-ghost use Rattle.itip_inbox.specs.TaskList.{IsTaskList, WritesTaskList, IsListed, IsTextFor, AreRowsFor, AreTooManyFor};
+ghost use Rattle.itip_streams.specs.Written.{AppendsFront, WritesOutput};
+ghost use Rattle.itip_inbox.specs.TaskList.{IsTaskList, IsListed, IsTextFor, AreRowsFor, AreTooManyFor};
 ghost use Rattle.itip_view.specs.Rows.{row_limit};
 ghost use Rattle.itip_view.specs.Showing.{AreRowsWhere, AreTooManyWhere, Shows};
 
@@ -37,8 +37,11 @@ pub fn list<R: Read, W: Write, S: Watch>(
     threads: usize,
     watch: &mut S,
 ) -> Result<bool, StreamFault>
-    ensures output { IfOk result (λ refused. IfSome (R.remaining reader.old) (λ input. WritesTaskList (W.contents writer.old) (W.contents writer.new) input window (option_map (λ a. a.now) attendee.entry) refused)) }
-    ensures front { OnErr result (IfSome (R.remaining reader.old) (λ input. (text : List ℕ) (refused : Bool) → IsTaskList input window (option_map (λ a. a.now) attendee.entry) text refused →
+    ensures output { IfOk result (λ refused. IfSome (R.remaining reader.old) (λ input.
+        WritesOutput (IsTaskList input window (option_map (λ a. a.now) attendee.entry))
+        (W.contents writer.old) (W.contents writer.new) refused)) }
+    ensures front { OnErr result (IfSome (R.remaining reader.old) (λ input. (text : List ℕ) (refused : Bool) →
+        IsTaskList input window (option_map (λ a. a.now) attendee.entry) text refused →
         AppendsFront (W.contents writer.old) (W.contents writer.new) text)) }
     ensures unread { IsErrOf result StreamFault.Read → Keeps (W.contents writer.old) (W.contents writer.new) }
 {
@@ -62,7 +65,8 @@ fn list_of(
     window: Window,
     attendee: Option<&str>,
 ) -> Result<Listed, StreamFault>
-    ensures text { IfOk result (λ listed. (heard : List Item) → AreKept state.now heard → IsListed heard window (option_map (λ a. a.now) attendee.entry) listed.text.items listed.is_refusal) }
+    ensures text { IfOk result (λ listed. (heard : List Item) → AreKept state.now heard →
+        IsListed heard window (option_map (λ a. a.now) attendee.entry) listed.text.items listed.is_refusal) }
     ensures fault { IfErr result (λ fault. fault ≡ StreamFault.Memory) }
 {
     match text_for(alloc, state, window, attendee) {
@@ -84,8 +88,10 @@ fn text_for(
     window: Window,
     attendee: Option<&str>,
 ) -> Result<Vec<u8>, ViewError>
-    ensures text { IfOk result (λ text. (heard : List Item) → AreKept state.now heard → IsTextFor (option_map (λ a. a.now) attendee.entry) heard window text.items) }
-    ensures many { IsErrOf result ViewError.TooManyRows → (heard : List Item) → AreKept state.now heard → AreTooManyFor (option_map (λ a. a.now) attendee.entry) heard window }
+    ensures text { IfOk result (λ text. (heard : List Item) → AreKept state.now heard →
+        IsTextFor (option_map (λ a. a.now) attendee.entry) heard window text.items) }
+    ensures many { IsErrOf result ViewError.TooManyRows → (heard : List Item) → AreKept state.now heard →
+        AreTooManyFor (option_map (λ a. a.now) attendee.entry) heard window }
 {
     let shown = rows_for(alloc, state, window, attendee)?;
     Ok(list_text(alloc, shown.as_slice())?)

@@ -8,8 +8,9 @@ use Rattle.std.proofs.Math.Bool.{or-false}
 use Rattle.itip_view.specs.declared.window.Window.{Window}
 use Rattle.itip_desk.specs.Desk.{Shown}
 use Rattle.itip_desk.specs.declared.refusal.Refusal.{Refusal}
-use Rattle.itip_streams.specs.Written.{AppendsFront, MovesOut}
-use Rattle.itip_office.specs.Scripts.{refused_job_text, ListsDesk, ListsDesks, is_none, WritesEnded, WritesEndedFront}
+use Rattle.itip_streams.specs.Written.{AppendsFront, MovesOut, WritesOutput}
+use Rattle.itip_streams.proofs.Writing.{front_none, front_behind}
+use Rattle.itip_office.specs.Scripts.{refused_job_text, ListsDesk, ListsDesks, is_none, IsEndedText, WritesEndedFront}
 use Rattle.itip_office.specs.Scripts.ListsDesk.{lists_rows, lists_too_many}
 
 -- a list behind more
@@ -69,17 +70,12 @@ module _ (window : Window) (refused : List (ℕ × Refusal)) (desks : List Shown
     output = listing.written ++ kept;
     refusal = refusal;
     is_text = record { over = listing.over; lists = listing.lists; refusal_is = listing.refusal_is };
-    appended = record {
-      front = listing.written ++ front.front;
-      rest = front.rest;
-      whole = ap (λ (t : List ℕ). listing.written ++ t) front.whole ∙ sym (append_assoc listing.written front.front front.rest);
-      appended = Appends-trans old new newer listing.written front.front listing.appended front.appended;
-    };
+    appended = front_behind old new newer listing.written kept listing.appended front;
   }
 
   -- nothing more was written
   pub still_listed : (all left : List Shown) → all ≡ desks ++ left → WritesEndedFront window old new refused all
-  still_listed all left whole = front_listed all left new whole (record { front = []; rest = kept; whole = refl; appended = Appends-nil new })
+  still_listed all left whole = front_listed all left new whole (front_none new kept)
 
   -- one more list, all of which is kept
   pub one_listed : (desk : Shown) (number : ℕ) (more : List Shown) (more_kept : List ℕ) (over : Bool) → number ≡ length desks → more ≡ desks ++ desk ∷ []
@@ -108,10 +104,10 @@ module _ (window : Window) (refused : List (ℕ × Refusal)) (desks : List Shown
         refusal_is = listing.refusal_is;
       }
 
-  pub all_listed : (all : List Shown) (newer : Option (List ℕ)) → all ≡ desks → Appends new newer kept → WritesEnded window old newer refused all refusal
+  pub all_listed : (all : List Shown) (newer : Option (List ℕ)) → all ≡ desks → Appends new newer kept → WritesOutput (IsEndedText window refused all) old newer refusal
   all_listed all newer same appended = record {
     output = listing.written ++ kept;
-    is_text = record {
+    is_output = record {
       over = listing.over;
       lists = subst (λ (ds : List Shown). ListsDesks window 0 ds (flat_map refused_job_text refused) (listing.written ++ kept) listing.over) (sym same) listing.lists;
       refusal_is = listing.refusal_is;

@@ -45,7 +45,7 @@ alone_took desks (Text desk bytes) (Took at items) (inr a) took = let e = (a.1).
 alone_took desks (Carry from to) (Took at items) (inl a) took = let e : Took at items ≡ Refused (NoDesk from) = a.1 in cc
 alone_took desks (Carry from to) (Took at items) (inr a) took = let e : Took at items ≡ Refused (NoDesk to) = a.2 in cc
 alone_took desks (Look desk window) (Took at items) (inl a) took = let e : Took at items ≡ Refused (NoDesk desk) = a.1 in cc
-alone_took desks (Look desk window) (Took at items) (inr a) took = elim a.1 [ inl e ↦ (cc) | inr none ↦ absurd none ]
+alone_took desks (Look desk window) (Took at items) (inr a) took = absurd a.1
 alone_took desks work (Carried from to items) a took = took
 alone_took desks work (Looked text) a took = took
 alone_took desks work (Refused refusal) a took = took

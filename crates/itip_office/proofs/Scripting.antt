@@ -4,7 +4,7 @@ use Rattle.std.specs.Prelude.{IfSome, IfOk, OnErr, IsPermutation}
 use Rattle.std.specs.List.Sorted.{IsNonDecreasingBy}
 use Rattle.std.specs.Io.KnownBytes.{Keeps, Appends}
 use Rattle.std.proofs.KnownBytes.{Appends-nil}
-use Rattle.itip_streams.specs.Written.{AppendsFront}
+use Rattle.itip_streams.specs.Written.{AppendsFront, WritesOutput}
 use Rattle.itip_view.specs.declared.window.Window.{Window}
 use Rattle.itip_desk.specs.Desk.{Shown}
 use Rattle.itip_desk.specs.Refusals.{refused_text}
@@ -13,7 +13,7 @@ use Rattle.itip_script.specs.Jobs.{errands_of}
 use Rattle.itip_office.specs.declared.job.Job.{Job}
 use Rattle.itip_office.specs.declared.outcome.Outcome.{Outcome}
 use Rattle.itip_office.specs.Ended.{HasEnded}
-use Rattle.itip_office.specs.Scripts.{jobs_from, others_from, refused_of, WritesEnded, WritesEndedFront, EndsWith, WritesScript, WritesScriptFront}
+use Rattle.itip_office.specs.Scripts.{jobs_from, others_from, refused_of, IsEndedText, WritesEndedFront, EndsWith, IsScriptOutput, WritesScriptFront}
 
 pub on_err : {T E P : Type 0} (r : Result T E) → P → OnErr r P
 on_err (Ok x) p = tt
@@ -42,9 +42,9 @@ nothing_written window desks old r = known r (WritesScriptFront window desks old
 
 -- a script over the limit
 pub long_written : (window : Window) (desks : ℕ) (old new : Option (List ℕ)) (refusal : Bool) (r : Option (List ℕ)) → IfSome r (λ input. 16777216 < length input) → refusal ≡ true → Appends old new (refused_text 61)
-    → IfSome r (λ script. WritesScript window desks old new script refusal)
+    → IfSome r (λ script. WritesOutput (IsScriptOutput window desks script) old new refusal)
 long_written window desks old new refusal r long is appended =
-    known_long r (λ script. WritesScript window desks old new script refusal) long (λ script over. record { output = refused_text 61; is_output = inr (over, refl, is); appended = appended })
+    known_long r (λ script. WritesOutput (IsScriptOutput window desks script) old new refusal) long (λ script over. record { output = refused_text 61; is_output = inr (over, refl, is); appended = appended })
 
 pub long_front : (window : Window) (desks : ℕ) (old new : Option (List ℕ)) (r : Option (List ℕ)) → IfSome r (λ input. 16777216 < length input) → AppendsFront old new (refused_text 61) → IfSome r (WritesScriptFront window desks old new)
 long_front window desks old new r long front = known_long r (WritesScriptFront window desks old new) long (λ script over. inr (inr (over, front)))
@@ -61,10 +61,10 @@ module _ (window : Window) (desks : ℕ) (script : List ℕ) (jobs : List Job) (
   }
 
   module _ (old new : Option (List ℕ)) (r : Option (List ℕ)) (read : IfSome r (λ input. script ≡ input)) (short : length script ≤ 16777216) where
-    pub all_written : (refusal : Bool) → WritesEnded window old new refused ended refusal → IfSome r (λ input. WritesScript window desks old new input refusal)
-    all_written refusal writes = known_script r script (λ input. WritesScript window desks old new input refusal) read (record {
+    pub all_written : (refusal : Bool) → WritesOutput (IsEndedText window refused ended) old new refusal → IfSome r (λ input. WritesOutput (IsScriptOutput window desks input) old new refusal)
+    all_written refusal writes = known_script r script (λ input. WritesOutput (IsScriptOutput window desks input) old new refusal) read (record {
       output = writes.output;
-      is_output = inl (short, record { refused = refused; ended = ended; ends = ends; is_text = writes.is_text });
+      is_output = inl (short, record { refused = refused; ended = ended; ends = ends; is_text = writes.is_output });
       appended = writes.appended;
     })
 

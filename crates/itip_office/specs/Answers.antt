@@ -3,6 +3,9 @@ use Rattle.std.specs.Prelude.{◌≡◌, ◌≤◌, ◌<◌, ◌⊎◌, ℕ, Lis
 use Rattle.itip_message.specs.Message.{RefusesMessage}
 use Rattle.itip_message.specs.declared.error.MessageRefusal.{MessageRefusal}
 use Rattle.itip_items.specs.declared.item.Item.{Item}
+use Rattle.itip_view.specs.ListText.{IsListText}
+use Rattle.itip_view.specs.Rows.{AreTooMany}
+use Rattle.itip_view.specs.declared.window.Window.{Window}
 use Rattle.itip_desk.specs.declared.refusal.Refusal.{Refusal}
 use Rattle.itip_desk.specs.declared.refusal.Refusal.TheVariants.{Message, TooManyRows, NoDesk}
 use Rattle.itip_office.specs.declared.job.Job.{Job}
@@ -16,11 +19,12 @@ use Rattle.itip_office.specs.Texts.{IsBatchOf, desk_of, AreThere}
 abbrev pub Answer : Type 0
 Answer = Job × Outcome
 
-abbrev pub IsListed : Outcome → Type 0
-IsListed (Took desk items) = ⊥
-IsListed (Carried from to items) = ⊥
-IsListed (Looked text) = Unit {0}
-IsListed (Refused refusal) = ⊥
+-- What a look at a desk that is there brings: the list of some items in the window, or that these have too many rows there.
+abbrev pub IsLooked : Window → Outcome → Type 0
+IsLooked window (Took desk items) = ⊥
+IsLooked window (Carried from to items) = ⊥
+IsLooked window (Looked text) = (items : List Item) × IsListText items window text.items
+IsLooked window (Refused refusal) = (refusal ≡ TooManyRows) × ((items : List Item) × AreTooMany items window)
 
 -- why a job was refused, if it was
 abbrev pub refusal_of : Outcome → Option Refusal
@@ -44,7 +48,7 @@ AnswersAlone desks (Text desk bytes) outcome =
 AnswersAlone desks (Carry from to) outcome =
     ((desks ≤ from) × (outcome ≡ Refused (NoDesk from))) ⊎ ((from < desks) × (desks ≤ to) × (outcome ≡ Refused (NoDesk to)))
 AnswersAlone desks (Look desk window) outcome =
-    ((desks ≤ desk) × (outcome ≡ Refused (NoDesk desk))) ⊎ ((desk < desks) × ((outcome ≡ Refused TooManyRows) ⊎ IsListed outcome))
+    ((desks ≤ desk) × (outcome ≡ Refused (NoDesk desk))) ⊎ ((desk < desks) × IsLooked window outcome)
 
 -- The outcome of a job whose batch a desk merged: it has as many items as the batch.
 abbrev pub AnswersMerged : ℕ → List Item → Work → Outcome → Type 0

@@ -56,8 +56,9 @@ pub record AreRepliesFrom (given : List Answer) (jobs : List Job) (replies : Lis
   pub ascend : IsStrictlyIncreasing (map (λ (a : Answer). a.0.number) answers)
   pub replies_are : replies ≡ map (λ (a : Answer). (a.0.number, a.1)) answers
 
--- There is one reply for each job number, in order, with the outcome of its job. All desks keep what is kept of one set: it has each item of each text that
--- was taken, and no other where no job is a carry, as a desk that takes these texts one after another on one thread.
+-- There is one reply for each job number, in order, with the outcome of its job. All desks keep what is kept of one set: it has each
+-- item of each text that was taken, and no other where no job is a carry, as a desk that takes these texts one after another on one
+-- thread.
 pub record HasEnded (desks : ℕ) (jobs : List Job) (replies : List (ℕ × Outcome)) (ended : List Shown) : Type 0 where
   pub answers : List Answer
   pub are_replies : AreReplies jobs answers replies

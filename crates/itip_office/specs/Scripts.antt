@@ -1,5 +1,6 @@
 -- What an office writes for a script (our own format). Each line ends with LF.
-use Rattle.std.specs.Prelude.{◌≡◌, ◌≤◌, ◌<◌, ◌+◌, ◌⊎◌, ◌++◌, ℕ, Bool, true, false, ◌||◌, not, ◌==◌, List, [], ◌∷◌, length, Option, Some, None, codes, IsPermutation}
+use Rattle.std.specs.Prelude.{◌≡◌, ◌≤◌, ◌<◌, ◌+◌, ◌⊎◌, ◌++◌, ℕ, Bool, true, false, ◌||◌, not, ◌==◌, List, [], ◌∷◌, length}
+use Rattle.std.specs.Prelude.{Option, Some, None, codes, IsPermutation}
 use Rattle.std.specs.Fmt.{decimal}
 use Rattle.std.specs.List.{flat_map}
 use Rattle.std.specs.List.Sorted.{IsNonDecreasingBy}
@@ -61,30 +62,27 @@ refused_job_text job = codes "job " ++ decimal job.0 ++ codes " refused " ++ dec
 
 -- The list of a desk is appended, or that it has too many rows.
 pub data ListsDesk (window : Window) (number : ℕ) (desk : Shown) (old : List ℕ) : List ℕ → Bool → Type 0 where
-  lists_rows : (rows : List Row) (new : List ℕ) → AreRows desk.kept window rows → length rows ≤ row_limit → new ≡ old ++ listed_text number rows → ListsDesk window number desk old new false
+  lists_rows : (rows : List Row) (new : List ℕ) → AreRows desk.kept window rows → length rows ≤ row_limit
+      → new ≡ old ++ listed_text number rows → ListsDesk window number desk old new false
   lists_too_many : (new : List ℕ) → AreTooMany desk.kept window → new ≡ old ++ refused_text 31 → ListsDesk window number desk old new true
 
 -- The lists of desks that are numbered from this number on are appended, one after another, and whether one of them has too many rows.
 abbrev pub ListsDesks : Window → ℕ → List Shown → List ℕ → List ℕ → Bool → Type 0
 ListsDesks window number [] old new over = (new ≡ old) × (over ≡ false)
 ListsDesks window number (desk ∷ desks) old new over =
-    (mid : List ℕ) × (first : Bool) × (others : Bool) × ListsDesk window number desk old mid first × ListsDesks window (number + 1) desks mid new others × (over ≡ (first || others))
+    (mid : List ℕ) × (first : Bool) × (others : Bool) × ListsDesk window number desk old mid first
+    × ListsDesks window (number + 1) desks mid new others × (over ≡ (first || others))
 
 -- whether there is none
 abbrev pub is_none : {A : Type 0} → List A → Bool
 is_none items = length items == 0
 
 -- The lines of the refused jobs and the lists of the desks, and whether one of them is a refusal.
-pub record IsEndedText (window : Window) (refused : List (ℕ × Refusal)) (desks : List Shown) (output : List ℕ) (refusal : Bool) : Type 0 where
+pub record IsEndedText (window : Window) (refused : List (ℕ × Refusal)) (desks : List Shown)
+    (output : List ℕ) (refusal : Bool) : Type 0 where
   pub over : Bool
   pub lists : ListsDesks window 0 desks (flat_map refused_job_text refused) output over
   pub refusal_is : refusal ≡ (not (is_none refused) || over)
-
--- All of that was written.
-pub record WritesEnded (window : Window) (old new : Option (List ℕ)) (refused : List (ℕ × Refusal)) (desks : List Shown) (refusal : Bool) : Type 0 where
-  pub output : List ℕ
-  pub is_text : IsEndedText window refused desks output refusal
-  pub appended : Appends old new output
 
 -- A front was written of the lines of the refused jobs and of the lists of the first so many desks.
 pub record WritesEndedFront (window : Window) (old new : Option (List ℕ)) (refused : List (ℕ × Refusal)) (desks : List Shown) : Type 0 where
@@ -122,12 +120,6 @@ abbrev pub IsScriptOutput : Window → ℕ → List ℕ → List ℕ → Bool �
 IsScriptOutput window desks script output refusal =
     ((length script ≤ 16777216) × IsOfErrands window desks (errands_of script) output refusal)
     ⊎ ((16777216 < length script) × (output ≡ refused_text 61) × (refusal ≡ true))
-
--- All of it was written.
-pub record WritesScript (window : Window) (desks : ℕ) (old new : Option (List ℕ)) (script : List ℕ) (refusal : Bool) : Type 0 where
-  pub output : List ℕ
-  pub is_output : IsScriptOutput window desks script output refusal
-  pub appended : Appends old new output
 
 -- Nothing was written, or a front of what the script writes.
 abbrev pub WritesScriptFront : Window → ℕ → Option (List ℕ) → Option (List ℕ) → List ℕ → Type 0

@@ -21,7 +21,8 @@ pub(crate) fn ended_desks<R: AllocGlobal + Wait + Copy>(
     keepers: Vec<OwnedKeeper<R>>,
 ) -> Result<Vec<Desk>, OfficeError>
     ensures count { IfOk result (λ ended. length ended.items ≡ length keepers.items) }
-    ensures kept { IfOk result (λ ended. All (λ desk. AreKept desk.kept (all_heard (map (λ h. published h.keeper) keepers.items))) ended.items) }
+    ensures kept { IfOk result (λ ended.
+        All (λ desk. AreKept desk.kept (all_heard (map (λ h. published h.keeper) keepers.items))) ended.items) }
 {
     let desks = meet_all(rt, keepers)?;
     exchange(rt.alloc(), desks)
@@ -32,7 +33,8 @@ fn meet_all<R: AllocGlobal + Wait + Copy>(
     rt: &R,
     keepers: Vec<OwnedKeeper<R>>,
 ) -> Result<Vec<Desk>, OfficeError>
-    ensures { IfOk result (λ desks. AllZip (λ batches desk. IsDeskOf batches 0 desk) (map (λ h. published h.keeper) keepers.items) desks.items) }
+    ensures { IfOk result (λ desks.
+        AllZip (λ batches desk. IsDeskOf batches 0 desk) (map (λ h. published h.keeper) keepers.items) desks.items) }
 {
     let mut desks = Vec::new(rt.alloc());
     for held in keepers {
@@ -76,7 +78,8 @@ fn deltas(alloc: Global, desks: &[Desk]) -> Result<Vec<Batch>, OfficeError>
 }
 
 fn with_all(desk: Desk, deltas: &[Batch]) -> Result<Desk, OfficeError>
-    ensures { IfOk result (λ r. (steps : List (List Item)) (start : ℕ) → IsDeskOf steps start desk → IsDeskOf (steps ++ deltas.now) start r) }
+    ensures { IfOk result (λ r. (steps : List (List Item)) (start : ℕ) →
+        IsDeskOf steps start desk → IsDeskOf (steps ++ deltas.now) start r) }
 {
     let mut desk = desk;
     for delta in deltas {

@@ -7,9 +7,9 @@ ghost use Rattle.itip_office.specs.Team.{AreOfDesks};
 ghost use Rattle.itip_office.specs.Ended.{Tells, all_heard};
 
 use crate::error::OfficeError;
-use crate::owned_keeper::OwnedKeeper;
 use crate::job::Job;
 use crate::outcome::Outcome;
+use crate::owned_keeper::OwnedKeeper;
 use crate::team::{Done, Merged};
 use std::sync::Wait;
 

@@ -16,8 +16,9 @@ use itip_desk::Batch;
 use itip_running::{Keeper, meet};
 use std::sync::Wait;
 
-/// Merges what comes until the channel is closed, each batch published before the next, and gives back the keeper, with the jobs that it answered and their
-/// outcomes, in the order in which it merged them. The keeper is handed in with nothing pending, and nothing is pending then.
+/// Merges what comes until the channel is closed, each batch published before the next, and gives back the keeper, with the jobs that
+/// it answered and their outcomes, in the order in which it merged them. The keeper is handed in with nothing pending, and nothing is
+/// pending then.
 ///
 /// Ends early if an allocation failed (40), if the gate is closed (42), or for what a keeper refuses (21, 41); the keeper is spent then.
 pub fn keeper_loop<R: AllocGlobal + Wait, G: Gate>(

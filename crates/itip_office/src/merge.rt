@@ -5,7 +5,8 @@ ghost use Rattle.itip_office.specs.Texts.{Merges};
 use crate::job::Job;
 use itip_desk::Batch;
 
-/// A job, and the batch that its desk is to merge. The job is a text or a carry, and the batch of a text has the items that the text reads as.
+/// A job, and the batch that its desk is to merge. The job is a text or a carry, and the batch of a text has the items that the text
+/// reads as.
 #[derive(Drop)]
 pub struct Merge {
     job: Job,

@@ -10,7 +10,8 @@ use std::alloc::Global;
 
 /// The outcome of each of these jobs, which stand in the order of their numbers.
 ///
-/// Refused where two jobs have one number, or an answer is of no job or of one that was answered before (44), and then where a job has no answer (43).
+/// Refused where two jobs have one number, or an answer is of no job or of one that was answered before (44), and then where a job
+/// has no answer (43).
 pub(crate) fn replies(
     alloc: Global,
     jobs: &[Job],

@@ -1,22 +1,25 @@
 //! A script of jobs, from its first command to the last list.
-ghost use Rattle.std.specs.Prelude.{◌≡◌, ◌≢◌, ◌≤◌, true, IfOk, IfErr, OnErr, IsErrOf, IfSome};
+ghost use Rattle.std.specs.Prelude.{◌≡◌, ◌≢◌, ◌≤◌, ◌++◌, true, IfOk, IfErr, OnOk, OnErr, IsErrOf, IfSome, IsPermutation};
+ghost use Rattle.std.specs.List.{flat_map};
+ghost use Rattle.std.specs.List.Sorted.{IsNonDecreasingBy};
 ghost use Rattle.std.specs.Io.KnownBytes.{Keeps, Appends};
 ghost use Rattle.itip_desk.specs.Refusals.{refused_text};
-ghost use Rattle.itip_streams.specs.Written.{AppendsFront};
+ghost use Rattle.itip_streams.specs.Written.{AppendsFront, WritesOutput};
 ghost use Rattle.itip_office.specs.declared.error.OfficeError.{OfficeError};
-ghost use Rattle.itip_office.specs.Scripts.{WritesScript, WritesScriptFront};
+ghost use Rattle.itip_office.specs.Scripts.{refused_of, refused_job_text, ListsDesk, IsEndedText, WritesEndedFront};
+ghost use Rattle.itip_office.specs.Scripts.{IsScriptOutput, WritesScriptFront};
 
 use crate::error::ScriptError;
 use crate::gate::OpenGate;
 use crate::office::run_office;
-use crate::script_jobs::{ScriptJobs, refused_jobs, script_jobs};
+use crate::outcome::Outcome;
+use crate::script_jobs::{ScriptJobs, script_jobs};
 use crate::watch::Watch;
-use crate::written::write_ended;
-use itip_desk::Refusal;
+use itip_desk::{Desk, Refusal, write_listed};
 use itip_script::read_script;
-use itip_streams::{StreamFault, write_output};
-use itip_view::Window;
-use std::alloc::Global;
+use itip_streams::{StreamFault, write_if_many, write_output};
+use itip_view::{ViewError, Window};
+use std::alloc::{AllocError, Global};
 use std::io::{Read, Write};
 use std::sync::Wait;
 use std::thread::Threads;
@@ -45,11 +48,14 @@ pub fn run_jobs<
     requires desks { (1 ≤ desks) × (desks ≤ 16) }
     requires workers { (1 ≤ workers) × (workers ≤ 8) }
     ensures output { IfOk result (λ refusal. IfSome (I.remaining reader.old) (λ script.
-        WritesScript window desks (W.contents writer.old) (W.contents writer.new) script refusal)) }
+        WritesOutput (IsScriptOutput window desks script) (W.contents writer.old) (W.contents writer.new) refusal)) }
     ensures front { OnErr result (IfSome (I.remaining reader.old) (λ script.
         WritesScriptFront window desks (W.contents writer.old) (W.contents writer.new) script)) }
     ensures unread { IsErrOf result (ScriptError.Stream StreamFault.Read) → Keeps (W.contents writer.old) (W.contents writer.new) }
-    ensures unended { (error : OfficeError) → IsErrOf result (ScriptError.Office error) → Keeps (W.contents writer.old) (W.contents writer.new) }
+    ensures unended { (error : OfficeError) → IsErrOf result (ScriptError.Office error) →
+        Keeps (W.contents writer.old) (W.contents writer.new) }
+    ensures unread_untold { IsErrOf result (ScriptError.Stream StreamFault.Read) → watch.new ≡ watch.old }
+    ensures unended_untold { (error : OfficeError) → IsErrOf result (ScriptError.Office error) → watch.new ≡ watch.old }
 {
     let alloc = rt.alloc();
     let Some(script) = read_script(alloc, reader)? else {
@@ -65,7 +71,8 @@ pub fn run_jobs<
 }
 
 fn refuse_whole<W: Write>(alloc: Global, writer: &mut W) -> Result<bool, StreamFault>
-    ensures all { IfOk result (λ refusal. (refusal ≡ true) × Appends (W.contents writer.old) (W.contents writer.new) (refused_text 61)) }
+    ensures all { IfOk result (λ refusal.
+        (refusal ≡ true) × Appends (W.contents writer.old) (W.contents writer.new) (refused_text 61)) }
     ensures front { OnErr result (AppendsFront (W.contents writer.old) (W.contents writer.new) (refused_text 61)) }
     ensures fault { IfErr result (λ fault. fault ≢ StreamFault.Read) }
 {
@@ -75,8 +82,96 @@ fn refuse_whole<W: Write>(alloc: Global, writer: &mut W) -> Result<bool, StreamF
     Ok(true)
 }
 
+/// These refused jobs and those of the replies, in the order of their numbers.
+fn refused_jobs(
+    others: Vec<(u64, Refusal)>,
+    replies: &[(u64, Outcome)],
+) -> Result<Vec<(u64, Refusal)>, AllocError>
+    ensures all { IfOk result (λ refused. IsPermutation (others.items ++ refused_of replies.now) refused.items) }
+    ensures ascend { IfOk result (λ refused. IsNonDecreasingBy (λ r. r.0) refused.items) }
+{
+    let mut refused = others;
+    for reply in replies {
+        if let Some(refusal) = reply.1.refusal() {
+            refused.push((reply.0, refusal))?;
+        }
+    }
+    refused.sort_by_key(|one| one.0)?;
+    Ok(refused)
+}
+
 fn tell_refused<T: Watch>(refused: &[(u64, Refusal)], watch: &mut T) {
     for job in refused {
         watch.refused_job(job.0, job.1);
+    }
+}
+
+/// Writes the refused jobs, and the list of each desk. Says whether something written was a refusal.
+fn write_ended<W: Write, T: Watch>(
+    alloc: Global,
+    writer: &mut W,
+    refused: &[(u64, Refusal)],
+    desks: &[Desk],
+    window: Window,
+    watch: &mut T,
+) -> Result<bool, StreamFault>
+    ensures all { IfOk result (λ refusal.
+        WritesOutput (IsEndedText window refused.now desks.now) (W.contents writer.old) (W.contents writer.new) refusal) }
+    ensures front { OnErr result (WritesEndedFront window (W.contents writer.old) (W.contents writer.new) refused.now desks.now) }
+    ensures fault { IfErr result (λ fault. fault ≢ StreamFault.Read) }
+{
+    let mut output = Vec::new(alloc);
+    append_refused(&mut output, refused)?;
+    let mut is_refused = !refused.is_empty();
+    for (number, desk) in desks.iter().enumerate() {
+        let is_over = append_list(&mut output, number as u64, desk, window)?;
+        if is_over {
+            watch.refused_list(number as u64, Refusal::TooManyRows);
+        }
+        is_refused |= is_over;
+        write_if_many(writer, &mut output)?;
+    }
+    write_output(writer, output.as_slice())?;
+    Ok(is_refused)
+}
+
+/// Appends `job N refused C` for each of these jobs.
+fn append_refused(output: &mut Vec<u8>, refused: &[(u64, Refusal)]) -> Result<(), AllocError>
+    ensures { OnOk result (output.new.items ≡ output.old.items ++ flat_map refused_job_text refused.now) }
+{
+    for job in refused {
+        append_job(output, job.0, job.1)?;
+    }
+    Ok(())
+}
+
+fn append_job(output: &mut Vec<u8>, number: u64, refusal: Refusal) -> Result<(), AllocError>
+    ensures { OnOk result (output.new.items ≡ output.old.items ++ refused_job_text (number, refusal)) }
+{
+    let cause = refusal.number();
+    let line = format!(in *output.allocator(); "job {number} refused {cause}\n")?;
+    output.extend_from_slice(line.as_bytes())
+}
+
+/// Appends the list of a desk, or that it has too many rows, and says whether that was it.
+fn append_list(
+    output: &mut Vec<u8>,
+    number: u64,
+    desk: &Desk,
+    window: Window,
+) -> Result<bool, StreamFault>
+    ensures list { IfOk result (λ is_over. ListsDesk window number desk.now output.old.items output.new.items is_over) }
+    ensures fault { IfErr result (λ fault. fault ≡ StreamFault.Memory) }
+{
+    match desk.rows(window) {
+        Ok(rows) => {
+            write_listed(number, &rows, output)?;
+            Ok(false)
+        }
+        Err(ViewError::TooManyRows) => {
+            Refusal::TooManyRows.append(output)?;
+            Ok(true)
+        }
+        Err(ViewError::NoMemory) => Err(StreamFault::Memory),
     }
 }

@@ -1,11 +1,9 @@
-//! The jobs of a script, and which of them are refused.
-ghost use Rattle.std.specs.Prelude.{◌≡◌, ◌+◌, ◌++◌, [], length, IfOk, OnOk, IsPermutation};
-ghost use Rattle.std.specs.List.Sorted.{IsNonDecreasingBy};
+//! The jobs of a script.
+ghost use Rattle.std.specs.Prelude.{◌≡◌, ◌+◌, ◌++◌, [], length, IfOk, OnOk};
 ghost use Rattle.itip_script.specs.Jobs.{errand_of, errands_of};
-ghost use Rattle.itip_office.specs.Scripts.{work_of, onto_jobs, onto_others, jobs_from, others_from, refused_of};
+ghost use Rattle.itip_office.specs.Scripts.{work_of, onto_jobs, onto_others, jobs_from, others_from};
 
 use crate::job::{Job, Work};
-use crate::outcome::Outcome;
 use itip_desk::Refusal;
 use itip_lines::Bytes;
 use itip_script::{JobCommand, JobCommands};
@@ -72,22 +70,4 @@ fn work_of(
         JobCommand::Look { desk } => Ok(Some(Work::Look { desk, window })),
         JobCommand::Malformed => Ok(None),
     }
-}
-
-/// These refused jobs and those of the replies, in the order of their numbers.
-pub(crate) fn refused_jobs(
-    others: Vec<(u64, Refusal)>,
-    replies: &[(u64, Outcome)],
-) -> Result<Vec<(u64, Refusal)>, AllocError>
-    ensures all { IfOk result (λ refused. IsPermutation (others.items ++ refused_of replies.now) refused.items) }
-    ensures ascend { IfOk result (λ refused. IsNonDecreasingBy (λ r. r.0) refused.items) }
-{
-    let mut refused = others;
-    for reply in replies {
-        if let Some(refusal) = reply.1.refusal() {
-            refused.push((reply.0, refusal))?;
-        }
-    }
-    refused.sort_by_key(|one| one.0)?;
-    Ok(refused)
 }

@@ -7,11 +7,11 @@ ghost use Rattle.itip_office.specs.Team.{AreOfDesks, AreNumbered};
 
 use crate::error::OfficeError;
 use crate::gate::Gate;
-use crate::owned_keeper::OwnedKeeper;
 use crate::job::Job;
 use crate::keeper::keeper_loop;
 use crate::merge::Merge;
 use crate::outcome::Outcome;
+use crate::owned_keeper::OwnedKeeper;
 use crate::worker::worker_loop;
 use crossbeam_channel::{Receiver, Sender, unbounded};
 use itip_running::{LiveError, Pass, start_desk};
@@ -157,8 +157,10 @@ impl<R: AllocGlobal + Threads + Wait + Copy + Send + Sync + 'static> Team<R> {
     }
 
     fn join(self, rt: &R) -> Result<Done<R>, OfficeError>
-        ensures alone { (desks : ℕ) → All (λ t. t.promise.desks ≡ desks) self.workers.items → IfOk result (λ done. All (λ a. AnswersAlone desks a.0.work a.1) done.alone.items) }
-        ensures kept { AreNumbered 0 (map (λ t. t.promise.desk) self.keepers.items) → IfOk result (λ done. AreOfDesks 0 (map (λ k. (k.answers.items, published k.held.keeper)) done.kept.items)) }
+        ensures alone { (desks : ℕ) → All (λ t. t.promise.desks ≡ desks) self.workers.items →
+            IfOk result (λ done. All (λ a. AnswersAlone desks a.0.work a.1) done.alone.items) }
+        ensures kept { AreNumbered 0 (map (λ t. t.promise.desk) self.keepers.items) →
+            IfOk result (λ done. AreOfDesks 0 (map (λ k. (k.answers.items, published k.held.keeper)) done.kept.items)) }
         ensures count { IfOk result (λ done. length done.kept.items ≡ length self.keepers.items) }
     {
         let Team { keepers, workers } = self;
@@ -321,7 +323,8 @@ fn join_workers<R: AllocGlobal + Threads>(
     rt: &R,
     workers: Vec<WorkerThread>,
 ) -> Result<Vec<(Job, Outcome)>, OfficeError>
-    ensures { (desks : ℕ) → All (λ t. t.promise.desks ≡ desks) workers.items → IfOk result (λ all. All (λ a. AnswersAlone desks a.0.work a.1) all.items) }
+    ensures { (desks : ℕ) → All (λ t. t.promise.desks ≡ desks) workers.items →
+        IfOk result (λ all. All (λ a. AnswersAlone desks a.0.work a.1) all.items) }
 {
     let mut all = Ok(Vec::new(rt.alloc()));
     for worker in workers {
@@ -334,7 +337,9 @@ fn with_answers(
     all: Result<Vec<(Job, Outcome)>, OfficeError>,
     more: Result<Vec<(Job, Outcome)>, OfficeError>,
 ) -> Result<Vec<(Job, Outcome)>, OfficeError>
-    ensures { (desks : ℕ) → IfOk all (λ v. All (λ a. AnswersAlone desks a.0.work a.1) v.items) → IfOk more (λ v. All (λ a. AnswersAlone desks a.0.work a.1) v.items) → IfOk result (λ v. All (λ a. AnswersAlone desks a.0.work a.1) v.items) }
+    ensures { (desks : ℕ) → IfOk all (λ v. All (λ a. AnswersAlone desks a.0.work a.1) v.items) →
+        IfOk more (λ v. All (λ a. AnswersAlone desks a.0.work a.1) v.items) →
+        IfOk result (λ v. All (λ a. AnswersAlone desks a.0.work a.1) v.items) }
 {
     match (all, more) {
         (Ok(mut all), Ok(mut more)) => {
@@ -351,7 +356,8 @@ fn join_keepers<R: AllocGlobal + Threads + Wait + Copy>(
     rt: &R,
     keepers: Vec<KeeperThread<R>>,
 ) -> Result<Vec<Merged<R>>, OfficeError>
-    ensures kept { AreNumbered 0 (map (λ t. t.promise.desk) keepers.items) → IfOk result (λ all. AreOfDesks 0 (map (λ k. (k.answers.items, published k.held.keeper)) all.items)) }
+    ensures kept { AreNumbered 0 (map (λ t. t.promise.desk) keepers.items) →
+        IfOk result (λ all. AreOfDesks 0 (map (λ k. (k.answers.items, published k.held.keeper)) all.items)) }
     ensures count { IfOk result (λ all. length all.items ≡ length keepers.items) }
 {
     let mut all = Ok(Vec::new(rt.alloc()));
@@ -365,7 +371,10 @@ fn with_kept<R: AllocGlobal + Wait + Copy>(
     all: Result<Vec<Merged<R>>, OfficeError>,
     more: Result<Merged<R>, OfficeError>,
 ) -> Result<Vec<Merged<R>>, OfficeError>
-    ensures kept { (n : ℕ) → IfOk all (λ v. (length v.items ≡ n) × AreOfDesks 0 (map (λ k. (k.answers.items, published k.held.keeper)) v.items)) → IfOk more (λ k. AreMerged n k.answers.items (published k.held.keeper)) → IfOk result (λ v. (length v.items ≡ n + 1) × AreOfDesks 0 (map (λ k. (k.answers.items, published k.held.keeper)) v.items)) }
+    ensures kept { (n : ℕ) →
+        IfOk all (λ v. (length v.items ≡ n) × AreOfDesks 0 (map (λ k. (k.answers.items, published k.held.keeper)) v.items)) →
+        IfOk more (λ k. AreMerged n k.answers.items (published k.held.keeper)) →
+        IfOk result (λ v. (length v.items ≡ n + 1) × AreOfDesks 0 (map (λ k. (k.answers.items, published k.held.keeper)) v.items)) }
     ensures count { (n : ℕ) → IfOk all (λ v. length v.items ≡ n) → IfOk result (λ v. length v.items ≡ n + 1) }
 {
     match all {

@@ -27,7 +27,8 @@ abbrev pub spelled_errand : List ℕ → List ℕ → Option Errand
 spelled_errand line message =
     if bytes_eq (before_space line) (codes "!take") then number_of (after_space line) >>= (λ desk. Some (takes desk message)) else
     if bytes_eq (before_space line) (codes "!carry") then
-    number_of (before_space (after_space line)) >>= (λ from. number_of (after_space (after_space line)) >>= λ to. Some (carries from to)) else
+    number_of (before_space (after_space line)) >>= (λ from.
+    number_of (after_space (after_space line)) >>= λ to. Some (carries from to)) else
     if bytes_eq (before_space line) (codes "!look") then number_of (after_space line) >>= (λ desk. Some (looks desk)) else None
 
 abbrev pub errand_at : List ℕ → List ℕ → Errand

@@ -1,5 +1,6 @@
 -- The commands of a script as values, and which one a line gives (our own format).
-use Rattle.std.specs.Prelude.{◌≡◌, ◌≤◌, ◌<◌, ◌⊎◌, false, true, ℕ, ◌+◌, ◌-◌, ◌*◌, ◌^◌, Bool, ◌==◌, ◌&&◌, nat_le, nat_lt, List, [], ◌∷◌, length, if◌then◌else◌, Option, Some, None, unwrap_or, codes}
+use Rattle.std.specs.Prelude.{◌≡◌, ◌≤◌, ◌<◌, ◌⊎◌, false, true, ℕ, ◌+◌, ◌-◌, ◌*◌, ◌^◌, Bool, ◌==◌, ◌&&◌}
+use Rattle.std.specs.Prelude.{nat_le, nat_lt, List, [], ◌∷◌, length, if◌then◌else◌, Option, Some, None, unwrap_or, codes}
 use Rattle.std.specs.List.{before_first, after_first, list_all}
 use Rattle.std.specs.Str.{bytes_eq}
 use Rattle.itip_script.specs.declared.command.Command.{Command}

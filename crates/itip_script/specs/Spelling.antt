@@ -2,7 +2,8 @@
 use Rattle.std.specs.Prelude.{◌≡◌, ◌<◌, ◌++◌, ℕ, List, ◌∷◌, length, Some, codes}
 use Rattle.itip_script.specs.declared.command.ReportName.{ReportName}
 use Rattle.itip_script.specs.declared.command.ReportName.TheVariants as name
-use Rattle.itip_script.specs.Orders.{Order, takes, lists, lists_for, posts, arrives, reports, resends, asks_next, counts, malformed, number_of}
+use Rattle.itip_script.specs.Orders.{Order, takes, lists, lists_for, posts, arrives, reports}
+use Rattle.itip_script.specs.Orders.{resends, asks_next, counts, malformed, number_of}
 
 -- a word, a space and a number
 pub record SpellsNumber (line : List ℕ) (verb : List ℕ) (number : ℕ) : Type 0 where

@@ -30,8 +30,8 @@ impl<'a> JobCommands<'a> {
     ghost use Rattle.itip_script.specs.Jobs.{errands_of};
     ghost use Rattle.itip_script.specs.LeftJobs.{errands_left};
 
-    /// The commands of a script for an office, in order: one for each line that begins with `!`. Lines that belong to no `!take` are passed over. Texts are
-    /// slices of the script.
+    /// The commands of a script for an office, in order: one for each line that begins with `!`. Lines that belong to no `!take` are
+    /// passed over. Texts are slices of the script.
     pub fn new(script: &'a [u8]) -> Self
         ensures { errands_left result ≡ errands_of script.now }
     {

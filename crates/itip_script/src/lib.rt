@@ -1,7 +1,7 @@
 //! Scripts: reading one whole, and cutting it into commands or jobs.
 //!
-//! A script is a run of physical lines. A line that begins with `!` is a command; the lines after a `!take` are the message that it takes, byte for byte; other
-//! lines than empty ones are out of place. The format is our own.
+//! A script is a run of physical lines. A line that begins with `!` is a command; the lines after a `!take` are the message that it
+//! takes, byte for byte; other lines than empty ones are out of place. The format is our own.
 #![tactic(auto)]
 
 mod command;

@@ -1,7 +1,8 @@
 //! Physical lines, and the stretches of lines between commands.
 ghost use Rattle.std.specs.Prelude.{◌≡◌, ◌≤◌, [], length, MatchOption};
 ghost use Rattle.std.specs.List.{concat, list_all};
-ghost use Rattle.itip_script.specs.Lines.{IsFirstLine, line_length, lines_of, content_of, is_command, is_empty, before_command, from_command};
+ghost use Rattle.itip_script.specs.Lines.{IsFirstLine, line_length, lines_of, content_of, is_command, is_empty};
+ghost use Rattle.itip_script.specs.Lines.{before_command, from_command};
 
 const LF: u8 = b'\n';
 

@@ -1,6 +1,12 @@
 -- What a writer holds after some of an output was written (our own form).
-use Rattle.std.specs.Prelude.{◌≡◌, ℕ, List, ◌++◌, Option}
+use Rattle.std.specs.Prelude.{◌≡◌, ℕ, Bool, List, ◌++◌, Option}
 use Rattle.std.specs.Io.KnownBytes.{Appends}
+
+-- Known bytes grow by an output of which this holds, with what is said of it.
+pub record WritesOutput (Is : List ℕ → Bool → Type 0) (old new : Option (List ℕ)) (said : Bool) : Type 0 where
+  pub output : List ℕ
+  pub is_output : Is output said
+  pub appended : Appends old new output
 
 -- Known bytes grow by a front of the output.
 pub record AppendsFront (old new : Option (List ℕ)) (output : List ℕ) : Type 0 where

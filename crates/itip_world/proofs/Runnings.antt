@@ -14,8 +14,9 @@ use Rattle.itip_world.specs.Worlds.{Past, no_past, ShownWorld, IsWorldOf}
 use Rattle.itip_script.specs.Orders.{Order}
 use Rattle.itip_desk.specs.Refusals.{refused_text}
 use Rattle.itip_script.specs.Script.{orders_of}
-use Rattle.itip_streams.specs.Written.{AppendsFront, MovesOut}
-use Rattle.itip_world.specs.Running.{Answer, answer_text, is_refusal, Step, Runs, Writes, WritesCommands, WritesSome, WritesFront, RunsSoFar, Answers}
+use Rattle.itip_streams.specs.Written.{AppendsFront, MovesOut, WritesOutput}
+use Rattle.itip_streams.proofs.Writing.{front_none, front_behind}
+use Rattle.itip_world.specs.Running.{Answer, answer_text, is_refusal, Step, Runs, Writes, WritesSome, WritesFront, RunsSoFar, Answers}
 
 pub on_err : {T E P : Type 0} (r : Result T E) → P → OnErr r P
 on_err (Ok x) p = tt
@@ -63,25 +64,20 @@ module _ (window : Window) (desks : ℕ) (old new : Option (List ℕ)) (orders d
     output = so_far.written ++ kept;
     refusal = refusal;
     writes = writes_so_far;
-    appended = record {
-      front = so_far.written ++ front.front;
-      rest = front.rest;
-      whole = ap (λ (t : List ℕ). so_far.written ++ t) front.whole ∙ sym (append_assoc so_far.written front.front front.rest);
-      appended = Appends-trans old new newer so_far.written front.front so_far.appended front.appended;
-    };
+    appended = front_behind old new newer so_far.written kept so_far.appended front;
   }
 
   -- nothing more was written
   pub nothing_written : WritesSome window desks old new orders
-  nothing_written = front_written new (record { front = []; rest = kept; whole = refl; appended = Appends-nil new })
+  nothing_written = front_written new (front_none new kept)
 
   -- all that is kept was written, behind the last command
-  pub all_written : (newer : Option (List ℕ)) → left ≡ [] → Appends new newer kept → WritesCommands window desks old newer orders refusal
+  pub all_written : (newer : Option (List ℕ)) → left ≡ [] → Appends new newer kept → WritesOutput (Writes window desks orders) old newer refusal
   all_written newer none appended =
       let same : orders ≡ done = so_far.whole ∙ ap (λ (t : List Order). done ++ t) none ∙ append-nil done in
       record {
         output = so_far.written ++ kept;
-        writes = subst (λ (os : List Order). Writes window desks os (so_far.written ++ kept) refusal) (sym same) writes_so_far;
+        is_output = subst (λ (os : List Order). Writes window desks os (so_far.written ++ kept) refusal) (sym same) writes_so_far;
         appended = Appends-trans old new newer so_far.written kept so_far.appended appended;
       }
 
@@ -132,13 +128,13 @@ not_started window desks old orders = record {
   output = [];
   refusal = false;
   writes = record { answers = []; past = no_past desks; runs = refl; output_is = refl; refusal_is = refl };
-  appended = record { front = []; rest = []; whole = refl; appended = Appends-nil old };
+  appended = front_none old [];
 }
 
 pub nothing_read : (window : Window) (desks : ℕ) (old : Option (List ℕ)) (script : List ℕ) → WritesFront window desks old old script
 nothing_read window desks old script =
     elim (cases_lt 16777216 (length script)) [
-      | inl long ↦ inr (long, record { front = []; rest = refused_text 61; whole = refl; appended = Appends-nil old })
+      | inl long ↦ inr (long, front_none old (refused_text 61))
       | inr short ↦ inl (short, not_started window desks old (orders_of script))
     ]
 

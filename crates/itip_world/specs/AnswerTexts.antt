@@ -7,7 +7,8 @@ use Rattle.itip_script.specs.declared.command.ReportName.{ReportName}
 
 -- the tick after a message was taken, and how many UIDs it changed
 abbrev pub taken_text : ℕ → ℕ → ℕ → List ℕ
-taken_text desk tick changed = codes "take " ++ decimal desk ++ codes " tick " ++ decimal tick ++ codes " changed " ++ decimal changed ++ 10 ∷ []
+taken_text desk tick changed =
+    codes "take " ++ decimal desk ++ codes " tick " ++ decimal tick ++ codes " changed " ++ decimal changed ++ 10 ∷ []
 
 -- the number of a packet that was posted, and how many items it has
 abbrev pub posted_text : ℕ → ℕ → List ℕ
@@ -16,7 +17,8 @@ posted_text packet items = codes "post " ++ decimal packet ++ codes " items " ++
 -- the tick after a packet arrived at a desk, and how many UIDs it changed
 abbrev pub arrived_text : ℕ → ℕ → ℕ → ℕ → List ℕ
 arrived_text packet desk tick changed =
-    codes "arrive " ++ decimal packet ++ codes " " ++ decimal desk ++ codes " tick " ++ decimal tick ++ codes " changed " ++ decimal changed ++ 10 ∷ []
+    codes "arrive " ++ decimal packet ++ codes " " ++ decimal desk
+    ++ codes " tick " ++ decimal tick ++ codes " changed " ++ decimal changed ++ 10 ∷ []
 
 -- how many items a desk keeps
 abbrev pub counted_text : ℕ → ℕ → List ℕ

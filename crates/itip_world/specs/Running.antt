@@ -1,5 +1,6 @@
 -- What a script writes, as a run of a machine over its commands, whose state is what each desk has heard (our own format).
-use Rattle.std.specs.Prelude.{◌≡◌, ℕ, ◌^◌, ◌<◌, ◌≤◌, ◌⊎◌, Bool, true, false, List, [], ◌∷◌, ◌++◌, length, map, Option, Some, None, slice_get}
+use Rattle.std.specs.Prelude.{◌≡◌, ℕ, ◌^◌, ◌<◌, ◌≤◌, ◌⊎◌, Bool, true, false, List, [], ◌∷◌, ◌++◌, length, map, Option, Some, None}
+use Rattle.std.specs.Prelude.{slice_get}
 use Rattle.std.specs.List.{flat_map, list_any}
 use Rattle.std.specs.Option.{option_map}
 use Rattle.std.specs.String.{string_bytes}
@@ -171,45 +172,59 @@ IsOfRows name.Refresh = ⊥
 
 -- What is answered where an event is asked of a world, and what happened then.
 pub data Happens (old : Past) (event : Event) : Answer → Past → Type 0 where
-  is_done : (outcome : Outcome) (new : Past) → EventStep old event outcome new → HasTick outcome → Happens old event (answer_to event outcome) new
+  is_done : (outcome : Outcome) (new : Past) → EventStep old event outcome new → HasTick outcome
+      → Happens old event (answer_to event outcome) new
   at_no_desk : length old.histories ≤ desk_of event → Happens old event (refused (NoDesk (desk_of event))) old
-  of_no_packet : (packet : ℕ) → LacksOnlyPacket (length old.histories) (length old.packets) event packet → Happens old event (refused (NoPacket packet)) old
+  of_no_packet : (packet : ℕ) → LacksOnlyPacket (length old.histories) (length old.packets) event packet
+      → Happens old event (refused (NoPacket packet)) old
   spends_ticks : IsSpent old event → Happens old event (refused (TicksSpent (desk_of event))) old
 
 -- One command: from what happened before, its answer, and what happened then.
 pub data Step (window : Window) (old : Past) : Order → Answer → Past → Type 0 where
-  happens : (order : Order) (event : Event) (answer : Answer) (new : Past) → event_of order ≡ Some event → Happens old event answer new → Step window old order answer new
+  happens : (order : Order) (event : Event) (answer : Answer) (new : Past)
+      → event_of order ≡ Some event → Happens old event answer new → Step window old order answer new
   lists_rows : (desk : ℕ) (history : History) (rows : List Row)
-      → slice_get old.histories desk ≡ Some history → AreListed (heard history.steps) window rows → Step window old (lists desk) (listed desk rows) old
+      → slice_get old.histories desk ≡ Some history → AreListed (heard history.steps) window rows
+      → Step window old (lists desk) (listed desk rows) old
   lists_too_many : (desk : ℕ) (history : History)
-      → slice_get old.histories desk ≡ Some history → AreTooMany (heard history.steps) window → Step window old (lists desk) (refused TooManyRows) old
+      → slice_get old.histories desk ≡ Some history → AreTooMany (heard history.steps) window
+      → Step window old (lists desk) (refused TooManyRows) old
   lists_no_desk : (desk : ℕ) → length old.histories ≤ desk → Step window old (lists desk) (refused (NoDesk desk)) old
   lists_rows_for : (desk : ℕ) (address : List ℕ) (history : History) (rows : List Row)
-      → slice_get old.histories desk ≡ Some history → AreListedFor address (heard history.steps) window rows → Step window old (lists_for desk address) (listed_for desk rows) old
+      → slice_get old.histories desk ≡ Some history → AreListedFor address (heard history.steps) window rows
+      → Step window old (lists_for desk address) (listed_for desk rows) old
   lists_too_many_for : (desk : ℕ) (address : List ℕ) (history : History)
-      → slice_get old.histories desk ≡ Some history → AreTooManyWhere (Shows address) (heard history.steps) window → Step window old (lists_for desk address) (refused TooManyRows) old
-  lists_no_desk_for : (desk : ℕ) (address : List ℕ) → length old.histories ≤ desk → Step window old (lists_for desk address) (refused (NoDesk desk)) old
+      → slice_get old.histories desk ≡ Some history → AreTooManyWhere (Shows address) (heard history.steps) window
+      → Step window old (lists_for desk address) (refused TooManyRows) old
+  lists_no_desk_for : (desk : ℕ) (address : List ℕ) → length old.histories ≤ desk
+      → Step window old (lists_for desk address) (refused (NoDesk desk)) old
   counts_kept : (desk : ℕ) (history : History) (count : ℕ)
-      → slice_get old.histories desk ≡ Some history → CountsKept (heard history.steps) count → Step window old (counts desk) (counted desk count) old
+      → slice_get old.histories desk ≡ Some history → CountsKept (heard history.steps) count
+      → Step window old (counts desk) (counted desk count) old
   counts_no_desk : (desk : ℕ) → length old.histories ≤ desk → Step window old (counts desk) (refused (NoDesk desk)) old
   reports_lines : (desk : ℕ) (named : ReportName) (history : History) (lines : List (List ℕ))
       → slice_get old.histories desk ≡ Some history → IsReportOf named (heard history.steps) window lines
       → Step window old (reports desk named) (reported desk named lines) old
   reports_too_many : (desk : ℕ) (named : ReportName) (history : History)
-      → IsOfRows named → slice_get old.histories desk ≡ Some history → AreTooMany (heard history.steps) window → Step window old (reports desk named) (refused TooManyRows) old
-  reports_no_desk : (desk : ℕ) (named : ReportName) → length old.histories ≤ desk → Step window old (reports desk named) (refused (NoDesk desk)) old
+      → IsOfRows named → slice_get old.histories desk ≡ Some history → AreTooMany (heard history.steps) window
+      → Step window old (reports desk named) (refused TooManyRows) old
+  reports_no_desk : (desk : ℕ) (named : ReportName) → length old.histories ≤ desk
+      → Step window old (reports desk named) (refused (NoDesk desk)) old
   resends_messages : (desk : ℕ) (uid : List ℕ) (history : History) (bytes : Option (List ℕ))
-      → slice_get old.histories desk ≡ Some history → IsResendOf (heard history.steps) uid bytes → Step window old (resends desk uid) (resent desk bytes) old
+      → slice_get old.histories desk ≡ Some history → IsResendOf (heard history.steps) uid bytes
+      → Step window old (resends desk uid) (resent desk bytes) old
   resends_no_desk : (desk : ℕ) (uid : List ℕ) → length old.histories ≤ desk → Step window old (resends desk uid) (refused (NoDesk desk)) old
   tells_next : (desk : ℕ) (uid : List ℕ) (history : History) (sequence : Option ℕ)
-      → slice_get old.histories desk ≡ Some history → IsNext (heard history.steps) uid sequence → Step window old (asks_next desk uid) (next_is desk sequence) old
+      → slice_get old.histories desk ≡ Some history → IsNext (heard history.steps) uid sequence
+      → Step window old (asks_next desk uid) (next_is desk sequence) old
   tells_no_desk : (desk : ℕ) (uid : List ℕ) → length old.histories ≤ desk → Step window old (asks_next desk uid) (refused (NoDesk desk)) old
   is_refused : Step window old malformed (refused NoCommand) old
 
 -- the answers to commands, one after another
 abbrev pub Runs : Window → Past → List Order → List Answer → Past → Type 0
 Runs window old [] [] new = new ≡ old
-Runs window old (order ∷ orders) (answer ∷ answers) new = (mid : Past) × Step window old order answer mid × Runs window mid orders answers new
+Runs window old (order ∷ orders) (answer ∷ answers) new =
+    (mid : Past) × Step window old order answer mid × Runs window mid orders answers new
 Runs window old [] (answer ∷ answers) new = ⊥
 Runs window old (order ∷ orders) [] new = ⊥
 
@@ -220,12 +235,6 @@ pub record Writes (window : Window) (desks : ℕ) (orders : List Order) (output 
   pub runs : Runs window (no_past desks) orders answers past
   pub output_is : output ≡ flat_map answer_text answers
   pub refusal_is : refusal ≡ list_any is_refusal answers
-
--- All that the commands write was written.
-pub record WritesCommands (window : Window) (desks : ℕ) (old new : Option (List ℕ)) (orders : List Order) (refusal : Bool) : Type 0 where
-  pub output : List ℕ
-  pub writes : Writes window desks orders output refusal
-  pub appended : Appends old new output
 
 -- A front was written of what the first so many commands write.
 pub record WritesSome (window : Window) (desks : ℕ) (old new : Option (List ℕ)) (orders : List Order) : Type 0 where
@@ -242,12 +251,6 @@ abbrev pub IsOutput : Window → ℕ → List ℕ → List ℕ → Bool → Type
 IsOutput window desks script output refusal =
     ((length script ≤ 16777216) × Writes window desks (orders_of script) output refusal)
     ⊎ ((16777216 < length script) × (output ≡ refused_text 61) × (refusal ≡ true))
-
--- All of the output was written.
-pub record WritesAll (window : Window) (desks : ℕ) (old new : Option (List ℕ)) (script : List ℕ) (refusal : Bool) : Type 0 where
-  pub output : List ℕ
-  pub is_output : IsOutput window desks script output refusal
-  pub appended : Appends old new output
 
 -- A front was written of what a script writes; where it was not run to its end, of what the commands write that were done.
 abbrev pub WritesFront : Window → ℕ → Option (List ℕ) → Option (List ℕ) → List ℕ → Type 0
@@ -266,7 +269,8 @@ abbrev pub Answers : Window → Order → ShownWorld → Answer → ShownWorld �
 Answers window order old answer new = (past : Past) → IsWorldOf past old → AnswersOne window past order answer new
 
 -- A run over some commands: what they write is what was written and what is kept to be written.
-pub record RunsSoFar (window : Window) (desks : ℕ) (old new : Option (List ℕ)) (orders done left : List Order) (world : ShownWorld) (kept : List ℕ) (refusal : Bool) : Type 0 where
+pub record RunsSoFar (window : Window) (desks : ℕ) (old new : Option (List ℕ)) (orders done left : List Order)
+    (world : ShownWorld) (kept : List ℕ) (refusal : Bool) : Type 0 where
   pub whole : orders ≡ done ++ left
   pub answers : List Answer
   pub past : Past

@@ -98,10 +98,12 @@ pub data EventStep (old : Past) : Event → Outcome → Past → Type 0 where
 -- an event would move a UID of a desk at the last tick
 pub data IsSpent (old : Past) : Event → Type 0 where
   spends : (desk : ℕ) (bytes : List ℕ) (history : History) (items step : List Item) (uid : List ℕ)
-      → slice_get old.histories desk ≡ Some history → ReadsMessage bytes items → SameItems step items → Ticks [] history.start history.steps (2 ^ 64 - 1) → Moves (heard history.steps) step uid
+      → slice_get old.histories desk ≡ Some history → ReadsMessage bytes items → SameItems step items
+      → Ticks [] history.start history.steps (2 ^ 64 - 1) → Moves (heard history.steps) step uid
       → IsSpent old (Deliver desk bytes)
   spends_arriving : (packet desk : ℕ) (items : List Item) (history : History) (uid : List ℕ)
-      → slice_get old.packets packet ≡ Some items → slice_get old.histories desk ≡ Some history → Ticks [] history.start history.steps (2 ^ 64 - 1) → Moves (heard history.steps) items uid
+      → slice_get old.packets packet ≡ Some items → slice_get old.histories desk ≡ Some history
+      → Ticks [] history.start history.steps (2 ^ 64 - 1) → Moves (heard history.steps) items uid
       → IsSpent old (Arrive packet desk)
 
 -- these outcomes of these events, one after another
@@ -265,7 +267,8 @@ StopsHearing number shown batch (cause.Refused NoCommand) = ⊥
 StopsHearing number shown batch (cause.Refused LongScript) = ⊥
 
 -- a run stopped: out of memory at its start, with no desk, or at an event that was not done
-pub data StopsAfter (old : Past) (events : List Event) (done : ℕ) (world : ShownWorld) (outcomes : List Outcome) (why : Cause) : Type 0 where
+pub data StopsAfter (old : Past) (events : List Event) (done : ℕ)
+    (world : ShownWorld) (outcomes : List Outcome) (why : Cause) : Type 0 where
   at_start : done ≡ 0 → world ≡ empty_world → outcomes ≡ [] → why ≡ cause.NoMemory → StopsAfter old events done world outcomes why
   at_event : (event : Event) → slice_get events done ≡ Some event → IsWorldAfter old (take done events) world outcomes
       → (length world.desks ≤ desk_of event → why ≡ cause.Refused (NoDesk (desk_of event)))

@@ -39,7 +39,8 @@ impl Desks {
 
     /// Does a command, and answers it. An error means out of memory.
     pub(crate) fn answer(&mut self, command: &Command<'_>) -> Result<Answer, StreamFault>
-        ensures answers { IfOk result (λ answer. Answers self.old.window (order_of command.now) self.old.world (answer_of answer) self.new.world) }
+        ensures answers { IfOk result (λ answer.
+            Answers self.old.window (order_of command.now) self.old.world (answer_of answer) self.new.world) }
         ensures window { self.new.window ≡ self.old.window }
         ensures fault { IfErr result (λ fault. fault ≡ StreamFault.Memory) }
     {
@@ -68,7 +69,8 @@ impl Desks {
 
     /// Does the event that a command asks for.
     fn happen(&mut self, event: &Event) -> Result<Answer, StreamFault>
-        ensures answers { IfOk result (λ answer. (window : Window) (order : Order) → event_of order ≡ Some event.now → Answers window order self.old.world (answer_of answer) self.new.world) }
+        ensures answers { IfOk result (λ answer. (window : Window) (order : Order) →
+            event_of order ≡ Some event.now → Answers window order self.old.world (answer_of answer) self.new.world) }
         ensures window { self.new.window ≡ self.old.window }
         ensures fault { IfErr result (λ fault. fault ≡ StreamFault.Memory) }
     {

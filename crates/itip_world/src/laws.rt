@@ -9,5 +9,6 @@ pub fn one_output()
     ensures output { (window : Window) (desks : ℕ) (script first second : List ℕ) (refusal other : Bool) →
         IsOutput window desks script first refusal → IsOutput window desks script second other → (first ≡ second) × (refusal ≡ other) }
     ensures front { (window : Window) (desks : ℕ) (done left : List Order) (output part : List ℕ) (refusal other : Bool) →
-        Writes window desks (done ++ left) output refusal → Writes window desks done part other → (rest : List ℕ) × (output ≡ part ++ rest) }
+        Writes window desks (done ++ left) output refusal → Writes window desks done part other →
+        (rest : List ℕ) × (output ≡ part ++ rest) }
 {}

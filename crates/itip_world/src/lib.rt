@@ -1,5 +1,5 @@
-//! Worlds of desks: messages and packets come to desks, late, twice and in any order, and each desk keeps what the rules keep of all that it has heard. A script is
-//! run over one world, command by command.
+//! Worlds of desks: messages and packets come to desks, late, twice and in any order, and each desk keeps what the rules keep of all
+//! that it has heard. A script is run over one world, command by command.
 #![tactic(auto)]
 
 mod answer;

@@ -6,7 +6,8 @@ use itip_desk::{Batch, write_delta};
 use std::alloc::Global;
 use std::marker::Model;
 
-/// The octets of a batch: whoever reads them gets this batch and no refusal. It holds the batch, and its octets are written where they are asked for.
+/// The octets of a batch: whoever reads them gets this batch and no refusal. It holds the batch, and its octets are written where
+/// they are asked for.
 #[derive(Debug, Drop)]
 pub struct Packet {
     batch: Batch,

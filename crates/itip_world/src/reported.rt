@@ -24,7 +24,8 @@ impl Desks {
     ghost use Rattle.std.specs.Option.{option_copied};
 
     fn desk(&self, desk: u64) -> Option<&Desk>
-        ensures { MatchOption (option_copied result) (length self.now.world.desks ≤ desk) (λ shown. slice_get self.now.world.desks desk ≡ Some shown) }
+        ensures { MatchOption (option_copied result) (length self.now.world.desks ≤ desk)
+            (λ shown. slice_get self.now.world.desks desk ≡ Some shown) }
     {
         self.world.desks().get(desk as usize)
     }
@@ -45,7 +46,8 @@ impl Desks {
 
     /// Answers with the rows of the list of a desk that show the attendee of an address.
     pub(crate) fn list_for(&self, desk: u64, address: &[u8]) -> Result<Answer, StreamFault>
-        ensures answers { IfOk result (λ answer. Answers self.now.window (lists_for desk address.now) self.now.world (answer_of answer) self.now.world) }
+        ensures answers { IfOk result (λ answer.
+            Answers self.now.window (lists_for desk address.now) self.now.world (answer_of answer) self.now.world) }
         ensures fault { IfErr result (λ fault. fault ≡ StreamFault.Memory) }
     {
         let Some(listed) = self.desk(desk) else {
@@ -69,7 +71,8 @@ impl Desks {
 
     /// Answers with the lines of a report of a desk.
     pub(crate) fn report(&self, desk: u64, name: ReportName) -> Result<Answer, StreamFault>
-        ensures answers { IfOk result (λ answer. Answers self.now.window (reports desk name) self.now.world (answer_of answer) self.now.world) }
+        ensures answers { IfOk result (λ answer.
+            Answers self.now.window (reports desk name) self.now.world (answer_of answer) self.now.world) }
         ensures fault { IfErr result (λ fault. fault ≡ StreamFault.Memory) }
     {
         let Some(asked) = self.desk(desk) else {
@@ -83,7 +86,8 @@ impl Desks {
 
     /// Answers with the messages that a desk sends again of a UID.
     pub(crate) fn resend(&self, desk: u64, uid: &[u8]) -> Result<Answer, StreamFault>
-        ensures answers { IfOk result (λ answer. Answers self.now.window (resends desk uid.now) self.now.world (answer_of answer) self.now.world) }
+        ensures answers { IfOk result (λ answer.
+            Answers self.now.window (resends desk uid.now) self.now.world (answer_of answer) self.now.world) }
         ensures fault { IfErr result (λ fault. fault ≡ StreamFault.Memory) }
     {
         let Some(asked) = self.desk(desk) else {
@@ -95,7 +99,8 @@ impl Desks {
 
     /// Answers with the next sequence of a UID at a desk.
     pub(crate) fn next(&self, desk: u64, uid: &[u8]) -> Result<Answer, StreamFault>
-        ensures answers { IfOk result (λ answer. Answers self.now.window (asks_next desk uid.now) self.now.world (answer_of answer) self.now.world) }
+        ensures answers { IfOk result (λ answer.
+            Answers self.now.window (asks_next desk uid.now) self.now.world (answer_of answer) self.now.world) }
         ensures fault { IfErr result (λ fault. fault ≡ StreamFault.Memory) }
     {
         let Some(asked) = self.desk(desk) else {

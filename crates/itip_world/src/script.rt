@@ -2,10 +2,10 @@
 ghost use Rattle.std.specs.Prelude.{ℕ, ◌≡◌, ◌≢◌, ◌≤◌, true, IfOk, IfErr, OnOk, OnErr, IsErrOf, IfSome};
 ghost use Rattle.std.specs.Io.KnownBytes.{Keeps, Appends};
 ghost use Rattle.itip_world.specs.Worlds.{no_past, IsWorldOf};
-ghost use Rattle.itip_world.specs.Running.{WritesAll, WritesFront, WritesCommands, WritesSome};
+ghost use Rattle.itip_world.specs.Running.{IsOutput, Writes, WritesFront, WritesSome};
 ghost use Rattle.itip_desk.specs.Refusals.{refused_text};
 ghost use Rattle.itip_script.specs.Script.{orders_of};
-ghost use Rattle.itip_streams.specs.Written.{AppendsFront};
+ghost use Rattle.itip_streams.specs.Written.{AppendsFront, WritesOutput};
 
 use crate::asked::Desks;
 use crate::watch::Watch;
@@ -29,8 +29,10 @@ pub fn run_script<R: Read, W: Write>(
 ) -> Result<bool, StreamFault>
     requires some { 1 ≤ desks }
     requires few { desks ≤ 16 }
-    ensures output { IfOk result (λ refusal. IfSome (R.remaining reader.old) (λ script. WritesAll window desks (W.contents writer.old) (W.contents writer.new) script refusal)) }
-    ensures front { OnErr result (IfSome (R.remaining reader.old) (λ script. WritesFront window desks (W.contents writer.old) (W.contents writer.new) script)) }
+    ensures output { IfOk result (λ refusal. IfSome (R.remaining reader.old) (λ script.
+        WritesOutput (IsOutput window desks script) (W.contents writer.old) (W.contents writer.new) refusal)) }
+    ensures front { OnErr result (IfSome (R.remaining reader.old) (λ script.
+        WritesFront window desks (W.contents writer.old) (W.contents writer.new) script)) }
     ensures unread { IsErrOf result StreamFault.Read → Keeps (W.contents writer.old) (W.contents writer.new) }
 {
     run_script_watched(alloc, reader, writer, desks, window, &mut ())
@@ -47,9 +49,12 @@ pub fn run_script_watched<R: Read, W: Write, T: Watch>(
 ) -> Result<bool, StreamFault>
     requires some { 1 ≤ desks }
     requires few { desks ≤ 16 }
-    ensures output { IfOk result (λ refusal. IfSome (R.remaining reader.old) (λ script. WritesAll window desks (W.contents writer.old) (W.contents writer.new) script refusal)) }
-    ensures front { OnErr result (IfSome (R.remaining reader.old) (λ script. WritesFront window desks (W.contents writer.old) (W.contents writer.new) script)) }
+    ensures output { IfOk result (λ refusal. IfSome (R.remaining reader.old) (λ script.
+        WritesOutput (IsOutput window desks script) (W.contents writer.old) (W.contents writer.new) refusal)) }
+    ensures front { OnErr result (IfSome (R.remaining reader.old) (λ script.
+        WritesFront window desks (W.contents writer.old) (W.contents writer.new) script)) }
     ensures unread { IsErrOf result StreamFault.Read → Keeps (W.contents writer.old) (W.contents writer.new) }
+    ensures untold { IsErrOf result StreamFault.Read → watch.new ≡ watch.old }
 {
     let Some(script) = read_script(alloc, reader)? else {
         watch.refused_script(Refusal::LongScript);
@@ -60,7 +65,8 @@ pub fn run_script_watched<R: Read, W: Write, T: Watch>(
 }
 
 fn refuse_whole<W: Write>(alloc: Global, writer: &mut W) -> Result<bool, StreamFault>
-    ensures all { IfOk result (λ refusal. (refusal ≡ true) × Appends (W.contents writer.old) (W.contents writer.new) (refused_text 61)) }
+    ensures all { IfOk result (λ refusal.
+        (refusal ≡ true) × Appends (W.contents writer.old) (W.contents writer.new) (refused_text 61)) }
     ensures front { OnErr result (AppendsFront (W.contents writer.old) (W.contents writer.new) (refused_text 61)) }
     ensures fault { IfErr result (λ fault. fault ≢ StreamFault.Read) }
 {
@@ -78,7 +84,7 @@ fn run_commands<W: Write, T: Watch>(
     watch: &mut T,
 ) -> Result<bool, StreamFault>
     ensures all { IfOk result (λ refusal. (desks : ℕ) → IsWorldOf (no_past desks) asked.old.world →
-        WritesCommands asked.old.window desks (W.contents writer.old) (W.contents writer.new) (orders_of script.now) refusal) }
+        WritesOutput (Writes asked.old.window desks (orders_of script.now)) (W.contents writer.old) (W.contents writer.new) refusal) }
     ensures front { OnErr result ((desks : ℕ) → IsWorldOf (no_past desks) asked.old.world →
         WritesSome asked.old.window desks (W.contents writer.old) (W.contents writer.new) (orders_of script.now)) }
     ensures fault { IfErr result (λ fault. fault ≢ StreamFault.Read) }

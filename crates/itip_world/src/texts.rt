@@ -3,7 +3,8 @@ ghost use Rattle.std.specs.Prelude.{◌≡◌, ◌++◌, map, OnOk};
 ghost use Rattle.std.specs.List.{flat_map};
 ghost use Rattle.std.specs.Option.{option_map};
 ghost use Rattle.std.specs.String.{string_bytes};
-ghost use Rattle.itip_world.specs.AnswerTexts.{taken_text, posted_text, arrived_text, counted_text, reported_text, resent_text, next_text, ended};
+ghost use Rattle.itip_world.specs.AnswerTexts.{taken_text, posted_text, arrived_text, counted_text};
+ghost use Rattle.itip_world.specs.AnswerTexts.{reported_text, resent_text, next_text, ended};
 ghost use Rattle.itip_world.specs.Running.{answer_of, answer_text};
 ghost use Rattle.itip_script.specs.Spelling.{name_text};
 

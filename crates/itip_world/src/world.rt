@@ -1,6 +1,7 @@
 //! A world of desks.
 ghost use Rattle.std.specs.Prelude.{ℕ, ◌≡◌, ◌≤◌, ◌<◌, OnOk, OnErr, IfOk, IfErr, IsErrOf, MatchOption, length};
-ghost use Rattle.itip_world.specs.Worlds.{past_from, no_past, empty_world, IsWorldOf, HasPast, IsEntriesOf, Steps, OthersStay, StopsFor, HearsBatch, StopsHearing, desk_of, LacksOnlyPacket};
+ghost use Rattle.itip_world.specs.Worlds.{past_from, no_past, empty_world, IsWorldOf, HasPast, IsEntriesOf, Steps, OthersStay};
+ghost use Rattle.itip_world.specs.Worlds.{StopsFor, HearsBatch, StopsHearing, desk_of, LacksOnlyPacket};
 
 use crate::NoMemory;
 use crate::event::{Event, Outcome};

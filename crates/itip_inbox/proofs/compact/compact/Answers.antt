@@ -5,7 +5,7 @@ use Rattle.itip_desk.specs.Delta.{delta_octets}
 use Rattle.itip_streams.specs.Written.{AppendsFront}
 use Rattle.itip_inbox.specs.Inbox.{is_some_refused}
 use Rattle.itip_inbox.proofs.Outputs.{on_err, compaction_written, compaction_front, compaction_unread}
-use Rattle.itip_inbox.proofs.kept.compact.Goals as goal
+use Rattle.itip_inbox.proofs.compact.compact.Goals as goal
 
 pub returns-in_err-items-clause-front : goal.returns-in_err-items-clause-front
 returns-in_err-items-clause-front g c = on_err c.from_residual-in_err-items.result (compaction_unread (g.W.Write.contents c.args.writer.now) (g.R.Read.remaining c.args.reader.now))

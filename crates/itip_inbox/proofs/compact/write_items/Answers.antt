@@ -4,9 +4,10 @@ use Rattle.std.specs.Io.KnownBytes.{Appends}
 use Rattle.itip_items.specs.declared.item.Item.{Item}
 use Rattle.itip_streams.specs.Written.{AppendsFront}
 use Rattle.itip_inbox.specs.Compaction.{WritesSoFar}
-use Rattle.itip_inbox.proofs.Outputs.{on_err, front_none, items_none, items_more, items_moved, items_front, items_end}
-use Rattle.itip_inbox.proofs.kept.write_items.Goals as goal
-use Rattle.itip_inbox.proofs.kept.write_items.Goals.{In_ok-extend_from_slice}
+use Rattle.itip_streams.proofs.Writing.{front_none}
+use Rattle.itip_inbox.proofs.Outputs.{on_err, items_none, items_more, items_moved, items_front, items_end}
+use Rattle.itip_inbox.proofs.compact.write_items.Goals as goal
+use Rattle.itip_inbox.proofs.compact.write_items.Goals.{In_ok-extend_from_slice}
 
 -- one item more is kept
 more : (g : _) (c : In_ok-extend_from_slice g)

@@ -2,7 +2,7 @@ use Rattle.std.proofs.Common.{List, ◌++◌, ap, ◌∙◌, Err}
 use Rattle.itip_view.specs.declared.row.Row.{Row}
 use Rattle.itip_desk.specs.Listed.{listed_text}
 use Rattle.itip_office.specs.Scripts.ListsDesk.{lists_rows, lists_too_many}
-use Rattle.itip_office.proofs.written.append_list.Goals as goal
+use Rattle.itip_office.proofs.script.append_list.Goals as goal
 
 pub returns-in_ok-write_listed-in-Ok-clause-list : goal.returns-in_ok-write_listed-in-Ok-clause-list
 returns-in_ok-write_listed-in-Ok-clause-list c =

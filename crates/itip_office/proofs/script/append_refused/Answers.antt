@@ -1,7 +1,7 @@
 use Rattle.std.proofs.Common.{◌++◌, ◌∙◌, ap, take_all, arith}
 use Rattle.std.specs.List.{flat_map}
 use Rattle.itip_office.specs.Scripts.{refused_job_text}
-use Rattle.itip_office.proofs.written.append_refused.Goals as goal
+use Rattle.itip_office.proofs.script.append_refused.Goals as goal
 
 pub returns : goal.returns
 returns c =

@@ -2,8 +2,9 @@ use Rattle.std.proofs.Common.{rules, ◌≡◌, ◌≤◌, ℕ, List, length, su
 use Rattle.std.specs.Prelude.{IfSome}
 use Rattle.itip_desk.specs.Desk.{Shown}
 use Rattle.itip_desk.specs.declared.refusal.Refusal.{Refusal}
+use Rattle.itip_streams.specs.Written.{WritesOutput}
 use Rattle.itip_script.specs.Jobs.{errands_of}
-use Rattle.itip_office.specs.Scripts.{jobs_from, others_from, WritesEnded, WritesEndedFront}
+use Rattle.itip_office.specs.Scripts.{jobs_from, others_from, IsEndedText, WritesEndedFront}
 use Rattle.itip_office.proofs.Scripting.{on_err, all_written, front_written}
 use Rattle.itip_office.proofs.script.run_jobs.Goals as goal
 
@@ -35,6 +36,6 @@ returns-clause-output g c =
     let short : length script ≤ 16777216 = search rules in
     let jobs_are : c.in_ok-jobs.field-0.jobs.items ≡ jobs_from c.args.window 0 (errands_of script) = search rules in
     let others_are : c.in_ok-jobs.field-0.others.items ≡ others_from c.args.window 0 (errands_of script) = search rules in
-    let writes : WritesEnded c.args.window old new refused ended refusal = search rules in
+    let writes : WritesOutput (IsEndedText c.args.window refused ended) old new refusal = search rules in
     all_written c.args.window c.args.desks script c.in_ok-jobs.field-0.jobs.items c.in_ok-jobs.field-0.others.items refused c.in_ok-ended.ended.replies.items ended jobs_are others_are c.in_ok-ended.ensures.ended
     (search rules) c.in_ok-refused.ensures.ascend old new (g.I.Read.remaining c.args.reader.now) read short refusal writes

@@ -4,8 +4,8 @@ use Rattle.itip_desk.specs.Desk.{Shown}
 use Rattle.itip_streams.specs.Written.{AppendsFront}
 use Rattle.itip_office.proofs.Listing.{IsListing, none_listed, still_listed, front_listed, one_listed, moved_out}
 use Rattle.itip_office.proofs.Scripting.{on_err}
-use Rattle.itip_office.proofs.written.write_ended.Goals as goal
-use Rattle.itip_office.proofs.written.write_ended.Goals.{In_ok-is_over}
+use Rattle.itip_office.proofs.script.write_ended.Goals as goal
+use Rattle.itip_office.proofs.script.write_ended.Goals.{In_ok-is_over}
 
 cut : (n : ℕ) (desks : List Shown) → desks ≡ take n desks ++ drop n desks
 cut n desks = sym (take-append-drop n desks)
