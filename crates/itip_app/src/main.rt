@@ -1,5 +1,6 @@
-//! The program `itipdesk`: desks for to-dos under iTIP, driven by a script on standard input, one command after another or as jobs on threads; messages
-//! filtered to what counts of them, or to their task list; or a message shown as its items.
+//! The program `itipdesk`: desks for to-dos under iTIP, driven by a script on standard input, one command after another
+//! or as jobs on threads; messages filtered to what counts of them, or to their task list; or a message shown as its
+//! items.
 //!
 //! Its status is 0, or 1 where something printed was a refusal, 2 for bad words or a bad window, and 3 for a fault.
 #![tactic(auto)]

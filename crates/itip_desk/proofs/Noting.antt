@@ -35,16 +35,19 @@ cond_and true false = refl
 cond_and false true = refl
 cond_and false false = refl
 
-pub put_in : (s n : BTreeSet IndexEntry) (k : IndexEntry) → Updates entry_cmp s n k true → (e : IndexEntry) → has n e ≡ (has s e || is_eq (entry_cmp e k))
+pub put_in : (s n : BTreeSet IndexEntry) (k : IndexEntry) → Updates entry_cmp s n k true → (e : IndexEntry) →
+    has n e ≡ (has s e || is_eq (entry_cmp e k))
 put_in s n k updates e = updates.0 e ∙ cond_or (is_eq (entry_cmp k e)) (has s e) ∙ ap (λ b. has s e || b) (turned k e)
 
-pub taken_out : (s n : BTreeSet IndexEntry) (k : IndexEntry) → Updates entry_cmp s n k false → (e : IndexEntry) → has n e ≡ (has s e && not (is_eq (entry_cmp e k)))
+pub taken_out : (s n : BTreeSet IndexEntry) (k : IndexEntry) → Updates entry_cmp s n k false → (e : IndexEntry) →
+    has n e ≡ (has s e && not (is_eq (entry_cmp e k)))
 taken_out s n k updates e = updates.0 e ∙ cond_and (is_eq (entry_cmp k e)) (has s e) ∙ ap (λ b. has s e && not b) (turned k e)
 
 -- what one set has and another lacks
 pub in_difference : (s t : BTreeSet IndexEntry) (e : IndexEntry) → is_in (difference entry_cmp s t) e ≡ (has s e && not (has t e))
 in_difference s t e =
-    any-filter_same (is_at (entry_cmp e)) (λ k. not (has t k)) (not (has t e)) (λ k same. ap (λ x. not (has t x)) (sym (same_entry e k same))) s.keys
+    any-filter_same (is_at (entry_cmp e)) (λ k. not (has t k)) (not (has t e))
+    (λ k same. ap (λ x. not (has t x)) (sym (same_entry e k same))) s.keys
     ∙ flip (not (has t e)) (has s e)
   where
     flip : (a b : Bool) → (a && b) ≡ (b && a)
@@ -95,10 +98,14 @@ both_parts true true e = cc
 both_parts false b e = cc
 
 -- the entries of an item that can have rows
-pub noted : (item : Item) (uid : List ℕ) (lines : List Property) (o m n : IndexEntry → Bool) → has_rows item ≡ true → uid ≡ uid_of item.key → lines ≡ item.todo.attendees →
-    ((e : IndexEntry) → m e ≡ (o e || is_in (day_entries item) e)) → ((e : IndexEntry) → n e ≡ (m e || is_in (attendee_entries uid lines) e)) → (e : IndexEntry) → n e ≡ (o e || is_in (entries_of item) e)
+pub noted : (item : Item) (uid : List ℕ) (lines : List Property) (o m n : IndexEntry → Bool) → has_rows item ≡ true →
+    uid ≡ uid_of item.key → lines ≡ item.todo.attendees →
+    ((e : IndexEntry) → m e ≡ (o e || is_in (day_entries item) e)) →
+    ((e : IndexEntry) → n e ≡ (m e || is_in (attendee_entries uid lines) e)) → (e : IndexEntry) →
+    n e ≡ (o e || is_in (entries_of item) e)
 noted item uid lines o m n rows about all first second e =
-    second e ∙ ap (λ b. b || is_in (attendee_entries uid lines) e) (first e) ∙ three (o e) (is_in (day_entries item) e) (is_in (attendee_entries uid lines) e)
+    second e ∙ ap (λ b. b || is_in (attendee_entries uid lines) e) (first e) ∙
+    three (o e) (is_in (day_entries item) e) (is_in (attendee_entries uid lines) e)
     ∙ ap (λ b. o e || b) (sym (list_any-append (is_at (entry_cmp e)) (day_entries item) (attendee_entries uid lines)))
     ∙ ap (λ (u : List ℕ). o e || is_in (day_entries item ++ attendee_entries u lines) e) about
     ∙ ap (λ (ls : List Property). o e || is_in (day_entries item ++ attendee_entries (uid_of item.key) ls) e) all

@@ -21,5 +21,6 @@ module _ (kept heard : List Item) (are : AreKept kept heard) (window : Window) (
   pub row_in : (uids : List (List ℕ)) → ((uid : List ℕ) → HasRowsIn kept window uid → Contains uids uid) → Contains uids row.uid
   row_in uids found = found row.uid (row_needs_days kept window row row_kept)
 
-  pub row_naming : (uids : List (List ℕ)) (address : List ℕ) → ((uid : List ℕ) → NamesIn kept (attendee_key address) uid → Contains uids uid) → Shows address row → Contains uids row.uid
+  pub row_naming : (uids : List (List ℕ)) (address : List ℕ) →
+      ((uid : List ℕ) → NamesIn kept (attendee_key address) uid → Contains uids uid) → Shows address row → Contains uids row.uid
   row_naming uids address found shows = found row.uid (row_needs_name kept address window row row_kept shows)

@@ -20,9 +20,11 @@ module _ (part kept : List Item) (uids : List (List ℕ)) (are : ArePartOf part 
     λ is. (row_of_parts part kept uids are window row (found is)).1 is,
   )
 
-  pub rows_in : ((uid : List ℕ) → HasRowsIn kept window uid → Contains uids uid) → (row : Row) → IsRow part window row ↔ IsRow kept window row
+  pub rows_in : ((uid : List ℕ) → HasRowsIn kept window uid → Contains uids uid) → (row : Row) → IsRow part window row ↔
+      IsRow kept window row
   rows_in found row = same_rows row (λ is. found row.uid (row_needs_days kept window row is))
 
-  pub rows_showing : (address : List ℕ) → ((uid : List ℕ) → NamesIn kept (attendee_key address) uid → Contains uids uid) → (row : Row) → Shows address row →
+  pub rows_showing : (address : List ℕ) → ((uid : List ℕ) → NamesIn kept (attendee_key address) uid → Contains uids uid) → (row : Row) →
+      Shows address row →
       IsRow part window row ↔ IsRow kept window row
   rows_showing address found row shows = same_rows row (λ is. found row.uid (row_needs_name kept address window row is shows))

@@ -1,5 +1,6 @@
 -- What was written of items is cut into their texts, and read as these items.
-use Rattle.std.proofs.Common.{◌≡◌, ◌∙◌, sym, ap, refl, subst, ℕ, ◌+◌, ◌<◌, ◌≤◌, true, false, List, [], ◌∷◌, ◌++◌, length, map, get_or, drop, append_assoc, append-nil, inl, inr}
+use Rattle.std.proofs.Common.{◌≡◌, ◌∙◌, sym, ap, refl, subst, ℕ, ◌+◌, ◌<◌, ◌≤◌, true, false, List, [], ◌∷◌, ◌++◌, length, map, get_or, drop}
+use Rattle.std.proofs.Common.{append_assoc, append-nil, inl, inr}
 use Rattle.std.proofs.lemmas.List.{at_drop_more, at_drop_all}
 use Rattle.std.specs.Prelude.{IsTrue, codes}
 use Rattle.std.specs.List.{AllByRecursion, list_all, concat}
@@ -39,10 +40,12 @@ use Rattle.itip_message.proofs.Plain.{IsNotEnd, none_ends_both, parts_not_end}
 -- ---- the text of one item
 
 others : (item : Item) → IsTrue (list_all is_property item.todo.others)
-others item = ∥∥₁_elim item.canonical (Bool-set (list_all is_property item.todo.others) true) (λ (is : Is item). is.is_canonical.suits.others)
+others item = ∥∥₁_elim item.canonical (Bool-set (list_all is_property item.todo.others) true)
+    (λ (is : Is item). is.is_canonical.suits.others)
 
 abbrev head : Kind → List Content
-head k = bare (codes "BEGIN") (codes "VCALENDAR") ∷ bare (codes "PRODID") (codes "-//itipdesk//1//EN") ∷ bare (codes "VERSION") (codes "2.0") ∷ bare (codes "METHOD") (method_text (method_of k)) ∷ bare (codes "BEGIN") (codes "VTODO") ∷ []
+head k = bare (codes "BEGIN") (codes "VCALENDAR") ∷ bare (codes "PRODID") (codes "-//itipdesk//1//EN") ∷
+    bare (codes "VERSION") (codes "2.0") ∷ bare (codes "METHOD") (method_text (method_of k)) ∷ bare (codes "BEGIN") (codes "VTODO") ∷ []
 
 abbrev end_of_todo : Content
 end_of_todo = bare (codes "END") (codes "VTODO")
@@ -62,7 +65,9 @@ lawful_front [] ds h = tt
 lawful_front (c ∷ cs) ds h = (h.0, lawful_front cs ds h.1)
 
 front_not_end : (item : Item) → AllByRecursion IsNotEnd (front item)
-front_not_end item = none_ends_both (head item.kind) (parts_contents (parts_of item.todo)) (refl, (refl, (refl, (refl, (refl, tt))))) (parts_not_end (parts_of item.todo) (others item))
+front_not_end item =
+    none_ends_both (head item.kind) (parts_contents (parts_of item.todo)) (refl, (refl, (refl, (refl, (refl, tt)))))
+    (parts_not_end (parts_of item.todo) (others item))
 
 map-append : {X Y : Type 0} (f : X → Y) (xs ys : List X) → map f (xs ++ ys) ≡ map f xs ++ map f ys
 map-append f [] ys = refl
@@ -72,7 +77,8 @@ concat_octets : (cs : List Content) → concat (map content_octets cs) ≡ conte
 concat_octets [] = refl
 concat_octets (c ∷ cs) = ap (λ (t : List ℕ). content_octets c ++ t) (concat_octets cs)
 
-none_more : (lines : List (List ℕ)) (line : List ℕ) → AllByRecursion (λ line. ends_calendar line ≡ false) lines → ends_calendar line ≡ false → AllByRecursion (λ line. ends_calendar line ≡ false) (lines ++ line ∷ [])
+none_more : (lines : List (List ℕ)) (line : List ℕ) → AllByRecursion (λ line. ends_calendar line ≡ false) lines →
+    ends_calendar line ≡ false → AllByRecursion (λ line. ends_calendar line ≡ false) (lines ++ line ∷ [])
 none_more [] line none not = (not, tt)
 none_more (l ∷ lines) line none not = (none.0, none_more lines line none.1 not)
 
@@ -87,7 +93,8 @@ module _ (item : Item) (rest : List ℕ) (plain : begins_blank rest ≡ false) w
   unfolding passed
   passed_end_none =
       none_more (map content_octets (front item)) (content_octets end_of_todo)
-      (contents_end_none (front item) (lawful_front (front item) (end_of_todo ∷ end_of_calendar ∷ []) (subst (λ (cs : List Content). AllByRecursion IsLawfulContent cs) (whole item) lawful)) (front_not_end item))
+      (contents_end_none (front item) (lawful_front (front item) (end_of_todo ∷ end_of_calendar ∷ [])
+      (subst (λ (cs : List Content). AllByRecursion IsLawfulContent cs) (whole item) lawful)) (front_not_end item))
       refl
 
   all_lines : map content_octets (contents item) ≡ passed ++ content_octets end_of_calendar ∷ []
@@ -99,14 +106,16 @@ module _ (item : Item) (rest : List ℕ) (plain : begins_blank rest ≡ false) w
   its_lines : lines_of (item.bytes ++ rest) ≡ passed ++ content_octets end_of_calendar ∷ lines_of rest
   its_lines =
       ap (λ (t : List ℕ). lines_of (t ++ rest)) (bytes_are item) ∙ contents_lines (contents item) rest lawful plain
-      ∙ ap (λ (ls : List (List ℕ)). ls ++ lines_of rest) all_lines ∙ append_assoc passed (content_octets end_of_calendar ∷ []) (lines_of rest)
+      ∙ ap (λ (ls : List (List ℕ)). ls ++ lines_of rest) all_lines ∙
+      append_assoc passed (content_octets end_of_calendar ∷ []) (lines_of rest)
 
   its_text : concat (passed ++ content_octets end_of_calendar ∷ []) ≡ item.bytes
   its_text = ap concat (sym all_lines) ∙ concat_octets (contents item) ∙ sym (bytes_are item)
 
   one_text : texts_of (groups_of (lines_of (item.bytes ++ rest))) ≡ item.bytes ∷ texts_of (groups_of (lines_of rest))
   one_text =
-      ap (λ (ls : List (List ℕ)). texts_of (groups_of ls)) its_lines ∙ texts_end passed (content_octets end_of_calendar) (lines_of rest) passed_end_none refl
+      ap (λ (ls : List (List ℕ)). texts_of (groups_of ls)) its_lines ∙
+      texts_end passed (content_octets end_of_calendar) (lines_of rest) passed_end_none refl
       ∙ ap (λ (t : List ℕ). t ∷ texts_of (groups_of (lines_of rest))) its_text
 
 written_begins : (items : List Item) → begins_blank (delta_octets items) ≡ false
@@ -118,7 +127,8 @@ written_begins (item ∷ items) = ap (λ (t : List ℕ). begins_blank (t ++ delt
 pub messages_written : (items : List Item) → messages_of (delta_octets items) ≡ map (λ (i : Item). i.bytes) items
 unfolding messages_of delta_octets
 messages_written [] = refl
-messages_written (item ∷ items) = one_text item (delta_octets items) (written_begins items) ∙ ap (λ (ts : List (List ℕ)). item.bytes ∷ ts) (messages_written items)
+messages_written (item ∷ items) = one_text item (delta_octets items) (written_begins items) ∙
+    ap (λ (ts : List (List ℕ)). item.bytes ∷ ts) (messages_written items)
 
 abbrev alone : List Item → List (List Item)
 alone items = map (λ (i : Item). i ∷ []) items
@@ -137,7 +147,8 @@ written_read batch ascend = record {
   given = alone batch;
   cut = cut_by_scan (delta_octets batch);
   read = subst (λ (ts : List (List ℕ)). AreMessages ts (alone batch)) (sym (messages_written batch)) (are_messages batch);
-  batch_is = subst (λ (is : List Item). IsItemsOf batch is) (sym (concat_alone batch)) (record { ascend = ascend; same = λ item. (λ h. h, λ h. h) });
+  batch_is = subst (λ (is : List Item). IsItemsOf batch is) (sym (concat_alone batch))
+      (record { ascend = ascend; same = λ item. (λ h. h, λ h. h) });
 }
 
 -- octets that are those of a batch are read as this batch
@@ -151,7 +162,9 @@ octets_apart a b = less_one_way nat_list_cmp_total a.bytes b.bytes
 
 -- items by octets, each once, are known by what they are
 pub one_order : (a b : List Item) → AscendOctets a → AscendOctets b → SameItems a b → a ≡ b
-one_order a b up_a up_b same = same_ascending (λ (x y : Item). slice_cmp nat_cmp x.bytes y.bytes ≡ Less) octets_apart a b up_a up_b (λ item. ((same item).0, (same item).1))
+one_order a b up_a up_b same =
+    same_ascending (λ (x y : Item). slice_cmp nat_cmp x.bytes y.bytes ≡ Less) octets_apart a b up_a up_b
+    (λ item. ((same item).0, (same item).1))
 
 one_given : (texts : List (List ℕ)) (a b : List (List Item)) → AreMessages texts a → AreMessages texts b → a ≡ b
 one_given [] [] [] h k = refl
@@ -159,14 +172,17 @@ one_given [] [] (y ∷ ys) h k = absurd k
 one_given [] (x ∷ xs) b h k = absurd h
 one_given (t ∷ ts) [] b h k = absurd h
 one_given (t ∷ ts) (x ∷ xs) [] h k = absurd k
-one_given (t ∷ ts) (x ∷ xs) (y ∷ ys) h k = ap (λ (z : List Item). z ∷ xs) (one_message t x y h.0 k.0) ∙ ap (λ (zs : List (List Item)). y ∷ zs) (one_given ts xs ys h.1 k.1)
+one_given (t ∷ ts) (x ∷ xs) (y ∷ ys) h k = ap (λ (z : List Item). z ∷ xs) (one_message t x y h.0 k.0) ∙
+    ap (λ (zs : List (List Item)). y ∷ zs) (one_given ts xs ys h.1 k.1)
 
 pub one_batch : (bytes : List ℕ) (batch other : List Item) → ReadsDelta bytes batch → ReadsDelta bytes other → batch ≡ other
 one_batch bytes batch other a b =
     let cut : a.messages ≡ b.messages = one_cut bytes a.messages b.messages a.cut b.cut in
-    let same : all_of a.given ≡ all_of b.given = ap all_of (one_given b.messages a.given b.given (subst (λ (ts : List (List ℕ)). AreMessages ts a.given) cut a.read) b.read) in
+    let same : all_of a.given ≡ all_of b.given =
+    ap all_of (one_given b.messages a.given b.given (subst (λ (ts : List (List ℕ)). AreMessages ts a.given) cut a.read) b.read) in
     let is : IsItemsOf batch (all_of b.given) = subst (λ (all : List Item). IsItemsOf batch all) same a.batch_is in
-    one_order batch other is.ascend b.batch_is.ascend (λ item. (λ h. (b.batch_is.same item).1 ((is.same item).0 h), λ h. (is.same item).1 ((b.batch_is.same item).0 h)))
+    one_order batch other is.ascend b.batch_is.ascend
+    (λ item. (λ h. (b.batch_is.same item).1 ((is.same item).0 h), λ h. (is.same item).1 ((b.batch_is.same item).0 h)))
 
 first_once : (texts : List (List ℕ)) (f g : MessageRefusal) → FirstRefused texts f → FirstRefused texts g → f ≡ g
 first_once [] f g h k = absurd h
@@ -176,7 +192,9 @@ first_once (t ∷ ts) f g (inr h) (inl k) = absurd (message_apart t h.0.0 g h.0.
 first_once (t ∷ ts) f g (inr h) (inr k) = first_once ts f g h.1 k.1
 
 pub one_refusal : (bytes : List ℕ) (f g : MessageRefusal) → RefusesDelta bytes f → RefusesDelta bytes g → f ≡ g
-one_refusal bytes f g h k = first_once k.messages f g (subst (λ (ts : List (List ℕ)). FirstRefused ts f) (one_cut bytes h.messages k.messages h.cut k.cut) h.first) k.first
+one_refusal bytes f g h k =
+    first_once k.messages f g (subst (λ (ts : List (List ℕ)). FirstRefused ts f) (one_cut bytes h.messages k.messages h.cut k.cut) h.first)
+    k.first
 
 apart_from : (texts : List (List ℕ)) (given : List (List Item)) (f : MessageRefusal) → AreMessages texts given → FirstRefused texts f → ⊥
 apart_from [] given f h k = k
@@ -185,7 +203,9 @@ apart_from (t ∷ ts) (x ∷ xs) f h (inl k) = message_apart t x f h.0 k
 apart_from (t ∷ ts) (x ∷ xs) f h (inr k) = apart_from ts xs f h.1 k.1
 
 pub delta_apart : (bytes : List ℕ) (batch : List Item) (f : MessageRefusal) → ReadsDelta bytes batch → RefusesDelta bytes f → ⊥
-delta_apart bytes batch f h k = apart_from h.messages h.given f h.read (subst (λ (ts : List (List ℕ)). FirstRefused ts f) (one_cut bytes k.messages h.messages k.cut h.cut) k.first)
+delta_apart bytes batch f h k =
+    apart_from h.messages h.given f h.read (subst (λ (ts : List (List ℕ)). FirstRefused ts f)
+    (one_cut bytes k.messages h.messages k.cut h.cut) k.first)
 
 -- a batch is known by its octets
 pub known_by_octets : (a b : List Item) → AscendOctets a → AscendOctets b → delta_octets a ≡ delta_octets b → a ≡ b
@@ -197,15 +217,19 @@ known_by_octets a b up_a up_b same =
 pub begins_reading : (bytes : List ℕ) → Continues bytes bytes []
 begins_reading bytes = record { read = λ given are. (given, are, refl); refused = λ fault first. first }
 
-pub reads_more : (bytes rest message after : List ℕ) (items more : List Item) → Continues bytes rest items → CutsMessage rest message after → ReadsMessage message more → Continues bytes after (items ++ more)
+pub reads_more : (bytes rest message after : List ℕ) (items more : List Item) → Continues bytes rest items →
+    CutsMessage rest message after → ReadsMessage message more → Continues bytes after (items ++ more)
 reads_more bytes rest message after items more so_far cut reads = record {
   read = λ given are.
-      let all = so_far.read (more ∷ given) (subst (λ (ts : List (List ℕ)). AreMessages ts (more ∷ given)) (sym cut.messages) (reads, are)) in
+      let all = so_far.read (more ∷ given) (subst (λ (ts : List (List ℕ)). AreMessages ts (more ∷ given)) (sym cut.messages) (reads, are))
+      in
       (all.0, all.1, all.2 ∙ sym (append_assoc items more (all_of given)));
-  refused = λ fault first. so_far.refused fault (subst (λ (ts : List (List ℕ)). FirstRefused ts fault) (sym cut.messages) (inr ((more, reads), first)));
+  refused = λ fault first. so_far.refused fault
+      (subst (λ (ts : List (List ℕ)). FirstRefused ts fault) (sym cut.messages) (inr ((more, reads), first)));
 }
 
-refuses_here : (bytes rest message after : List ℕ) (items : List Item) (fault : MessageRefusal) → Continues bytes rest items → CutsMessage rest message after → RefusesMessage message fault → RefusesDelta bytes fault
+refuses_here : (bytes rest message after : List ℕ) (items : List Item) (fault : MessageRefusal) → Continues bytes rest items →
+    CutsMessage rest message after → RefusesMessage message fault → RefusesDelta bytes fault
 refuses_here bytes rest message after items fault so_far cut refuses = record {
   messages = messages_of bytes;
   cut = cut_by_scan bytes;
@@ -213,25 +237,40 @@ refuses_here bytes rest message after items fault so_far cut refuses = record {
 }
 
 -- where a message is refused for a fault, so are the octets
-pub refuses_if : (e : ReadError) (bytes rest message after : List ℕ) (items : List Item) → Continues bytes rest items → CutsMessage rest message after → IfRefused e (RefusesMessage message) → IfRefused e (RefusesDelta bytes)
+pub refuses_if : (e : ReadError) (bytes rest message after : List ℕ) (items : List Item) → Continues bytes rest items →
+    CutsMessage rest message after → IfRefused e (RefusesMessage message) → IfRefused e (RefusesDelta bytes)
 refuses_if error.NoMemory bytes rest message after items so_far cut refuses = tt
-refuses_if (error.Refused fault) bytes rest message after items so_far cut refuses = refuses_here bytes rest message after items fault so_far cut refuses
+refuses_if (error.Refused fault) bytes rest message after items so_far cut refuses =
+    refuses_here bytes rest message after items fault so_far cut refuses
 
-pub ends_reading : (bytes rest : List ℕ) (items batch : List Item) → Continues bytes rest items → messages_of rest ≡ [] → IsItemsOf batch items → ReadsDelta bytes batch
+pub ends_reading : (bytes rest : List ℕ) (items batch : List Item) → Continues bytes rest items → messages_of rest ≡ [] →
+    IsItemsOf batch items → ReadsDelta bytes batch
 ends_reading bytes rest items batch so_far none is =
     let all = so_far.read [] (subst (λ (ts : List (List ℕ)). AreMessages ts []) (sym none) tt) in
-    record { messages = messages_of bytes; given = all.0; cut = cut_by_scan bytes; read = all.1; batch_is = subst (λ (xs : List Item). IsItemsOf batch xs) (sym (all.2 ∙ append-nil items)) is }
+    record {
+      messages = messages_of bytes;
+      given = all.0;
+      cut = cut_by_scan bytes;
+      read = all.1;
+      batch_is =
+          subst (λ (xs : List Item). IsItemsOf batch xs) (sym (all.2 ∙ append-nil items)) is;
+    }
 
 -- ---- one item after another
 
-pub write_more : (items : List Item) (i : ℕ) (item : Item) (old new bytes : List ℕ) → i < length items → item ≡ get_or items i item → bytes ≡ item.bytes → new ≡ old ++ bytes
+pub write_more : (items : List Item) (i : ℕ) (item : Item) (old new bytes : List ℕ) → i < length items → item ≡ get_or items i item →
+    bytes ≡ item.bytes → new ≡ old ++ bytes
     → old ++ delta_octets (drop i items) ≡ delta_octets items → new ++ delta_octets (drop (i + 1) items) ≡ delta_octets items
 unfolding delta_octets
 write_more items i item old new bytes within is same grown so_far =
     let rest : List ℕ = delta_octets (drop (i + 1) items) in
-    let next : delta_octets (drop i items) ≡ item.bytes ++ rest = at_drop_more delta_octets items i item within ∙ ap (λ (x : Item). x.bytes ++ rest) (sym is) in
-    ap (λ (t : List ℕ). t ++ rest) grown ∙ ap (λ (t : List ℕ). (old ++ t) ++ rest) same ∙ append_assoc old item.bytes rest ∙ ap (λ (t : List ℕ). old ++ t) (sym next) ∙ so_far
+    let next : delta_octets (drop i items) ≡ item.bytes ++ rest = at_drop_more delta_octets items i item within ∙
+    ap (λ (x : Item). x.bytes ++ rest) (sym is) in
+    ap (λ (t : List ℕ). t ++ rest) grown ∙ ap (λ (t : List ℕ). (old ++ t) ++ rest) same ∙ append_assoc old item.bytes rest ∙
+    ap (λ (t : List ℕ). old ++ t) (sym next) ∙ so_far
 
-pub write_done : (items : List Item) (i : ℕ) (old : List ℕ) → length items ≤ i → old ++ delta_octets (drop i items) ≡ delta_octets items → old ≡ delta_octets items
+pub write_done : (items : List Item) (i : ℕ) (old : List ℕ) → length items ≤ i → old ++ delta_octets (drop i items) ≡ delta_octets items →
+    old ≡ delta_octets items
 unfolding delta_octets
-write_done items i old past so_far = sym (append-nil old) ∙ ap (λ (t : List ℕ). old ++ t) (sym (at_drop_all delta_octets items i past)) ∙ so_far
+write_done items i old past so_far = sym (append-nil old) ∙ ap (λ (t : List ℕ). old ++ t) (sym (at_drop_all delta_octets items i past)) ∙
+    so_far

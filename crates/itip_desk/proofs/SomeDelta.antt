@@ -47,5 +47,15 @@ some_delta bytes =
       | inr refused ↦ inr (refused.0, record { messages = messages_of bytes; cut = cut_by_scan bytes; first = refused.1 })
       | inl given ↦
           let batch = batch_of (all_of given.0) in
-          inl (batch.0, record { messages = messages_of bytes; given = given.0; cut = cut_by_scan bytes; read = given.1; batch_is = batch.1 })
+          inl (
+            batch.0,
+            record {
+              messages = messages_of bytes;
+              given = given.0;
+              cut = cut_by_scan bytes;
+              read = given.1;
+              batch_is =
+                  batch.1;
+            },
+          )
     ]

@@ -24,15 +24,18 @@ told_same x y i = elim (told_kept x i) [
 ]
 
 -- two sets keep another item of a UID, or the same of these
-differ_in : (uid : List ℕ) (x y among : List Item) → (¬ KeepSame uid x y) ⊎ ((i : Item) → Contains among i → uid_of i.key ≡ uid → IsKept x i ↔ IsKept y i)
+differ_in : (uid : List ℕ) (x y among : List Item) → (¬ KeepSame uid x y) ⊎
+    ((i : Item) → Contains among i → uid_of i.key ≡ uid → IsKept x i ↔ IsKept y i)
 differ_in uid x y [] = inr (λ i h about. absurd (none_in i h))
 differ_in uid x y (j ∷ js) = elim (differ_in uid x y js) [
   | inl differ ↦ inl differ
   | inr rest ↦ elim (told_same x y j) [
-    | inl same ↦ inr (λ i h. elim (cons_cases j js i h) [ inl e ↦ λ about. subst (λ (k : Item). IsKept x k ↔ IsKept y k) e same | inr there ↦ rest i there ])
+    | inl same ↦ inr (λ i h. elim (cons_cases j js i h)
+        [ inl e ↦ λ about. subst (λ (k : Item). IsKept x k ↔ IsKept y k) e same | inr there ↦ rest i there ])
     | inr not ↦ elim (told_bytes (uid_of j.key) uid) [
       | inl about ↦ inl (λ same. not (same j about))
-      | inr other ↦ inr (λ i h. elim (cons_cases j js i h) [ inl e ↦ λ about. absurd (other (subst (λ (k : Item). uid_of k.key ≡ uid) (sym e) about)) | inr there ↦ rest i there ])
+      | inr other ↦ inr (λ i h. elim (cons_cases j js i h)
+          [ inl e ↦ λ about. absurd (other (subst (λ (k : Item). uid_of k.key ≡ uid) (sym e) about)) | inr there ↦ rest i there ])
     ]
   ]
 ]
@@ -47,13 +50,15 @@ told_moves before step uid = elim (differ_in uid before (before ++ step) (before
   | inr all ↦ inr (λ i about. elim (told_in (before ++ step) i) [ inl h ↦ all i h about | inr none ↦ unheard before step i none ])
 ]
 
-some_moves : (before step among : List Item) → ((uid : List ℕ) × Moves before step uid) ⊎ ((i : Item) → Contains among i → KeepSame (uid_of i.key) before (before ++ step))
+some_moves : (before step among : List Item) → ((uid : List ℕ) × Moves before step uid) ⊎
+    ((i : Item) → Contains among i → KeepSame (uid_of i.key) before (before ++ step))
 some_moves before step [] = inr (λ i h. absurd (none_in i h))
 some_moves before step (j ∷ js) = elim (told_moves before step (uid_of j.key)) [
   | inl moves ↦ inl (uid_of j.key, moves)
   | inr same ↦ elim (some_moves before step js) [
     | inl some ↦ inl some
-    | inr all ↦ inr (λ i h. elim (cons_cases j js i h) [ inl e ↦ subst (λ (k : Item). KeepSame (uid_of k.key) before (before ++ step)) e same | inr there ↦ all i there ])
+    | inr all ↦ inr (λ i h. elim (cons_cases j js i h)
+        [ inl e ↦ subst (λ (k : Item). KeepSame (uid_of k.key) before (before ++ step)) e same | inr there ↦ all i there ])
   ]
 ]
 
@@ -61,17 +66,27 @@ some_moves before step (j ∷ js) = elim (told_moves before step (uid_of j.key))
 next_of : (before step : List Item) (tick : ℕ) → (next : ℕ) × TickStep before step tick next
 next_of before step tick = elim (some_moves before step (before ++ step)) [
   | inl moves ↦ (tick + 1, inl (moves, refl))
-  | inr all ↦ (tick, inr (λ uid i about. elim (told_in (before ++ step) i) [ inl h ↦ all i h i refl | inr none ↦ unheard before step i none ], refl))
+  | inr all ↦ (
+    tick,
+    inr (
+      λ uid i about. elim (told_in (before ++ step) i)
+          [ inl h ↦ all i h i refl | inr none ↦ unheard before step i none ],
+      refl,
+    ),
+  )
 ]
 
 ticks_of : (before : List Item) (tick : ℕ) (steps : List (List Item)) → (last : ℕ) × Ticks before tick steps last
 ticks_of before tick [] = (tick, refl)
-ticks_of before tick (step ∷ steps) = let next = next_of before step tick in let rest = ticks_of (before ++ step) next.0 steps in (rest.0, (next.0, next.1, rest.1))
+ticks_of before tick (step ∷ steps) = let next = next_of before step tick in let rest = ticks_of (before ++ step) next.0 steps in
+    (rest.0, (next.0, next.1, rest.1))
 
-ticks_once : (before : List Item) (tick : ℕ) (steps : List (List Item)) (m n : ℕ) → Ticks before tick steps m → Ticks before tick steps n → m ≡ n
+ticks_once : (before : List Item) (tick : ℕ) (steps : List (List Item)) (m n : ℕ) → Ticks before tick steps m → Ticks before tick steps n →
+    m ≡ n
 ticks_once before tick [] m n a b = a ∙ sym b
 ticks_once before tick (step ∷ steps) m n (a, one, rest) (b, two, others) =
-    ticks_once (before ++ step) a steps m n rest (subst (λ (t : ℕ). Ticks (before ++ step) t steps n) (tick_once before step tick b a two one) others)
+    ticks_once (before ++ step) a steps m n rest
+    (subst (λ (t : ℕ). Ticks (before ++ step) t steps n) (tick_once before step tick b a two one) others)
 
 above : (since next : ℕ) → nat_lt since next ≡ true → since < next
 above since next e = grind (arith, nat_tests)
@@ -79,12 +94,14 @@ above since next e = grind (arith, nat_tests)
 not_above : (since m next : ℕ) → m ≡ next → nat_lt since next ≡ false → since < m → ⊥
 not_above since m next e f l = grind (arith, nat_tests)
 
-told_moved : (before : List Item) (tick : ℕ) (steps : List (List Item)) (since : ℕ) (uid : List ℕ) → MovedAfter before tick steps since uid ⊎ (¬ MovedAfter before tick steps since uid)
+told_moved : (before : List Item) (tick : ℕ) (steps : List (List Item)) (since : ℕ) (uid : List ℕ) →
+    MovedAfter before tick steps since uid ⊎ (¬ MovedAfter before tick steps since uid)
 told_moved before tick [] since uid = inr (λ moved. moved)
 told_moved before tick (step ∷ steps) since uid = elim (told_moved (before ++ step) next.0 steps since uid) [
   | inl later ↦ inl (next.0, next.1, inr later)
   | inr never ↦ elim (told_moves before step uid) [
-    | inl moves ↦ by_bool (nat_lt since next.0) (MovedAfter before tick (step ∷ steps) since uid ⊎ (¬ MovedAfter before tick (step ∷ steps) since uid))
+    | inl moves ↦ by_bool (nat_lt since next.0) (MovedAfter before tick (step ∷ steps) since uid ⊎
+        (¬ MovedAfter before tick (step ∷ steps) since uid))
         (λ k. inl (next.0, next.1, inl (moves, above since next.0 k)))
         (λ k. inr (neither never (λ m one here. not_above since m next.0 (tick_once before step tick m next.0 one next.1) k here.1)))
     | inr same ↦ inr (neither never (λ m one here. here.0 same))
@@ -94,9 +111,12 @@ told_moved before tick (step ∷ steps) since uid = elim (told_moved (before ++ 
     next : (n : ℕ) × TickStep before step tick n
     next = next_of before step tick
 
-    neither : (¬ MovedAfter (before ++ step) next.0 steps since uid) → ((m : ℕ) → TickStep before step tick m → Moves before step uid × (since < m) → ⊥) → MovedAfter before tick (step ∷ steps) since uid → ⊥
+    neither : (¬ MovedAfter (before ++ step) next.0 steps since uid) →
+        ((m : ℕ) → TickStep before step tick m → Moves before step uid × (since < m) → ⊥) →
+        MovedAfter before tick (step ∷ steps) since uid → ⊥
     neither never here (m, one, inl now) = here m one now
-    neither never here (m, one, inr later) = never (subst (λ (t : ℕ). MovedAfter (before ++ step) t steps since uid) (tick_once before step tick m next.0 one next.1) later)
+    neither never here (m, one, inr later) =
+        never (subst (λ (t : ℕ). MovedAfter (before ++ step) t steps since uid) (tick_once before step tick m next.0 one next.1) later)
 
 pub desk_of : (steps : List (List Item)) (start : ℕ) (desk : Shown) → ∥ IsDeskOf steps start desk ∥₁ → IsDeskOf steps start desk
 desk_of steps start desk is = record { kept = kept; tick = tick; changed = λ since uid. (moved since uid, carried since uid) }
@@ -113,10 +133,13 @@ desk_of steps start desk is = record { kept = kept; tick = tick; changed = λ si
     tick : Ticks [] start steps desk.tick
     tick =
         let at = ticks_of [] start steps in
-        subst (λ (t : ℕ). Ticks [] start steps t) (∥∥₁_elim is (Coded-set coded_ℕ at.0 desk.tick) (λ d. ticks_once [] start steps at.0 desk.tick at.1 d.tick)) at.1
+        subst (λ (t : ℕ). Ticks [] start steps t)
+        (∥∥₁_elim is (Coded-set coded_ℕ at.0 desk.tick) (λ d. ticks_once [] start steps at.0 desk.tick at.1 d.tick)) at.1
 
     moved : (since : ℕ) (uid : List ℕ) → CarriesAfter desk.changed since uid → MovedAfter [] start steps since uid
-    moved since uid c = elim (told_moved [] start steps since uid) [ inl m ↦ m | inr not ↦ absurd (none (λ d. not ((d.changed since uid).0 c))) ]
+    moved since uid c = elim (told_moved [] start steps since uid)
+        [ inl m ↦ m | inr not ↦ absurd (none (λ d. not ((d.changed since uid).0 c))) ]
 
     carried : (since : ℕ) (uid : List ℕ) → MovedAfter [] start steps since uid → CarriesAfter desk.changed since uid
-    carried since uid m = elim (carries desk.changed since uid) [ inl c ↦ c | inr not ↦ absurd (none (λ d. not ((d.changed since uid).1 m))) ]
+    carried since uid m =
+        elim (carries desk.changed since uid) [ inl c ↦ c | inr not ↦ absurd (none (λ d. not ((d.changed since uid).1 m))) ]

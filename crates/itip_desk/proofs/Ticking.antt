@@ -1,5 +1,6 @@
 -- The UIDs that moved, the last moved first, and the ticks that they carry.
-use Rattle.std.proofs.Common.{◌≡◌, ℕ, ◌<◌, ◌≤◌, ◌-◌, List, [], ◌∷◌, ◌++◌, ◌↔◌, ◌⊎◌, ◌||◌, inl, inr, refl, sym, ap, subst, ◌∙◌, Bool, true, false, Option, Some, None, arith, length, take}
+use Rattle.std.proofs.Common.{◌≡◌, ℕ, ◌<◌, ◌≤◌, ◌-◌, List, [], ◌∷◌, ◌++◌, ◌↔◌, ◌⊎◌, ◌||◌, inl, inr, refl, sym, ap, subst, ◌∙◌, Bool, true}
+use Rattle.std.proofs.Common.{false, Option, Some, None, arith, length, take}
 use Rattle.std.specs.Prelude.{cond, is_some, nat_eq}
 use Rattle.std.specs.Option.{option_map_or}
 use Rattle.std.specs.List.{Contains, AllByRecursion}
@@ -64,7 +65,8 @@ at_most : (top : ℕ) (es : List (List ℕ × ℕ)) → FallFrom top es → (uid
 at_most top [] f uid t h = let x : None ≡ Some t = h in absurd (cc)
 at_most top (e ∷ es) (low, rest) uid t h = by_bool (is_eq (uid_cmp uid e.0)) (t ≤ top)
     (λ k. let same : e.1 ≡ t = some_same e.1 t (sym (at_first e es uid k) ∙ h) in let under : e.1 ≤ top = low in omega (arith, same, under))
-    (λ k. let after : t ≤ e.1 = at_most e.1 es rest uid t (sym (at_later e es uid k) ∙ h) in let under : e.1 ≤ top = low in omega (arith, after, under))
+    (λ k. let after : t ≤ e.1 = at_most e.1 es rest uid t (sym (at_later e es uid k) ∙ h) in let under : e.1 ≤ top = low in
+    omega (arith, after, under))
 
 -- ---- the UIDs in front, with ticks above another
 abbrev pub EndsAt : ℕ → List (List ℕ × ℕ) → Type 0
@@ -82,17 +84,20 @@ rest_low : (since top : ℕ) (rest : List (List ℕ × ℕ)) → FallFrom top re
 rest_low since top [] f e = tt
 rest_low since top (e ∷ es) (low, f) h = (h, f)
 
-in_front : (since : ℕ) (done rest : List (List ℕ × ℕ)) → AllByRecursion (λ e. since < e.1) done → (uid : List ℕ) → Contains (keys_of done) uid → CarriesAfter (done ++ rest) since uid
+in_front : (since : ℕ) (done rest : List (List ℕ × ℕ)) → AllByRecursion (λ e. since < e.1) done → (uid : List ℕ) →
+    Contains (keys_of done) uid → CarriesAfter (done ++ rest) since uid
 in_front since [] rest a uid h = absurd (none_in uid h)
 in_front since (e ∷ done) rest a uid h = by_bool (is_eq (uid_cmp uid e.0)) (CarriesAfter (e ∷ (done ++ rest)) since uid)
     (λ k. (e.1, at_first e (done ++ rest) uid k, a.0))
-    (λ k. let c = in_front since done rest a.1 uid (later k (cons_cases e.0 (keys_of done) uid h)) in (c.0, at_later e (done ++ rest) uid k ∙ c.1, c.2))
+    (λ k. let c = in_front since done rest a.1 uid (later k (cons_cases e.0 (keys_of done) uid h)) in
+    (c.0, at_later e (done ++ rest) uid k ∙ c.1, c.2))
   where
     later : is_eq (uid_cmp uid e.0) ≡ false → (e.0 ≡ uid) ⊎ Contains (keys_of done) uid → Contains (keys_of done) uid
     later k (inl same) = let x : true ≡ false = sym (own_uid uid) ∙ ap (λ u. is_eq (uid_cmp uid u)) (sym same) ∙ k in absurd (cc)
     later k (inr there) = there
 
-of_front : (since : ℕ) (done rest : List (List ℕ × ℕ)) → FallFrom since rest → (uid : List ℕ) → CarriesAfter (done ++ rest) since uid → Contains (keys_of done) uid
+of_front : (since : ℕ) (done rest : List (List ℕ × ℕ)) → FallFrom since rest → (uid : List ℕ) → CarriesAfter (done ++ rest) since uid →
+    Contains (keys_of done) uid
 of_front since [] rest low uid c =
     let under : c.0 ≤ since = at_most since rest low uid c.0 c.1 in
     let over : since < c.0 = c.2 in absurd (omega (arith, under, over))
@@ -100,20 +105,24 @@ of_front since (e ∷ done) rest low uid c = by_bool (is_eq (uid_cmp uid e.0)) (
     (λ k. subst (Contains (e.0 ∷ keys_of done)) (sym (one_uid uid e.0 k)) (cons_first e.0 (keys_of done)))
     (λ k. cons_later e.0 (keys_of done) uid (of_front since done rest low uid (c.0, sym (at_later e (done ++ rest) uid k) ∙ c.1, c.2)))
 
-pub front_carries : (since : ℕ) (all : List (List ℕ × ℕ)) (uids : List (List ℕ)) (rest : List (List ℕ × ℕ)) → AreInFront since all uids rest → EndsAt since rest
+pub front_carries : (since : ℕ) (all : List (List ℕ × ℕ)) (uids : List (List ℕ)) (rest : List (List ℕ × ℕ)) →
+    AreInFront since all uids rest → EndsAt since rest
     → (top : ℕ) → FallFrom top all → (uid : List ℕ) → Contains uids uid ↔ CarriesAfter all since uid
 front_carries since all uids rest front ends top f uid =
     let r = fall_rest top front.done rest (subst (FallFrom top) front.whole f) in (
-      λ h. subst (λ (es : List (List ℕ × ℕ)). CarriesAfter es since uid) (sym front.whole) (in_front since front.done rest front.above uid (subst (λ (us : List (List ℕ)). Contains us uid) front.uids_are h)),
+      λ h. subst (λ (es : List (List ℕ × ℕ)). CarriesAfter es since uid) (sym front.whole)
+          (in_front since front.done rest front.above uid (subst (λ (us : List (List ℕ)). Contains us uid) front.uids_are h)),
       λ c. subst (λ (us : List (List ℕ)). Contains us uid) (sym front.uids_are)
-          (of_front since front.done rest (rest_low since r.0 rest r.1 ends) uid (subst (λ (es : List (List ℕ × ℕ)). CarriesAfter es since uid) front.whole c)),
+          (of_front since front.done rest (rest_low since r.0 rest r.1 ends) uid
+          (subst (λ (es : List (List ℕ × ℕ)). CarriesAfter es since uid) front.whole c)),
     )
 
 keys_more : (done : List (List ℕ × ℕ)) (e : List ℕ × ℕ) → keys_of (done ++ e ∷ []) ≡ keys_of done ++ e.0 ∷ []
 keys_more [] e = refl
 keys_more (f ∷ done) e = ap (λ ks. f.0 ∷ ks) (keys_more done e)
 
-above_more : (since : ℕ) (done : List (List ℕ × ℕ)) (e : List ℕ × ℕ) → AllByRecursion (λ e. since < e.1) done → since < e.1 → AllByRecursion (λ e. since < e.1) (done ++ e ∷ [])
+above_more : (since : ℕ) (done : List (List ℕ × ℕ)) (e : List ℕ × ℕ) → AllByRecursion (λ e. since < e.1) done → since < e.1 →
+    AllByRecursion (λ e. since < e.1) (done ++ e ∷ [])
 above_more since [] e a h = (h, tt)
 above_more since (f ∷ done) e a h = (a.0, above_more since done e a.1 h)
 
@@ -121,7 +130,8 @@ one_further : (done : List (List ℕ × ℕ)) (e : List ℕ × ℕ) (rest : List
 one_further [] e rest = refl
 one_further (f ∷ done) e rest = ap (λ es. f ∷ es) (one_further done e rest)
 
-pub one_in_front : (since : ℕ) (all : List (List ℕ × ℕ)) (uids : List (List ℕ)) (e : List ℕ × ℕ) (rest before : List (List ℕ × ℕ)) → before ≡ e ∷ rest → AreInFront since all uids before → since < e.1
+pub one_in_front : (since : ℕ) (all : List (List ℕ × ℕ)) (uids : List (List ℕ)) (e : List ℕ × ℕ) (rest before : List (List ℕ × ℕ)) →
+    before ≡ e ∷ rest → AreInFront since all uids before → since < e.1
     → (more : List (List ℕ)) → more ≡ uids ++ e.0 ∷ [] → AreInFront since all more rest
 one_in_front since all uids e rest before cut front h more are = record {
   done = front.done ++ e ∷ [];
@@ -136,19 +146,23 @@ fall_places top [] [] p f = tt
 fall_places top [] (e ∷ places) (zero, rest) f = (let nought : e.1 ≡ 0 = zero in omega (arith, nought), fall_places e.1 [] places rest tt)
 fall_places top (e ∷ es) places p (low, f) = (low, fall_places e.1 es places p f)
 
-carries_before : (es places : List (List ℕ × ℕ)) → ArePlaces places → (since : ℕ) (uid : List ℕ) → CarriesAfter (es ++ places) since uid → CarriesAfter es since uid
+carries_before : (es places : List (List ℕ × ℕ)) → ArePlaces places → (since : ℕ) (uid : List ℕ) → CarriesAfter (es ++ places) since uid →
+    CarriesAfter es since uid
 carries_before [] places p since uid c =
     let under : c.0 ≤ 0 = at_most 0 places (fall_places 0 [] places p tt) uid c.0 c.1 in
     let over : since < c.0 = c.2 in absurd (omega (arith, under, over))
 carries_before (e ∷ es) places p since uid c = by_bool (is_eq (uid_cmp uid e.0)) (CarriesAfter (e ∷ es) since uid)
     (λ k. (c.0, at_first e es uid k ∙ sym (at_first e (es ++ places) uid k) ∙ c.1, c.2))
-    (λ k. let d = carries_before es places p since uid (c.0, sym (at_later e (es ++ places) uid k) ∙ c.1, c.2) in (d.0, at_later e es uid k ∙ d.1, d.2))
+    (λ k. let d = carries_before es places p since uid (c.0, sym (at_later e (es ++ places) uid k) ∙ c.1, c.2) in
+    (d.0, at_later e es uid k ∙ d.1, d.2))
 
-carries_still : (es places : List (List ℕ × ℕ)) (since : ℕ) (uid : List ℕ) → CarriesAfter es since uid → CarriesAfter (es ++ places) since uid
+carries_still : (es places : List (List ℕ × ℕ)) (since : ℕ) (uid : List ℕ) → CarriesAfter es since uid →
+    CarriesAfter (es ++ places) since uid
 carries_still [] places since uid c = let x : None ≡ Some c.0 = c.1 in absurd (cc)
 carries_still (e ∷ es) places since uid c = by_bool (is_eq (uid_cmp uid e.0)) (CarriesAfter (e ∷ (es ++ places)) since uid)
     (λ k. (c.0, at_first e (es ++ places) uid k ∙ sym (at_first e es uid k) ∙ c.1, c.2))
-    (λ k. let d = carries_still es places since uid (c.0, sym (at_later e es uid k) ∙ c.1, c.2) in (d.0, at_later e (es ++ places) uid k ∙ d.1, d.2))
+    (λ k. let d = carries_still es places since uid (c.0, sym (at_later e es uid k) ∙ c.1, c.2) in
+    (d.0, at_later e (es ++ places) uid k ∙ d.1, d.2))
 
 there_still : (es more : List (List ℕ × ℕ)) (q : List ℕ) → is_some (at_uid es q) ≡ true → is_some (at_uid (es ++ more) q) ≡ true
 there_still [] more q h = let x : false ≡ true = h in absurd (cc)
@@ -177,9 +191,12 @@ pub no_places : (old : List (List ℕ × ℕ)) → old ≡ old ++ [] → HavePla
 no_places old same = record { places = []; behind = same; are = tt; all = λ q h. let x : false ≡ true = h in absurd (cc) }
 
 listed_more : (us : List (List ℕ)) (u q : List ℕ) → is_eq (uid_cmp u q) ≡ false → is_listed (us ++ u ∷ []) q ≡ true → is_listed us q ≡ true
-listed_more us u q k h = sym (list_any-append (λ x. is_eq (uid_cmp x q)) us (u ∷ []) ∙ ap (λ b. is_listed us q || (b || false)) k ∙ or_false (is_listed us q)) ∙ h
+listed_more us u q k h =
+    sym (list_any-append (λ x. is_eq (uid_cmp x q)) us (u ∷ []) ∙ ap (λ b. is_listed us q || (b || false)) k ∙ or_false (is_listed us q)) ∙
+    h
 
-pub place_there : (us now : List (List ℕ)) (u : List ℕ) (old new : List (List ℕ × ℕ)) → now ≡ us ++ u ∷ [] → HavePlaces us old new → is_some (at_uid new u) ≡ true → HavePlaces now old new
+pub place_there : (us now : List (List ℕ)) (u : List ℕ) (old new : List (List ℕ × ℕ)) → now ≡ us ++ u ∷ [] → HavePlaces us old new →
+    is_some (at_uid new u) ≡ true → HavePlaces now old new
 place_there us now u old new more have there = record {
   places = have.places;
   behind = have.behind;
@@ -197,12 +214,14 @@ append_thrice : (xs ys zs : List (List ℕ × ℕ)) → (xs ++ ys) ++ zs ≡ xs 
 append_thrice [] ys zs = refl
 append_thrice (x ∷ xs) ys zs = ap (λ es. x ∷ es) (append_thrice xs ys zs)
 
-pub place_made : (us now : List (List ℕ)) (u : List ℕ) (old new newer : List (List ℕ × ℕ)) → now ≡ us ++ u ∷ [] → HavePlaces us old new → newer ≡ new ++ (u, 0) ∷ [] → HavePlaces now old newer
+pub place_made : (us now : List (List ℕ)) (u : List ℕ) (old new newer : List (List ℕ × ℕ)) → now ≡ us ++ u ∷ [] → HavePlaces us old new →
+    newer ≡ new ++ (u, 0) ∷ [] → HavePlaces now old newer
 place_made us now u old new newer more have put = record {
   places = have.places ++ (u, 0) ∷ [];
   behind = put ∙ ap (λ es. es ++ (u, 0) ∷ []) have.behind ∙ append_thrice old have.places ((u, 0) ∷ []);
   are = places_more have.places u have.are;
-  all = λ q h. subst (λ (es : List (List ℕ × ℕ)). is_some (at_uid es q) ≡ true) (sym put) (by_bool (is_eq (uid_cmp u q)) (is_some (at_uid (new ++ (u, 0) ∷ []) q) ≡ true)
+  all = λ q h. subst (λ (es : List (List ℕ × ℕ)). is_some (at_uid es q) ≡ true) (sym put)
+      (by_bool (is_eq (uid_cmp u q)) (is_some (at_uid (new ++ (u, 0) ∷ []) q) ≡ true)
       (λ k. subst (λ (x : List ℕ). is_some (at_uid (new ++ (u, 0) ∷ []) x) ≡ true) (one_uid u q k) (there_last new u))
       (λ k. there_still new ((u, 0) ∷ []) q (have.all q (listed_more us u q k (sym (ap (λ xs. is_listed xs q) more) ∙ h)))));
 }
@@ -218,25 +237,31 @@ none_entry : (test : List ℕ → Bool) (es : List (List ℕ × ℕ)) → lookup
 none_entry test [] h = refl
 none_entry test (e ∷ es) h = by_bool (test e.0) (lookup_entry test (e ∷ es) ≡ None)
     (λ k. let x : Some e.1 ≡ None = sym (ap (λ b. cond b (Some e.1) (lookup test es)) k) ∙ h in absurd (cc))
-    (λ k. ap (λ b. cond b (Some e) (lookup_entry test es)) k ∙ none_entry test es (sym (ap (λ b. cond b (Some e.1) (lookup test es)) k) ∙ h))
+    (λ k. ap (λ b. cond b (Some e) (lookup_entry test es)) k ∙
+    none_entry test es (sym (ap (λ b. cond b (Some e.1) (lookup test es)) k) ∙ h))
 
-some_entry : (test : List ℕ → Bool) (es : List (List ℕ × ℕ)) → is_some (lookup test es) ≡ true → (e : List ℕ × ℕ) × (lookup_entry test es ≡ Some e) × (test e.0 ≡ true)
+some_entry : (test : List ℕ → Bool) (es : List (List ℕ × ℕ)) → is_some (lookup test es) ≡ true → (e : List ℕ × ℕ) ×
+    (lookup_entry test es ≡ Some e) × (test e.0 ≡ true)
 some_entry test [] h = let x : false ≡ true = h in absurd (cc)
 some_entry test (e ∷ es) h = by_bool (test e.0) ((f : List ℕ × ℕ) × (lookup_entry test (e ∷ es) ≡ Some f) × (test f.0 ≡ true))
     (λ k. (e, ap (λ b. cond b (Some e) (lookup_entry test es)) k, k))
-    (λ k. let r = some_entry test es (sym (ap (λ b. is_some (cond b (Some e.1) (lookup test es))) k) ∙ h) in (r.0, ap (λ b. cond b (Some e) (lookup_entry test es)) k ∙ r.1, r.2))
+    (λ k. let r = some_entry test es (sym (ap (λ b. is_some (cond b (Some e.1) (lookup test es))) k) ∙ h) in
+    (r.0, ap (λ b. cond b (Some e) (lookup_entry test es)) k ∙ r.1, r.2))
 
 -- a place that is put and then demoted stands last
-pub put_last : (cache : LruCache (List ℕ) ℕ) (u : List ℕ) (new : List (List ℕ × ℕ)) → at_uid cache.entries u ≡ None → length cache.entries ≤ cache.cap - 1
+pub put_last : (cache : LruCache (List ℕ) ℕ) (u : List ℕ) (new : List (List ℕ × ℕ)) → at_uid cache.entries u ≡ None →
+    length cache.entries ≤ cache.cap - 1
     → new ≡ demoted (pointwise nat_eq u) (put_entries (pointwise nat_eq) cache u 0) → new ≡ cache.entries ++ (u, 0) ∷ []
 put_last cache u new none room are =
     let put : put_entries (pointwise nat_eq) cache u 0 ≡ (u, 0) ∷ cache.entries =
-    ap (λ o. option_map_or (λ (e : List ℕ × ℕ). (e.0, 0) ∷ remove_entry (pointwise nat_eq u) cache.entries) o ((u, 0) ∷ take (cache.cap - 1) cache.entries))
+    ap (λ o. option_map_or (λ (e : List ℕ × ℕ). (e.0, 0) ∷ remove_entry (pointwise nat_eq u) cache.entries) o ((u, 0) ∷
+    take (cache.cap - 1) cache.entries))
     (none_entry (pointwise nat_eq u) cache.entries (found_at cache.entries u ∙ none))
     ∙ ap (λ es. (u, 0) ∷ es) (take_all (cache.cap - 1) cache.entries room) in
     let own : pointwise nat_eq u u ≡ true = ap (λ test. test u) (same_test u) ∙ own_uid u in
     are ∙ ap (demoted (pointwise nat_eq u)) put
-    ∙ ap (λ o. option_map_or (λ e. remove_entry (pointwise nat_eq u) ((u, 0) ∷ cache.entries) ++ e ∷ []) o ((u, 0) ∷ cache.entries)) (ap (λ b. cond b (Some (u, 0)) (lookup_entry (pointwise nat_eq u) cache.entries)) own)
+    ∙ ap (λ o. option_map_or (λ e. remove_entry (pointwise nat_eq u) ((u, 0) ∷ cache.entries) ++ e ∷ []) o ((u, 0) ∷ cache.entries))
+    (ap (λ b. cond b (Some (u, 0)) (lookup_entry (pointwise nat_eq u) cache.entries)) own)
     ∙ ap (λ es. es ++ (u, 0) ∷ []) (ap (λ b. cond b cache.entries ((u, 0) ∷ remove_entry (pointwise nat_eq u) cache.entries)) own)
 
 -- ---- marks
@@ -245,16 +270,19 @@ apart_flips a b n = by_bool (is_eq (uid_cmp b a)) (is_eq (uid_cmp b a) ≡ false
     (λ k. let x : true ≡ false = sym (own_uid a) ∙ ap (λ q. is_eq (uid_cmp a q)) (sym (one_uid b a k)) ∙ n in absurd (cc))
     (λ k. k)
 
-without_other : (u q : List ℕ) → is_eq (uid_cmp u q) ≡ false → (es : List (List ℕ × ℕ)) → at_uid (remove_entry (λ k. is_eq (uid_cmp u k)) es) q ≡ at_uid es q
+without_other : (u q : List ℕ) → is_eq (uid_cmp u q) ≡ false → (es : List (List ℕ × ℕ)) →
+    at_uid (remove_entry (λ k. is_eq (uid_cmp u k)) es) q ≡ at_uid es q
 without_other u q n [] = refl
-without_other u q n (e ∷ es) = by_bool (is_eq (uid_cmp u e.0)) (at_uid (remove_entry (λ k. is_eq (uid_cmp u k)) (e ∷ es)) q ≡ at_uid (e ∷ es) q)
+without_other u q n (e ∷ es) =
+    by_bool (is_eq (uid_cmp u e.0)) (at_uid (remove_entry (λ k. is_eq (uid_cmp u k)) (e ∷ es)) q ≡ at_uid (e ∷ es) q)
     (λ k. ap (λ b. at_uid (cond b es (e ∷ remove_entry (λ k. is_eq (uid_cmp u k)) es)) q) k
     ∙ sym (at_later e es q (apart_flips e.0 q (ap (λ x. is_eq (uid_cmp x q)) (sym (one_uid u e.0 k)) ∙ n))))
     (λ k. ap (λ b. at_uid (cond b es (e ∷ remove_entry (λ k. is_eq (uid_cmp u k)) es)) q) k
     ∙ ap (λ o. cond (is_eq (uid_cmp q e.0)) (Some e.1) o) (without_other u q n es))
 
 -- the entries after the value at a UID that is there was read, which puts it first, and written
-module _ (es new : List (List ℕ × ℕ)) (u : List ℕ) (w : ℕ) (there : is_some (at_uid es u) ≡ true) (is_new : new ≡ set_value (pointwise nat_eq u) (promoted (pointwise nat_eq u) es) w) where
+module _ (es new : List (List ℕ × ℕ)) (u : List ℕ) (w : ℕ) (there : is_some (at_uid es u) ≡ true)
+    (is_new : new ≡ set_value (pointwise nat_eq u) (promoted (pointwise nat_eq u) es) w) where
   put_first : (e : List ℕ × ℕ) × (new ≡ (e.0, w) ∷ remove_entry (λ k. is_eq (uid_cmp u k)) es) × (u ≡ e.0)
   put_first =
       let test : List ℕ → Bool = λ k. is_eq (uid_cmp u k) in
@@ -269,9 +297,12 @@ module _ (es new : List (List ℕ × ℕ)) (u : List ℕ) (w : ℕ) (there : is_
   pub marked_at : (q : List ℕ) → at_uid new q ≡ cond (is_eq (uid_cmp u q)) (Some w) (at_uid es q)
   marked_at q =
       let p = put_first in
-      ap (λ xs. at_uid xs q) p.1 ∙ by_bool (is_eq (uid_cmp u q)) (at_uid ((p.0.0, w) ∷ remove_entry (λ k. is_eq (uid_cmp u k)) es) q ≡ cond (is_eq (uid_cmp u q)) (Some w) (at_uid es q))
-      (λ k. at_first (p.0.0, w) (remove_entry (λ k. is_eq (uid_cmp u k)) es) q (ap (λ x. is_eq (uid_cmp q x)) (sym p.2 ∙ one_uid u q k) ∙ own_uid q) ∙ sym (ap (λ b. cond b (Some w) (at_uid es q)) k))
-      (λ k. at_later (p.0.0, w) (remove_entry (λ k. is_eq (uid_cmp u k)) es) q (apart_flips p.0.0 q (ap (λ x. is_eq (uid_cmp x q)) (sym p.2) ∙ k))
+      ap (λ xs. at_uid xs q) p.1 ∙ by_bool (is_eq (uid_cmp u q))
+      (at_uid ((p.0.0, w) ∷ remove_entry (λ k. is_eq (uid_cmp u k)) es) q ≡ cond (is_eq (uid_cmp u q)) (Some w) (at_uid es q))
+      (λ k. at_first (p.0.0, w) (remove_entry (λ k. is_eq (uid_cmp u k)) es) q (ap (λ x. is_eq (uid_cmp q x)) (sym p.2 ∙ one_uid u q k) ∙
+      own_uid q) ∙ sym (ap (λ b. cond b (Some w) (at_uid es q)) k))
+      (λ k. at_later (p.0.0, w) (remove_entry (λ k. is_eq (uid_cmp u k)) es) q
+      (apart_flips p.0.0 q (ap (λ x. is_eq (uid_cmp x q)) (sym p.2) ∙ k))
       ∙ without_other u q k es ∙ sym (ap (λ b. cond b (Some w) (at_uid es q)) k))
 
   pub marked_falls : FallFrom w es → FallFrom w new
@@ -285,17 +316,25 @@ pub record AreMarked (tick : ℕ) (uids : List (List ℕ)) (old new : List (List
 pub none_marked : (tick : ℕ) (es : List (List ℕ × ℕ)) → AreMarked tick [] es es
 none_marked tick es = record { at = λ q. refl; falls = λ f. f }
 
-pub there_marked : (tick : ℕ) (us : List (List ℕ)) (old new : List (List ℕ × ℕ)) → AreMarked tick us old new → (q : List ℕ) → is_some (at_uid old q) ≡ true → is_some (at_uid new q) ≡ true
+pub there_marked : (tick : ℕ) (us : List (List ℕ)) (old new : List (List ℕ × ℕ)) → AreMarked tick us old new → (q : List ℕ) →
+    is_some (at_uid old q) ≡ true → is_some (at_uid new q) ≡ true
 there_marked tick us old new marked q h = by_bool (is_listed us q) (is_some (at_uid new q) ≡ true)
     (λ k. ap is_some (marked.at q ∙ ap (λ b. cond b (Some tick) (at_uid old q)) k))
     (λ k. ap is_some (marked.at q ∙ ap (λ b. cond b (Some tick) (at_uid old q)) k) ∙ h)
 
-pub one_marked : (tick : ℕ) (us now : List (List ℕ)) (u : List ℕ) (old new newer : List (List ℕ × ℕ)) → now ≡ us ++ u ∷ [] → AreMarked tick us old new
-    → ((q : List ℕ) → at_uid newer q ≡ cond (is_eq (uid_cmp u q)) (Some tick) (at_uid new q)) → (FallFrom tick new → FallFrom tick newer) → AreMarked tick now old newer
+pub one_marked : (tick : ℕ) (us now : List (List ℕ)) (u : List ℕ) (old new newer : List (List ℕ × ℕ)) → now ≡ us ++ u ∷ [] →
+    AreMarked tick us old new
+    → ((q : List ℕ) → at_uid newer q ≡ cond (is_eq (uid_cmp u q)) (Some tick) (at_uid new q)) → (FallFrom tick new → FallFrom tick newer) →
+    AreMarked tick now old newer
 one_marked tick us now u old new newer more marked put falls = record {
-  at = λ q. put q ∙ by_bool (is_eq (uid_cmp u q)) (cond (is_eq (uid_cmp u q)) (Some tick) (at_uid new q) ≡ cond (is_listed now q) (Some tick) (at_uid old q))
-      (λ k. ap (λ b. cond b (Some tick) (at_uid new q)) k ∙ sym (ap (λ b. cond b (Some tick) (at_uid old q)) (listed_is q ∙ ap (λ b. is_listed us q || (b || false)) k ∙ or_true (is_listed us q))))
-      (λ k. ap (λ b. cond b (Some tick) (at_uid new q)) k ∙ marked.at q ∙ sym (ap (λ b. cond b (Some tick) (at_uid old q)) (listed_is q ∙ ap (λ b. is_listed us q || (b || false)) k ∙ or_false (is_listed us q))));
+  at = λ q. put q ∙ by_bool (is_eq (uid_cmp u q))
+      (cond (is_eq (uid_cmp u q)) (Some tick) (at_uid new q) ≡ cond (is_listed now q) (Some tick) (at_uid old q))
+      (λ k. ap (λ b. cond b (Some tick) (at_uid new q)) k ∙
+      sym (ap (λ b. cond b (Some tick) (at_uid old q)) (listed_is q ∙ ap (λ b. is_listed us q || (b || false)) k ∙
+      or_true (is_listed us q))))
+      (λ k. ap (λ b. cond b (Some tick) (at_uid new q)) k ∙ marked.at q ∙
+      sym (ap (λ b. cond b (Some tick) (at_uid old q)) (listed_is q ∙ ap (λ b. is_listed us q || (b || false)) k ∙
+      or_false (is_listed us q))));
   falls = λ f. falls (marked.falls f);
 }
   where
@@ -307,10 +346,14 @@ one_marked tick us now u old new newer more marked put falls = record {
     or_true false = refl
 
 same_carry : (es gs : List (List ℕ × ℕ)) → es ≡ gs → (since : ℕ) (uid : List ℕ) → CarriesAfter es since uid ↔ CarriesAfter gs since uid
-same_carry es gs same since uid = (subst (λ (ch : List (List ℕ × ℕ)). CarriesAfter ch since uid) same, subst (λ (ch : List (List ℕ × ℕ)). CarriesAfter ch since uid) (sym same))
+same_carry es gs same since uid = (
+  subst (λ (ch : List (List ℕ × ℕ)). CarriesAfter ch since uid) same,
+  subst (λ (ch : List (List ℕ × ℕ)). CarriesAfter ch since uid) (sym same),
+)
 
 -- the UIDs that moved carry the new tick
-module _ (es places gs : List (List ℕ × ℕ)) (are : ArePlaces places) (uids : List (List ℕ)) (next : ℕ) (marked : (uid : List ℕ) → at_uid gs uid ≡ cond (is_listed uids uid) (Some next) (at_uid (es ++ places) uid)) where
+module _ (es places gs : List (List ℕ × ℕ)) (are : ArePlaces places) (uids : List (List ℕ)) (next : ℕ) (marked : (uid : List ℕ) →
+    at_uid gs uid ≡ cond (is_listed uids uid) (Some next) (at_uid (es ++ places) uid)) where
   listed_carries : (since : ℕ) (uid : List ℕ) → is_listed uids uid ≡ true → CarriesAfter gs since uid ↔ (since < next)
   listed_carries since uid k =
       let there : at_uid gs uid ≡ Some next = marked uid ∙ ap (λ b. cond b (Some next) (at_uid (es ++ places) uid)) k in (
@@ -325,7 +368,8 @@ module _ (es places gs : List (List ℕ × ℕ)) (are : ArePlaces places) (uids 
         λ c. let d = carries_still es places since uid c in (d.0, there ∙ d.1, d.2),
       )
 
-  module _ (old new : Shown) (step : List Item) (is_old : old.changed ≡ es) (is_new : new.changed ≡ gs) (is_next : new.tick ≡ next) (are_moved : AreMoved uids old.kept step) where
+  module _ (old new : Shown) (step : List Item) (is_old : old.changed ≡ es) (is_new : new.changed ≡ gs) (is_next : new.tick ≡ next)
+      (are_moved : AreMoved uids old.kept step) where
     marked_carries : (since : ℕ) (uid : List ℕ) → is_listed uids uid ≡ true → CarriesAfter new.changed since uid ↔ (since < new.tick)
     marked_carries since uid k =
         let now = same_carry new.changed gs is_new since uid in
@@ -334,7 +378,8 @@ module _ (es places gs : List (List ℕ × ℕ)) (are : ArePlaces places) (uids 
           λ above. now.1 (carries.1 (subst (λ (n : ℕ). since < n) is_next above)),
         )
 
-    others_carry : (since : ℕ) (uid : List ℕ) → is_listed uids uid ≡ false → CarriesAfter new.changed since uid ↔ CarriesAfter old.changed since uid
+    others_carry : (since : ℕ) (uid : List ℕ) → is_listed uids uid ≡ false → CarriesAfter new.changed since uid ↔
+        CarriesAfter old.changed since uid
     others_carry since uid k =
         let now = same_carry new.changed gs is_new since uid in
         let before = same_carry old.changed es is_old since uid in
@@ -362,11 +407,13 @@ module _ (es places gs : List (List ℕ × ℕ)) (are : ArePlaces places) (uids 
     }
 
 -- where nothing moves each UID carries what it did
-pub nothing_carried : (desk : Shown) (step : List Item) → ((uid : List ℕ) → KeepSame uid desk.kept (desk.kept ++ step)) → IsCarriedOn desk desk step
+pub nothing_carried : (desk : Shown) (step : List Item) → ((uid : List ℕ) → KeepSame uid desk.kept (desk.kept ++ step)) →
+    IsCarriedOn desk desk step
 nothing_carried desk step same = record { moved = λ since uid moves. absurd (moves (same uid)); others = λ since uid _. (λ c. c, λ c. c) }
 
 -- ---- deltas
-pub delta_is : (desk : Shown) (since : ℕ) (state items batch : List Item) (uids : List (List ℕ)) → state ≡ desk.kept → ((uid : List ℕ) → Contains uids uid ↔ CarriesAfter desk.changed since uid)
+pub delta_is : (desk : Shown) (since : ℕ) (state items batch : List Item) (uids : List (List ℕ)) → state ≡ desk.kept →
+    ((uid : List ℕ) → Contains uids uid ↔ CarriesAfter desk.changed since uid)
     → ArePartOf items state uids → IsItemsOf batch items → IsDeltaOf desk since batch
 delta_is desk since state items batch uids kept carried part_is is = record {
   ascend = is.ascend;

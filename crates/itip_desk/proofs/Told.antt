@@ -13,7 +13,8 @@ use Rattle.itip_state.proofs.Members.{by_bool, none_in, cons_cases, cons_first, 
 use Rattle.itip_state.proofs.KeptOnes.{kept_from_test, test_from_kept}
 
 told_items : (i j : Item) → Told i j
-told_items i j = elim (told_bytes i.bytes j.bytes) [ inl same ↦ inl (same_item i j same) | inr other ↦ inr (λ e. other (ap (λ (k : Item). k.bytes) e)) ]
+told_items i j = elim (told_bytes i.bytes j.bytes)
+    [ inl same ↦ inl (same_item i j same) | inr other ↦ inr (λ e. other (ap (λ (k : Item). k.bytes) e)) ]
 
 pub told_in : (xs : List Item) (i : Item) → Contains xs i ⊎ (¬ Contains xs i)
 told_in [] i = inr (none_in i)
@@ -40,10 +41,12 @@ keep_same_stable uid x y not i about = (
 )
 
 -- two sets with the same items of a UID keep the same of it
-pub kept_alike : (uid : List ℕ) (x y : List Item) → ((j : Item) → uid_of j.key ≡ uid → Contains x j ↔ Contains y j) → (i : Item) → uid_of i.key ≡ uid → IsKept x i ↔ IsKept y i
+pub kept_alike : (uid : List ℕ) (x y : List Item) → ((j : Item) → uid_of j.key ≡ uid → Contains x j ↔ Contains y j) → (i : Item) →
+    uid_of i.key ≡ uid → IsKept x i ↔ IsKept y i
 kept_alike uid x y same i about = (across x y same, across y x (λ j of_uid. ((same j of_uid).1, (same j of_uid).0)))
   where
-    best_across : (a b : List Item) → ((j : Item) → uid_of j.key ≡ uid → Contains a j ↔ Contains b j) → (key : Key) → uid_of key ≡ uid → (s : Item) → IsBest a key s → IsBest b key s
+    best_across : (a b : List Item) → ((j : Item) → uid_of j.key ≡ uid → Contains a j ↔ Contains b j) → (key : Key) → uid_of key ≡ uid →
+        (s : Item) → IsBest a key s → IsBest b key s
     best_across a b alike key of_uid s is = record {
       is_heard = (alike s (ap uid_of is.about ∙ of_uid)).0 is.is_heard;
       about = is.about;

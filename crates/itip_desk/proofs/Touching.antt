@@ -1,11 +1,14 @@
 -- The index after a hearing.
-use Rattle.std.proofs.Common.{◌≡◌, ◌∙◌, ◌↔◌, ◌⊎◌, inl, inr, ℕ, List, [], ◌∷◌, ◌++◌, map, refl, sym, ap, subst, Bool, true, false, ◌||◌, ◌&&◌, not, cond, IsTrue, Option, Some, None, Result, Ok, Err, OnOk, OnErr, option_map, option_to_list, ◌+◌, ◌<◌, ◌≤◌, length, take, take_all, get_or, slice_index_or, arith}
+use Rattle.std.proofs.Common.{◌≡◌, ◌∙◌, ◌↔◌, ◌⊎◌, inl, inr, ℕ, List, [], ◌∷◌, ◌++◌, map, refl, sym, ap, subst, Bool, true, false, ◌||◌}
+use Rattle.std.proofs.Common.{◌&&◌, not, cond, IsTrue, Option, Some, None, Result, Ok, Err, OnOk, OnErr, option_map, option_to_list, ◌+◌}
+use Rattle.std.proofs.Common.{◌<◌, ◌≤◌, length, take, take_all, get_or, slice_index_or, arith}
 use Rattle.std.specs.Prelude.{MatchBool}
 use Rattle.std.specs.List.{Contains}
 use Rattle.std.specs.Ordering.{is_eq}
 use Rattle.std.specs.BTreeSet.{BTreeSet}
 use Rattle.std.proofs.lemmas.List.{length-map, take_more}
-use Rattle.std.proofs.lemmas.List.Elements.{Contains-append_cases, Contains-append_left, Contains-append_right, Contains-push, Contains-push_cases}
+use Rattle.std.proofs.lemmas.List.Elements.{Contains-append_cases, Contains-append_left, Contains-append_right, Contains-push}
+use Rattle.std.proofs.lemmas.List.Elements.{Contains-push_cases}
 use Rattle.std.proofs.Math.ListN.{get_or-map}
 use Rattle.itip_state.specs.Kept.{ArePart}
 use Rattle.itip_todo.specs.Table.{attendee_key}
@@ -39,13 +42,17 @@ pub finds_in : (es : List IndexEntry) (e : IndexEntry) → Contains es e → is_
 finds_in [] e h = absurd (none_in e h)
 finds_in (x ∷ es) e h = elim (cons_cases x es e h) [
   | inl same ↦ ap (λ b. b || is_in es e) (subst (λ (k : IndexEntry). is_eq (entry_cmp k x) ≡ true) same (entry_itself x))
-  | inr rest ↦ by_bool (is_eq (entry_cmp e x)) (is_in (x ∷ es) e ≡ true) (λ here. ap (λ b. b || is_in es e) here) (λ other. ap (λ b. b || is_in es e) other ∙ finds_in es e rest)
+  | inr rest ↦ by_bool (is_eq (entry_cmp e x)) (is_in (x ∷ es) e ≡ true) (λ here. ap (λ b. b || is_in es e) here)
+      (λ other. ap (λ b. b || is_in es e) other ∙ finds_in es e rest)
 ]
 
 -- an entry has the UID of the item that gives it
-day_uid : (uid : List ℕ) (days : Option RowDays) (e : IndexEntry) → Contains (option_to_list (option_map (λ d. entry_at uid (mark_of d)) days)) e → e.uid ≡ uid
+day_uid : (uid : List ℕ) (days : Option RowDays) (e : IndexEntry) →
+    Contains (option_to_list (option_map (λ d. entry_at uid (mark_of d)) days)) e → e.uid ≡ uid
 day_uid uid None e h = absurd (none_in e h)
-day_uid uid (Some d) e h = elim (cons_cases (entry_at uid (mark_of d)) [] e h) [ inl same ↦ sym (ap (λ (e : IndexEntry). e.uid) same) | inr none ↦ absurd (none_in e none) ]
+day_uid uid (Some d) e h =
+    elim (cons_cases (entry_at uid (mark_of d)) [] e h)
+    [ inl same ↦ sym (ap (λ (e : IndexEntry). e.uid) same) | inr none ↦ absurd (none_in e none) ]
 
 line_uid : (uid : List ℕ) (lines : List Property) (e : IndexEntry) → Contains (attendee_entries uid lines) e → e.uid ≡ uid
 line_uid uid [] e h = absurd (none_in e h)
@@ -61,11 +68,14 @@ entry_uid item e h = by_bool (has_rows item) (e.uid ≡ uid_of item.key)
       | inl day ↦ day_uid (uid_of item.key) (row_days item) e day
       | inr line ↦ line_uid (uid_of item.key) item.todo.attendees e line
     ])
-    (λ no_rows. absurd (none_in e (subst (λ b. Contains (cond b (day_entries item ++ attendee_entries (uid_of item.key) item.todo.attendees) []) e) no_rows h)))
+    (λ no_rows. absurd (none_in e (subst (λ b. Contains
+    (cond b (day_entries item ++ attendee_entries (uid_of item.key) item.todo.attendees) []) e) no_rows h)))
 
 pub entry_rows : (item : Item) (e : IndexEntry) → Contains (entries_of item) e → is_of_rows item.key ≡ true
 entry_rows item e h = by_bool (is_of_rows item.key) (is_of_rows item.key ≡ true) (λ rows. rows)
-    (λ others. absurd (none_in e (subst (λ b. Contains (cond (cond b (is_live item.kind) false) (day_entries item ++ attendee_entries (uid_of item.key) item.todo.attendees) []) e) others h)))
+    (λ others. absurd (none_in e (subst (λ b. Contains
+    (cond (cond b (is_live item.kind) false) (day_entries item ++ attendee_entries (uid_of item.key) item.todo.attendees) []) e) others
+    h)))
 
 -- both sets have the same items of a UID that rows can be governed by
 abbrev pub SameRowItems : List ℕ → List Item → List Item → Type 0
@@ -83,7 +93,8 @@ swapped : (uid : List ℕ) (x y : List Item) → SameRowItems uid x y → SameRo
 swapped uid x y same = λ item about rows. ((same item about rows).1, (same item about rows).0)
 
 -- what is kept of the items that rows can be governed by depends on these alone
-pub kept_alike : (uid : List ℕ) (x y : List Item) → SameRowItems uid x y → (item : Item) → uid_of item.key ≡ uid → is_of_rows item.key ≡ true → IsKept x item → IsKept y item
+pub kept_alike : (uid : List ℕ) (x y : List Item) → SameRowItems uid x y → (item : Item) → uid_of item.key ≡ uid →
+    is_of_rows item.key ≡ true → IsKept x item → IsKept y item
 kept_alike uid x y same item about rows kept = record {
   best = best_alike uid x y same item.key about rows item kept.best;
   alive = λ dead. kept.alive (record {
@@ -95,7 +106,8 @@ kept_alike uid x y same item about rows kept = record {
 }
 
 -- so the kept items of both are the same
-pub same_kept : (uid : List ℕ) (x y kept_x kept_y : List Item) → SameRowItems uid x y → AreKept kept_x x → AreKept kept_y y → SameRowItems uid kept_x kept_y
+pub same_kept : (uid : List ℕ) (x y kept_x kept_y : List Item) → SameRowItems uid x y → AreKept kept_x x → AreKept kept_y y →
+    SameRowItems uid kept_x kept_y
 same_kept uid x y kept_x kept_y same of_x of_y item about rows = (
   λ h. (of_y item).1 (kept_alike uid x y same item about rows ((of_x item).0 h)),
   λ h. (of_x item).1 (kept_alike uid y x (swapped uid x y same) item about rows ((of_y item).0 h)),
@@ -119,23 +131,27 @@ either_way (Err e) p q f g = g q
 
 -- an index that gained what is new and lost what is gone: P was given before, Q is given now, and only what T is true of has changed
 module _ (P Q T : Type 0) (on : (T → ⊥) → P → Q) (was : (T → ⊥) → Q → P) where
-  now_given : (i b a : Bool) → (i ≡ true → P) → (P × T → b ≡ true) → (a ≡ true → Q × T) → ((i || (a && not b)) && not (b && not a)) ≡ true → Q
+  now_given : (i b a : Bool) → (i ≡ true → P) → (P × T → b ≡ true) → (a ≡ true → Q × T) →
+      ((i || (a && not b)) && not (b && not a)) ≡ true → Q
   now_given i b true p q r h = (r refl).0
   now_given true false false p q r h = on (λ t. absurd (let no : false ≡ true = q (p refl, t) in cc)) (p refl)
   now_given true true false p q r h = cc
   now_given false true false p q r h = cc
   now_given false false false p q r h = cc
 
-  now_there : (i b a : Bool) → (P → i ≡ true) → (b ≡ true → P × T) → (Q × T → a ≡ true) → Q → ((i || (a && not b)) && not (b && not a)) ≡ true
+  now_there : (i b a : Bool) → (P → i ≡ true) → (b ≡ true → P × T) → (Q × T → a ≡ true) → Q →
+      ((i || (a && not b)) && not (b && not a)) ≡ true
   now_there true true true p q r h = refl
   now_there false true true p q r h = absurd (let no : false ≡ true = p (q refl).0 in cc)
   now_there true false true p q r h = refl
   now_there false false true p q r h = refl
   now_there i true false p q r h = absurd (let no : false ≡ true = r (h, (q refl).1) in cc)
   now_there true false false p q r h = refl
-  now_there false false false p q r h = absurd (let no : false ≡ true = p (was (λ t. absurd (let no : false ≡ true = r (h, t) in cc)) h) in cc)
+  now_there false false false p q r h =
+      absurd (let no : false ≡ true = p (was (λ t. absurd (let no : false ≡ true = r (h, t) in cc)) h) in cc)
 
-  pub after_change : (i b a : Bool) → (i ≡ true) ↔ P → (b ≡ true) ↔ (P × T) → (a ≡ true) ↔ (Q × T) → (((i || (a && not b)) && not (b && not a)) ≡ true) ↔ Q
+  pub after_change : (i b a : Bool) → (i ≡ true) ↔ P → (b ≡ true) ↔ (P × T) → (a ≡ true) ↔ (Q × T) →
+      (((i || (a && not b)) && not (b && not a)) ≡ true) ↔ Q
   after_change i b a p q r = (λ h. now_given i b a p.0 q.1 r.0 h, λ h. now_there i b a p.1 q.0 r.1 h)
 
 put_back : (i n o : Bool) → (n ≡ true → o ≡ false → i ≡ false) → ((i || (n && not o)) && not (n && not o)) ≡ i
@@ -147,19 +163,23 @@ put_back true false o apart = refl
 put_back false false o apart = refl
 
 -- what is new was not there
-pub fresh : (old found : List Item) (index o n : BTreeSet IndexEntry) → IsIndexOf old index → AreEntriesOf old found o → ((e : IndexEntry) → IsTrue (has n e) → IsTouched found e.uid) →
+pub fresh : (old found : List Item) (index o n : BTreeSet IndexEntry) → IsIndexOf old index → AreEntriesOf old found o →
+    ((e : IndexEntry) → IsTrue (has n e) → IsTouched found e.uid) →
     (e : IndexEntry) → has n e ≡ true → has o e ≡ false → has index e ≡ false
 fresh old found index o n is before touch e new lacks = by_bool (has index e) (has index e ≡ false)
     (λ there. absurd (let yet : has o e ≡ true = (before e).1 ((is e).0 there, touch e new) in cc))
     (λ lacking. lacking)
 
 -- a refusal leaves the index
-pub index_same : (old : List Item) (index changed : BTreeSet IndexEntry) → IsIndexOf old index → ((e : IndexEntry) → has changed e ≡ has index e) → IsIndexOf old changed
+pub index_same : (old : List Item) (index changed : BTreeSet IndexEntry) → IsIndexOf old index →
+    ((e : IndexEntry) → has changed e ≡ has index e) → IsIndexOf old changed
 index_same old index changed is same e = (λ h. (is e).0 (sym (same e) ∙ h), λ h. same e ∙ (is e).1 h)
 
 -- what was put in is taken out again
-pub index_back : (old : List Item) (index o n grown changed : BTreeSet IndexEntry) → IsIndexOf old index → ((e : IndexEntry) → has n e ≡ true → has o e ≡ false → has index e ≡ false) →
-    ((e : IndexEntry) → has grown e ≡ (has index e || (has n e && not (has o e)))) → ((e : IndexEntry) → has changed e ≡ (has grown e && not (has n e && not (has o e)))) → IsIndexOf old changed
+pub index_back : (old : List Item) (index o n grown changed : BTreeSet IndexEntry) → IsIndexOf old index →
+    ((e : IndexEntry) → has n e ≡ true → has o e ≡ false → has index e ≡ false) →
+    ((e : IndexEntry) → has grown e ≡ (has index e || (has n e && not (has o e)))) →
+    ((e : IndexEntry) → has changed e ≡ (has grown e && not (has n e && not (has o e)))) → IsIndexOf old changed
 index_back old index o n grown changed is apart more less = index_same old index changed is
     (λ e. less e ∙ ap (λ b. b && not (has n e && not (has o e))) (more e) ∙ put_back (has index e) (has n e) (has o e) (apart e))
 
@@ -182,35 +202,52 @@ module _ (old news found after : List Item) (state : IsState old) (of : AreOfRow
       let same = untouched e (λ t. none_in t.item (subst (λ (items : List Item). Contains items t.item) none t.there)) in
       (λ h. noted_alike old after e same ((is e).0 h), λ h. (is e).1 (noted_alike after old e (swapped e.uid old after same) h))
 
-  pub index_after : (index o n changed : BTreeSet IndexEntry) → IsIndexOf old index → AreEntriesOf old found o → AreEntriesOf after found n →
-      ((e : IndexEntry) → has changed e ≡ ((has index e || (has n e && not (has o e))) && not (has o e && not (has n e)))) → IsIndexOf after changed
+  pub index_after : (index o n changed : BTreeSet IndexEntry) → IsIndexOf old index → AreEntriesOf old found o →
+      AreEntriesOf after found n →
+      ((e : IndexEntry) → has changed e ≡ ((has index e || (has n e && not (has o e))) && not (has o e && not (has n e)))) →
+      IsIndexOf after changed
   index_after index o n changed is before behind are e =
-      let iff = after_change (IsNoted old e) (IsNoted after e) (IsTouched found e.uid) (λ none. noted_alike old after e (untouched e none)) (λ none. noted_alike after old e (swapped e.uid old after (untouched e none)))
+      let iff = after_change (IsNoted old e) (IsNoted after e) (IsTouched found e.uid) (λ none. noted_alike old after e (untouched e none))
+      (λ none. noted_alike after old e (swapped e.uid old after (untouched e none)))
       (has index e) (has o e) (has n e) (is e) (before e) (behind e) in
       (λ h. iff.0 (sym (are e) ∙ h), λ h. are e ∙ iff.1 h)
 
 module _ {A B : Type 0} (f : A → B) (xs : List A) (i : ℕ) where
   pub seen_more : (x : A) → i < length xs → x ≡ get_or xs i x → take (i + 1) (map f xs) ≡ take i (map f xs) ++ f x ∷ []
   seen_more x below is =
-      take_more (map f xs) i (f x) (rw (length-map xs f) below) ∙ ap (λ (y : B). take i (map f xs) ++ y ∷ []) (get_or-map f xs i x ∙ ap f (sym is))
+      take_more (map f xs) i (f x) (rw (length-map xs f) below) ∙
+      ap (λ (y : B). take i (map f xs) ++ y ∷ []) (get_or-map f xs i x ∙ ap f (sym is))
 
   pub seen_all : length xs ≤ i → take i (map f xs) ≡ map f xs
   seen_all over = take_all i (map f xs) (rw (length-map xs f) over)
 
-pub note_more : (set : List Item) (item : Item) (e : IndexEntry) (o m n : Bool) → (m ≡ true) ↔ ((o ≡ true) ⊎ IsNoted set e) → n ≡ (m || is_in (entries_of item) e) → (n ≡ true) ↔ ((o ≡ true) ⊎ IsNoted (set ++ item ∷ []) e)
+pub note_more : (set : List Item) (item : Item) (e : IndexEntry) (o m n : Bool) → (m ≡ true) ↔ ((o ≡ true) ⊎ IsNoted set e) →
+    n ≡ (m || is_in (entries_of item) e) → (n ≡ true) ↔ ((o ≡ true) ⊎ IsNoted (set ++ item ∷ []) e)
 note_more set item e o m n so is = (
   λ h. by_bool m ((o ≡ true) ⊎ IsNoted (set ++ item ∷ []) e)
       (λ before. elim (so.0 before) [
         | inl there ↦ inl there
-        | inr noted ↦ inr (record { item = noted.item; there = Contains-append_left set (item ∷ []) noted.item noted.there; gives = noted.gives })
+        | inr noted ↦ inr (record {
+          item = noted.item;
+          there = Contains-append_left set (item ∷ []) noted.item noted.there;
+          gives =
+              noted.gives;
+        })
       ])
-      (λ new. inr (record { item = item; there = Contains-push set item; gives = in_list (entries_of item) e (sym (ap (λ b. b || is_in (entries_of item) e) new) ∙ sym is ∙ h) })),
+      (λ new. inr (record {
+        item = item;
+        there = Contains-push set item;
+        gives =
+            in_list (entries_of item) e (sym (ap (λ b. b || is_in (entries_of item) e) new) ∙ sym is ∙ h);
+      })),
   λ h. elim h [
     | inl there ↦ is ∙ ap (λ b. b || is_in (entries_of item) e) (so.1 (inl there))
     | inr noted ↦ elim (Contains-push_cases set item noted.item noted.there) [
-      | inl before ↦ is ∙ ap (λ b. b || is_in (entries_of item) e) (so.1 (inr (record { item = noted.item; there = before; gives = noted.gives })))
+      | inl before ↦ is ∙ ap (λ b. b || is_in (entries_of item) e)
+          (so.1 (inr (record { item = noted.item; there = before; gives = noted.gives })))
       | inr same ↦
-          let here : is_in (entries_of item) e ≡ true = finds_in (entries_of item) e (subst (λ (i : Item). Contains (entries_of i) e) (sym same) noted.gives) in
+          let here : is_in (entries_of item) e ≡ true = finds_in
+          (entries_of item) e (subst (λ (i : Item). Contains (entries_of i) e) (sym same) noted.gives) in
           is ∙ ap (λ b. m || b) here ∙ or_true m
     ]
   ],
@@ -220,7 +257,8 @@ note_more set item e o m n so is = (
     or_true true = refl
     or_true false = refl
 
-pub uid_more : (part items : List Item) (done : List (List ℕ)) (uid : List ℕ) (m n : BTreeSet IndexEntry) → ArePart uid items part → HaveEntries part done m →
+pub uid_more : (part items : List Item) (done : List (List ℕ)) (uid : List ℕ) (m n : BTreeSet IndexEntry) → ArePart uid items part →
+    HaveEntries part done m →
     ((e : IndexEntry) → IsTrue (has n e) ↔ (IsTrue (has m e) ⊎ IsNoted items e)) → HaveEntries part (done ++ uid ∷ []) n
 uid_more part items done uid m n are so step e = (
   λ h. elim ((step e).0 h) [
@@ -240,11 +278,15 @@ uid_more part items done uid m n are so step e = (
   ],
 )
 
-pub rows_more : (found done : List Item) (item : Item) → AreOfRows found done → is_of_rows item.key ≡ true → AreOfRows (found ++ item ∷ []) (done ++ item ∷ [])
+pub rows_more : (found done : List Item) (item : Item) → AreOfRows found done → is_of_rows item.key ≡ true →
+    AreOfRows (found ++ item ∷ []) (done ++ item ∷ [])
 rows_more found done item so rows other = (
   λ h. elim (Contains-push_cases found item other h) [
     | inl before ↦ let was = (so other).0 before in (Contains-append_left done (item ∷ []) other was.0, was.1)
-    | inr same ↦ (subst (Contains (done ++ item ∷ [])) same (Contains-push done item), subst (λ (i : Item). is_of_rows i.key ≡ true) same rows)
+    | inr same ↦ (
+      subst (Contains (done ++ item ∷ [])) same (Contains-push done item),
+      subst (λ (i : Item). is_of_rows i.key ≡ true) same rows,
+    )
   ],
   λ h. elim (Contains-push_cases done item other h.0) [
     | inl before ↦ Contains-append_left found (item ∷ []) other ((so other).1 (before, h.1))
@@ -252,7 +294,8 @@ rows_more found done item so rows other = (
   ],
 )
 
-pub rows_pass : (found done : List Item) (item : Item) → AreOfRows found done → is_of_rows item.key ≡ false → AreOfRows found (done ++ item ∷ [])
+pub rows_pass : (found done : List Item) (item : Item) → AreOfRows found done → is_of_rows item.key ≡ false →
+    AreOfRows found (done ++ item ∷ [])
 rows_pass found done item so others other = (
   λ h. let was = (so other).0 h in (Contains-append_left done (item ∷ []) other was.0, was.1),
   λ h. elim (Contains-push_cases done item other h.0) [
@@ -270,8 +313,10 @@ module _ (state found part : List Item) (uids : List (List ℕ)) (of : AreUidsOf
 
   pub old_entries : (old : BTreeSet IndexEntry) → HaveEntries part uids old → AreEntriesOf state found old
   old_entries old have e = (
-    λ h. let was = (have e).0 h in
-        (record { item = was.noted.item; there = ((are was.noted.item).0 was.noted.there).0; gives = was.noted.gives }, in_touched e was.about),
+    λ h. let was = (have e).0 h in (
+      record { item = was.noted.item; there = ((are was.noted.item).0 was.noted.there).0; gives = was.noted.gives },
+      in_touched e was.about,
+    ),
     λ (noted, t). (have e).1 (record {
       noted = record {
         item = noted.item;
@@ -282,7 +327,8 @@ module _ (state found part : List Item) (uids : List (List ℕ)) (of : AreUidsOf
     }),
   )
 
-  module _ (then : List Item) (hears : AreKept then (part ++ found)) (news after : List Item) (rows : AreOfRows found news) (kept : AreKept after (state ++ news)) where
+  module _ (then : List Item) (hears : AreKept then (part ++ found)) (news after : List Item) (rows : AreOfRows found news)
+      (kept : AreKept after (state ++ news)) where
     alike : (e : IndexEntry) → IsTouched found e.uid → SameRowItems e.uid then after
     alike e t = same_kept e.uid (part ++ found) (state ++ news) then after
         (λ item about of_rows. (
@@ -300,7 +346,11 @@ module _ (state found part : List Item) (uids : List (List ℕ)) (of : AreUidsOf
     pub new_entries : (new : BTreeSet IndexEntry) → HaveEntries then uids new → AreEntriesOf after found new
     new_entries new have e = (
       λ h. let is = (have e).0 h in let t = in_touched e is.about in (noted_alike then after e (alike e t) is.noted, t),
-      λ (noted, t). (have e).1 (record { noted = noted_alike after then e (swapped e.uid then after (alike e t)) noted; about = touched_in e t }),
+      λ (noted, t). (have e).1 (record {
+        noted = noted_alike after then e (swapped e.uid then after (alike e t)) noted;
+        about = touched_in
+            e t;
+      }),
     )
 
 -- ---- the first item of a UID
@@ -325,7 +375,8 @@ one_kept item other = (
       best = record {
         is_heard = cons_first item [];
         about = refl;
-        none_later = λ i h same. elim (cons_cases item [] i h) [ inl it ↦ subst (λ (j : Item). ¬ IsLater j item) it (not_later_itself item) | inr rest ↦ absurd (none_in i rest) ];
+        none_later = λ i h same. elim (cons_cases item [] i h)
+            [ inl it ↦ subst (λ (j : Item). ¬ IsLater j item) it (not_later_itself item) | inr rest ↦ absurd (none_in i rest) ];
       };
       alive = λ dead. elim (cons_cases item [] dead.series dead.best.is_heard) [
         | inl it ↦ let same : item.eff ≡ (dead.series).eff = ap (λ (i : Item). i.eff) it in let below = dead.below in absurd (omega arith)
@@ -341,14 +392,20 @@ module _ (state : List Item) (item : Item) (none : ArePart (uid_of item.key) [] 
   about_it : AreUidsOf uids (item ∷ [])
   about_it = record {
     ascend = λ i j d below inside. absurd (omega (arith, below, inside));
-    each = λ uid h. elim (cons_cases (uid_of item.key) [] uid h) [ inl same ↦ (item, cons_first item [], same) | inr rest ↦ absurd (none_in uid rest) ];
-    all = λ other h. elim (cons_cases item [] other h) [ inl same ↦ subst (Contains uids) (ap (λ (i : Item). uid_of i.key) same) (cons_first (uid_of item.key) []) | inr rest ↦ absurd (none_in other rest) ];
+    each = λ uid h. elim (cons_cases (uid_of item.key) [] uid h)
+        [ inl same ↦ (item, cons_first item [], same) | inr rest ↦ absurd (none_in uid rest) ];
+    all = λ other h. elim (cons_cases item [] other h) [
+      | inl same ↦ subst (Contains uids) (ap (λ (i : Item). uid_of i.key) same) (cons_first (uid_of item.key) [])
+      | inr rest ↦ absurd
+          (none_in other rest)
+    ];
   }
 
   no_part : ArePartOf [] state uids
   no_part other = (
     λ h. absurd (none_in other h),
-    λ h. elim (cons_cases (uid_of item.key) [] (uid_of other.key) h.1) [ inl same ↦ (none other).1 (h.0, sym same) | inr rest ↦ absurd (none_in (uid_of other.key) rest) ],
+    λ h. elim (cons_cases (uid_of item.key) [] (uid_of other.key) h.1)
+        [ inl same ↦ (none other).1 (h.0, sym same) | inr rest ↦ absurd (none_in (uid_of other.key) rest) ],
   )
 
   pub first_old : (old : BTreeSet IndexEntry) → ((e : IndexEntry) → has old e ≡ false) → AreEntriesOf state (item ∷ []) old
@@ -358,16 +415,24 @@ module _ (state : List Item) (item : Item) (none : ArePart (uid_of item.key) [] 
   have_its : (new : BTreeSet IndexEntry) → ((e : IndexEntry) → has new e ≡ is_in (entries_of item) e) → HaveEntries (item ∷ []) uids new
   have_its new is e = (
     λ h. let gives : Contains (entries_of item) e = in_list (entries_of item) e (sym (is e) ∙ h) in
-        record { noted = record { item = item; there = cons_first item []; gives = gives }; about = subst (Contains uids) (sym (entry_uid item e gives)) (cons_first (uid_of item.key) []) },
+        record {
+          noted = record { item = item; there = cons_first item []; gives = gives };
+          about =
+              subst (Contains uids) (sym (entry_uid item e gives)) (cons_first (uid_of item.key) []);
+        },
     λ h. elim (cons_cases item [] h.noted.item h.noted.there) [
       | inl same ↦ is e ∙ finds_in (entries_of item) e (subst (λ (i : Item). Contains (entries_of i) e) (sym same) h.noted.gives)
       | inr rest ↦ absurd (none_in h.noted.item rest)
     ],
   )
 
-  pub first_new : (news after : List Item) → AreOfRows (item ∷ []) news → AreKept after (state ++ news) → (new : BTreeSet IndexEntry) → ((e : IndexEntry) → has new e ≡ is_in (entries_of item) e)
+  pub first_new : (news after : List Item) → AreOfRows (item ∷ []) news → AreKept after (state ++ news) → (new : BTreeSet IndexEntry) →
+      ((e : IndexEntry) → has new e ≡ is_in (entries_of item) e)
       → AreEntriesOf after (item ∷ []) new
-  first_new news after rows kept new is = new_entries state (item ∷ []) [] uids about_it no_part (item ∷ []) (one_kept item) news after rows kept new (have_its new is)
+  first_new news after rows kept new is =
+      new_entries state (item ∷ []) [] uids about_it no_part (item ∷ []) (one_kept item) news after rows kept new (have_its new is)
 
-  pub first_touched : (new : BTreeSet IndexEntry) → ((e : IndexEntry) → has new e ≡ is_in (entries_of item) e) → (e : IndexEntry) → IsTrue (has new e) → IsTouched (item ∷ []) e.uid
-  first_touched new is e h = record { item = item; there = cons_first item []; about = sym (entry_uid item e (in_list (entries_of item) e (sym (is e) ∙ h))) }
+  pub first_touched : (new : BTreeSet IndexEntry) → ((e : IndexEntry) → has new e ≡ is_in (entries_of item) e) → (e : IndexEntry) →
+      IsTrue (has new e) → IsTouched (item ∷ []) e.uid
+  first_touched new is e h =
+      record { item = item; there = cons_first item []; about = sym (entry_uid item e (in_list (entries_of item) e (sym (is e) ∙ h))) }

@@ -20,7 +20,9 @@ pub record Shown : Type 0 where
   pub changed : List (List ℕ × ℕ)
 
 abbrev pub shown_code : Coded Shown
-shown_code = code_by (List Item × (ℕ × List (List ℕ × ℕ))) (coded× (coded_list item.the_row.coded) (coded× coded_ℕ (coded_list (coded× (coded_list coded_ℕ) coded_ℕ)))) (λ d. (d.kept, (d.tick, d.changed)))
+shown_code = code_by (List Item × (ℕ × List (List ℕ × ℕ))) (coded×
+    (coded_list item.the_row.coded) (coded× coded_ℕ (coded_list (coded× (coded_list coded_ℕ) coded_ℕ))))
+    (λ d. (d.kept, (d.tick, d.changed)))
     (λ p. record { kept = p.0; tick = p.1.0; changed = p.1.1 }) (λ _. refl)
 
 -- a UID carries a tick above `since`
@@ -30,7 +32,8 @@ CarriesAfter changed since uid = (tick : ℕ) × (value_at (slice_cmp nat_cmp) c
 -- each UID that a step moves carries the tick after the step, and each other carries what it did
 pub record IsCarriedOn (old new : Shown) (step : List Item) : Type 0 where
   pub moved : (since : ℕ) (uid : List ℕ) → Moves old.kept step uid → CarriesAfter new.changed since uid ↔ (since < new.tick)
-  pub others : (since : ℕ) (uid : List ℕ) → KeepSame uid old.kept (old.kept ++ step) → CarriesAfter new.changed since uid ↔ CarriesAfter old.changed since uid
+  pub others : (since : ℕ) (uid : List ℕ) → KeepSame uid old.kept (old.kept ++ step) → CarriesAfter new.changed since uid ↔
+      CarriesAfter old.changed since uid
 
 -- The desk is that of these steps from a starting tick: it keeps what is kept of all heard, its tick is that of the
 -- steps, and each UID that moved carries the tick of the last step that moved it.

@@ -1,5 +1,5 @@
--- What an index of kept items has (our own form): the UIDs by the days on which their rows can stand, those whose rows can stand on any day, and by the attendees that
--- their rows can show.
+-- What an index of kept items has (our own form): the UIDs by the days on which their rows can stand, those whose rows
+-- can stand on any day, and by the attendees that their rows can show.
 use Rattle.std.specs.Prelude.{◌≡◌, ℕ, ℤ, pos, cond, List, [], ◌++◌, map, option_to_list}
 use Rattle.std.specs.List.{Contains}
 use Rattle.std.specs.Option.{option_map}
@@ -39,7 +39,8 @@ key_of Always = []
 key_of (Attendee key) = key
 
 abbrev pub mark_cmp : Mark → Mark → Ordering
-mark_cmp a b = ordering_then (nat_cmp (rank_of a) (rank_of b)) (ordering_then (int_cmp (day_of a) (day_of b)) (slice_cmp nat_cmp (key_of a) (key_of b)))
+mark_cmp a b = ordering_then (nat_cmp (rank_of a) (rank_of b))
+    (ordering_then (int_cmp (day_of a) (day_of b)) (slice_cmp nat_cmp (key_of a) (key_of b)))
 
 -- by mark, then by UID
 abbrev pub entry_cmp : IndexEntry → IndexEntry → Ordering

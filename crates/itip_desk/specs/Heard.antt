@@ -12,7 +12,8 @@ heard (step ∷ steps) = step ++ heard steps
 
 -- a step that moves a UID raises the tick by one, and no other does
 abbrev pub TickStep : List Item → List Item → ℕ → ℕ → Type 0
-TickStep before step tick next = (((uid : List ℕ) × Moves before step uid) × (next ≡ tick + 1)) ⊎ (((uid : List ℕ) → KeepSame uid before (before ++ step)) × (next ≡ tick))
+TickStep before step tick next = (((uid : List ℕ) × Moves before step uid) × (next ≡ tick + 1)) ⊎
+    (((uid : List ℕ) → KeepSame uid before (before ++ step)) × (next ≡ tick))
 
 -- the tick after these steps, where it was `tick` when `before` had been heard
 abbrev pub Ticks : List Item → ℕ → List (List Item) → ℕ → Type 0
@@ -23,7 +24,8 @@ Ticks before tick (step ∷ steps) last = (next : ℕ) × TickStep before step t
 abbrev pub MovedAfter : List Item → ℕ → List (List Item) → ℕ → List ℕ → Type 0
 MovedAfter before tick [] since uid = ⊥
 MovedAfter before tick (step ∷ steps) since uid =
-    (next : ℕ) × TickStep before step tick next × ((Moves before step uid × (since < next)) ⊎ MovedAfter (before ++ step) next steps since uid)
+    (next : ℕ) × TickStep before step tick next ×
+    ((Moves before step uid × (since < next)) ⊎ MovedAfter (before ++ step) next steps since uid)
 
 -- These are all items heard in these steps from a starting tick that are of UIDs which moved after a tick, kept or not.
 abbrev pub TellsAfter : ℕ → List (List Item) → ℕ → List Item → Type 0

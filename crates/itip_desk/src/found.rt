@@ -23,7 +23,8 @@ pub(crate) fn find_in<'a>(
     window: Window,
 ) -> Result<Vec<&'a Uid>, AllocError>
     ensures days { IfOk result (λ uids. (uid : List ℕ) (day : ℤ)
-        → window.from ≤ℤ day → day <ℤ window.to → has index.now (entry_at uid (Day day)) ≡ true → Contains (map (λ u. u.now) uids.items) uid) }
+        → window.from ≤ℤ day → day <ℤ window.to → has index.now (entry_at uid (Day day)) ≡ true →
+        Contains (map (λ u. u.now) uids.items) uid) }
     ensures always { IfOk result (λ uids. (uid : List ℕ)
         → has index.now (entry_at uid Always) ≡ true → Contains (map (λ u. u.now) uids.items) uid) }
 {

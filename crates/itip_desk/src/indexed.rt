@@ -161,7 +161,8 @@ fn changes_of(
 ) -> Result<IndexChange, AllocError>
     ensures old { IfOk result (λ change. AreEntriesOf state.now (map (λ item. item.now) found.now) change.old) }
     ensures new { IfOk result (λ change. (news after : List Item)
-        → AreOfRows (map (λ item. item.now) found.now) news → AreKept after (state.now ++ news) → AreEntriesOf after (map (λ item. item.now) found.now) change.new) }
+        → AreOfRows (map (λ item. item.now) found.now) news → AreKept after (state.now ++ news) →
+        AreEntriesOf after (map (λ item. item.now) found.now) change.new) }
     ensures about { IfOk result (λ change. (e : IndexEntry)
         → IsTrue (has change.new e) → IsTouched (map (λ item. item.now) found.now) e.uid) }
     ensures state { OnOk result (IsState state.now) }
@@ -194,7 +195,8 @@ fn changes_in_part(
 ) -> Result<IndexChange, AllocError>
     ensures old { IfOk result (λ change. AreEntriesOf state.now (map (λ item. item.now) found.now) change.old) }
     ensures new { IfOk result (λ change. (news after : List Item)
-        → AreOfRows (map (λ item. item.now) found.now) news → AreKept after (state.now ++ news) → AreEntriesOf after (map (λ item. item.now) found.now) change.new) }
+        → AreOfRows (map (λ item. item.now) found.now) news → AreKept after (state.now ++ news) →
+        AreEntriesOf after (map (λ item. item.now) found.now) change.new) }
     ensures about { IfOk result (λ change. (e : IndexEntry)
         → IsTrue (has change.new e) → IsTouched (map (λ item. item.now) found.now) e.uid) }
     ensures state { OnOk result (IsState state.now) }

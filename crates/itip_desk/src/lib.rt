@@ -1,4 +1,5 @@
-//! A desk: it hears batches of items, keeps what the rules keep of them, and tells what moved since. A batch is written as a delta, and octets are read as one.
+//! A desk: it hears batches of items, keeps what the rules keep of them, and tells what moved since. A batch is written
+//! as a delta, and octets are read as one.
 #![tactic(auto)]
 
 mod batch;

@@ -1,5 +1,6 @@
 //! The UIDs that moved, the last moved first.
-ghost use Rattle.std.specs.Prelude.{◌≡◌, ◌↔◌, ℕ, List, [], ◌∷◌, ◌++◌, Some, None, cond, true, is_some, length, map, take, IfOk, OnOk, OnErr};
+ghost use Rattle.std.specs.Prelude.{◌≡◌, ◌↔◌, ℕ, List, [], ◌∷◌, ◌++◌, Some, None, cond, true, is_some, length, map, take, IfOk, OnOk};
+ghost use Rattle.std.specs.Prelude.{OnErr};
 ghost use Rattle.std.specs.List.{Contains};
 ghost use Rattle.std.specs.Ordering.{nat_cmp, is_eq};
 ghost use Rattle.std.specs.Cmp.Lexicographic.{slice_cmp};

@@ -47,7 +47,8 @@ nothing_left = record {
   none_before = tt;
 }
 
-cut_alone : (calendars : List (List ℕ)) → AllByRecursion IsCalendar calendars → AreApart calendars [] → IsCutInto (concat calendars) calendars
+cut_alone : (calendars : List (List ℕ)) → AllByRecursion IsCalendar calendars → AreApart calendars [] →
+    IsCutInto (concat calendars) calendars
 cut_alone calendars each apart = record {
   calendars = calendars;
   rest = [];
@@ -58,32 +59,40 @@ cut_alone calendars each apart = record {
   messages_are = sym (append-nil calendars);
 }
 
-cut_before : (calendars : List (List ℕ)) (rest : List ℕ) → AllByRecursion IsCalendar calendars → AreApart calendars rest → (messages : List (List ℕ)) → IsCutInto rest messages → IsCutInto (concat calendars ++ rest) (calendars ++ messages)
+cut_before : (calendars : List (List ℕ)) (rest : List ℕ) → AllByRecursion IsCalendar calendars → AreApart calendars rest →
+    (messages : List (List ℕ)) → IsCutInto rest messages → IsCutInto (concat calendars ++ rest) (calendars ++ messages)
 cut_before calendars rest each apart messages cut = record {
   calendars = calendars ++ cut.calendars;
   rest = cut.rest;
-  whole = ap (λ (t : List ℕ). concat calendars ++ t) cut.whole ∙ sym (append_assoc (concat calendars) (concat cut.calendars) cut.rest) ∙ ap (λ (t : List ℕ). t ++ cut.rest) (sym (concat_both calendars cut.calendars));
+  whole = ap (λ (t : List ℕ). concat calendars ++ t) cut.whole ∙ sym (append_assoc (concat calendars) (concat cut.calendars) cut.rest) ∙
+      ap (λ (t : List ℕ). t ++ cut.rest) (sym (concat_both calendars cut.calendars));
   each = each_of_both calendars cut.calendars each cut.each;
   apart = apart_both calendars cut.calendars cut.rest (subst (λ (t : List ℕ). AreApart calendars t) cut.whole apart) cut.apart;
   rest_is = cut.rest_is;
-  messages_are = ap (λ (ms : List (List ℕ)). calendars ++ ms) cut.messages_are ∙ sym (append_assoc calendars cut.calendars (unless_empty cut.rest (lines_of cut.rest_is.pieces cut.rest_is.last)));
+  messages_are = ap (λ (ms : List (List ℕ)). calendars ++ ms) cut.messages_are ∙
+      sym (append_assoc calendars cut.calendars (unless_empty cut.rest (lines_of cut.rest_is.pieces cut.rest_is.last)));
 }
 
 -- ---- one part, and the rest
 
 module _ (part rest : List ℕ) (ends : EndsBetween part rest) where
   cut_of_part : IsCutInto part ends.calendars
-  cut_of_part = subst (λ (t : List ℕ). IsCutInto t ends.calendars) (sym ends.whole) (cut_alone ends.calendars ends.each (apart_alone ends.calendars rest ends.apart))
+  cut_of_part = subst (λ (t : List ℕ). IsCutInto t ends.calendars) (sym ends.whole)
+      (cut_alone ends.calendars ends.each (apart_alone ends.calendars rest ends.apart))
 
   cut_of_both : (messages : List (List ℕ)) → IsCutInto rest messages → IsCutInto (part ++ rest) (ends.calendars ++ messages)
-  cut_of_both messages cut = subst (λ (t : List ℕ). IsCutInto (t ++ rest) (ends.calendars ++ messages)) (sym ends.whole) (cut_before ends.calendars rest ends.each ends.apart messages cut)
+  cut_of_both messages cut =
+      subst (λ (t : List ℕ). IsCutInto (t ++ rest) (ends.calendars ++ messages)) (sym ends.whole)
+      (cut_before ends.calendars rest ends.each ends.apart messages cut)
 
   -- a message of both is one of either
   of_both : (message : List ℕ) → HasMessage (part ++ rest) message → HasMessage part message ⊎ HasMessage rest message
   of_both message has =
       let cut : IsCutInto rest (messages_of rest) = cut_by_scan rest in
       let among : Contains (ends.calendars ++ messages_of rest) message =
-      subst (λ (ms : List (List ℕ)). Contains ms message) (one_cut (part ++ rest) has.messages (ends.calendars ++ messages_of rest) has.cut (cut_of_both (messages_of rest) cut)) has.among in
+      subst (λ (ms : List (List ℕ)). Contains ms message)
+      (one_cut (part ++ rest) has.messages (ends.calendars ++ messages_of rest) has.cut (cut_of_both (messages_of rest) cut)) has.among
+      in
       elim (Contains-append_cases ends.calendars (messages_of rest) message among) [
         | inl first ↦ inl (record { messages = ends.calendars; cut = cut_of_part; among = first })
         | inr later ↦ inr (record { messages = messages_of rest; cut = cut; among = later })
@@ -93,7 +102,8 @@ module _ (part rest : List ℕ) (ends : EndsBetween part rest) where
   in_both message (inl has) = record {
     messages = ends.calendars ++ messages_of rest;
     cut = cut_of_both (messages_of rest) (cut_by_scan rest);
-    among = Contains-append_left ends.calendars (messages_of rest) message (subst (λ (ms : List (List ℕ)). Contains ms message) (one_cut part has.messages ends.calendars has.cut cut_of_part) has.among);
+    among = Contains-append_left ends.calendars (messages_of rest) message
+        (subst (λ (ms : List (List ℕ)). Contains ms message) (one_cut part has.messages ends.calendars has.cut cut_of_part) has.among);
   }
   in_both message (inr has) = record {
     messages = ends.calendars ++ has.messages;
@@ -104,7 +114,9 @@ module _ (part rest : List ℕ) (ends : EndsBetween part rest) where
 -- ---- all parts
 
 no_message : (message : List ℕ) → HasMessage [] message → ⊥
-no_message message has = none_in message (subst (λ (ms : List (List ℕ)). Contains ms message) (one_cut [] has.messages [] has.cut (cut_alone [] tt tt)) has.among)
+no_message message has =
+    none_in message (subst (λ (ms : List (List ℕ)). Contains ms message) (one_cut [] has.messages [] has.cut (cut_alone [] tt tt))
+    has.among)
 
 has_parts : (parts : List (List ℕ)) → EachEndsBetween parts → HasSameMessages (concat parts) parts
 has_parts [] between message = (no_message message, λ some. absurd some)
@@ -113,8 +125,10 @@ has_parts (part ∷ []) between message = (
   λ some. elim some [ inl has ↦ subst (λ (t : List ℕ). HasMessage t message) (sym (append-nil part)) has | inr none ↦ absurd none ],
 )
 has_parts (part ∷ (next ∷ parts)) between message = (
-  λ has. elim (of_both part (concat (next ∷ parts)) between.0 message has) [ inl first ↦ inl first | inr later ↦ inr ((has_parts (next ∷ parts) between.1 message).0 later) ],
-  λ some. in_both part (concat (next ∷ parts)) between.0 message (elim some [ inl first ↦ inl first | inr later ↦ inr ((has_parts (next ∷ parts) between.1 message).1 later) ]),
+  λ has. elim (of_both part (concat (next ∷ parts)) between.0 message has)
+      [ inl first ↦ inl first | inr later ↦ inr ((has_parts (next ∷ parts) between.1 message).0 later) ],
+  λ some. in_both part (concat (next ∷ parts)) between.0 message
+      (elim some [ inl first ↦ inl first | inr later ↦ inr ((has_parts (next ∷ parts) between.1 message).1 later) ]),
 )
 
 pub parted_messages : (whole : List ℕ) (parts : List (List ℕ)) → IsPartedInto whole parts → HasSameMessages whole parts

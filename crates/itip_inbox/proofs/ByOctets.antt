@@ -47,10 +47,12 @@ put_tied x y ys up tied = record {
   same = λ i. (inr, λ h. elim h [ inl is ↦ either_in y ys i (inl (tied ∙ is)) | inr there ↦ there ]);
 }
 
-put_later : (x y : Item) (ys more : List Item) → AscendOctets (y ∷ ys) → IsBefore y x → HasOneMore x ys more → HasOneMore x (y ∷ ys) (y ∷ more)
+put_later : (x y : Item) (ys more : List Item) → AscendOctets (y ∷ ys) → IsBefore y x → HasOneMore x ys more →
+    HasOneMore x (y ∷ ys) (y ∷ more)
 put_later x y ys more up before has = record {
   ascend = AllPairs-cons IsBefore y more
-      (all_each (IsBefore y) more (λ i h. elim ((has.same i).0 h) [ inl is ↦ subst (IsBefore y) is before | inr there ↦ before_all y ys up i there ])) has.ascend;
+      (all_each (IsBefore y) more (λ i h. elim ((has.same i).0 h)
+      [ inl is ↦ subst (IsBefore y) is before | inr there ↦ before_all y ys up i there ])) has.ascend;
   same = λ i. (
     λ h. elim (cons_cases y more i h) [
       | inl is ↦ inr (either_in y ys i (inl is))
@@ -69,7 +71,8 @@ put x (y ∷ ys) up =
     elim (octets_cmp x y) as (λ (o : Ordering). octets_cmp x y ≡ o → (more : List Item) × HasOneMore x (y ∷ ys) more) [
       | Less ↦ λ e. (
         x ∷ (y ∷ ys),
-        put_first x (y ∷ ys) up (λ i h. elim (cons_cases y ys i h) [ inl is ↦ subst (IsBefore x) is e | inr later ↦ octets_total.trans x y i e (before_all y ys up i later) ]),
+        put_first x (y ∷ ys) up (λ i h. elim (cons_cases y ys i h)
+            [ inl is ↦ subst (IsBefore x) is e | inr later ↦ octets_total.trans x y i e (before_all y ys up i later) ]),
       )
       | Equal ↦ λ e. (y ∷ ys, put_tied x y ys up (sym (same_item x y (exact_bytes x.bytes y.bytes e))))
       | Greater ↦ λ e.
@@ -96,13 +99,18 @@ keeps_of heard (x ∷ xs) =
           ascend = rest.1.ascend;
           same = λ i. (
             λ h. let both = (rest.1.same i).0 h in (cons_later x xs i both.0, both.1),
-            λ h. elim (cons_cases x xs i h.0) [ inl is ↦ absurd (not (subst (IsKept heard) (sym is) h.1)) | inr later ↦ (rest.1.same i).1 (later, h.1) ],
+            λ h. elim (cons_cases x xs i h.0) [
+              | inl is ↦ absurd (not (subst (IsKept heard) (sym is) h.1))
+              | inr later ↦ (rest.1.same i).1
+                  (later, h.1)
+            ],
           );
         },
       )
     ]
   where
-    one_more : (kept : List Item) → KeepsOf heard xs kept → IsKept heard x → (more : List Item) × HasOneMore x kept more → (more : List Item) × KeepsOf heard (x ∷ xs) more
+    one_more : (kept : List Item) → KeepsOf heard xs kept → IsKept heard x → (more : List Item) × HasOneMore x kept more →
+        (more : List Item) × KeepsOf heard (x ∷ xs) more
     one_more kept rest keeps more = (
       more.0,
       record {

@@ -8,7 +8,8 @@ use Rattle.itip_state.proofs.Keeping.{Covers, AreAmong, covers_itself, kept_of_p
 use Rattle.itip_state.proofs.News.{news_kept}
 
 -- one item more is heard
-pub keeps_one : (old new heard done : List Item) (item : Item) → AreKept old (heard ++ done) → AreKept new (old ++ item ∷ []) → AreKept new (heard ++ (done ++ item ∷ []))
+pub keeps_one : (old new heard done : List Item) (item : Item) → AreKept old (heard ++ done) → AreKept new (old ++ item ∷ []) →
+    AreKept new (heard ++ (done ++ item ∷ []))
 keeps_one old new heard done item keeps kept =
     subst (λ (all : List Item). AreKept new all) (append_assoc heard done (item ∷ []))
     (are_kept_by new (old ++ item ∷ []) ((heard ++ done) ++ item ∷ []) (kept_beside (heard ++ done) (item ∷ []) old keeps) kept)
@@ -39,7 +40,8 @@ news_cover first items news are i = (
 )
 
 -- What is news beside a set counts as much as all items, also where more was heard since.
-pub keeps_news : (first new heard items news : List Item) → AreAmong first heard → AreNews first items news → AreKept new (heard ++ news) → AreKept new (heard ++ items)
+pub keeps_news : (first new heard items news : List Item) → AreAmong first heard → AreNews first items news → AreKept new (heard ++ news) →
+    AreKept new (heard ++ items)
 keeps_news first new heard items news among are kept =
     are_kept_same new ((first ++ items) ++ heard) (heard ++ items) (λ i. let two = beside first heard items among i in (two.1, two.0))
     (are_kept_by new ((first ++ news) ++ heard) ((first ++ items) ++ heard)

@@ -10,7 +10,8 @@ octets_none = refl
 pub octets_both : (xs ys : List Item) → delta_octets (xs ++ ys) ≡ delta_octets xs ++ delta_octets ys
 unfolding delta_octets
 octets_both [] ys = refl
-octets_both (x ∷ xs) ys = ap (λ (t : List ℕ). x.bytes ++ t) (octets_both xs ys) ∙ sym (append_assoc x.bytes (delta_octets xs) (delta_octets ys))
+octets_both (x ∷ xs) ys = ap (λ (t : List ℕ). x.bytes ++ t) (octets_both xs ys) ∙
+    sym (append_assoc x.bytes (delta_octets xs) (delta_octets ys))
 
 pub octets_push : (xs : List Item) (x : Item) → delta_octets (xs ++ x ∷ []) ≡ delta_octets xs ++ x.bytes
 unfolding delta_octets

@@ -18,7 +18,8 @@ one_answer text (Ok xs) (Err g) h k = absurd (message_apart text xs g h k)
 one_answer text (Err f) (Ok ys) h k = absurd (message_apart text ys f k h)
 one_answer text (Err f) (Err g) h k = ap Err (one_cause text f g h k)
 
-one_answers : (texts : List (List ℕ)) (xs ys : List (Result (List Item) MessageRefusal)) → AreAnswers texts xs → AreAnswers texts ys → xs ≡ ys
+one_answers : (texts : List (List ℕ)) (xs ys : List (Result (List Item) MessageRefusal)) → AreAnswers texts xs → AreAnswers texts ys →
+    xs ≡ ys
 one_answers [] [] [] h k = refl
 one_answers [] [] (y ∷ ys) h k = absurd k
 one_answers [] (x ∷ xs) ys h k = absurd h
@@ -26,22 +27,30 @@ one_answers (t ∷ ts) [] ys h k = absurd h
 one_answers (t ∷ ts) (x ∷ xs) [] h k = absurd k
 one_answers (t ∷ ts) (x ∷ xs) (y ∷ ys) h k = λ i. one_answer t x y h.0 k.0 i ∷ one_answers ts xs ys h.1 k.1 i
 
-pub one_inbox : (input : List ℕ) (heard others : List Item) (refusals more : List RefusedMessage) → IsInbox input heard refusals → IsInbox input others more → (heard ≡ others) × (refusals ≡ more)
+pub one_inbox : (input : List ℕ) (heard others : List Item) (refusals more : List RefusedMessage) → IsInbox input heard refusals →
+    IsInbox input others more → (heard ≡ others) × (refusals ≡ more)
 one_inbox input heard others refusals more a b =
     let cut : a.messages ≡ b.messages = one_cut input a.messages b.messages a.cut b.cut in
     let same : a.hears.answers ≡ b.hears.answers =
-    one_answers b.messages a.hears.answers b.hears.answers (subst (λ (ts : List (List ℕ)). AreAnswers ts a.hears.answers) cut a.hears.each) b.hears.each in
-    (a.hears.heard_are ∙ ap heard_of same ∙ sym b.hears.heard_are, a.hears.refusals_are ∙ ap (refusals_from 1) same ∙ sym b.hears.refusals_are)
+    one_answers b.messages a.hears.answers b.hears.answers (subst (λ (ts : List (List ℕ)). AreAnswers ts a.hears.answers) cut a.hears.each)
+    b.hears.each in (
+      a.hears.heard_are ∙ ap heard_of same ∙ sym b.hears.heard_are,
+      a.hears.refusals_are ∙ ap (refusals_from 1) same ∙
+          sym b.hears.refusals_are,
+    )
 
 one_octets : (heard : List Item) (octets others : List ℕ) → AreKeptOctets heard octets → AreKeptOctets heard others → octets ≡ others
 one_octets heard octets others a b =
     let same : SameItems a.batch b.batch = λ i. (λ h. (b.kept i).1 ((a.kept i).0 h), λ h. (a.kept i).1 ((b.kept i).0 h)) in
     a.octets_are ∙ ap delta_octets (one_order a.batch b.batch a.ascend b.ascend same) ∙ sym b.octets_are
 
-pub compaction_once : (input octets others : List ℕ) (refused other : Bool) → IsCompaction input octets refused → IsCompaction input others other → octets ≡ others
+pub compaction_once : (input octets others : List ℕ) (refused other : Bool) → IsCompaction input octets refused →
+    IsCompaction input others other → octets ≡ others
 compaction_once input octets others refused other a b =
     let one = one_inbox input a.heard b.heard a.refusals b.refusals a.inbox b.inbox in
     one_octets b.heard octets others (subst (λ (h : List Item). AreKeptOctets h octets) one.0 a.kept) b.kept
 
-pub refused_once : (input octets others : List ℕ) (refused other : Bool) → IsCompaction input octets refused → IsCompaction input others other → refused ≡ other
-refused_once input octets others refused other a b = a.refused_is ∙ ap is_some_refused (one_inbox input a.heard b.heard a.refusals b.refusals a.inbox b.inbox).1 ∙ sym b.refused_is
+pub refused_once : (input octets others : List ℕ) (refused other : Bool) → IsCompaction input octets refused →
+    IsCompaction input others other → refused ≡ other
+refused_once input octets others refused other a b = a.refused_is ∙
+    ap is_some_refused (one_inbox input a.heard b.heard a.refusals b.refusals a.inbox b.inbox).1 ∙ sym b.refused_is

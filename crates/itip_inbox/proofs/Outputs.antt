@@ -1,5 +1,6 @@
 -- What is written of an input.
-use Rattle.std.proofs.Common.{◌≡◌, ◌∙◌, sym, ap, refl, subst, ℕ, ◌+◌, ◌<◌, ◌≤◌, ◌||◌, Bool, List, [], ◌∷◌, ◌++◌, length, take, drop, get_or, inl, inr, append_assoc, take-append-drop, Option, Some, None, Result, Ok, Err}
+use Rattle.std.proofs.Common.{◌≡◌, ◌∙◌, sym, ap, refl, subst, ℕ, ◌+◌, ◌<◌, ◌≤◌, ◌||◌, Bool, List, [], ◌∷◌, ◌++◌, length, take, drop, get_or}
+use Rattle.std.proofs.Common.{inl, inr, append_assoc, take-append-drop, Option, Some, None, Result, Ok, Err}
 use Rattle.std.specs.Prelude.{IfSome, OnErr}
 use Rattle.std.specs.Io.KnownBytes.{Appends}
 use Rattle.std.proofs.KnownBytes.{Appends-nil, Appends-trans}
@@ -34,44 +35,56 @@ on_err (Err e) p = p
 pub items_none : (o : Option (List ℕ)) (kept : List ℕ) → kept ≡ [] → WritesSoFar o o [] kept
 items_none o kept none = record { written = []; octets_are = octets_none ∙ sym none; appended = Appends-nil o }
 
-items_push : (old mid : Option (List ℕ)) (done : List Item) (item : Item) (kept grown : List ℕ) → WritesSoFar old mid done kept → grown ≡ kept ++ item.bytes → WritesSoFar old mid (done ++ item ∷ []) grown
+items_push : (old mid : Option (List ℕ)) (done : List Item) (item : Item) (kept grown : List ℕ) → WritesSoFar old mid done kept →
+    grown ≡ kept ++ item.bytes → WritesSoFar old mid (done ++ item ∷ []) grown
 items_push old mid done item kept grown so_far is = record {
   written = so_far.written;
-  octets_are = octets_push done item ∙ ap (λ (t : List ℕ). t ++ item.bytes) so_far.octets_are ∙ append_assoc so_far.written kept item.bytes ∙ ap (λ (t : List ℕ). so_far.written ++ t) (sym is);
+  octets_are = octets_push done item ∙ ap (λ (t : List ℕ). t ++ item.bytes) so_far.octets_are ∙
+      append_assoc so_far.written kept item.bytes ∙ ap (λ (t : List ℕ). so_far.written ++ t) (sym is);
   appended = so_far.appended;
 }
 
 -- one item more is kept
-pub items_more : (old mid : Option (List ℕ)) (items : List Item) (i : ℕ) (item : Item) (kept grown bytes : List ℕ) → WritesSoFar old mid (take i items) kept → i < length items → item ≡ get_or items i item
+pub items_more : (old mid : Option (List ℕ)) (items : List Item) (i : ℕ) (item : Item) (kept grown bytes : List ℕ) →
+    WritesSoFar old mid (take i items) kept → i < length items → item ≡ get_or items i item
     → bytes ≡ item.bytes → grown ≡ kept ++ bytes → WritesSoFar old mid (take (i + 1) items) grown
 items_more old mid items i item kept grown bytes so_far within is its grown_is =
-    let one_more : take (i + 1) items ≡ take i items ++ item ∷ [] = take_more items i item within ∙ ap (λ (x : Item). take i items ++ x ∷ []) (sym is) in
-    subst (λ (done : List Item). WritesSoFar old mid done grown) (sym one_more) (items_push old mid (take i items) item kept grown so_far (grown_is ∙ ap (λ (t : List ℕ). kept ++ t) its))
+    let one_more : take (i + 1) items ≡ take i items ++ item ∷ [] = take_more items i item within ∙
+    ap (λ (x : Item). take i items ++ x ∷ []) (sym is) in
+    subst (λ (done : List Item). WritesSoFar old mid done grown) (sym one_more)
+    (items_push old mid (take i items) item kept grown so_far (grown_is ∙ ap (λ (t : List ℕ). kept ++ t) its))
 
 -- a front of what is kept is written
-pub items_moved : (old mid new : Option (List ℕ)) (done : List Item) (kept rest : List ℕ) → WritesSoFar old mid done kept → MovesOut mid new kept rest → WritesSoFar old new done rest
+pub items_moved : (old mid new : Option (List ℕ)) (done : List Item) (kept rest : List ℕ) → WritesSoFar old mid done kept →
+    MovesOut mid new kept rest → WritesSoFar old new done rest
 items_moved old mid new done kept rest so_far moved = record {
   written = so_far.written ++ moved.front;
-  octets_are = so_far.octets_are ∙ ap (λ (t : List ℕ). so_far.written ++ t) moved.whole ∙ sym (append_assoc so_far.written moved.front rest);
+  octets_are = so_far.octets_are ∙ ap (λ (t : List ℕ). so_far.written ++ t) moved.whole ∙
+      sym (append_assoc so_far.written moved.front rest);
   appended = Appends-trans old mid new so_far.written moved.front so_far.appended moved.appended;
 }
 
 -- where what is kept is written in part, a front of all is
-pub items_front : (old mid new : Option (List ℕ)) (items : List Item) (i : ℕ) (kept : List ℕ) → WritesSoFar old mid (take i items) kept → AppendsFront mid new kept → AppendsFront old new (delta_octets items)
+pub items_front : (old mid new : Option (List ℕ)) (items : List Item) (i : ℕ) (kept : List ℕ) → WritesSoFar old mid (take i items) kept →
+    AppendsFront mid new kept → AppendsFront old new (delta_octets items)
 items_front old mid new items i kept so_far front =
-    let all : delta_octets items ≡ delta_octets (take i items) ++ delta_octets (drop i items) = ap delta_octets (sym (take-append-drop i items)) ∙ octets_both (take i items) (drop i items) in
+    let all : delta_octets items ≡ delta_octets (take i items) ++ delta_octets (drop i items) =
+    ap delta_octets (sym (take-append-drop i items)) ∙ octets_both (take i items) (drop i items) in
     record {
       front = so_far.written ++ front.front;
       rest = front.rest ++ delta_octets (drop i items);
-      whole = all ∙ ap (λ (t : List ℕ). t ++ delta_octets (drop i items)) (so_far.octets_are ∙ ap (λ (t : List ℕ). so_far.written ++ t) front.whole ∙ sym (append_assoc so_far.written front.front front.rest))
+      whole = all ∙ ap (λ (t : List ℕ). t ++ delta_octets (drop i items)) (so_far.octets_are ∙
+          ap (λ (t : List ℕ). so_far.written ++ t) front.whole ∙ sym (append_assoc so_far.written front.front front.rest))
           ∙ append_assoc (so_far.written ++ front.front) front.rest (delta_octets (drop i items));
       appended = Appends-trans old mid new so_far.written front.front so_far.appended front.appended;
     }
 
 -- all is written
-pub items_end : (old mid new : Option (List ℕ)) (items : List Item) (i : ℕ) (kept : List ℕ) → WritesSoFar old mid (take i items) kept → length items ≤ i → Appends mid new kept → Appends old new (delta_octets items)
+pub items_end : (old mid new : Option (List ℕ)) (items : List Item) (i : ℕ) (kept : List ℕ) → WritesSoFar old mid (take i items) kept →
+    length items ≤ i → Appends mid new kept → Appends old new (delta_octets items)
 items_end old mid new items i kept so_far past appended =
-    subst (λ (t : List ℕ). Appends old new t) (sym so_far.octets_are ∙ ap delta_octets (take_all i items past)) (Appends-trans old mid new so_far.written kept so_far.appended appended)
+    subst (λ (t : List ℕ). Appends old new t) (sym so_far.octets_are ∙ ap delta_octets (take_all i items past))
+    (Appends-trans old mid new so_far.written kept so_far.appended appended)
 
 -- ---- compaction
 
@@ -79,8 +92,10 @@ items_end old mid new items i kept so_far past appended =
 kept_items : (batch kept heard : List Item) → IsItemsOf batch kept → AreKept kept heard → AreKept batch heard
 kept_items batch kept heard is keeps i = (λ h. (keeps i).0 ((is.same i).0 h), λ k. (is.same i).1 ((keeps i).1 k))
 
-pub compaction_written : (old new read : Option (List ℕ)) (kept batch : List Item) (refusals : List RefusedMessage) (count : ℕ) (refused : Bool) → IfSome read (λ input. Holds input kept refusals count) → IsItemsOf batch kept
-    → Appends old new (delta_octets batch) → refused ≡ is_some_refused refusals → IfSome read (λ input. WritesOutput (IsCompaction input) old new refused)
+pub compaction_written : (old new read : Option (List ℕ)) (kept batch : List Item) (refusals : List RefusedMessage) (count : ℕ)
+    (refused : Bool) → IfSome read (λ input. Holds input kept refusals count) → IsItemsOf batch kept
+    → Appends old new (delta_octets batch) → refused ≡ is_some_refused refusals →
+    IfSome read (λ input. WritesOutput (IsCompaction input) old new refused)
 compaction_written old new None kept batch refusals count refused holds items appended is = tt
 compaction_written old new (Some input) kept batch refusals count refused holds items appended is = record {
   output = delta_octets batch;
@@ -96,72 +111,99 @@ compaction_written old new (Some input) kept batch refusals count refused holds 
 
 -- items of a set are the same list
 pub same_items : (items batch set : List Item) → IsItemsOf items set → IsItemsOf batch set → items ≡ batch
-same_items items batch set a b = one_order items batch a.ascend b.ascend (λ i. (λ h. (b.same i).1 ((a.same i).0 h), λ h. (a.same i).1 ((b.same i).0 h)))
+same_items items batch set a b =
+    one_order items batch a.ascend b.ascend (λ i. (λ h. (b.same i).1 ((a.same i).0 h), λ h. (a.same i).1 ((b.same i).0 h)))
 
 -- the batch of a compaction is that of what is kept
-its_batch : (input octets : List ℕ) (kept : List Item) (refusals : List RefusedMessage) (count : ℕ) (refused : Bool) → Holds input kept refusals count → (is : IsCompaction input octets refused) → IsItemsOf is.kept.batch kept
+its_batch : (input octets : List ℕ) (kept : List Item) (refusals : List RefusedMessage) (count : ℕ) (refused : Bool) →
+    Holds input kept refusals count → (is : IsCompaction input octets refused) → IsItemsOf is.kept.batch kept
 its_batch input octets kept refusals count refused holds is =
     let one : is.heard ≡ holds.heard = (one_inbox input is.heard holds.heard is.refusals refusals is.inbox holds.inbox).0 in
     let are : AreKept is.kept.batch holds.heard = subst (λ (heard : List Item). AreKept is.kept.batch heard) one is.kept.kept in
     record { ascend = is.kept.ascend; same = λ i. (λ h. (holds.keeps i).1 ((are i).0 h), λ h. (are i).1 ((holds.keeps i).0 h)) }
 
-pub compaction_front : (old new read : Option (List ℕ)) (kept batch : List Item) (refusals : List RefusedMessage) (count : ℕ) → IfSome read (λ input. Holds input kept refusals count) → IsItemsOf batch kept → AppendsFront old new (delta_octets batch)
+pub compaction_front : (old new read : Option (List ℕ)) (kept batch : List Item) (refusals : List RefusedMessage) (count : ℕ) →
+    IfSome read (λ input. Holds input kept refusals count) → IsItemsOf batch kept → AppendsFront old new (delta_octets batch)
     → IfSome read (λ input. (octets : List ℕ) (refused : Bool) → IsCompaction input octets refused → AppendsFront old new octets)
 compaction_front old new None kept batch refusals count holds items front = tt
 compaction_front old new (Some input) kept batch refusals count holds items front = λ octets refused is.
-    let same : batch ≡ is.kept.batch = same_items batch is.kept.batch kept items (its_batch input octets kept refusals count refused holds is) in
+    let same : batch ≡ is.kept.batch =
+    same_items batch is.kept.batch kept items (its_batch input octets kept refusals count refused holds is) in
     subst (λ (t : List ℕ). AppendsFront old new t) (ap delta_octets same ∙ sym is.kept.octets_are) front
 
-pub compaction_unread : (o read : Option (List ℕ)) → IfSome read (λ input. (octets : List ℕ) (refused : Bool) → IsCompaction input octets refused → AppendsFront o o octets)
+pub compaction_unread : (o read : Option (List ℕ)) →
+    IfSome read (λ input. (octets : List ℕ) (refused : Bool) → IsCompaction input octets refused → AppendsFront o o octets)
 compaction_unread o None = tt
 compaction_unread o (Some input) = λ octets refused is. front_none o octets
 
 -- ---- the task list
 
 -- the text of the rows of what is kept is that of what was heard
-pub text_of_rows : (attendee : Option (List ℕ)) (kept heard : List Item) (window : Window) (rows : List Row) (text : List ℕ) → AreKept kept heard → AreRowsFor attendee kept window rows → length rows ≤ row_limit
+pub text_of_rows : (attendee : Option (List ℕ)) (kept heard : List Item) (window : Window) (rows : List Row) (text : List ℕ) →
+    AreKept kept heard → AreRowsFor attendee kept window rows → length rows ≤ row_limit
     → text ≡ list_text rows → IsTextFor attendee heard window text
-text_of_rows None kept heard window rows text are rows_are few is = text_of_kept kept heard are window text (record { rows = rows; are_rows = rows_are; few = few; text_is = is })
-text_of_rows (Some address) kept heard window rows text are rows_are few is = text_for_of_kept address kept heard are window text (record { rows = rows; are_rows = rows_are; few = few; text_is = is })
+text_of_rows None kept heard window rows text are rows_are few is =
+    text_of_kept kept heard are window text (record { rows = rows; are_rows = rows_are; few = few; text_is = is })
+text_of_rows (Some address) kept heard window rows text are rows_are few is =
+    text_for_of_kept address kept heard are window text (record { rows = rows; are_rows = rows_are; few = few; text_is = is })
 
-pub many_of_rows : (attendee : Option (List ℕ)) (kept heard : List Item) (window : Window) → AreKept kept heard → AreTooManyFor attendee kept window → AreTooManyFor attendee heard window
+pub many_of_rows : (attendee : Option (List ℕ)) (kept heard : List Item) (window : Window) → AreKept kept heard →
+    AreTooManyFor attendee kept window → AreTooManyFor attendee heard window
 many_of_rows None kept heard window are many = too_many_of_kept kept heard are window many
 many_of_rows (Some address) kept heard window are many = many_where_of_kept (Shows address) kept heard are window many
 
-text_once : (attendee : Option (List ℕ)) (heard : List Item) (window : Window) (text other : List ℕ) → IsTextFor attendee heard window text → IsTextFor attendee heard window other → text ≡ other
+text_once : (attendee : Option (List ℕ)) (heard : List Item) (window : Window) (text other : List ℕ) →
+    IsTextFor attendee heard window text → IsTextFor attendee heard window other → text ≡ other
 text_once None heard window text other a b = one_list_text heard window text other a b
 text_once (Some address) heard window text other a b = one_text_for address heard window text other a b
 
-text_apart : (attendee : Option (List ℕ)) (heard : List Item) (window : Window) (text : List ℕ) → IsTextFor attendee heard window text → AreTooManyFor attendee heard window → ⊥
+text_apart : (attendee : Option (List ℕ)) (heard : List Item) (window : Window) (text : List ℕ) → IsTextFor attendee heard window text →
+    AreTooManyFor attendee heard window → ⊥
 text_apart None heard window text a b = text_or_too_many heard window text a b
 text_apart (Some address) heard window text a b = text_for_or_too_many address heard window text a b
 
-listed_once : (heard : List Item) (window : Window) (attendee : Option (List ℕ)) (text other : List ℕ) (refusal more : Bool) → IsListed heard window attendee text refusal → IsListed heard window attendee other more → text ≡ other
+listed_once : (heard : List Item) (window : Window) (attendee : Option (List ℕ)) (text other : List ℕ) (refusal more : Bool) →
+    IsListed heard window attendee text refusal → IsListed heard window attendee other more → text ≡ other
 listed_once heard window attendee text other refusal more (inl a) (inl b) = text_once attendee heard window text other a.0 b.0
 listed_once heard window attendee text other refusal more (inl a) (inr b) = absurd (text_apart attendee heard window text a.0 b.0)
 listed_once heard window attendee text other refusal more (inr a) (inl b) = absurd (text_apart attendee heard window other b.0 a.0)
 listed_once heard window attendee text other refusal more (inr a) (inr b) = a.1 ∙ sym b.1
 
-pub list_written : (old new read : Option (List ℕ)) (kept : List Item) (refusals : List RefusedMessage) (count : ℕ) (window : Window) (attendee : Option (List ℕ)) (text : List ℕ) (refusal refused : Bool)
-    → IfSome read (λ input. Holds input kept refusals count) → ((heard : List Item) → AreKept kept heard → IsListed heard window attendee text refusal) → Appends old new text
-    → refused ≡ (is_some_refused refusals || refusal) → IfSome read (λ input. WritesOutput (IsTaskList input window attendee) old new refused)
+pub list_written : (old new read : Option (List ℕ)) (kept : List Item) (refusals : List RefusedMessage) (count : ℕ) (window : Window)
+    (attendee : Option (List ℕ)) (text : List ℕ) (refusal refused : Bool)
+    → IfSome read (λ input. Holds input kept refusals count) →
+    ((heard : List Item) → AreKept kept heard → IsListed heard window attendee text refusal) → Appends old new text
+    → refused ≡ (is_some_refused refusals || refusal) →
+    IfSome read (λ input. WritesOutput (IsTaskList input window attendee) old new refused)
 list_written old new None kept refusals count window attendee text refusal refused holds listed appended is = tt
 list_written old new (Some input) kept refusals count window attendee text refusal refused holds listed appended is = record {
   output = text;
-  is_output = record { heard = holds.heard; refusals = refusals; inbox = holds.inbox; refusal = refusal; listed = listed holds.heard holds.keeps; refused_is = is };
+  is_output = record {
+    heard = holds.heard;
+    refusals = refusals;
+    inbox = holds.inbox;
+    refusal = refusal;
+    listed =
+        listed holds.heard holds.keeps;
+    refused_is = is;
+  };
   appended = appended;
 }
 
-pub list_front : (old new read : Option (List ℕ)) (kept : List Item) (refusals : List RefusedMessage) (count : ℕ) (window : Window) (attendee : Option (List ℕ)) (text : List ℕ) (refusal : Bool)
-    → IfSome read (λ input. Holds input kept refusals count) → ((heard : List Item) → AreKept kept heard → IsListed heard window attendee text refusal) → AppendsFront old new text
+pub list_front : (old new read : Option (List ℕ)) (kept : List Item) (refusals : List RefusedMessage) (count : ℕ) (window : Window)
+    (attendee : Option (List ℕ)) (text : List ℕ) (refusal : Bool)
+    → IfSome read (λ input. Holds input kept refusals count) →
+    ((heard : List Item) → AreKept kept heard → IsListed heard window attendee text refusal) → AppendsFront old new text
     → IfSome read (λ input. (other : List ℕ) (refused : Bool) → IsTaskList input window attendee other refused → AppendsFront old new other)
 list_front old new None kept refusals count window attendee text refusal holds listed front = tt
 list_front old new (Some input) kept refusals count window attendee text refusal holds listed front = λ other refused is.
     let one : is.heard ≡ holds.heard = (one_inbox input is.heard holds.heard is.refusals refusals is.inbox holds.inbox).0 in
     let same : text ≡ other =
-    listed_once holds.heard window attendee text other refusal is.refusal (listed holds.heard holds.keeps) (subst (λ (heard : List Item). IsListed heard window attendee other is.refusal) one is.listed) in
+    listed_once holds.heard window attendee text other refusal is.refusal (listed holds.heard holds.keeps)
+    (subst (λ (heard : List Item). IsListed heard window attendee other is.refusal) one is.listed) in
     subst (λ (t : List ℕ). AppendsFront old new t) same front
 
-pub list_unread : (o read : Option (List ℕ)) (window : Window) (attendee : Option (List ℕ)) → IfSome read (λ input. (text : List ℕ) (refused : Bool) → IsTaskList input window attendee text refused → AppendsFront o o text)
+pub list_unread : (o read : Option (List ℕ)) (window : Window) (attendee : Option (List ℕ)) →
+    IfSome read (λ input. (text : List ℕ) (refused : Bool) → IsTaskList input window attendee text refused → AppendsFront o o text)
 list_unread o None window attendee = tt
 list_unread o (Some input) window attendee = λ text refused is. front_none o text

@@ -1,5 +1,6 @@
 -- Parts of an input that were compacted apart.
-use Rattle.std.proofs.Common.{◌≡◌, ◌∙◌, sym, ap, refl, subst, ℕ, ◌+◌, ◌↔◌, Bool, false, List, [], ◌∷◌, ◌++◌, map, inl, inr, append-nil, Result, Ok}
+use Rattle.std.proofs.Common.{◌≡◌, ◌∙◌, sym, ap, refl, subst, ℕ, ◌+◌, ◌↔◌, Bool, false, List, [], ◌∷◌, ◌++◌, map, inl, inr, append-nil}
+use Rattle.std.proofs.Common.{Result, Ok}
 use Rattle.std.specs.List.{Contains, concat}
 use Rattle.std.proofs.lemmas.List.Elements.{Contains-append_cases, Contains-append_left, Contains-append_right}
 use Rattle.itip_message.specs.declared.error.MessageRefusal.{MessageRefusal}
@@ -59,7 +60,8 @@ record Parted (parts compacted : List (List ℕ)) : Type 0 where
 
 covers_both : (x y part_x part_y : List Item) → Covers part_x x → Covers part_y y → Covers (part_x ++ part_y) (x ++ y)
 covers_both x y part_x part_y hx hy i = (
-  λ h. elim (Contains-append_cases part_x part_y i h) [ inl l ↦ Contains-append_left x y i ((hx i).0 l) | inr r ↦ Contains-append_right x y i ((hy i).0 r) ],
+  λ h. elim (Contains-append_cases part_x part_y i h)
+      [ inl l ↦ Contains-append_left x y i ((hx i).0 l) | inr r ↦ Contains-append_right x y i ((hy i).0 r) ],
   λ kept. elim (Contains-append_cases x y i kept.best.is_heard) [
     | inl l ↦ Contains-append_left part_x part_y i ((hx i).1 (kept_part (x ++ y) x i (Contains-append_left x y) kept l))
     | inr r ↦ Contains-append_right part_x part_y i ((hy i).1 (kept_part (x ++ y) y i (Contains-append_right x y) kept r))
@@ -75,7 +77,8 @@ no_parts = record {
   tells = λ item. (λ h. absurd (none_in item h), λ t. absurd t);
 }
 
-part_more : (part octets : List ℕ) (parts compacted : List (List ℕ)) (refused : Bool) → IsCompaction part octets refused → Parted parts compacted → Parted (part ∷ parts) (octets ∷ compacted)
+part_more : (part octets : List ℕ) (parts compacted : List (List ℕ)) (refused : Bool) → IsCompaction part octets refused →
+    Parted parts compacted → Parted (part ∷ parts) (octets ∷ compacted)
 part_more part octets parts compacted refused is rest = record {
   left = is.kept.batch ++ rest.left;
   heard = is.heard ++ rest.heard;
@@ -108,20 +111,25 @@ covers_same left heard covers i =
       λ h. subst (λ (xs : List Item). IsKept xs i) (back left) (iff.1 (subst (λ (xs : List Item). IsKept xs i) (sym (back heard)) h)),
     )
 
-octets_of_same : (heard others : List Item) (octets again : List ℕ) → ((i : Item) → IsKept heard i ↔ IsKept others i) → AreKeptOctets heard octets → AreKeptOctets others again → octets ≡ again
+octets_of_same : (heard others : List Item) (octets again : List ℕ) → ((i : Item) → IsKept heard i ↔ IsKept others i) →
+    AreKeptOctets heard octets → AreKeptOctets others again → octets ≡ again
 octets_of_same heard others octets again iff a b =
-    let same : SameItems a.batch b.batch = λ i. (λ h. (b.kept i).1 ((iff i).0 ((a.kept i).0 h)), λ h. (a.kept i).1 ((iff i).1 ((b.kept i).0 h))) in
+    let same : SameItems a.batch b.batch =
+    λ i. (λ h. (b.kept i).1 ((iff i).0 ((a.kept i).0 h)), λ h. (a.kept i).1 ((iff i).1 ((b.kept i).0 h))) in
     a.octets_are ∙ ap delta_octets (one_order a.batch b.batch a.ascend b.ascend same) ∙ sym b.octets_are
 
 -- what the parts left is heard where the octets are heard again, and none is refused
 again_inbox : (parts compacted : List (List ℕ)) (parted : Parted parts compacted) → IsInbox (concat compacted) parted.left []
 again_inbox parts compacted parted = subst (λ (t : List ℕ). IsInbox t parted.left []) (sym parted.octets_are) (written_inbox parted.left)
 
-pub parts_compacted : (parts compacted : List (List ℕ)) (whole octets again : List ℕ) (refused other : Bool) → HasSameItems whole parts → AreCompactions parts compacted
+pub parts_compacted : (parts compacted : List (List ℕ)) (whole octets again : List ℕ) (refused other : Bool) → HasSameItems whole parts →
+    AreCompactions parts compacted
     → IsCompaction whole octets refused → IsCompaction (concat compacted) again other → again ≡ octets
 parts_compacted parts compacted whole octets again refused other same_items each of_whole of_parts =
     let parted : Parted parts compacted = all_parts parts compacted each in
-    let left : of_parts.heard ≡ parted.left = (one_inbox (concat compacted) of_parts.heard parted.left of_parts.refusals [] of_parts.inbox (again_inbox parts compacted parted)).0 in
+    let left : of_parts.heard ≡ parted.left =
+    (one_inbox (concat compacted) of_parts.heard parted.left of_parts.refusals [] of_parts.inbox
+    (again_inbox parts compacted parted)).0 in
     let same : SameItems of_whole.heard parted.heard = λ i. (
       λ h. (parted.tells i).1 ((same_items i).0 ((heard_told whole of_whole.heard of_whole.refusals of_whole.inbox i).0 h)),
       λ h. (heard_told whole of_whole.heard of_whole.refusals of_whole.inbox i).1 ((same_items i).1 ((parted.tells i).0 h)),
@@ -130,9 +138,12 @@ parts_compacted parts compacted whole octets again refused other same_items each
       λ h. (kept_iff of_whole.heard parted.heard same i).1 ((covers_same parted.left parted.heard parted.covers i).0 h),
       λ h. (covers_same parted.left parted.heard parted.covers i).1 ((kept_iff of_whole.heard parted.heard same i).0 h),
     ) in
-    octets_of_same parted.left of_whole.heard again octets iff (subst (λ (heard : List Item). AreKeptOctets heard again) left of_parts.kept) of_whole.kept
+    octets_of_same parted.left of_whole.heard again
+    octets iff (subst (λ (heard : List Item). AreKeptOctets heard again) left of_parts.kept) of_whole.kept
 
-pub parts_refuse_none : (parts compacted : List (List ℕ)) (again : List ℕ) (other : Bool) → AreCompactions parts compacted → IsCompaction (concat compacted) again other → other ≡ false
+pub parts_refuse_none : (parts compacted : List (List ℕ)) (again : List ℕ) (other : Bool) → AreCompactions parts compacted →
+    IsCompaction (concat compacted) again other → other ≡ false
 parts_refuse_none parts compacted again other each is =
     let parted : Parted parts compacted = all_parts parts compacted each in
-    is.refused_is ∙ ap is_some_refused (one_inbox (concat compacted) is.heard parted.left is.refusals [] is.inbox (again_inbox parts compacted parted)).1
+    is.refused_is ∙ ap is_some_refused (one_inbox (concat compacted) is.heard parted.left is.refusals [] is.inbox
+    (again_inbox parts compacted parted)).1

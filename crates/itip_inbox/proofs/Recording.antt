@@ -17,16 +17,21 @@ use Rattle.itip_inbox.specs.TaskList.{AreRowsFor}
 use Rattle.itip_inbox.specs.Records.{HasRowsFor, IsRecorded, AreRecords, WritesRecordsFront}
 
 -- the rows of what is kept are those of what was heard
-rows_heard : (attendee : Option (List ℕ)) (kept heard : List Item) (window : Window) (rows : List Row) → AreKept kept heard → AreRowsFor attendee kept window rows → AreRowsFor attendee heard window rows
+rows_heard : (attendee : Option (List ℕ)) (kept heard : List Item) (window : Window) (rows : List Row) → AreKept kept heard →
+    AreRowsFor attendee kept window rows → AreRowsFor attendee heard window rows
 rows_heard None kept heard window rows are is = rows_of_kept kept heard are window rows is
 rows_heard (Some address) kept heard window rows are is = rows_where_of_kept (Shows address) kept heard are window rows is
 
-pub has_rows : (attendee : Option (List ℕ)) (kept heard : List Item) (window : Window) (rows : List Row) → AreKept kept heard → AreRowsFor attendee kept window rows → length rows ≤ row_limit → HasRowsFor attendee heard window
-has_rows attendee kept heard window rows are is few = record { rows = rows; are_rows = rows_heard attendee kept heard window rows are is; few = few }
+pub has_rows : (attendee : Option (List ℕ)) (kept heard : List Item) (window : Window) (rows : List Row) → AreKept kept heard →
+    AreRowsFor attendee kept window rows → length rows ≤ row_limit → HasRowsFor attendee heard window
+has_rows attendee kept heard window rows are is few =
+    record { rows = rows; are_rows = rows_heard attendee kept heard window rows are is; few = few }
 
-module _ (kept : List Item) (refusals : List RefusedMessage) (count : ℕ) (window : Window) (attendee : Option (List ℕ)) (text : List ℕ) (refusal : Bool)
+module _ (kept : List Item) (refusals : List RefusedMessage) (count : ℕ) (window : Window) (attendee : Option (List ℕ)) (text : List ℕ)
+    (refusal : Bool)
     (recorded : (heard : List Item) → AreKept kept heard → IsRecorded heard window attendee text refusal) where
-  are_records : (input : List ℕ) (refused : Bool) → Holds input kept refusals count → refused ≡ (is_some_refused refusals || refusal) → AreRecords input window attendee text refused
+  are_records : (input : List ℕ) (refused : Bool) → Holds input kept refusals count → refused ≡ (is_some_refused refusals || refusal) →
+      AreRecords input window attendee text refused
   are_records input refused holds is = record {
     heard = holds.heard;
     refusals = refusals;
@@ -36,10 +41,13 @@ module _ (kept : List Item) (refusals : List RefusedMessage) (count : ℕ) (wind
     refused_is = is;
   }
 
-  pub records_written : (old new read : Option (List ℕ)) (refused : Bool) → IfSome read (λ input. Holds input kept refusals count) → Appends old new text
-      → refused ≡ (is_some_refused refusals || refusal) → IfSome read (λ input. WritesOutput (AreRecords input window attendee) old new refused)
+  pub records_written : (old new read : Option (List ℕ)) (refused : Bool) → IfSome read (λ input. Holds input kept refusals count) →
+      Appends old new text
+      → refused ≡ (is_some_refused refusals || refusal) →
+      IfSome read (λ input. WritesOutput (AreRecords input window attendee) old new refused)
   records_written old new None refused holds appended is = tt
-  records_written old new (Some input) refused holds appended is = record { output = text; is_output = are_records input refused holds is; appended = appended }
+  records_written old new (Some input) refused holds appended is =
+      record { output = text; is_output = are_records input refused holds is; appended = appended }
 
   pub records_front : (old new read : Option (List ℕ)) → IfSome read (λ input. Holds input kept refusals count) → AppendsFront old new text
       → IfSome read (λ input. WritesRecordsFront input window attendee old new)
@@ -47,6 +55,7 @@ module _ (kept : List Item) (refusals : List RefusedMessage) (count : ℕ) (wind
   records_front old new (Some input) holds front =
       inr (text, (is_some_refused refusals || refusal), are_records input (is_some_refused refusals || refusal) holds refl, front)
 
-pub records_unread : (o read : Option (List ℕ)) (window : Window) (attendee : Option (List ℕ)) → IfSome read (λ input. WritesRecordsFront input window attendee o o)
+pub records_unread : (o read : Option (List ℕ)) (window : Window) (attendee : Option (List ℕ)) →
+    IfSome read (λ input. WritesRecordsFront input window attendee o o)
 records_unread o None window attendee = tt
 records_unread o (Some input) window attendee = inl (Appends-nil o)

@@ -25,7 +25,12 @@ some_inbox input =
     let given = some_answers (messages_of input) in (
       heard_of given.0,
       refusals_from 1 given.0,
-      record { messages = messages_of input; cut = cut_by_scan input; hears = record { answers = given.0; each = given.1; heard_are = refl; refusals_are = refl } },
+      record {
+        messages = messages_of input;
+        cut = cut_by_scan input;
+        hears =
+            record { answers = given.0; each = given.1; heard_are = refl; refusals_are = refl };
+      },
     )
 
 pub some_compaction : (input : List ℕ) → (octets : List ℕ) × (refused : Bool) × IsCompaction input octets refused

@@ -11,10 +11,10 @@
 
 mod compact;
 mod csv_records;
-mod cut;
 mod inbox;
 mod json_records;
 mod laws;
+mod messages;
 mod read;
 mod records;
 mod refused;

@@ -4,8 +4,8 @@ ghost use Rattle.itip_message.specs.Scanned.{messages_of};
 ghost use Rattle.itip_inbox.specs.Inbox.{Holds};
 ghost use Rattle.itip_inbox.specs.Streaming.{Fills, HearsFirst, KeepsMessages};
 
-use crate::cut::{all_messages, first_messages};
 use crate::inbox::Inbox;
+use crate::messages::{all_messages, first_messages};
 use crate::watch::Watch;
 use itip_streams::{StreamFault, read_some};
 use std::alloc::Global;

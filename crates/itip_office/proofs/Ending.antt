@@ -12,7 +12,8 @@ use Rattle.itip_office.specs.Texts.{IsCarry}
 use Rattle.itip_office.specs.Answers.{Answer, IsOutcome}
 use Rattle.itip_office.specs.Ended.{IsTaken, Tells, AreRepliesFrom, HasEnded}
 
-taken_of : (some all : List Answer) → ((a : Answer) → Contains some a → Contains all a) → (item : Item) → IsTaken some item → IsTaken all item
+taken_of : (some all : List Answer) → ((a : Answer) → Contains some a → Contains all a) → (item : Item) → IsTaken some item →
+    IsTaken all item
 taken_of some all within item taken = record {
   answer = taken.answer;
   among = within taken.answer taken.among;
@@ -22,16 +23,21 @@ taken_of some all within item taken = record {
   there = taken.there;
 }
 
-tells_permuted : (desks : ℕ) (given answers : List Answer) (set : List Item) → IsPermutation given answers → Tells desks given set → Tells desks answers set
+tells_permuted : (desks : ℕ) (given answers : List Answer) (set : List Item) → IsPermutation given answers → Tells desks given set →
+    Tells desks answers set
 tells_permuted desks given answers set order tells = record {
   each = All-permutation (λ (a : Answer). IsOutcome desks a.0.work a.1) given answers order tells.each;
-  told = λ item taken. tells.told item (taken_of answers given (λ a h. Contains-permutation answers given a (IsPermutation-sym given answers order) h) item taken);
+  told = λ item taken. tells.told item (taken_of answers given
+      (λ a h. Contains-permutation answers given a (IsPermutation-sym given answers order) h) item taken);
   exact = λ none item there. taken_of given answers (λ a h. Contains-permutation given answers a order h) item
-      (tells.exact (All-permutation (λ (a : Answer). ¬ IsCarry a.0.work) answers given (IsPermutation-sym given answers order) none) item there);
+      (tells.exact (All-permutation (λ (a : Answer). ¬ IsCarry a.0.work) answers given (IsPermutation-sym given answers order) none) item
+      there);
 }
 
-pub has_ended : (desks : ℕ) (jobs sorted : List Job) (given : List Answer) (replies : List (ℕ × Outcome)) (set : List Item) (ended : List Shown) → IsPermutation jobs sorted
-    → AreRepliesFrom given sorted replies → Tells desks given set → length ended ≡ desks → All (λ (d : Shown). AreKept d.kept set) ended → HasEnded desks jobs replies ended
+pub has_ended : (desks : ℕ) (jobs sorted : List Job) (given : List Answer) (replies : List (ℕ × Outcome)) (set : List Item)
+    (ended : List Shown) → IsPermutation jobs sorted
+    → AreRepliesFrom given sorted replies → Tells desks given set → length ended ≡ desks → All (λ (d : Shown). AreKept d.kept set) ended →
+    HasEnded desks jobs replies ended
 has_ended desks jobs sorted given replies set ended order are tells count kept = record {
   answers = are.answers;
   are_replies = record {

@@ -1,5 +1,6 @@
 -- The lists of desks, one more after those before.
-use Rattle.std.proofs.Common.{◌≡◌, ℕ, ◌+◌, Bool, true, false, ◌||◌, List, [], ◌∷◌, ◌++◌, length, refl, sym, ap, subst, ◌∙◌, append_assoc, arith, Option}
+use Rattle.std.proofs.Common.{◌≡◌, ℕ, ◌+◌, Bool, true, false, ◌||◌, List, [], ◌∷◌, ◌++◌, length, refl, sym, ap, subst, ◌∙◌, append_assoc}
+use Rattle.std.proofs.Common.{arith, Option}
 use Rattle.std.specs.Prelude.{not}
 use Rattle.std.specs.List.{flat_map}
 use Rattle.std.specs.Io.KnownBytes.{Appends}
@@ -14,21 +15,27 @@ use Rattle.itip_office.specs.Scripts.{refused_job_text, ListsDesk, ListsDesks, i
 use Rattle.itip_office.specs.Scripts.ListsDesk.{lists_rows, lists_too_many}
 
 -- a list behind more
-listed_behind : (window : Window) (number : ℕ) (desk : Shown) (front old new : List ℕ) (over : Bool) → ListsDesk window number desk old new over → ListsDesk window number desk (front ++ old) (front ++ new) over
-listed_behind window number desk front old _ _ (lists_rows rows new are few is) = lists_rows rows (front ++ new) are few (ap (λ (t : List ℕ). front ++ t) is ∙ sym (append_assoc front old _))
-listed_behind window number desk front old _ _ (lists_too_many new many is) = lists_too_many (front ++ new) many (ap (λ (t : List ℕ). front ++ t) is ∙ sym (append_assoc front old _))
+listed_behind : (window : Window) (number : ℕ) (desk : Shown) (front old new : List ℕ) (over : Bool) →
+    ListsDesk window number desk old new over → ListsDesk window number desk (front ++ old) (front ++ new) over
+listed_behind window number desk front old _ _ (lists_rows rows new are few is) =
+    lists_rows rows (front ++ new) are few (ap (λ (t : List ℕ). front ++ t) is ∙ sym (append_assoc front old _))
+listed_behind window number desk front old _ _ (lists_too_many new many is) =
+    lists_too_many (front ++ new) many (ap (λ (t : List ℕ). front ++ t) is ∙ sym (append_assoc front old _))
 
 or_assoc : (a b c : Bool) → ((a || b) || c) ≡ (a || (b || c))
 or_assoc true b c = refl
 or_assoc false b c = refl
 
-lists_more : (window : Window) (number : ℕ) (desks : List Shown) (desk : Shown) (old mid new : List ℕ) (over first : Bool) → ListsDesks window number desks old mid over → ListsDesk window (number + length desks) desk mid new first
+lists_more : (window : Window) (number : ℕ) (desks : List Shown) (desk : Shown) (old mid new : List ℕ) (over first : Bool) →
+    ListsDesks window number desks old mid over → ListsDesk window (number + length desks) desk mid new first
     → ListsDesks window number (desks ++ desk ∷ []) old new (over || first)
 lists_more window number [] desk old mid new over first lists one = (
   new,
   first,
   false,
-  (let e : number + 0 ≡ number = omega arith in subst (λ (n : ℕ). ListsDesk window n desk old new first) e (subst (λ (t : List ℕ). ListsDesk window (number + 0) desk t new first) lists.0 one)),
+  (let e : number + 0 ≡ number = omega arith in
+      subst (λ (n : ℕ). ListsDesk window n desk old new first) e
+      (subst (λ (t : List ℕ). ListsDesk window (number + 0) desk t new first) lists.0 one)),
   (refl, refl),
   ap (λ (b : Bool). b || first) lists.1 ∙ sym (or-false first),
 )
@@ -38,19 +45,22 @@ lists_more window number (d ∷ desks) desk old mid new over first (start, is, o
   others || first,
   one,
   lists_more window (number + 1) desks desk start mid new others first rest
-      (let e : number + length (d ∷ desks) ≡ (number + 1) + length desks = omega arith in subst (λ (n : ℕ). ListsDesk window n desk mid new first) e last),
+      (let e : number + length (d ∷ desks) ≡ (number + 1) + length desks = omega arith in
+      subst (λ (n : ℕ). ListsDesk window n desk mid new first) e last),
   ap (λ (b : Bool). b || first) over_is ∙ or_assoc is others first,
 )
 
 -- The refused jobs and the lists of desks so far: what was written of them, and what is kept to be written.
-pub record IsListing (window : Window) (refused : List (ℕ × Refusal)) (desks : List Shown) (old new : Option (List ℕ)) (kept : List ℕ) (refusal : Bool) : Type 0 where
+pub record IsListing (window : Window) (refused : List (ℕ × Refusal)) (desks : List Shown) (old new : Option (List ℕ)) (kept : List ℕ)
+    (refusal : Bool) : Type 0 where
   pub written : List ℕ
   pub appended : Appends old new written
   pub over : Bool
   pub lists : ListsDesks window 0 desks (flat_map refused_job_text refused) (written ++ kept) over
   pub refusal_is : refusal ≡ (not (is_none refused) || over)
 
-pub starts : (window : Window) (refused : List (ℕ × Refusal)) (old : Option (List ℕ)) (kept : List ℕ) (refusal : Bool) → kept ≡ flat_map refused_job_text refused → refusal ≡ not (is_none refused)
+pub starts : (window : Window) (refused : List (ℕ × Refusal)) (old : Option (List ℕ)) (kept : List ℕ) (refusal : Bool) →
+    kept ≡ flat_map refused_job_text refused → refusal ≡ not (is_none refused)
     → IsListing window refused [] old old kept refusal
 starts window refused old kept refusal kept_is refusal_is = record {
   written = [];
@@ -60,9 +70,11 @@ starts window refused old kept refusal kept_is refusal_is = record {
   refusal_is = refusal_is ∙ sym (or-false (not (is_none refused)));
 }
 
-module _ (window : Window) (refused : List (ℕ × Refusal)) (desks : List Shown) (old new : Option (List ℕ)) (kept : List ℕ) (refusal : Bool) (listing : IsListing window refused desks old new kept refusal) where
+module _ (window : Window) (refused : List (ℕ × Refusal)) (desks : List Shown) (old new : Option (List ℕ)) (kept : List ℕ) (refusal : Bool)
+    (listing : IsListing window refused desks old new kept refusal) where
   -- a front of what is kept was written
-  pub front_listed : (all left : List Shown) (newer : Option (List ℕ)) → all ≡ desks ++ left → AppendsFront new newer kept → WritesEndedFront window old newer refused all
+  pub front_listed : (all left : List Shown) (newer : Option (List ℕ)) → all ≡ desks ++ left → AppendsFront new newer kept →
+      WritesEndedFront window old newer refused all
   front_listed all left newer whole front = record {
     done = desks;
     left = left;
@@ -78,7 +90,8 @@ module _ (window : Window) (refused : List (ℕ × Refusal)) (desks : List Shown
   still_listed all left whole = front_listed all left new whole (front_none new kept)
 
   -- one more list, all of which is kept
-  pub one_listed : (desk : Shown) (number : ℕ) (more : List Shown) (more_kept : List ℕ) (over : Bool) → number ≡ length desks → more ≡ desks ++ desk ∷ []
+  pub one_listed : (desk : Shown) (number : ℕ) (more : List Shown) (more_kept : List ℕ) (over : Bool) → number ≡ length desks →
+      more ≡ desks ++ desk ∷ []
       → ListsDesk window number desk kept more_kept over → IsListing window refused more old new more_kept (refusal || over)
   one_listed desk number more more_kept over at more_is lists =
       let behind = listed_behind window number desk listing.written kept more_kept over lists in
@@ -86,16 +99,21 @@ module _ (window : Window) (refused : List (ℕ × Refusal)) (desks : List Shown
         written = listing.written;
         appended = listing.appended;
         over = listing.over || over;
-        lists = subst (λ (ds : List Shown). ListsDesks window 0 ds (flat_map refused_job_text refused) (listing.written ++ more_kept) (listing.over || over)) (sym more_is)
-            (lists_more window 0 desks desk (flat_map refused_job_text refused) (listing.written ++ kept) (listing.written ++ more_kept) listing.over over listing.lists
-            (subst (λ (n : ℕ). ListsDesk window n desk (listing.written ++ kept) (listing.written ++ more_kept) over) (omega (arith, at)) behind));
+        lists = subst (λ (ds : List Shown). ListsDesks window 0 ds (flat_map refused_job_text refused) (listing.written ++ more_kept)
+            (listing.over || over)) (sym more_is)
+            (lists_more window 0 desks desk (flat_map refused_job_text refused) (listing.written ++ kept) (listing.written ++ more_kept)
+            listing.over over listing.lists
+            (subst (λ (n : ℕ). ListsDesk window n desk (listing.written ++ kept) (listing.written ++ more_kept) over) (omega (arith, at))
+            behind));
         refusal_is = ap (λ (b : Bool). b || over) listing.refusal_is ∙ or_assoc (not (is_none refused)) listing.over over;
       }
 
   -- a front of what is kept was written, and the rest is kept
-  pub moved_out : (newer : Option (List ℕ)) (rest : List ℕ) → MovesOut new newer kept rest → IsListing window refused desks old newer rest refusal
+  pub moved_out : (newer : Option (List ℕ)) (rest : List ℕ) → MovesOut new newer kept rest →
+      IsListing window refused desks old newer rest refusal
   moved_out newer rest moves =
-      let same : listing.written ++ kept ≡ (listing.written ++ moves.front) ++ rest = ap (λ (t : List ℕ). listing.written ++ t) moves.whole ∙ sym (append_assoc listing.written moves.front rest) in
+      let same : listing.written ++ kept ≡ (listing.written ++ moves.front) ++ rest =
+      ap (λ (t : List ℕ). listing.written ++ t) moves.whole ∙ sym (append_assoc listing.written moves.front rest) in
       record {
         written = listing.written ++ moves.front;
         appended = Appends-trans old new newer listing.written moves.front listing.appended moves.appended;
@@ -104,18 +122,22 @@ module _ (window : Window) (refused : List (ℕ × Refusal)) (desks : List Shown
         refusal_is = listing.refusal_is;
       }
 
-  pub all_listed : (all : List Shown) (newer : Option (List ℕ)) → all ≡ desks → Appends new newer kept → WritesOutput (IsEndedText window refused all) old newer refusal
+  pub all_listed : (all : List Shown) (newer : Option (List ℕ)) → all ≡ desks → Appends new newer kept →
+      WritesOutput (IsEndedText window refused all) old newer refusal
   all_listed all newer same appended = record {
     output = listing.written ++ kept;
     is_output = record {
       over = listing.over;
-      lists = subst (λ (ds : List Shown). ListsDesks window 0 ds (flat_map refused_job_text refused) (listing.written ++ kept) listing.over) (sym same) listing.lists;
+      lists = subst (λ (ds : List Shown). ListsDesks window 0 ds (flat_map refused_job_text refused) (listing.written ++ kept)
+          listing.over) (sym same) listing.lists;
       refusal_is = listing.refusal_is;
     };
     appended = Appends-trans old new newer listing.written kept listing.appended appended;
   }
 
 -- nothing was written
-pub none_listed : (window : Window) (refused : List (ℕ × Refusal)) (desks : List Shown) (old : Option (List ℕ)) → WritesEndedFront window old old refused desks
+pub none_listed : (window : Window) (refused : List (ℕ × Refusal)) (desks : List Shown) (old : Option (List ℕ)) →
+    WritesEndedFront window old old refused desks
 none_listed window refused desks old =
-    still_listed window refused [] old old (flat_map refused_job_text refused) (not (is_none refused)) (starts window refused old (flat_map refused_job_text refused) (not (is_none refused)) refl refl) desks desks refl
+    still_listed window refused [] old old (flat_map refused_job_text refused) (not (is_none refused))
+    (starts window refused old (flat_map refused_job_text refused) (not (is_none refused)) refl refl) desks desks refl

@@ -1,5 +1,6 @@
 -- Desks that each take what the others keep, as what is kept of all that they heard.
-use Rattle.std.proofs.Common.{◌≡◌, ℕ, ◌+◌, ◌<◌, List, [], ◌∷◌, ◌++◌, length, take, get_or, map, All, suc, arith, ◌↔◌, inl, inr, refl, sym, ap, subst, ◌∙◌, append_assoc, append-nil}
+use Rattle.std.proofs.Common.{◌≡◌, ℕ, ◌+◌, ◌<◌, List, [], ◌∷◌, ◌++◌, length, take, get_or, map, All, suc, arith, ◌↔◌, inl, inr, refl, sym}
+use Rattle.std.proofs.Common.{ap, subst, ◌∙◌, append_assoc, append-nil}
 use Rattle.std.specs.List.{Contains, AllZip, flat_map}
 use Rattle.std.proofs.lemmas.List.{take_more}
 use Rattle.std.proofs.lemmas.List.Elements.{All-push, Contains-append_cases, Contains-append_left, Contains-append_right}
@@ -22,7 +23,8 @@ AreDesksOf = AllZip (λ (h : History) (d : Shown). IsDeskOf h 0 d)
 abbrev pub AreDeltasOf : List Shown → List (List Item) → Type 0
 AreDeltasOf = AllZip (λ (d : Shown) (b : List Item). IsDeltaOf d 0 b)
 
-pub zip_push : {A B : Type 0} (R : A → B → Type 0) (xs : List A) (ys : List B) (x : A) (y : B) → AllZip R xs ys → R x y → AllZip R (xs ++ x ∷ []) (ys ++ y ∷ [])
+pub zip_push : {A B : Type 0} (R : A → B → Type 0) (xs : List A) (ys : List B) (x : A) (y : B) → AllZip R xs ys → R x y →
+    AllZip R (xs ++ x ∷ []) (ys ++ y ∷ [])
 zip_push R [] [] x y are one = (one, tt)
 zip_push R [] (b ∷ ys) x y are one = absurd are
 zip_push R (a ∷ xs) [] x y are one = absurd are
@@ -43,7 +45,8 @@ pub record Meets (all left : List History) (desks : List Shown) : Type 0 where
 pub meets_none : (all : List History) → Meets all all []
 meets_none all = record { done = []; are = tt; whole = refl }
 
-pub meets_more : (all left : List History) (desks : List Shown) (h : History) (d : Shown) → Meets all (h ∷ left) desks → IsDeskOf h 0 d → Meets all left (desks ++ d ∷ [])
+pub meets_more : (all left : List History) (desks : List Shown) (h : History) (d : Shown) → Meets all (h ∷ left) desks → IsDeskOf h 0 d →
+    Meets all left (desks ++ d ∷ [])
 meets_more all left desks h d met is = record {
   done = met.done ++ h ∷ [];
   are = zip_push (λ (h : History) (d : Shown). IsDeskOf h 0 d) met.done desks h d met.are is;
@@ -60,16 +63,23 @@ Carries batches old new = (steps : History) (start : ℕ) → IsDeskOf steps sta
 pub carries_none : (desk : Shown) → Carries [] desk desk
 carries_none desk steps start is = subst (λ (l : History). IsDeskOf l start desk) (sym (append-nil steps)) is
 
-pub carries_more : (batches : List (List Item)) (i : ℕ) (b : List Item) (old mid new : Shown) → i < length batches → b ≡ get_or batches i b → Carries (take i batches) old mid → Carries (b ∷ []) mid new
+pub carries_more : (batches : List (List Item)) (i : ℕ) (b : List Item) (old mid new : Shown) → i < length batches →
+    b ≡ get_or batches i b → Carries (take i batches) old mid → Carries (b ∷ []) mid new
     → Carries (take (i + 1) batches) old new
 carries_more batches i b old mid new within at first one steps start is =
-    let more : take (i + 1) batches ≡ take i batches ++ b ∷ [] = take_more batches i b within ∙ ap (λ (x : List Item). take i batches ++ x ∷ []) (sym at) in
-    subst (λ (l : History). IsDeskOf l start new) (append_assoc steps (take i batches) (b ∷ []) ∙ ap (λ (l : History). steps ++ l) (sym more)) (one (steps ++ take i batches) start (first steps start is))
+    let more : take (i + 1) batches ≡ take i batches ++ b ∷ [] = take_more batches i b within ∙
+    ap (λ (x : List Item). take i batches ++ x ∷ []) (sym at) in
+    subst (λ (l : History). IsDeskOf l start new) (append_assoc steps (take i batches) (b ∷ []) ∙
+    ap (λ (l : History). steps ++ l) (sym more)) (one (steps ++ take i batches) start (first steps start is))
 
 -- parts that cover sets cover them together
 covers_append : (p x q y : List Item) → Covers p x → Covers q y → Covers (p ++ q) (x ++ y)
 covers_append p x q y hx hy i = (
-  λ h. elim (Contains-append_cases p q i h) [ inl left ↦ Contains-append_left x y i ((hx i).0 left) | inr right ↦ Contains-append_right x y i ((hy i).0 right) ],
+  λ h. elim (Contains-append_cases p q i h) [
+    | inl left ↦ Contains-append_left x y i ((hx i).0 left)
+    | inr right ↦ Contains-append_right x y
+        i ((hy i).0 right)
+  ],
   λ kept. elim (Contains-append_cases x y i ((covers_itself (x ++ y) i).1 kept)) [
     | inl left ↦ Contains-append_left p q i ((hx i).1 (kept_part (x ++ y) x i (λ j h. Contains-append_left x y j h) kept left))
     | inr right ↦ Contains-append_right p q i ((hy i).1 (kept_part (x ++ y) y i (λ j h. Contains-append_right x y j h) kept right))
@@ -85,20 +95,24 @@ unfolding all_kept
 covers_heard [] [] are = covers_itself []
 covers_heard [] (d ∷ desks) are = absurd are
 covers_heard (h ∷ hs) [] are = absurd are
-covers_heard (h ∷ hs) (d ∷ desks) are = covers_append d.kept (heard h) (all_kept desks) (all_heard hs) (covers_kept d.kept (heard h) are.0.kept) (covers_heard hs desks are.1)
+covers_heard (h ∷ hs) (d ∷ desks) are =
+    covers_append d.kept (heard h) (all_kept desks) (all_heard hs) (covers_kept d.kept (heard h) are.0.kept) (covers_heard hs desks are.1)
 
-covers_deltas : (hs : List History) (desks : List Shown) (deltas : List (List Item)) → AreDesksOf hs desks → AreDeltasOf desks deltas → Covers (all_kept desks) (heard deltas)
+covers_deltas : (hs : List History) (desks : List Shown) (deltas : List (List Item)) → AreDesksOf hs desks → AreDeltasOf desks deltas →
+    Covers (all_kept desks) (heard deltas)
 unfolding all_kept
 covers_deltas hs [] [] are gives = covers_itself []
 covers_deltas hs [] (b ∷ deltas) are gives = absurd gives
 covers_deltas hs (d ∷ desks) [] are gives = absurd gives
 covers_deltas [] (d ∷ desks) (b ∷ deltas) are gives = absurd are
 covers_deltas (h ∷ hs) (d ∷ desks) (b ∷ deltas) are gives =
-    covers_append d.kept b (all_kept desks) (heard deltas) (covers_kept d.kept b (whole_delta h d b are.0 gives.0)) (covers_deltas hs desks deltas are.1 gives.1)
+    covers_append d.kept b (all_kept desks) (heard deltas) (covers_kept d.kept b (whole_delta h d b are.0 gives.0))
+    (covers_deltas hs desks deltas are.1 gives.1)
 
 heard_both : (steps more : History) → heard (steps ++ more) ≡ heard steps ++ heard more
 heard_both [] more = refl
-heard_both (step ∷ steps) more = ap (λ (l : List Item). step ++ l) (heard_both steps more) ∙ sym (append_assoc step (heard steps) (heard more))
+heard_both (step ∷ steps) more = ap (λ (l : List Item). step ++ l) (heard_both steps more) ∙
+    sym (append_assoc step (heard steps) (heard more))
 
 among_heard : (hs : List History) (h : History) → Contains hs h → (i : Item) → Contains (heard h) i → Contains (all_heard hs) i
 among_heard [] h there i is = absurd (none_in h there)
@@ -108,14 +122,16 @@ among_heard (x ∷ hs) h there i is = elim (cons_cases x hs h there) [
 ]
 
 -- a desk that took all deltas keeps what is kept of all that was heard
-pub shared : (hs : List History) (desks : List Shown) (deltas : List (List Item)) → AreDesksOf hs desks → AreDeltasOf desks deltas → (h : History) → Contains hs h → (kept : List Item)
+pub shared : (hs : List History) (desks : List Shown) (deltas : List (List Item)) → AreDesksOf hs desks → AreDeltasOf desks deltas →
+    (h : History) → Contains hs h → (kept : List Item)
     → AreKept kept (heard (h ++ deltas)) → AreKept kept (all_heard hs)
 shared hs desks deltas are gives h there kept is =
     are_kept_by kept (heard h ++ heard deltas) (all_heard hs) alike (subst (AreKept kept) (heard_both h deltas) is)
   where
     alike : (i : Item) → IsKept (heard h ++ heard deltas) i ↔ IsKept (all_heard hs) i
     alike i =
-        let a = kept_of_parts (heard h) (heard deltas) (heard h) (all_kept desks) (covers_itself (heard h)) (covers_deltas hs desks deltas are gives) i in
+        let a = kept_of_parts (heard h) (heard deltas) (heard h) (all_kept desks) (covers_itself (heard h))
+        (covers_deltas hs desks deltas are gives) i in
         let b = kept_of_parts (heard h) (all_heard hs) (heard h) (all_kept desks) (covers_itself (heard h)) (covers_heard hs desks are) i in
         let c = kept_iff (heard h ++ all_heard hs) (all_heard hs) (same_absorbed (heard h) (all_heard hs) (among_heard hs h there)) i in
         (λ k. c.0 (b.0 (a.1 k)), λ k. a.0 (b.1 (c.1 k)))
@@ -147,24 +163,32 @@ left_next hs d desks l = by l.left l.are l.within
       rest = record { left = left; are = are.1; within = λ x there. within x (cons_later h left x there) };
     }
 
-pub deltas_more : (desks : List Shown) (i : ℕ) (d : Shown) (deltas new : List (List Item)) (b : List Item) → i < length desks → d ≡ get_or desks i d → AreDeltasOf (take i desks) deltas → IsDeltaOf d 0 b
+pub deltas_more : (desks : List Shown) (i : ℕ) (d : Shown) (deltas new : List (List Item)) (b : List Item) → i < length desks →
+    d ≡ get_or desks i d → AreDeltasOf (take i desks) deltas → IsDeltaOf d 0 b
     → new ≡ deltas ++ b ∷ [] → AreDeltasOf (take (i + 1) desks) new
 deltas_more desks i d deltas new b within at are one pushed =
-    let more : take (i + 1) desks ≡ take i desks ++ d ∷ [] = take_more desks i d within ∙ ap (λ (x : Shown). take i desks ++ x ∷ []) (sym at) in
+    let more : take (i + 1) desks ≡ take i desks ++ d ∷ [] = take_more desks i d within ∙
+    ap (λ (x : Shown). take i desks ++ x ∷ []) (sym at) in
     subst (λ (l : List Shown). AreDeltasOf l new) (sym more)
-    (subst (λ (l : List (List Item)). AreDeltasOf (take i desks ++ d ∷ []) l) (sym pushed) (zip_push (λ (d : Shown) (b : List Item). IsDeltaOf d 0 b) (take i desks) deltas d b are one))
+    (subst (λ (l : List (List Item)). AreDeltasOf (take i desks ++ d ∷ []) l) (sym pushed)
+    (zip_push (λ (d : Shown) (b : List Item). IsDeltaOf d 0 b) (take i desks) deltas d b are one))
 
-pub meets_ended : {X : Type 0} (f : X → History) (rest : List X) (all : List History) (desks : List Shown) → length rest ≡ 0 → Meets all (map f rest) desks → AreDesksOf all desks
+pub meets_ended : {X : Type 0} (f : X → History) (rest : List X) (all : List History) (desks : List Shown) → length rest ≡ 0 →
+    Meets all (map f rest) desks → AreDesksOf all desks
 meets_ended f [] all desks none met = meets_all all desks met
 meets_ended f (x ∷ rest) all desks none met = absurd (omega (arith, none))
 
-pub meets_next : (all left rest : List History) (desks new : List Shown) (h : History) (d : Shown) → rest ≡ h ∷ left → Meets all rest desks → IsDeskOf h 0 d → new ≡ desks ++ d ∷ [] → Meets all left new
+pub meets_next : (all left rest : List History) (desks new : List Shown) (h : History) (d : Shown) → rest ≡ h ∷ left →
+    Meets all rest desks → IsDeskOf h 0 d → new ≡ desks ++ d ∷ [] → Meets all left new
 meets_next all left rest desks new h d first met is pushed =
-    subst (λ (l : List Shown). Meets all left l) (sym pushed) (meets_more all left desks h d (subst (λ (l : List History). Meets all l desks) first met) is)
+    subst (λ (l : List Shown). Meets all left l) (sym pushed)
+    (meets_more all left desks h d (subst (λ (l : List History). Meets all l desks) first met) is)
 
 -- one more desk has taken all deltas
-pub shares_more : (hs : List History) (desks : List Shown) (deltas : List (List Item)) (d r : Shown) (rest left ended new : List Shown) → AreDesksOf hs desks → AreDeltasOf desks deltas → rest ≡ d ∷ left
-    → new ≡ ended ++ r ∷ [] → Carries deltas d r → AreLeft hs rest × All (λ (x : Shown). AreKept x.kept (all_heard hs)) ended → AreLeft hs left × All (λ (x : Shown). AreKept x.kept (all_heard hs)) new
+pub shares_more : (hs : List History) (desks : List Shown) (deltas : List (List Item)) (d r : Shown) (rest left ended new : List Shown) →
+    AreDesksOf hs desks → AreDeltasOf desks deltas → rest ≡ d ∷ left
+    → new ≡ ended ++ r ∷ [] → Carries deltas d r → AreLeft hs rest × All (λ (x : Shown). AreKept x.kept (all_heard hs)) ended →
+    AreLeft hs left × All (λ (x : Shown). AreKept x.kept (all_heard hs)) new
 shares_more hs desks deltas d r rest left ended new are gives first pushed one was =
     let next : IsNext hs d left = left_next hs d left (subst (AreLeft hs) first was.0) in
     let P : Shown → Type 0 = λ x. AreKept x.kept (all_heard hs) in (

@@ -17,6 +17,7 @@ empty_is = record {
   changed = λ since uid. (λ c. let e = c.1 in cc, λ m. absurd m);
 }
 
-pub whole_delta : (steps : List (List Item)) (desk : Shown) (delta : List Item) → IsDeskOf steps 0 desk → IsDeltaOf desk 0 delta → AreKept desk.kept delta
+pub whole_delta : (steps : List (List Item)) (desk : Shown) (delta : List Item) → IsDeskOf steps 0 desk → IsDeltaOf desk 0 delta →
+    AreKept desk.kept delta
 unfolding empty
 whole_delta steps desk delta is gives = up_to_date [] steps 0 empty desk delta empty_is is gives

@@ -3,7 +3,7 @@ ghost use Rattle.std.specs.Prelude.{◌≡◌, ◌<◌, [], ◌∷◌, ◌++◌,
 ghost use mathlib.Core.List.{IsPrefix};
 ghost use Rattle.itip_running.specs.History.{head_of};
 
-use crate::law::{Add, Law, Nothing};
+use crate::history_rule::{Add, Law, Nothing};
 use itip_desk::Batch;
 use logbook::{Offer, Seen, Start, Word};
 use std::snapshot::Snapshot;

@@ -10,14 +10,14 @@
 mod error;
 mod front;
 mod history;
+mod history_rule;
 mod keeper;
-mod law;
 mod meeting;
+mod pair_protocol;
 mod pass;
 mod published;
 mod read_end;
 mod receipt;
-mod rule;
 mod start;
 mod write_end;
 

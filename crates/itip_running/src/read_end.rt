@@ -15,8 +15,8 @@ ghost use Rattle.itip_items.specs.contracts.item.Item as item;
 
 use crate::error::PassError;
 use crate::front::Front;
+use crate::pair_protocol::{PublishedReader, PublishedReading, Sees};
 use crate::receipt::Receipt;
-use crate::rule::{PublishedReader, PublishedReading, Sees};
 use itip_desk::{Batch, Desk};
 use itip_state::State;
 use itip_view::{Row, Window, list_text, rows, rows_for};

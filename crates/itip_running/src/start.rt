@@ -7,10 +7,10 @@ ghost use Rattle.itip_running.specs.Ends.{published, pending, keeper_pair, seen,
 use crate::error::LiveError;
 use crate::front::{Front, open};
 use crate::keeper::Keeper;
+use crate::pair_protocol::{PublishedWriter, Sees, Tells};
 use crate::pass::Pass;
 use crate::published::Published;
 use crate::read_end::ReadEnd;
-use crate::rule::{PublishedWriter, Sees, Tells};
 use crate::write_end::WriteEnd;
 use left_right::writer::Writer;
 use std::alloc::Global;

@@ -6,9 +6,9 @@ ghost use Rattle.itip_running.specs.Pair.{published_log, pending_log};
 
 use crate::error::LiveError;
 use crate::front::{Front, Head};
+use crate::pair_protocol::{PublishedWriter, Sees};
 use crate::published::{Op, Published};
 use crate::receipt::Receipt;
-use crate::rule::{PublishedWriter, Sees};
 use itip_desk::Batch;
 use std::alloc::{AllocError, Global};
 use std::snapshot::Snapshot;

@@ -1,5 +1,6 @@
 -- The physical lines of some bytes are the one cutting of them.
-use Rattle.std.proofs.Common.{◌≡◌, ◌≢◌, ℕ, Bool, true, false, cond, eqb, List, [], ◌∷◌, ◌++◌, refl, sym, ap, ◌∙◌, append_assoc, arith, inl, inr}
+use Rattle.std.proofs.Common.{◌≡◌, ◌≢◌, ℕ, Bool, true, false, cond, eqb, List, [], ◌∷◌, ◌++◌, refl, sym, ap, ◌∙◌, append_assoc, arith, inl}
+use Rattle.std.proofs.Common.{inr}
 use Rattle.std.proofs.lemmas.Bool.{eqb-true, eqb-false, ne_eqb}
 use Rattle.std.proofs.lemmas.List.{append-nil}
 use Rattle.std.specs.List.{concat, onto_first}
@@ -67,6 +68,7 @@ pub lines_are : (bytes : List ℕ) → AreLines (lines_of bytes)
 lines_are [] = tt
 lines_are (b ∷ bytes) =
     elim (eqb b 10) as (λ t. eqb b 10 ≡ t → AreLines (cond t ((b ∷ []) ∷ lines_of bytes) (onto_first b (lines_of bytes)))) [
-      | true ↦ λ e. ended_before (b ∷ []) (lines_of bytes) (record { text = []; plain = tt; whole = ap (λ (n : ℕ). n ∷ []) (eqb-true b 10 e) }) (lines_are bytes)
+      | true ↦ λ e. ended_before (b ∷ []) (lines_of bytes)
+          (record { text = []; plain = tt; whole = ap (λ (n : ℕ). n ∷ []) (eqb-true b 10 e) }) (lines_are bytes)
       | false ↦ λ e. are-onto_first b (lines_of bytes) (eqb-false b 10 e) (lines_are bytes)
     ] refl

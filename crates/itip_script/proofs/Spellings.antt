@@ -1,5 +1,6 @@
 -- A line gives the command that it spells.
-use Rattle.std.proofs.Common.{◌≡◌, ◌≢◌, ℕ, suc, ◌+◌, ◌<◌, Bool, true, false, not, subst, cond, eqb, ltb, ◌&&◌, List, [], ◌∷◌, ◌++◌, length, take, drop, refl, sym, ap, ◌∙◌, append_assoc, arith, Option, Some, None, codes}
+use Rattle.std.proofs.Common.{◌≡◌, ◌≢◌, ℕ, suc, ◌+◌, ◌<◌, Bool, true, false, not, subst, cond, eqb, ltb, ◌&&◌, List, [], ◌∷◌, ◌++◌, length}
+use Rattle.std.proofs.Common.{take, drop, refl, sym, ap, ◌∙◌, append_assoc, arith, Option, Some, None, codes}
 use Rattle.std.proofs.lemmas.Bool.{eqb-true, eqb-false, ne_eqb, ltb-true}
 use Rattle.std.proofs.lemmas.Slice.Eq.{bytes_eq-Decides}
 use Rattle.std.proofs.lemmas.List.{take_at, drop_at, length-append}
@@ -9,7 +10,9 @@ use Rattle.itip_script.specs.declared.command.Verb.{Verb}
 use Rattle.itip_script.specs.declared.command.Verb.TheVariants as verb
 use Rattle.itip_script.specs.declared.command.ReportName.{ReportName}
 use Rattle.itip_script.specs.declared.command.ReportName.TheVariants as name
-use Rattle.itip_script.specs.Orders.{Order, takes, lists, lists_for, posts, arrives, reports, resends, asks_next, counts, malformed, is_digit, number_of, digits_value, rest_of, report_of, verb_of, before_space, after_space, spelled_by, spelled, ◌>>=◌}
+use Rattle.itip_script.specs.Orders.{Order, takes, lists, lists_for, posts, arrives, reports, resends, asks_next, counts, malformed}
+use Rattle.itip_script.specs.Orders.{is_digit, number_of, digits_value, rest_of, report_of, verb_of, before_space, after_space, spelled_by}
+use Rattle.itip_script.specs.Orders.{spelled, ◌>>=◌}
 use Rattle.itip_script.specs.Spelling.{Spells, SpellsNumber, SpellsBehind, name_text}
 
 abbrev HasNoSpace : List ℕ → Type 0
@@ -26,7 +29,8 @@ before_space_at word rest plain = take_at word (32 ∷ rest) _ (sym (space_after
 
 after_space_at : (word rest : List ℕ) → HasNoSpace word → after_space (word ++ 32 ∷ rest) ≡ rest
 after_space_at word rest plain =
-    let long : length (word ++ 32 ∷ []) ≡ position_or_len (λ b. eqb b 32) (word ++ 32 ∷ rest) + 1 = omega (arith, space_after word rest plain, length-append word (32 ∷ [])) in
+    let long : length (word ++ 32 ∷ []) ≡ position_or_len (λ b. eqb b 32) (word ++ 32 ∷ rest) + 1 =
+    omega (arith, space_after word rest plain, length-append word (32 ∷ [])) in
     ap (λ (t : List ℕ). drop (position_or_len (λ b. eqb b 32) (word ++ 32 ∷ rest) + 1) t) (sym (append_assoc word (32 ∷ []) rest))
     ∙ drop_at (word ++ 32 ∷ []) rest (position_or_len (λ b. eqb b 32) (word ++ 32 ∷ rest) + 1) long
 
@@ -34,7 +38,10 @@ after_space_at word rest plain =
 parts_of : (bytes : List ℕ) → 0 < length (after_space bytes) → bytes ≡ before_space bytes ++ 32 ∷ after_space bytes
 parts_of [] some = absurd (omega arith)
 parts_of (b ∷ bytes) some =
-    elim (eqb b 32) as (λ t. eqb b 32 ≡ t → 0 < length (drop (cond (not t) (1 + position_or_len (λ b. eqb b 32) bytes) 0 + 1) (b ∷ bytes)) → b ∷ bytes ≡ take (cond (not t) (1 + position_or_len (λ b. eqb b 32) bytes) 0) (b ∷ bytes) ++ 32 ∷ drop (cond (not t) (1 + position_or_len (λ b. eqb b 32) bytes) 0 + 1) (b ∷ bytes)) [
+    elim (eqb b 32) as (λ t. eqb b 32 ≡ t → 0 < length
+    (drop (cond (not t) (1 + position_or_len (λ b. eqb b 32) bytes) 0 + 1) (b ∷ bytes)) → b ∷
+    bytes ≡ take (cond (not t) (1 + position_or_len (λ b. eqb b 32) bytes) 0) (b ∷ bytes) ++ 32 ∷
+    drop (cond (not t) (1 + position_or_len (λ b. eqb b 32) bytes) 0 + 1) (b ∷ bytes)) [
       | true ↦ λ e _. ap (λ (n : ℕ). n ∷ bytes) (eqb-true b 32 e)
       | false ↦ λ e more.
           let n = position_or_len (λ b. eqb b 32) bytes in
@@ -93,7 +100,8 @@ verb_text verb.Resend = codes "!resend"
 verb_text verb.Next = codes "!next"
 verb_text verb.Entries = codes "!entries"
 
-word_step : {V : Type 0} (text : V → List ℕ) (word : List ℕ) (v found : V) (rest : Option V) → (rest ≡ Some found → word ≡ text found) → cond (bytes_eq word (text v)) (Some v) rest ≡ Some found → word ≡ text found
+word_step : {V : Type 0} (text : V → List ℕ) (word : List ℕ) (v found : V) (rest : Option V) → (rest ≡ Some found → word ≡ text found) →
+    cond (bytes_eq word (text v)) (Some v) rest ≡ Some found → word ≡ text found
 word_step text word v found rest others e =
     elim (bytes_eq word (text v)) as (λ b. bytes_eq word (text v) ≡ b → cond b (Some v) rest ≡ Some found → word ≡ text found) [
       | true ↦ λ t s. let same : v ≡ found = cc in (bytes_eq-Decides word (text v)).0 t ∙ ap text same
@@ -122,7 +130,8 @@ report_word word found =
 
 rest_some : (bytes uid : List ℕ) → rest_of bytes ≡ Some uid → (bytes ≡ uid) × (0 < length bytes)
 rest_some bytes uid e =
-    elim (eqb (length bytes) 0) as (λ t. eqb (length bytes) 0 ≡ t → cond t None (Some bytes) ≡ Some uid → (bytes ≡ uid) × (0 < length bytes)) [
+    elim (eqb (length bytes) 0) as (λ t. eqb (length bytes) 0 ≡ t → cond t None (Some bytes) ≡ Some uid → (bytes ≡ uid) ×
+    (0 < length bytes)) [
       | true ↦ λ _ s. absurd cc
       | false ↦ λ t s. (cc, let ne = eqb-false (length bytes) 0 t in omega (arith, ne))
     ] refl e
@@ -139,26 +148,33 @@ space_free (b ∷ word) e =
 abbrev IsPlain : Verb → Type 0
 IsPlain v = HasNoSpace (verb_text v)
 
-at_verb : (line message rest : List ℕ) (v : Verb) → IsPlain v → verb_of (verb_text v) ≡ Some v → line ≡ verb_text v ++ 32 ∷ rest → spelled line message ≡ spelled_by v rest message
+at_verb : (line message rest : List ℕ) (v : Verb) → IsPlain v → verb_of (verb_text v) ≡ Some v → line ≡ verb_text v ++ 32 ∷ rest →
+    spelled line message ≡ spelled_by v rest message
 at_verb line message rest v plain known whole =
     ap (λ (t : List ℕ). verb_of (before_space t) >>= λ w. spelled_by w (after_space t) message) whole
-    ∙ ap (λ (t : List ℕ). verb_of t >>= λ w. spelled_by w (after_space (verb_text v ++ 32 ∷ rest)) message) (before_space_at (verb_text v) rest plain)
+    ∙ ap (λ (t : List ℕ). verb_of t >>= λ w. spelled_by w (after_space (verb_text v ++ 32 ∷ rest)) message)
+    (before_space_at (verb_text v) rest plain)
     ∙ ap (λ (t : List ℕ). verb_of (verb_text v) >>= λ w. spelled_by w t message) (after_space_at (verb_text v) rest plain)
     ∙ ap (λ (o : Option Verb). o >>= λ w. spelled_by w rest message) known
 
-first_number : (digits rest : List ℕ) (number : ℕ) → number_of digits ≡ Some number → (number_of (before_space (digits ++ 32 ∷ rest)) ≡ Some number) × (after_space (digits ++ 32 ∷ rest) ≡ rest)
+first_number : (digits rest : List ℕ) (number : ℕ) → number_of digits ≡ Some number →
+    (number_of (before_space (digits ++ 32 ∷ rest)) ≡ Some number) × (after_space (digits ++ 32 ∷ rest) ≡ rest)
 first_number digits rest number value =
     let plain = number_no_space digits number value in
     (ap number_of (before_space_at digits rest plain) ∙ value, after_space_at digits rest plain)
 
 -- a number alone behind the word
-one_number : (line message : List ℕ) (v : Verb) (number : ℕ) (give : ℕ → Order) → IsPlain v → verb_of (verb_text v) ≡ Some v → ((rest : List ℕ) → spelled_by v rest message ≡ (number_of rest >>= λ n. Some (give n))) → SpellsNumber line (verb_text v) number → spelled line message ≡ Some (give number)
+one_number : (line message : List ℕ) (v : Verb) (number : ℕ) (give : ℕ → Order) → IsPlain v → verb_of (verb_text v) ≡ Some v →
+    ((rest : List ℕ) → spelled_by v rest message ≡ (number_of rest >>= λ n. Some (give n))) → SpellsNumber line (verb_text v) number →
+    spelled line message ≡ Some (give number)
 one_number line message v number give plain known by s =
     at_verb line message s.digits v plain known s.whole ∙ by s.digits ∙ ap (λ (o : Option ℕ). o >>= λ n. Some (give n)) s.value
 
 -- a number, and what another reader reads behind it
-number_and : {X : Type 0} (line message behind : List ℕ) (v : Verb) (number : ℕ) (x : X) (read : List ℕ → Option X) (give : ℕ → X → Order) → IsPlain v → verb_of (verb_text v) ≡ Some v
-    → ((rest : List ℕ) → spelled_by v rest message ≡ (number_of (before_space rest) >>= λ n. read (after_space rest) >>= λ y. Some (give n y)))
+number_and : {X : Type 0} (line message behind : List ℕ) (v : Verb) (number : ℕ) (x : X) (read : List ℕ → Option X) (give : ℕ → X →
+    Order) → IsPlain v → verb_of (verb_text v) ≡ Some v
+    → ((rest : List ℕ) → spelled_by v rest message ≡ (number_of (before_space rest) >>= λ n. read (after_space rest) >>=
+    λ y. Some (give n y)))
     → SpellsBehind line (verb_text v) number behind → read behind ≡ Some x → spelled line message ≡ Some (give number x)
 number_and line message behind v number x read give plain known by s reads =
     let parts = first_number s.digits behind number s.value in
@@ -203,15 +219,27 @@ known_verb verb.Entries = refl
 -- what a line spells, it gives
 pub spelled_gives : (line message : List ℕ) (order : Order) → Spells line message order → spelled line message ≡ Some order
 spelled_gives line message (takes desk text) s =
-    one_number line message verb.Take desk (λ n. takes n message) (plain_verb verb.Take) refl (λ rest. refl) s.0 ∙ ap (λ (t : List ℕ). Some (takes desk t)) (sym s.1)
+    one_number line message verb.Take desk (λ n. takes n message) (plain_verb verb.Take) refl (λ rest. refl) s.0 ∙
+    ap (λ (t : List ℕ). Some (takes desk t)) (sym s.1)
 spelled_gives line message (lists desk) s = one_number line message verb.List desk lists (plain_verb verb.List) refl (λ rest. refl) s
-spelled_gives line message (lists_for desk address) s = number_and line message address verb.Mine desk address rest_of lists_for (plain_verb verb.Mine) refl (λ rest. refl) s.front (rest_reads address s.some)
-spelled_gives line message (posts desk since) s = number_and line message s.digits verb.Post desk since number_of posts (plain_verb verb.Post) refl (λ rest. refl) s.front s.value
-spelled_gives line message (arrives packet desk) s = number_and line message s.digits verb.Arrive packet desk number_of arrives (plain_verb verb.Arrive) refl (λ rest. refl) s.front s.value
-spelled_gives line message (reports desk named) s = number_and line message (name_text named) verb.Report desk named report_of reports (plain_verb verb.Report) refl (λ rest. refl) s (report_reads named)
-spelled_gives line message (resends desk uid) s = number_and line message uid verb.Resend desk uid rest_of resends (plain_verb verb.Resend) refl (λ rest. refl) s.front (rest_reads uid s.some)
-spelled_gives line message (asks_next desk uid) s = number_and line message uid verb.Next desk uid rest_of asks_next (plain_verb verb.Next) refl (λ rest. refl) s.front (rest_reads uid s.some)
-spelled_gives line message (counts desk) s = one_number line message verb.Entries desk counts (plain_verb verb.Entries) refl (λ rest. refl) s
+spelled_gives line message (lists_for desk address) s =
+    number_and line message address verb.Mine desk address rest_of lists_for (plain_verb verb.Mine) refl (λ rest. refl) s.front
+    (rest_reads address s.some)
+spelled_gives line message (posts desk since) s =
+    number_and line message s.digits verb.Post desk since number_of posts (plain_verb verb.Post) refl (λ rest. refl) s.front s.value
+spelled_gives line message (arrives packet desk) s =
+    number_and line message s.digits verb.Arrive packet desk number_of arrives (plain_verb verb.Arrive) refl (λ rest. refl) s.front s.value
+spelled_gives line message (reports desk named) s =
+    number_and line message (name_text named) verb.Report desk named report_of reports (plain_verb verb.Report) refl (λ rest. refl) s
+    (report_reads named)
+spelled_gives line message (resends desk uid) s =
+    number_and line message uid verb.Resend desk uid rest_of resends (plain_verb verb.Resend) refl (λ rest. refl) s.front
+    (rest_reads uid s.some)
+spelled_gives line message (asks_next desk uid) s =
+    number_and line message uid verb.Next desk uid rest_of asks_next (plain_verb verb.Next) refl (λ rest. refl) s.front
+    (rest_reads uid s.some)
+spelled_gives line message (counts desk) s =
+    one_number line message verb.Entries desk counts (plain_verb verb.Entries) refl (λ rest. refl) s
 spelled_gives line message malformed s = absurd s
 
 -- ---- the other way
@@ -219,27 +247,49 @@ spelled_gives line message malformed s = absurd s
 abbrev some_behind : List ℕ → Type 0
 some_behind line = 0 < length (after_space line)
 
-whole_at : (line : List ℕ) (v : Verb) → verb_of (before_space line) ≡ Some v → some_behind line → line ≡ verb_text v ++ 32 ∷ after_space line
+whole_at : (line : List ℕ) (v : Verb) → verb_of (before_space line) ≡ Some v → some_behind line → line ≡ verb_text v ++ 32 ∷
+    after_space line
 whole_at line v known some = parts_of line some ∙ ap (λ (t : List ℕ). t ++ 32 ∷ after_space line) (verb_word (before_space line) v known)
 
 -- what was given is one number, and behind it nothing
-find_number : (line : List ℕ) (v : Verb) (order : Order) (give : ℕ → Order) → verb_of (before_space line) ≡ Some v → (number_of (after_space line) >>= λ n. Some (give n)) ≡ Some order → (n : ℕ) × SpellsNumber line (verb_text v) n × (give n ≡ order)
+find_number : (line : List ℕ) (v : Verb) (order : Order) (give : ℕ → Order) → verb_of (before_space line) ≡ Some v →
+    (number_of (after_space line) >>= λ n. Some (give n)) ≡ Some order → (n : ℕ) × SpellsNumber line (verb_text v) n × (give n ≡ order)
 find_number line v order give known e =
-    let found = bound (number_of (after_space line)) (λ n. Some (give n)) order e in
-    (found.0, record { digits = after_space line; value = found.1; whole = whole_at line v known (number_some (after_space line) found.0 found.1) }, (let s = found.2 in cc))
+    let found = bound (number_of (after_space line)) (λ n. Some (give n)) order e in (
+      found.0,
+      record {
+        digits = after_space line;
+        value = found.1;
+        whole =
+            whole_at line v known (number_some (after_space line) found.0 found.1);
+      },
+      (let s = found.2 in cc),
+    )
 
-find_behind : {X : Type 0} (line : List ℕ) (v : Verb) (order : Order) (read : List ℕ → Option X) (give : ℕ → X → Order) → verb_of (before_space line) ≡ Some v
+find_behind : {X : Type 0} (line : List ℕ) (v : Verb) (order : Order) (read : List ℕ → Option X) (give : ℕ → X → Order) →
+    verb_of (before_space line) ≡ Some v
     → ((bytes : List ℕ) (x : X) → read bytes ≡ Some x → 0 < length bytes)
     → (number_of (before_space (after_space line)) >>= λ n. read (after_space (after_space line)) >>= λ y. Some (give n y)) ≡ Some order
-    → (n : ℕ) × (x : X) × SpellsBehind line (verb_text v) n (after_space (after_space line)) × (read (after_space (after_space line)) ≡ Some x) × (give n x ≡ order)
+    → (n : ℕ) × (x : X) × SpellsBehind line (verb_text v) n (after_space (after_space line)) ×
+    (read (after_space (after_space line)) ≡ Some x) × (give n x ≡ order)
 find_behind line v order read give known nonempty e =
     let rest = after_space line in
     let first = bound (number_of (before_space rest)) (λ n. read (after_space rest) >>= λ y. Some (give n y)) order e in
     let second = bound (read (after_space rest)) (λ y. Some (give first.0 y)) order first.2 in
     let some = nonempty (after_space rest) second.0 second.1 in
     let parts = parts_of rest some in
-    let long : some_behind line = omega (arith, ap length parts, length-append (before_space rest) (32 ∷ after_space rest)) in
-    (first.0, second.0, record { digits = before_space rest; value = first.1; whole = whole_at line v known long ∙ ap (λ (t : List ℕ). verb_text v ++ 32 ∷ t) parts }, second.1, (let s = second.2 in cc))
+    let long : some_behind line = omega (arith, ap length parts, length-append (before_space rest) (32 ∷ after_space rest)) in (
+      first.0,
+      second.0,
+      record {
+        digits = before_space rest;
+        value = first.1;
+        whole = whole_at line v known long ∙
+            ap (λ (t : List ℕ). verb_text v ++ 32 ∷ t) parts;
+      },
+      second.1,
+      (let s = second.2 in cc),
+    )
 
 name_some : (named : ReportName) → 0 < length (name_text named)
 name_some name.Load = omega arith
@@ -251,7 +301,8 @@ name_some name.Refresh = omega arith
 report_some : (bytes : List ℕ) (named : ReportName) → report_of bytes ≡ Some named → 0 < length bytes
 report_some bytes named e = let same = ap length (report_word bytes named e) in omega (arith, same, name_some named)
 
-by_verb : (line message : List ℕ) (order : Order) (v : Verb) → verb_of (before_space line) ≡ Some v → spelled_by v (after_space line) message ≡ Some order → Spells line message order
+by_verb : (line message : List ℕ) (order : Order) (v : Verb) → verb_of (before_space line) ≡ Some v →
+    spelled_by v (after_space line) message ≡ Some order → Spells line message order
 by_verb line message order verb.Take known e =
     let f = find_number line verb.Take order (λ n. takes n message) known e in subst (λ (o : Order). Spells line message o) f.2 (f.1, refl)
 by_verb line message order verb.List known e =
@@ -259,7 +310,12 @@ by_verb line message order verb.List known e =
 by_verb line message order verb.Mine known e =
     let f = find_behind line verb.Mine order rest_of lists_for known (λ b x s. (rest_some b x s).1) e in
     let address = rest_some (after_space (after_space line)) f.1 f.3 in
-    subst (λ (o : Order). Spells line message o) f.4 (record { some = subst (λ (t : List ℕ). 0 < length t) address.0 address.1; front = subst (λ (t : List ℕ). SpellsBehind line (codes "!mine") f.0 t) address.0 f.2 })
+    subst (λ (o : Order). Spells line message o) f.4
+    (record {
+      some = subst (λ (t : List ℕ). 0 < length t) address.0 address.1;
+      front =
+          subst (λ (t : List ℕ). SpellsBehind line (codes "!mine") f.0 t) address.0 f.2;
+    })
 by_verb line message order verb.Post known e =
     let f = find_behind line verb.Post order number_of posts known number_some e in
     subst (λ (o : Order). Spells line message o) f.4 (record { digits = after_space (after_space line); value = f.3; front = f.2 })
@@ -268,15 +324,26 @@ by_verb line message order verb.Arrive known e =
     subst (λ (o : Order). Spells line message o) f.4 (record { digits = after_space (after_space line); value = f.3; front = f.2 })
 by_verb line message order verb.Report known e =
     let f = find_behind line verb.Report order report_of reports known report_some e in
-    subst (λ (o : Order). Spells line message o) f.4 (subst (λ (t : List ℕ). SpellsBehind line (codes "!report") f.0 t) (report_word (after_space (after_space line)) f.1 f.3) f.2)
+    subst (λ (o : Order). Spells line message o) f.4
+    (subst (λ (t : List ℕ). SpellsBehind line (codes "!report") f.0 t) (report_word (after_space (after_space line)) f.1 f.3) f.2)
 by_verb line message order verb.Resend known e =
     let f = find_behind line verb.Resend order rest_of resends known (λ b x s. (rest_some b x s).1) e in
     let uid = rest_some (after_space (after_space line)) f.1 f.3 in
-    subst (λ (o : Order). Spells line message o) f.4 (record { some = subst (λ (t : List ℕ). 0 < length t) uid.0 uid.1; front = subst (λ (t : List ℕ). SpellsBehind line (codes "!resend") f.0 t) uid.0 f.2 })
+    subst (λ (o : Order). Spells line message o) f.4
+    (record {
+      some = subst (λ (t : List ℕ). 0 < length t) uid.0 uid.1;
+      front =
+          subst (λ (t : List ℕ). SpellsBehind line (codes "!resend") f.0 t) uid.0 f.2;
+    })
 by_verb line message order verb.Next known e =
     let f = find_behind line verb.Next order rest_of asks_next known (λ b x s. (rest_some b x s).1) e in
     let uid = rest_some (after_space (after_space line)) f.1 f.3 in
-    subst (λ (o : Order). Spells line message o) f.4 (record { some = subst (λ (t : List ℕ). 0 < length t) uid.0 uid.1; front = subst (λ (t : List ℕ). SpellsBehind line (codes "!next") f.0 t) uid.0 f.2 })
+    subst (λ (o : Order). Spells line message o) f.4
+    (record {
+      some = subst (λ (t : List ℕ). 0 < length t) uid.0 uid.1;
+      front =
+          subst (λ (t : List ℕ). SpellsBehind line (codes "!next") f.0 t) uid.0 f.2;
+    })
 by_verb line message order verb.Entries known e =
     let f = find_number line verb.Entries order counts known e in subst (λ (o : Order). Spells line message o) f.2 f.1
 

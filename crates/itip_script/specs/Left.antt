@@ -1,6 +1,6 @@
 -- The commands that an iterator over a script has not given yet (our own form).
 use Rattle.std.specs.Prelude.{List}
-use Rattle.itip_script.specs.declared.cut.Commands.{Commands}
+use Rattle.itip_script.specs.declared.commands.Commands.{Commands}
 use Rattle.itip_script.specs.Orders.{Order}
 use Rattle.itip_script.specs.Script.{orders_of}
 

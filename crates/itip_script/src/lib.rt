@@ -5,7 +5,7 @@
 #![tactic(auto)]
 
 mod command;
-mod cut;
+mod commands;
 mod input;
 mod job;
 mod laws;
@@ -13,7 +13,7 @@ mod line;
 mod word;
 
 pub use command::{Command, ReportName};
-pub use cut::Commands;
+pub use commands::Commands;
 pub use input::{MAX_OCTETS, read_script};
 pub use itip_streams::StreamFault as ScriptFault;
 pub use job::{JobCommand, JobCommands};

@@ -13,7 +13,8 @@ pub none_is : {T P : Type 0} (r : Option T) → P → IfNone r P
 none_is (Some x) p = tt
 none_is None p = p
 
-pub window_found : (from to : List ℕ) (a b : ℤ) (r : Result Window BadWindow) (o : Option Window) → o ≡ result_ok r → IfOk r (λ w. (w.from ≡ a) × (w.to ≡ b)) → IsDateText from a → IsDateText to b → IfSome o (IsWindowOf from to)
+pub window_found : (from to : List ℕ) (a b : ℤ) (r : Result Window BadWindow) (o : Option Window) → o ≡ result_ok r →
+    IfOk r (λ w. (w.from ≡ a) × (w.to ≡ b)) → IsDateText from a → IsDateText to b → IfSome o (IsWindowOf from to)
 window_found from to a b (Ok w) o e is first last =
     subst (λ (p : Option Window). IfSome p (IsWindowOf from to)) (sym e) (record {
       first = subst (λ (n : ℤ). IsDateText from n) (sym is.0) first;
@@ -21,8 +22,10 @@ window_found from to a b (Ok w) o e is first last =
     })
 window_found from to a b (Err x) o e is first last = subst (λ (p : Option Window). IfSome p (IsWindowOf from to)) (sym e) tt
 
-pub window_none : (from to : List ℕ) (a b : ℤ) (r : Result Window BadWindow) (o : Option Window) → o ≡ result_ok r → (IsOk r ↔ IsWindow a b) → IsDateText from a → IsDateText to b → IfNone o ((w : Window) → IsWindowOf from to w → ⊥)
-window_none from to a b (Ok w) o e lawful first last = subst (λ (p : Option Window). IfNone p ((w : Window) → IsWindowOf from to w → ⊥)) (sym e) tt
+pub window_none : (from to : List ℕ) (a b : ℤ) (r : Result Window BadWindow) (o : Option Window) → o ≡ result_ok r →
+    (IsOk r ↔ IsWindow a b) → IsDateText from a → IsDateText to b → IfNone o ((w : Window) → IsWindowOf from to w → ⊥)
+window_none from to a b (Ok w) o e lawful first last =
+    subst (λ (p : Option Window). IfNone p ((w : Window) → IsWindowOf from to w → ⊥)) (sym e) tt
 window_none from to a b (Err x) o e lawful first last =
     subst (λ (p : Option Window). IfNone p ((w : Window) → IsWindowOf from to w → ⊥)) (sym e)
     (λ w is.

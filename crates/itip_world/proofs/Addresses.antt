@@ -1,5 +1,6 @@
 -- The address of an attendee is a text, so octets that are none show in no row.
-use Rattle.std.proofs.Common.{◌≡◌, ◌∙◌, ℕ, suc, ◌+◌, ◌<◌, ◌≤◌, true, false, cond, nat_lt, List, [], ◌∷◌, ◌++◌, map, length, get_or, IsUtf8, ◌⊎◌, inl, inr, refl, sym, ap, ap₂, subst, arith, append-nil, ltb-true}
+use Rattle.std.proofs.Common.{◌≡◌, ◌∙◌, ℕ, suc, ◌+◌, ◌<◌, ◌≤◌, true, false, cond, nat_lt, List, [], ◌∷◌, ◌++◌, map, length, get_or, IsUtf8}
+use Rattle.std.proofs.Common.{◌⊎◌, inl, inr, refl, sym, ap, ap₂, subst, arith, append-nil, ltb-true}
 use Rattle.std.specs.List.{Contains, AllByRecursion}
 use Rattle.std.specs.Char.{to_ascii_lowercase}
 use Rattle.std.specs.declared.cmp.Ordering.TheVariants.{Less}
@@ -29,7 +30,8 @@ use Rattle.itip_world.specs.Running.{AreListedFor}
 
 lower_is : (x : ℕ) → (to_ascii_lowercase x ≡ x) ⊎ ((x < 91) × (to_ascii_lowercase x ≡ x + 32))
 lower_is x =
-    elim (nat_lt x 65) as (λ b. (cond b x (cond (nat_lt x 91) (x + 32) x) ≡ x) ⊎ ((x < 91) × (cond b x (cond (nat_lt x 91) (x + 32) x) ≡ x + 32))) [
+    elim (nat_lt x 65) as (λ b. (cond b x (cond (nat_lt x 91) (x + 32) x) ≡ x) ⊎
+    ((x < 91) × (cond b x (cond (nat_lt x 91) (x + 32) x) ≡ x + 32))) [
       | true ↦ inl refl
       | false ↦ elim (nat_lt x 91) as (λ b. nat_lt x 91 ≡ b → (cond b (x + 32) x ≡ x) ⊎ ((x < 91) × (cond b (x + 32) x ≡ x + 32))) [
         | true ↦ λ e. inr (ltb-true x 91 e, refl)
@@ -59,12 +61,14 @@ rest_same : (x y : ℕ) (xs ys : List ℕ) → x ∷ xs ≡ y ∷ ys → xs ≡ 
 rest_same x y xs ys e = cc
 
 -- octets of no ASCII character stand in what is in lower case as they stood before
-same_front : (xs rest bs : List ℕ) → ((k : ℕ) → k < length xs → 128 ≤ get_or xs k 0) → xs ++ rest ≡ map to_ascii_lowercase bs → (more : List ℕ) × (bs ≡ xs ++ more) × (rest ≡ map to_ascii_lowercase more)
+same_front : (xs rest bs : List ℕ) → ((k : ℕ) → k < length xs → 128 ≤ get_or xs k 0) → xs ++ rest ≡ map to_ascii_lowercase bs →
+    (more : List ℕ) × (bs ≡ xs ++ more) × (rest ≡ map to_ascii_lowercase more)
 same_front [] rest bs high e = (bs, refl, e)
 same_front (x ∷ xs) rest [] high e = absurd cc
 same_front (x ∷ xs) rest (b ∷ bs) high e =
     let here : to_ascii_lowercase b ≡ x = sym (first_same x (to_ascii_lowercase b) (xs ++ rest) (map to_ascii_lowercase bs) e) in
-    let more = same_front xs rest bs (λ k below. high (suc k) (omega arith)) (rest_same x (to_ascii_lowercase b) (xs ++ rest) (map to_ascii_lowercase bs) e) in
+    let more = same_front xs rest bs (λ k below. high (suc k) (omega arith))
+    (rest_same x (to_ascii_lowercase b) (xs ++ rest) (map to_ascii_lowercase bs) e) in
     (more.0, ap₂ (λ (n : ℕ) (l : List ℕ). n ∷ l) (high_same b x here (high 0 (omega arith))) more.1, more.2)
 
 all_high : (c : ℕ) → 128 ≤ c → (k : ℕ) → k < length (encode c) → 128 ≤ get_or (encode c) k 0
@@ -74,7 +78,8 @@ all_high c big k below = elim (cases_lt (get_or (encode c) k 0) 128) [
 ]
 
 -- what an ASCII character in lower case stood for
-low_front : (c : ℕ) (rest bs : List ℕ) → c ∷ rest ≡ map to_ascii_lowercase bs → c < 128 → (b : ℕ) × (more : List ℕ) × (bs ≡ b ∷ more) × (b < 128) × (rest ≡ map to_ascii_lowercase more)
+low_front : (c : ℕ) (rest bs : List ℕ) → c ∷ rest ≡ map to_ascii_lowercase bs → c < 128 → (b : ℕ) × (more : List ℕ) × (bs ≡ b ∷ more) ×
+    (b < 128) × (rest ≡ map to_ascii_lowercase more)
 low_front c rest [] e small = absurd cc
 low_front c rest (b ∷ bs) e small =
     let here : to_ascii_lowercase b ≡ c = sym (first_same c (to_ascii_lowercase b) rest (map to_ascii_lowercase bs) e) in
@@ -88,7 +93,8 @@ lower_low c low = elim (lower_is c) [
 
 high_stays : (xs : List ℕ) → ((k : ℕ) → k < length xs → 128 ≤ get_or xs k 0) → map to_ascii_lowercase xs ≡ xs
 high_stays [] high = refl
-high_stays (x ∷ xs) high = ap₂ (λ (n : ℕ) (l : List ℕ). n ∷ l) (stays x (high 0 (omega arith))) (high_stays xs (λ k below. high (suc k) (omega arith)))
+high_stays (x ∷ xs) high =
+    ap₂ (λ (n : ℕ) (l : List ℕ). n ∷ l) (stays x (high 0 (omega arith))) (high_stays xs (λ k below. high (suc k) (omega arith)))
   where
     stays : (x : ℕ) → 128 ≤ x → to_ascii_lowercase x ≡ x
     stays x big = elim (lower_is x) [
@@ -105,10 +111,13 @@ cased_text (c ∷ cs) bs s e =
     let cut = sym (map-append to_ascii_lowercase (encode c) (encodes cs)) ∙ e in
     elim (cases_lt c 128) [
       | inl small ↦
-          let split = low_front (to_ascii_lowercase c) (map to_ascii_lowercase (encodes cs)) bs (ap (λ (l : List ℕ). map to_ascii_lowercase l ++ map to_ascii_lowercase (encodes cs)) (sym (encode_ascii c small)) ∙ cut) (lower_low c small) in
+          let split = low_front (to_ascii_lowercase c) (map to_ascii_lowercase (encodes cs)) bs
+          (ap (λ (l : List ℕ). map to_ascii_lowercase l ++ map to_ascii_lowercase (encodes cs)) (sym (encode_ascii c small)) ∙ cut)
+          (lower_low c small) in
           subst IsUtf8 (sym split.2) (ascii_then split.0 split.1 split.3 (cased_text cs split.1 p.1 split.4))
       | inr big ↦
-          let stays : encode c ++ map to_ascii_lowercase (encodes cs) ≡ map to_ascii_lowercase bs = ap (λ (l : List ℕ). l ++ map to_ascii_lowercase (encodes cs)) (sym (high_stays (encode c) (all_high c big))) ∙ cut in
+          let stays : encode c ++ map to_ascii_lowercase (encodes cs) ≡ map to_ascii_lowercase bs =
+          ap (λ (l : List ℕ). l ++ map to_ascii_lowercase (encodes cs)) (sym (high_stays (encode c) (all_high c big))) ∙ cut in
           let split = same_front (encode c) (map to_ascii_lowercase (encodes cs)) bs (all_high c big) stays in
           subst IsUtf8 (sym split.1) (IsUtf8-append (encode c) split.0 (IsUtf8-encode c p.0) (cased_text cs split.0 p.1 split.2))
     ]
@@ -141,7 +150,8 @@ module _ (parts : Parts) (lawful : AllByRecursion IsLawfulContent (parts_content
       let attendees = behind (optional (property_line name.Organizer) parts.organizer) _ organizer in
       front (map (property_line name.Attendee) parts.attendees) _ attendees
 
-address_utf8 : (lines : List Property) → AllByRecursion IsLawfulContent (map (property_line name.Attendee) lines) → (line : Property) → Contains lines line → IsUtf8 line.value
+address_utf8 : (lines : List Property) → AllByRecursion IsLawfulContent (map (property_line name.Attendee) lines) → (line : Property) →
+    Contains lines line → IsUtf8 line.value
 address_utf8 [] lawful line h = absurd (none_in line h)
 address_utf8 (first ∷ lines) lawful line h = elim (cons_cases first lines line h) [
   | inl same ↦ subst (λ (p : Property). IsUtf8 p.value) same lawful.0.utf8
@@ -150,11 +160,13 @@ address_utf8 (first ∷ lines) lawful line h = elim (cons_cases first lines line
 
 -- ---- rows
 
-none_shows : (heard : List Item) (window : Window) (address : List ℕ) → (¬ IsUtf8 address) → (row : Row) → IsRow heard window row → Shows address row → ⊥
+none_shows : (heard : List Item) (window : Window) (address : List ℕ) → (¬ IsUtf8 address) → (row : Row) → IsRow heard window row →
+    Shows address row → ⊥
 none_shows heard window address not row is shows =
     let named = row_needs_name heard address window row is shows in
     let parts = parts_of named.item.todo in
-    let utf8 : IsUtf8 named.names.line.value = address_utf8 parts.attendees (attendees_lawful parts named.item.todo.lawful.lines) named.names.line named.names.there in
+    let utf8 : IsUtf8 named.names.line.value =
+    address_utf8 parts.attendees (attendees_lawful parts named.item.todo.lawful.lines) named.names.line named.names.there in
     not (text_of_key named.names.line.value address utf8 named.names.named)
 
 pub none_listed : (heard : List Item) (window : Window) (address : List ℕ) → (¬ IsUtf8 address) → AreListedFor address heard window []

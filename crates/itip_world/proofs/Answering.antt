@@ -30,9 +30,12 @@ use Rattle.itip_world.proofs.Packets.{texts_length}
 use Rattle.itip_script.specs.declared.command.ReportName.{ReportName}
 use Rattle.itip_script.specs.declared.command.ReportName.TheVariants as name
 use Rattle.itip_script.specs.Orders.{Order, lists, lists_for, counts, reports, resends, asks_next, malformed}
-use Rattle.itip_world.specs.Running.{Answer, Happens, refused, listed, listed_for, counted, reported, resent, next_is, answer_to, event_of, HasTick, AreListed, AreListedFor, TellOfRows, IsReportOf, IsOfRows, Step, Answers}
+use Rattle.itip_world.specs.Running.{Answer, Happens, refused, listed, listed_for, counted, reported, resent, next_is, answer_to, event_of}
+use Rattle.itip_world.specs.Running.{HasTick, AreListed, AreListedFor, TellOfRows, IsReportOf, IsOfRows, Step, Answers}
 use Rattle.itip_world.specs.Running.Happens.{is_done, at_no_desk, of_no_packet, spends_ticks}
-use Rattle.itip_world.specs.Running.Step.{happens, lists_rows, lists_too_many, lists_no_desk, lists_rows_for, lists_too_many_for, lists_no_desk_for, counts_kept, counts_no_desk, reports_lines, reports_too_many, reports_no_desk, resends_messages, resends_no_desk, tells_next, tells_no_desk, is_refused}
+use Rattle.itip_world.specs.Running.Step.{happens, lists_rows, lists_too_many, lists_no_desk, lists_rows_for, lists_too_many_for}
+use Rattle.itip_world.specs.Running.Step.{lists_no_desk_for, counts_kept, counts_no_desk, reports_lines, reports_too_many, reports_no_desk}
+use Rattle.itip_world.specs.Running.Step.{resends_messages, resends_no_desk, tells_next, tells_no_desk, is_refused}
 
 same_length : (histories : Histories) (desks : List Shown) → AreDesksOf histories desks → length histories ≡ length desks
 same_length [] [] are = refl
@@ -41,7 +44,8 @@ same_length (h ∷ hs) [] are = absurd are
 same_length (h ∷ hs) (d ∷ ds) are = ap suc (same_length hs ds are.1)
 
 -- what is told of the rows of what is kept is told of the rows of all that was heard
-told_of_kept : (tell : List Row → List (List ℕ)) (kept all : List Item) → AreKept kept all → (window : Window) (lines : List (List ℕ)) → TellOfRows tell kept window lines → TellOfRows tell all window lines
+told_of_kept : (tell : List Row → List (List ℕ)) (kept all : List Item) → AreKept kept all → (window : Window) (lines : List (List ℕ)) →
+    TellOfRows tell kept window lines → TellOfRows tell all window lines
 told_of_kept tell kept all are window lines is = record {
   rows = is.rows;
   are_rows = rows_of_kept kept all are window is.rows is.are_rows;
@@ -50,7 +54,8 @@ told_of_kept tell kept all are window lines is = record {
 }
 
 -- a report over what is kept is the report over all that was heard
-report_of_kept : (kept all : List Item) → AreKept kept all → (window : Window) (named : ReportName) (lines : List (List ℕ)) → IsReportOf named kept window lines → IsReportOf named all window lines
+report_of_kept : (kept all : List Item) → AreKept kept all → (window : Window) (named : ReportName) (lines : List (List ℕ)) →
+    IsReportOf named kept window lines → IsReportOf named all window lines
 report_of_kept kept all are window name.Load lines is = told_of_kept load_lines kept all are window lines is
 report_of_kept kept all are window name.Progress lines is = told_of_kept progress_lines kept all are window lines is
 report_of_kept kept all are window name.Cancelled lines is = lines_of_kept kept all are report.Cancelled lines is
@@ -76,106 +81,134 @@ module _ (window : Window) (world : ShownWorld) where
     answers_no_list = answers (lists desk) (refused (refusal.NoDesk desk)) (λ past is. lists_no_desk desk (no_history past is))
 
     pub answers_no_list_for : (address : List ℕ) → Answers window (lists_for desk address) world (refused (refusal.NoDesk desk)) world
-    answers_no_list_for address = answers (lists_for desk address) (refused (refusal.NoDesk desk)) (λ past is. lists_no_desk_for desk address (no_history past is))
+    answers_no_list_for address =
+        answers (lists_for desk address) (refused (refusal.NoDesk desk)) (λ past is. lists_no_desk_for desk address (no_history past is))
 
     pub answers_no_count : Answers window (counts desk) world (refused (refusal.NoDesk desk)) world
     answers_no_count = answers (counts desk) (refused (refusal.NoDesk desk)) (λ past is. counts_no_desk desk (no_history past is))
 
     pub answers_no_report : (named : ReportName) → Answers window (reports desk named) world (refused (refusal.NoDesk desk)) world
-    answers_no_report named = answers (reports desk named) (refused (refusal.NoDesk desk)) (λ past is. reports_no_desk desk named (no_history past is))
+    answers_no_report named =
+        answers (reports desk named) (refused (refusal.NoDesk desk)) (λ past is. reports_no_desk desk named (no_history past is))
 
     pub answers_no_resend : (uid : List ℕ) → Answers window (resends desk uid) world (refused (refusal.NoDesk desk)) world
-    answers_no_resend uid = answers (resends desk uid) (refused (refusal.NoDesk desk)) (λ past is. resends_no_desk desk uid (no_history past is))
+    answers_no_resend uid =
+        answers (resends desk uid) (refused (refusal.NoDesk desk)) (λ past is. resends_no_desk desk uid (no_history past is))
 
     pub answers_no_next : (uid : List ℕ) → Answers window (asks_next desk uid) world (refused (refusal.NoDesk desk)) world
-    answers_no_next uid = answers (asks_next desk uid) (refused (refusal.NoDesk desk)) (λ past is. tells_no_desk desk uid (no_history past is))
+    answers_no_next uid =
+        answers (asks_next desk uid) (refused (refusal.NoDesk desk)) (λ past is. tells_no_desk desk uid (no_history past is))
 
   pub answers_count : (desk entries : ℕ) → IsEntriesOf world desk entries → Answers window (counts desk) world (counted desk entries) world
-  answers_count desk entries is_entries = answers (counts desk) (counted desk entries) (λ past is. let h = is_entries past is in counts_kept desk h.history entries h.there h.counts)
+  answers_count desk entries is_entries =
+      answers (counts desk) (counted desk entries) (λ past is. let h = is_entries past is in
+      counts_kept desk h.history entries h.there h.counts)
 
   module _ (desk : ℕ) (shown : Shown) (at : slice_get world.desks desk ≡ Some shown) where
     pub answers_list : (rows : List Row) → AreListed shown.kept window rows → Answers window (lists desk) world (listed desk rows) world
     answers_list rows are = answers (lists desk) (listed desk rows) (λ past is.
         let h = history_at past.histories world.desks desk shown is.desks_are at in
-        lists_rows desk h.history rows h.there (record { are_rows = rows_of_kept shown.kept (heard h.history.steps) h.is.kept window rows are.are_rows; few = are.few }))
+        lists_rows desk h.history rows h.there
+        (record { are_rows = rows_of_kept shown.kept (heard h.history.steps) h.is.kept window rows are.are_rows; few = are.few }))
 
     pub answers_too_many : AreTooMany shown.kept window → Answers window (lists desk) world (refused refusal.TooManyRows) world
     answers_too_many many = answers (lists desk) (refused refusal.TooManyRows) (λ past is.
         let h = history_at past.histories world.desks desk shown is.desks_are at in
         lists_too_many desk h.history h.there (too_many_of_kept shown.kept (heard h.history.steps) h.is.kept window many))
 
-    pub answers_list_for : (address : List ℕ) (rows : List Row) → AreListedFor address shown.kept window rows → Answers window (lists_for desk address) world (listed_for desk rows) world
+    pub answers_list_for : (address : List ℕ) (rows : List Row) → AreListedFor address shown.kept window rows →
+        Answers window (lists_for desk address) world (listed_for desk rows) world
     answers_list_for address rows are = answers (lists_for desk address) (listed_for desk rows) (λ past is.
         let h = history_at past.histories world.desks desk shown is.desks_are at in
-        lists_rows_for desk address h.history rows h.there (record { are_rows = rows_where_of_kept (Shows address) shown.kept (heard h.history.steps) h.is.kept window rows are.are_rows; few = are.few }))
+        lists_rows_for desk address h.history rows h.there
+        (record {
+          are_rows = rows_where_of_kept (Shows address) shown.kept (heard h.history.steps) h.is.kept window rows are.are_rows;
+          few = are.few;
+        }))
 
-    pub answers_too_many_for : (address : List ℕ) → AreTooManyWhere (Shows address) shown.kept window → Answers window (lists_for desk address) world (refused refusal.TooManyRows) world
+    pub answers_too_many_for : (address : List ℕ) → AreTooManyWhere (Shows address) shown.kept window →
+        Answers window (lists_for desk address) world (refused refusal.TooManyRows) world
     answers_too_many_for address many = answers (lists_for desk address) (refused refusal.TooManyRows) (λ past is.
         let h = history_at past.histories world.desks desk shown is.desks_are at in
-        lists_too_many_for desk address h.history h.there (many_where_of_kept (Shows address) shown.kept (heard h.history.steps) h.is.kept window many))
+        lists_too_many_for desk address h.history h.there
+        (many_where_of_kept (Shows address) shown.kept (heard h.history.steps) h.is.kept window many))
 
-    pub answers_report : (named : ReportName) (lines : List (List ℕ)) → IsReportOf named shown.kept window lines → Answers window (reports desk named) world (reported desk named lines) world
+    pub answers_report : (named : ReportName) (lines : List (List ℕ)) → IsReportOf named shown.kept window lines →
+        Answers window (reports desk named) world (reported desk named lines) world
     answers_report named lines is_report = answers (reports desk named) (reported desk named lines) (λ past is.
         let h = history_at past.histories world.desks desk shown is.desks_are at in
-        reports_lines desk named h.history lines h.there (report_of_kept shown.kept (heard h.history.steps) h.is.kept window named lines is_report))
+        reports_lines desk named h.history lines h.there
+        (report_of_kept shown.kept (heard h.history.steps) h.is.kept window named lines is_report))
 
-    pub answers_no_rows : (named : ReportName) → IsOfRows named → AreTooMany shown.kept window → Answers window (reports desk named) world (refused refusal.TooManyRows) world
+    pub answers_no_rows : (named : ReportName) → IsOfRows named → AreTooMany shown.kept window →
+        Answers window (reports desk named) world (refused refusal.TooManyRows) world
     answers_no_rows named of_rows many = answers (reports desk named) (refused refusal.TooManyRows) (λ past is.
         let h = history_at past.histories world.desks desk shown is.desks_are at in
         reports_too_many desk named h.history of_rows h.there (too_many_of_kept shown.kept (heard h.history.steps) h.is.kept window many))
 
-    pub answers_resend : (uid : List ℕ) (bytes : Option (List ℕ)) → IsResendOf shown.kept uid bytes → Answers window (resends desk uid) world (resent desk bytes) world
+    pub answers_resend : (uid : List ℕ) (bytes : Option (List ℕ)) → IsResendOf shown.kept uid bytes →
+        Answers window (resends desk uid) world (resent desk bytes) world
     answers_resend uid bytes is_resend = answers (resends desk uid) (resent desk bytes) (λ past is.
         let h = history_at past.histories world.desks desk shown is.desks_are at in
         resends_messages desk uid h.history bytes h.there (resend_of_kept shown.kept (heard h.history.steps) h.is.kept uid bytes is_resend))
 
-    pub answers_next : (uid : List ℕ) (sequence : Option ℕ) → IsNext shown.kept uid sequence → Answers window (asks_next desk uid) world (next_is desk sequence) world
+    pub answers_next : (uid : List ℕ) (sequence : Option ℕ) → IsNext shown.kept uid sequence →
+        Answers window (asks_next desk uid) world (next_is desk sequence) world
     answers_next uid sequence is_next = answers (asks_next desk uid) (next_is desk sequence) (λ past is.
         let h = history_at past.histories world.desks desk shown is.desks_are at in
         tells_next desk uid h.history sequence h.there (next_of_kept shown.kept (heard h.history.steps) h.is.kept uid sequence is_next))
 
 -- what is answered where a view gave no rows
-pub too_many : {E : Type 0} (r : Result Given E) (error : ViewError) (P : Given → Type 0) → IfOk r (λ answer. (error ≡ view.TooManyRows) × (answer ≡ given.Refused refusal.TooManyRows))
+pub too_many : {E : Type 0} (r : Result Given E) (error : ViewError) (P : Given → Type 0) →
+    IfOk r (λ answer. (error ≡ view.TooManyRows) × (answer ≡ given.Refused refusal.TooManyRows))
     → (error ≡ view.TooManyRows → P (given.Refused refusal.TooManyRows)) → IfOk r P
 too_many (Ok answer) error P is refuses = subst P (sym is.1) (refuses is.0)
 too_many (Err e) error P is refuses = tt
 
 -- ---- events
 
-module _ (old new : ShownWorld) (event : Event) (still : new ≡ old) (window : Window) (order : Order) (asks : event_of order ≡ Some event) where
-  -- an event that was not done
-  not_done : (why : Refusal) → ((past : Past) → IsWorldOf past old → Happens past event (refused why) past) → Answers window order old (refused why) new
-  not_done why refuses past is = record {
-    more = past;
-    step = happens order event (refused why) past asks (refuses past is);
-    world_is = subst (λ (w : ShownWorld). IsWorldOf past w) (sym still) is;
-  }
+module _ (old new : ShownWorld) (event : Event) (still : new ≡ old) (window : Window) (order : Order) (asks : event_of order ≡ Some event)
+  where
+    -- an event that was not done
+    not_done : (why : Refusal) → ((past : Past) → IsWorldOf past old → Happens past event (refused why) past) →
+        Answers window order old (refused why) new
+    not_done why refuses past is = record {
+      more = past;
+      step = happens order event (refused why) past asks (refuses past is);
+      world_is = subst (λ (w : ShownWorld). IsWorldOf past w) (sym still) is;
+    }
 
-  no_desk : (desk : ℕ) → desk ≡ desk_of event → length old.desks ≤ desk → Answers window order old (refused (refusal.NoDesk desk)) new
-  no_desk desk same missing = not_done (refusal.NoDesk desk) (λ past is.
-      subst (λ (n : ℕ). Happens past event (refused (refusal.NoDesk n)) past) (sym same) (at_no_desk (omega (arith, missing, same, same_length past.histories old.desks is.desks_are))))
+    no_desk : (desk : ℕ) → desk ≡ desk_of event → length old.desks ≤ desk → Answers window order old (refused (refusal.NoDesk desk)) new
+    no_desk desk same missing = not_done (refusal.NoDesk desk) (λ past is.
+        subst (λ (n : ℕ). Happens past event (refused (refusal.NoDesk n)) past) (sym same)
+        (at_no_desk (omega (arith, missing, same, same_length past.histories old.desks is.desks_are))))
 
-  no_packet : (packet : ℕ) → LacksOnlyPacket (length old.desks) (length old.packets) event packet → Answers window order old (refused (refusal.NoPacket packet)) new
-  no_packet packet lacks = not_done (refusal.NoPacket packet) (λ past is. of_no_packet packet (
-      subst (λ (n : ℕ). LacksOnlyPacket n (length past.packets) event packet) (sym (same_length past.histories old.desks is.desks_are))
-      (subst (λ (n : ℕ). LacksOnlyPacket (length old.desks) n event packet) (sym (texts_length past.packets old.packets is.packets_are)) lacks)))
+    no_packet : (packet : ℕ) → LacksOnlyPacket (length old.desks) (length old.packets) event packet →
+        Answers window order old (refused (refusal.NoPacket packet)) new
+    no_packet packet lacks = not_done (refusal.NoPacket packet) (λ past is. of_no_packet packet (
+        subst (λ (n : ℕ). LacksOnlyPacket n (length past.packets) event packet) (sym (same_length past.histories old.desks is.desks_are))
+        (subst (λ (n : ℕ). LacksOnlyPacket (length old.desks) n event packet) (sym (texts_length past.packets old.packets is.packets_are))
+        lacks)))
 
-  pub answers_refusal : (why : Refusal) → RefusesEvent old event why → Answers window order old (refused why) new
-  answers_refusal (refusal.NoDesk desk) is = no_desk desk is.0 is.1
-  answers_refusal (refusal.NoPacket packet) is = no_packet packet is
-  answers_refusal (refusal.TicksSpent desk) is = not_done (refusal.TicksSpent desk) (λ past world_is.
-      subst (λ (n : ℕ). Happens past event (refused (refusal.TicksSpent n)) past) (sym is.0) (spends_ticks (is.1 past world_is)))
-  answers_refusal (refusal.Message why) is = absurd is
-  answers_refusal refusal.TooManyRows is = absurd is
-  answers_refusal refusal.NoCommand is = absurd is
-  answers_refusal refusal.LongScript is = absurd is
+    pub answers_refusal : (why : Refusal) → RefusesEvent old event why → Answers window order old (refused why) new
+    answers_refusal (refusal.NoDesk desk) is = no_desk desk is.0 is.1
+    answers_refusal (refusal.NoPacket packet) is = no_packet packet is
+    answers_refusal (refusal.TicksSpent desk) is = not_done (refusal.TicksSpent desk) (λ past world_is.
+        subst (λ (n : ℕ). Happens past event (refused (refusal.TicksSpent n)) past) (sym is.0) (spends_ticks (is.1 past world_is)))
+    answers_refusal (refusal.Message why) is = absurd is
+    answers_refusal refusal.TooManyRows is = absurd is
+    answers_refusal refusal.NoCommand is = absurd is
+    answers_refusal refusal.LongScript is = absurd is
 
-pub answers_event : (old new : ShownWorld) (event : Event) (outcome : Outcome) (answer : Answer) → worlds.Steps old event outcome new → HasTick outcome
-    → answer ≡ answer_to event outcome → (window : Window) (order : Order) → event_of order ≡ Some event → Answers window order old answer new
+pub answers_event : (old new : ShownWorld) (event : Event) (outcome : Outcome) (answer : Answer) → worlds.Steps old event outcome new →
+    HasTick outcome
+    → answer ≡ answer_to event outcome → (window : Window) (order : Order) → event_of order ≡ Some event →
+    Answers window order old answer new
 answers_event old new event outcome answer steps tick is_answer window order asks past world_is =
     let s = steps past world_is in
     record {
       more = s.more;
-      step = subst (λ (a : Answer). Step window past order a s.more) (sym is_answer) (happens order event (answer_to event outcome) s.more asks (is_done outcome s.more s.step tick));
+      step = subst (λ (a : Answer). Step window past order a s.more) (sym is_answer)
+          (happens order event (answer_to event outcome) s.more asks (is_done outcome s.more s.step tick));
       world_is = s.world_is;
     }

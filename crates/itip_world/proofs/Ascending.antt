@@ -23,11 +23,14 @@ abbrev pub Ascends : {X : Type 0} → (X → X → Type 0) → List X → Type 0
 Ascends R [] = Unit {0}
 Ascends R (x ∷ xs) = AllByRecursion (R x) xs × Ascends R xs
 
-all_behind : {X : Type 0} (R : X → X → Type 0) (x : X) (xs : List X) → ((j : ℕ) → j < length xs → R x (get_or xs j x)) → AllByRecursion (R x) xs
+all_behind : {X : Type 0} (R : X → X → Type 0) (x : X) (xs : List X) → ((j : ℕ) → j < length xs → R x (get_or xs j x)) →
+    AllByRecursion (R x) xs
 all_behind R x [] each = tt
 all_behind R x (y ∷ ys) each = (each 0 (omega arith), all_behind R x ys (λ j h. each (suc j) (omega arith)))
 
 pub ascends_by_pairs : {X : Type 0} (R : X → X → Type 0) (xs : List X) → AllPairs R xs → Ascends R xs
 ascends_by_pairs R [] pairs = tt
-ascends_by_pairs R (x ∷ xs) pairs =
-    (all_behind R x xs (λ j h. pairs 0 (suc j) x (omega arith) (omega arith)), ascends_by_pairs R xs (λ i j d lt within. pairs (suc i) (suc j) d (omega arith) (omega arith)))
+ascends_by_pairs R (x ∷ xs) pairs = (
+  all_behind R x xs (λ j h. pairs 0 (suc j) x (omega arith) (omega arith)),
+  ascends_by_pairs R xs (λ i j d lt within. pairs (suc i) (suc j) d (omega arith) (omega arith)),
+)

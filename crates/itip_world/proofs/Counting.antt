@@ -17,13 +17,18 @@ record TakenOut (ys : List Item) (x : Item) : Type 0 where
 
 take_out : (ys : List Item) (x : Item) → IsIn ys x → TakenOut ys x
 take_out [] x h = absurd h
-take_out (y ∷ ys) x (inl e) = record { others = ys; count = refl; stay = λ z h. elim h [ inl same ↦ inl (sym e ∙ same) | inr rest ↦ inr rest ] }
+take_out (y ∷ ys) x (inl e) =
+    record { others = ys; count = refl; stay = λ z h. elim h [ inl same ↦ inl (sym e ∙ same) | inr rest ↦ inr rest ] }
 take_out (y ∷ ys) x (inr h) =
     let rest = take_out ys x h in
     record {
       others = y ∷ rest.others;
       count = ap suc rest.count;
-      stay = λ z k. elim k [ inl same ↦ inr (inl same) | inr later ↦ elim (rest.stay z later) [ inl same ↦ inl same | inr there ↦ inr (inr there) ] ];
+      stay = λ z k. elim k [
+        | inl same ↦ inr (inl same)
+        | inr later ↦ elim (rest.stay z later)
+            [ inl same ↦ inl same | inr there ↦ inr (inr there) ]
+      ];
     }
 
 not_later : (x : Item) (xs : List Item) (y : Item) → AllByRecursion (Apart x) xs → IsIn xs y → x ≡ y → ⊥

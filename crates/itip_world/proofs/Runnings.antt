@@ -1,5 +1,6 @@
 -- A run over the commands of a script: what was written, and what is kept to be written.
-use Rattle.std.proofs.Common.{◌≡◌, ℕ, Bool, false, ◌||◌, List, [], ◌∷◌, ◌++◌, length, refl, sym, ap, subst, ◌∙◌, append_assoc, inl, inr, Option, Some, None, Result, Ok, Err}
+use Rattle.std.proofs.Common.{◌≡◌, ℕ, Bool, false, ◌||◌, List, [], ◌∷◌, ◌++◌, length, refl, sym, ap, subst, ◌∙◌, append_assoc, inl, inr}
+use Rattle.std.proofs.Common.{Option, Some, None, Result, Ok, Err}
 use Rattle.std.specs.Prelude.{OnErr, IfSome}
 use Rattle.std.specs.List.{list_any}
 use Rattle.std.specs.Io.KnownBytes.{Appends}
@@ -22,12 +23,15 @@ pub on_err : {T E P : Type 0} (r : Result T E) → P → OnErr r P
 on_err (Ok x) p = tt
 on_err (Err e) p = p
 
-runs_more : (window : Window) (old : Past) (orders : List Order) (answers : List Answer) (mid : Past) (order : Order) (answer : Answer) (new : Past)
-    → Runs window old orders answers mid → Step window mid order answer new → Runs window old (orders ++ order ∷ []) (answers ++ answer ∷ []) new
+runs_more : (window : Window) (old : Past) (orders : List Order) (answers : List Answer) (mid : Past) (order : Order) (answer : Answer)
+    (new : Past)
+    → Runs window old orders answers mid → Step window mid order answer new →
+    Runs window old (orders ++ order ∷ []) (answers ++ answer ∷ []) new
 runs_more window old [] [] mid order answer new at step = (new, subst (λ (h : Past). Step window h order answer new) at step, refl)
 runs_more window old [] (a ∷ as') mid order answer new at step = absurd at
 runs_more window old (o ∷ os) [] mid order answer new at step = absurd at
-runs_more window old (o ∷ os) (a ∷ as') mid order answer new at step = (at.0, at.1, runs_more window at.0 os as' mid order answer new at.2 step)
+runs_more window old (o ∷ os) (a ∷ as') mid order answer new at step =
+    (at.0, at.1, runs_more window at.0 os as' mid order answer new at.2 step)
 
 -- before the first command
 pub starts : (window : Window) (desks : ℕ) (old : Option (List ℕ)) (orders left : List Order) (world : ShownWorld) (kept : List ℕ)
@@ -44,7 +48,8 @@ starts window desks old orders left world kept are same none = record {
   appended = Appends-nil old;
 }
 
-module _ (window : Window) (desks : ℕ) (old new : Option (List ℕ)) (orders done left : List Order) (world : ShownWorld) (kept : List ℕ) (refusal : Bool)
+module _ (window : Window) (desks : ℕ) (old new : Option (List ℕ)) (orders done left : List Order) (world : ShownWorld) (kept : List ℕ)
+    (refusal : Bool)
     (so_far : RunsSoFar window desks old new orders done left world kept refusal) where
   writes_so_far : Writes window desks done (so_far.written ++ kept) refusal
   writes_so_far = record {
@@ -72,7 +77,8 @@ module _ (window : Window) (desks : ℕ) (old new : Option (List ℕ)) (orders d
   nothing_written = front_written new (front_none new kept)
 
   -- all that is kept was written, behind the last command
-  pub all_written : (newer : Option (List ℕ)) → left ≡ [] → Appends new newer kept → WritesOutput (Writes window desks orders) old newer refusal
+  pub all_written : (newer : Option (List ℕ)) → left ≡ [] → Appends new newer kept →
+      WritesOutput (Writes window desks orders) old newer refusal
   all_written newer none appended =
       let same : orders ≡ done = so_far.whole ∙ ap (λ (t : List Order). done ++ t) none ∙ append-nil done in
       record {
@@ -82,7 +88,8 @@ module _ (window : Window) (desks : ℕ) (old new : Option (List ℕ)) (orders d
       }
 
   -- a front of what is kept was written, and the rest is kept
-  pub moved_out : (newer : Option (List ℕ)) (rest : List ℕ) → MovesOut new newer kept rest → RunsSoFar window desks old newer orders done left world rest refusal
+  pub moved_out : (newer : Option (List ℕ)) (rest : List ℕ) → MovesOut new newer kept rest →
+      RunsSoFar window desks old newer orders done left world rest refusal
   moved_out newer rest moves = record {
     whole = so_far.whole;
     answers = so_far.answers;
@@ -91,24 +98,29 @@ module _ (window : Window) (desks : ℕ) (old new : Option (List ℕ)) (orders d
     world_is = so_far.world_is;
     refusal_is = so_far.refusal_is;
     written = so_far.written ++ moves.front;
-    output_is = so_far.output_is ∙ ap (λ (t : List ℕ). so_far.written ++ t) moves.whole ∙ sym (append_assoc so_far.written moves.front rest);
+    output_is = so_far.output_is ∙ ap (λ (t : List ℕ). so_far.written ++ t) moves.whole ∙
+        sym (append_assoc so_far.written moves.front rest);
     appended = Appends-trans old new newer so_far.written moves.front so_far.appended moves.appended;
   }
 
   -- one command more
-  pub one_more : (order : Order) (others : List Order) (more : List Order) (after : ShownWorld) (answer : Answer) (more_kept : List ℕ) (is_refused : Bool)
-      → left ≡ order ∷ others → more ≡ done ++ order ∷ [] → Answers window order world answer after → more_kept ≡ kept ++ answer_text answer → is_refused ≡ is_refusal answer
+  pub one_more : (order : Order) (others : List Order) (more : List Order) (after : ShownWorld) (answer : Answer) (more_kept : List ℕ)
+      (is_refused : Bool)
+      → left ≡ order ∷ others → more ≡ done ++ order ∷ [] → Answers window order world answer after → more_kept ≡ kept ++
+      answer_text answer → is_refused ≡ is_refusal answer
       → RunsSoFar window desks old new orders more others after more_kept (refusal || is_refused)
   one_more order others more after answer more_kept is_refused cut more_is answers text refused =
       let one = answers so_far.past so_far.world_is in
       record {
-        whole = so_far.whole ∙ ap (λ (t : List Order). done ++ t) cut ∙ sym (append_assoc done (order ∷ []) others) ∙ ap (λ (t : List Order). t ++ others) (sym more_is);
+        whole = so_far.whole ∙ ap (λ (t : List Order). done ++ t) cut ∙ sym (append_assoc done (order ∷ []) others) ∙
+            ap (λ (t : List Order). t ++ others) (sym more_is);
         answers = so_far.answers ++ answer ∷ [];
         past = one.more;
         runs = subst (λ (os : List Order). Runs window (no_past desks) os (so_far.answers ++ answer ∷ []) one.more) (sym more_is)
             (runs_more window (no_past desks) done so_far.answers so_far.past order answer one.more so_far.runs one.step);
         world_is = one.world_is;
-        refusal_is = ap (λ (b : Bool). b || is_refused) so_far.refusal_is ∙ ap (λ (b : Bool). list_any is_refusal so_far.answers || b) (refused ∙ sym (or-false (is_refusal answer)))
+        refusal_is = ap (λ (b : Bool). b || is_refused) so_far.refusal_is ∙
+            ap (λ (b : Bool). list_any is_refusal so_far.answers || b) (refused ∙ sym (or-false (is_refusal answer)))
             ∙ sym (list_any-append is_refusal so_far.answers (answer ∷ []));
         written = so_far.written;
         output_is = flat_map-append answer_text so_far.answers (answer ∷ [])

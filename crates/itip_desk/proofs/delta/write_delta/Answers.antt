@@ -7,13 +7,17 @@ use Rattle.itip_desk.proofs.delta.write_delta.Goals as goal
 
 pub loop-item-preserved : goal.loop-item-preserved
 loop-item-preserved c =
-    write_more c.as_slice-item-items.result.now c.loop-item.item-index c.item-item.result c.loop-item.octets.items c.extend_from_slice.new.self.items c.as_slice.result.now
-    (omega arith) c.item-item.is (c.as_slice.ensures ∙ ap (λ (i : Item). i.bytes) c.deref.ensures) c.in_ok-extend_from_slice.ensures.items c.loop-item.invariant
+    write_more c.as_slice-item-items.result.now c.loop-item.item-index c.item-item.result c.loop-item.octets.items
+    c.extend_from_slice.new.self.items c.as_slice.result.now
+    (omega arith) c.item-item.is (c.as_slice.ensures ∙ ap (λ (i : Item). i.bytes) c.deref.ensures) c.in_ok-extend_from_slice.ensures.items
+    c.loop-item.invariant
 
 pub returns-clause-octets : goal.returns-clause-octets
 returns-clause-octets c =
     let past : length c.as_slice-item-items.result.now ≤ c.loop-item.item-index = omega arith in
-    write_done c.as_slice-item-items.result.now c.loop-item.item-index c.loop-item.octets.items past c.loop-item.invariant ∙ ap delta_octets c.as_slice-item-items.ensures.items
+    write_done c.as_slice-item-items.result.now c.loop-item.item-index c.loop-item.octets.items past c.loop-item.invariant ∙
+    ap delta_octets c.as_slice-item-items.ensures.items
 
 pub returns-clause-read_again : goal.returns-clause-read_again
-returns-clause-read_again c = written_so c.loop-item.octets.items c.args.batch.now c.as_slice-item-items.ensures.ascend (returns-clause-octets c)
+returns-clause-read_again c =
+    written_so c.loop-item.octets.items c.args.batch.now c.as_slice-item-items.ensures.ascend (returns-clause-octets c)

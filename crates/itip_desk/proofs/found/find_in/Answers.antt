@@ -34,21 +34,32 @@ returns-clause-days c = λ uid day low high there.
     let from : c.bound-from.result ≡ entry_at [] (Day c.args.window.from) = simp to_z-of_z at c.bound-from.ensures in
     let to : c.bound-to.result ≡ entry_at [] (Day c.args.window.to) = simp to_z-of_z at c.bound-to.ensures in
     let inside : range_contains entry_cmp (Included c.bound-from.result) (Excluded c.bound-to.result) (entry_at uid (Day day)) ≡ true =
-    subst (λ (l : IndexEntry). range_contains entry_cmp (Included l) (Excluded c.bound-to.result) (entry_at uid (Day day)) ≡ true) (sym from)
-    (subst (λ (h : IndexEntry). range_contains entry_cmp (Included (entry_at [] (Day c.args.window.from))) (Excluded h) (entry_at uid (Day day)) ≡ true) (sym to)
+    subst (λ (l : IndexEntry). range_contains entry_cmp (Included l) (Excluded c.bound-to.result) (entry_at uid (Day day)) ≡ true)
+    (sym from)
+    (subst (λ (h : IndexEntry). range_contains entry_cmp (Included (entry_at [] (Day c.args.window.from))) (Excluded h)
+    (entry_at uid (Day day)) ≡ true) (sym to)
     (day_inside c.args.window.from c.args.window.to day uid low high)) in
     let found = found_between c.args.index.now c.bound-from.result c.bound-to.result (entry_at uid (Day day)) there inside in
     subst (λ (us : List (List ℕ)). Contains us uid) (sym c.in_ok-find_between-2.ensures)
-    (Contains-append_left (map (λ u. u.now) c.find_between.new.uids.items) (map (λ (e : IndexEntry). e.uid) (keys_between entry_cmp (Included c.bound-from-2.result) (Excluded c.bound-to-2.result) c.args.index.now)) uid
+    (Contains-append_left (map (λ u. u.now) c.find_between.new.uids.items)
+    (map (λ (e : IndexEntry). e.uid) (keys_between entry_cmp (Included c.bound-from-2.result) (Excluded c.bound-to-2.result)
+    c.args.index.now)) uid
     (subst (λ (us : List (List ℕ)). Contains us uid) (sym c.in_ok-find_between.ensures)
-    (Contains-append_right (map (λ u. u.now) c.new-uids.result.items) (map (λ (e : IndexEntry). e.uid) (keys_between entry_cmp (Included c.bound-from.result) (Excluded c.bound-to.result) c.args.index.now)) uid found)))
+    (Contains-append_right (map (λ u. u.now) c.new-uids.result.items)
+    (map (λ (e : IndexEntry). e.uid) (keys_between entry_cmp (Included c.bound-from.result) (Excluded c.bound-to.result)
+    c.args.index.now)) uid found)))
 
 pub returns-clause-always : goal.returns-clause-always
 returns-clause-always c = λ uid there.
-    let high : c.bound-to-2.result ≡ entry_at [] (Attendee []) = c.bound-to-2.ensures ∙ ap (λ (k : List ℕ). entry_at [] (Attendee k)) c.new.ensures in
+    let high : c.bound-to-2.result ≡ entry_at [] (Attendee []) = c.bound-to-2.ensures ∙
+    ap (λ (k : List ℕ). entry_at [] (Attendee k)) c.new.ensures in
     let inside : range_contains entry_cmp (Included c.bound-from-2.result) (Excluded c.bound-to-2.result) (entry_at uid Always) ≡ true =
-    subst (λ (l : IndexEntry). range_contains entry_cmp (Included l) (Excluded c.bound-to-2.result) (entry_at uid Always) ≡ true) (sym c.bound-from-2.ensures)
-    (subst (λ (h : IndexEntry). range_contains entry_cmp (Included (entry_at [] Always)) (Excluded h) (entry_at uid Always) ≡ true) (sym high) (always_inside uid)) in
+    subst (λ (l : IndexEntry). range_contains entry_cmp (Included l) (Excluded c.bound-to-2.result) (entry_at uid Always) ≡ true)
+    (sym c.bound-from-2.ensures)
+    (subst (λ (h : IndexEntry). range_contains entry_cmp (Included (entry_at [] Always)) (Excluded h) (entry_at uid Always) ≡ true)
+    (sym high) (always_inside uid)) in
     let found = found_between c.args.index.now c.bound-from-2.result c.bound-to-2.result (entry_at uid Always) there inside in
     subst (λ (us : List (List ℕ)). Contains us uid) (sym c.in_ok-find_between-2.ensures)
-    (Contains-append_right (map (λ u. u.now) c.find_between.new.uids.items) (map (λ (e : IndexEntry). e.uid) (keys_between entry_cmp (Included c.bound-from-2.result) (Excluded c.bound-to-2.result) c.args.index.now)) uid found)
+    (Contains-append_right (map (λ u. u.now) c.find_between.new.uids.items)
+    (map (λ (e : IndexEntry). e.uid) (keys_between entry_cmp (Included c.bound-from-2.result) (Excluded c.bound-to-2.result)
+    c.args.index.now)) uid found)

@@ -9,5 +9,6 @@ pub returns : goal.returns
 returns c =
     let rows : has_rows c.args.item.now ≡ true = search rules in
     on_ok_then c.note_attendees.result
-    (noted c.args.item.now c.uid.result.now c.as_slice.result.now (has c.args.entries.now) (has c.note_days.new.entries) (has c.note_attendees.new.entries) rows c.uid.ensures c.as_slice.ensures
+    (noted c.args.item.now c.uid.result.now c.as_slice.result.now (has c.args.entries.now) (has c.note_days.new.entries)
+    (has c.note_attendees.new.entries) rows c.uid.ensures c.as_slice.ensures
     c.in_ok-note_days.ensures) c.note_attendees.ensures

@@ -5,4 +5,5 @@ use Rattle.itip_desk.specs.Index.{has}
 use Rattle.itip_desk.proofs.indexed.note_all.Given as goal
 
 abbrev pub invariant-loop-item : goal.invariant-loop-item
-invariant-loop-item l = (e : IndexEntry) → IsTrue (has l.entries e) ↔ (IsTrue (has l.fn.entries e) ⊎ IsNoted (take l.item-index (map (λ item. item.now) l.items)) e)
+invariant-loop-item l = (e : IndexEntry) → IsTrue (has l.entries e) ↔
+    (IsTrue (has l.fn.entries e) ⊎ IsNoted (take l.item-index (map (λ item. item.now) l.items)) e)

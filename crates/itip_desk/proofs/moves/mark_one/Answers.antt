@@ -11,5 +11,6 @@ returns-in-Some-clause-falls c = marked_falls c.args.cache.now.entries _ c.args.
 
 pub returns-in_default-clause-marked : goal.returns-in_default-clause-marked
 returns-in_default-clause-marked c =
-    let none : at_uid c.args.cache.now.entries c.args.uid.now ≡ None = sym (found_at c.args.cache.now.entries c.args.uid.now) ∙ sym c.in_default.ensures.value in
+    let none : at_uid c.args.cache.now.entries c.args.uid.now ≡ None = sym (found_at c.args.cache.now.entries c.args.uid.now) ∙
+    sym c.in_default.ensures.value in
     let x : true ≡ false = sym c.requires ∙ ap is_some none in absurd (cc)

@@ -11,9 +11,11 @@ loop-item-init c = λ heard keeps. subst (λ (xs : List Item). AreKept c.args.st
 pub loop-item-preserved : goal.loop-item-preserved
 loop-item-preserved c = λ heard keeps.
     let more : take (c.loop-item.item-index + 1) c.args.news.now ≡ take c.loop-item.item-index c.args.news.now ++ c.item-item.result ∷ [] =
-    take_more c.args.news.now c.loop-item.item-index c.item-item.result c.loop-item-test.true ∙ ap (λ (x : Item). take c.loop-item.item-index c.args.news.now ++ x ∷ []) (sym c.item-item.is) in
+    take_more c.args.news.now c.loop-item.item-index c.item-item.result c.loop-item-test.true ∙
+    ap (λ (x : Item). take c.loop-item.item-index c.args.news.now ++ x ∷ []) (sym c.item-item.is) in
     subst (λ (xs : List Item). AreKept c.hear.new.self (heard ++ xs)) (sym more)
-    (keeps_one c.loop-item.state c.hear.new.self heard (take c.loop-item.item-index c.args.news.now) c.item-item.result (c.loop-item.invariant heard keeps) c.in_ok-hear.ensures.ok)
+    (keeps_one c.loop-item.state c.hear.new.self heard (take c.loop-item.item-index c.args.news.now) c.item-item.result
+    (c.loop-item.invariant heard keeps) c.in_ok-hear.ensures.ok)
 
 pub returns : goal.returns
 returns c = λ heard keeps. subst (λ (xs : List Item). AreKept c.loop-item.state (heard ++ xs))

@@ -7,7 +7,9 @@ returns-clause-hears g c =
     let texts : List (List ℕ) = map (λ text. text.now) c.in_ok-share.share.texts.items in
     record {
       texts = texts;
-      cut = subst (λ (left : List ℕ). StaysCutInto c.args.octets.now texts left) (sym c.in_ok-from_slice.ensures.items) c.in_ok-share.ensures;
-      hears = λ messages keeps. subst (λ ts. KeepsMessages (messages ++ map (λ text. text.now) ts) c.hear.new.self.state c.hear.new.self.refusals.items c.hear.new.self.messages) c.as_slice.ensures.value
+      cut = subst (λ (left : List ℕ). StaysCutInto c.args.octets.now texts left) (sym c.in_ok-from_slice.ensures.items)
+          c.in_ok-share.ensures;
+      hears = λ messages keeps. subst (λ ts. KeepsMessages (messages ++ map (λ text. text.now) ts) c.hear.new.self.state
+          c.hear.new.self.refusals.items c.hear.new.self.messages) c.as_slice.ensures.value
           (c.in_ok-hear.ensures.keeps messages keeps);
     }

@@ -4,9 +4,11 @@ use Rattle.itip_inbox.proofs.shown.read_shown.Goals as goal
 pub returns-in-Some-clause-shown : goal.returns-in-Some-clause-shown
 returns-in-Some-clause-shown g c =
     let whole = simp c.in-Some.is at c.in_ok-text.ensures.whole in
-    read_whole (g.R.Read.remaining c.args.reader.now) c.in-Some.text.items c.as_slice.result.now c.shown_of.result whole.1 c.as_slice.ensures.value c.shown_of.ensures.shown
+    read_whole (g.R.Read.remaining c.args.reader.now) c.in-Some.text.items c.as_slice.result.now c.shown_of.result whole.1
+    c.as_slice.ensures.value c.shown_of.ensures.shown
 
 pub returns-in-None-clause-shown : goal.returns-in-None-clause-shown
 returns-in-None-clause-shown g c =
     let long = simp c.in-None.is at c.in_ok-text.ensures.long in
-    read_too_long (g.R.Read.remaining c.args.reader.now) c.from.result c.shown_refusal.result long c.from.ensures c.shown_refusal.ensures.refusal c.shown_refusal.ensures.text
+    read_too_long (g.R.Read.remaining c.args.reader.now) c.from.result c.shown_refusal.result long c.from.ensures
+    c.shown_refusal.ensures.refusal c.shown_refusal.ensures.text

@@ -12,9 +12,11 @@ returns-in_err-shown-clause-many c = λ spent heard are.
     let p = err_from_is_err_and c.from_residual.result c.from_residual.ensures.1 in
     let given : p.0 ≡ c.in_err-shown.field-0.0 = p.2 in
     let same : p.0 ≡ TooManyRows = error_of p.0 TooManyRows c.from_residual.result p.1 spent in
-    many_of_rows (option_map (λ (a : Bor (List ℕ)). a.now) c.args.attendee) c.args.state.now heard c.args.window are (c.in_err-shown.ensures.many (ap Err (sym given ∙ same)))
+    many_of_rows (option_map (λ (a : Bor (List ℕ)). a.now) c.args.attendee) c.args.state.now heard c.args.window are
+    (c.in_err-shown.ensures.many (ap Err (sym given ∙ same)))
 
 pub returns-clause-text : goal.returns-clause-text
 returns-clause-text c = λ heard are.
-    text_of_rows (option_map (λ (a : Bor (List ℕ)). a.now) c.args.attendee) c.args.state.now heard c.args.window c.in_ok-shown.shown.items c.in_ok-list_text.field-0.items are
+    text_of_rows (option_map (λ (a : Bor (List ℕ)). a.now) c.args.attendee) c.args.state.now heard c.args.window c.in_ok-shown.shown.items
+    c.in_ok-list_text.field-0.items are
     c.in_ok-shown.ensures.rows c.in_ok-shown.ensures.few (c.in_ok-list_text.ensures ∙ ap list_text c.as_slice.ensures.value)

@@ -8,4 +8,5 @@ use Rattle.itip_office.proofs.exchange.exchange.Given as goal
 
 abbrev pub invariant-loop-desk : goal.invariant-loop-desk
 invariant-loop-desk l = (length l.ended.items + length (into_iter_items l.desk-iterator) ≡ length l.fn.desks.items)
-    × ((hs : List History) → AreDesksOf hs l.fn.desks.items → AreLeft hs (into_iter_items l.desk-iterator) × All (λ (d : Shown). AreKept d.kept (all_heard hs)) l.ended.items)
+    × ((hs : List History) → AreDesksOf hs l.fn.desks.items → AreLeft hs (into_iter_items l.desk-iterator) ×
+    All (λ (d : Shown). AreKept d.kept (all_heard hs)) l.ended.items)

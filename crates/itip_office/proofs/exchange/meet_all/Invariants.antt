@@ -5,4 +5,5 @@ use Rattle.itip_office.proofs.Sharing.{Meets}
 use Rattle.itip_office.proofs.exchange.meet_all.Given as goal
 
 abbrev pub invariant-loop-held : goal.invariant-loop-held
-invariant-loop-held g l = Meets (map (λ h. published h.keeper) l.fn.keepers.items) (map (λ h. published h.keeper) (into_iter_items l.held-iterator)) l.desks.items
+invariant-loop-held g l =
+    Meets (map (λ h. published h.keeper) l.fn.keepers.items) (map (λ h. published h.keeper) (into_iter_items l.held-iterator)) l.desks.items

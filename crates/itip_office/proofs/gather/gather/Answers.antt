@@ -20,19 +20,26 @@ loop-one-preserved g c =
     let rest = into_iter_items c.next.new.self in
     let first : into_iter_items c.loop-one.one-iterator ≡ one ∷ rest = c.in-Some.ensures.steps.0 in
     let long : length (into_iter_items c.loop-one.one-iterator) ≡ suc (length rest) = ap length first in
-    let left = subst (λ (l : List (Merged g.row.R.Denot)). AreOfDesks desk (map (λ k. (k.answers.items, published k.held.keeper)) l)) first was.left in
+    let left = subst (λ (l : List (Merged g.row.R.Denot)). AreOfDesks desk (map (λ k. (k.answers.items, published k.held.keeper)) l)) first
+    was.left in
     let keepers : c.push.new.self.items ≡ c.loop-one.keepers.items ++ one.held ∷ [] = c.in_ok-push.ensures.items in
-    let count : length c.push.new.self.items ≡ suc (length c.loop-one.keepers.items) = ap length keepers ∙ omega (arith, length_push c.loop-one.keepers.items one.held) in
+    let count : length c.push.new.self.items ≡ suc (length c.loop-one.keepers.items) = ap length keepers ∙
+    omega (arith, length_push c.loop-one.keepers.items one.held) in
     let answers : c.append.new.self.items ≡ c.loop-one.answers.items ++ one.answers.items = c.in_ok-append.ensures.items in
-    let are : All (IsFor c.args.desks desk) one.answers.items = subst (λ (l : List Answer). All (IsFor c.args.desks desk) l) c.deref.ensures.value (c.if-not-are_for.ensures refl) in
+    let are : All (IsFor c.args.desks desk) one.answers.items =
+    subst (λ (l : List Answer). All (IsFor c.args.desks desk) l) c.deref.ensures.value (c.if-not-are_for.ensures refl) in
     let histories : List (List (List Item)) = map (λ h. published h.keeper) c.loop-one.keepers.items in
     let batches = published one.held.keeper in
-    let more : all_heard (map (λ h. published h.keeper) c.push.new.self.items) ≡ all_heard histories ++ heard batches = ap (λ (l : List (OwnedKeeper g.row.R.Denot)). all_heard (map (λ h. published h.keeper) l)) keepers
-    ∙ ap all_heard (map-append (λ (h : OwnedKeeper g.row.R.Denot). published h.keeper) c.loop-one.keepers.items (one.held ∷ [])) ∙ heard_more histories batches in
+    let more : all_heard (map (λ h. published h.keeper) c.push.new.self.items) ≡ all_heard histories ++ heard batches =
+    ap (λ (l : List (OwnedKeeper g.row.R.Denot)). all_heard (map (λ h. published h.keeper) l)) keepers
+    ∙ ap all_heard (map-append (λ (h : OwnedKeeper g.row.R.Denot). published h.keeper) c.loop-one.keepers.items (one.held ∷ [])) ∙
+    heard_more histories batches in
     record {
       at = (let at = was.at in omega (arith, at, count));
       count = (let sum = was.count in omega (arith, sum, long, count));
       left = left.1;
-      tells = subst (λ (l : List Answer). Tells c.args.desks l (all_heard (map (λ h. published h.keeper) c.push.new.self.items))) (sym answers)
-          (subst (Tells c.args.desks (c.loop-one.answers.items ++ one.answers.items)) (sym more) (tells_more c.args.desks desk c.loop-one.answers.items one.answers.items (all_heard histories) batches was.tells are left.0));
+      tells = subst (λ (l : List Answer). Tells c.args.desks l (all_heard (map (λ h. published h.keeper) c.push.new.self.items)))
+          (sym answers)
+          (subst (Tells c.args.desks (c.loop-one.answers.items ++ one.answers.items)) (sym more)
+          (tells_more c.args.desks desk c.loop-one.answers.items one.answers.items (all_heard histories) batches was.tells are left.0));
     }

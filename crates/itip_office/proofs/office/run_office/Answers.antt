@@ -12,6 +12,7 @@ returns g c =
     let replies = c.in_ok-replies.replies.items in
     let are : AreRepliesFrom given sorted replies = search rules in
     record {
-      ended = has_ended c.args.desks c.args.jobs.items sorted given replies (all_heard (map (λ h. published h.keeper) keepers)) c.in_ok-desks.desks.items c.in_ok-sort_by_key.ensures.permutation are
+      ended = has_ended c.args.desks c.args.jobs.items sorted given replies (all_heard (map (λ h. published h.keeper) keepers))
+          c.in_ok-desks.desks.items c.in_ok-sort_by_key.ensures.permutation are
           c.in_ok-answers.ensures.tells (c.in_ok-desks.ensures.count ∙ c.in_ok-answers.ensures.count) c.in_ok-desks.ensures.kept;
     }

@@ -21,7 +21,8 @@ returns-in_err-write_ended-clause-front g c =
     let others_are : c.in_ok-jobs.field-0.others.items ≡ others_from c.args.window 0 (errands_of script) = search rules in
     let front : WritesEndedFront c.args.window old new refused ended = search rules in
     on_err c.from_residual-in_err-write_ended.result
-    (front_written c.args.window c.args.desks script c.in_ok-jobs.field-0.jobs.items c.in_ok-jobs.field-0.others.items refused c.in_ok-ended.ended.replies.items ended jobs_are others_are c.in_ok-ended.ensures.ended
+    (front_written c.args.window c.args.desks script c.in_ok-jobs.field-0.jobs.items c.in_ok-jobs.field-0.others.items refused
+    c.in_ok-ended.ended.replies.items ended jobs_are others_are c.in_ok-ended.ensures.ended
     (search rules) c.in_ok-refused.ensures.ascend old new (g.I.Read.remaining c.args.reader.now) read short front)
 
 pub returns-clause-output : goal.returns-clause-output
@@ -37,5 +38,6 @@ returns-clause-output g c =
     let jobs_are : c.in_ok-jobs.field-0.jobs.items ≡ jobs_from c.args.window 0 (errands_of script) = search rules in
     let others_are : c.in_ok-jobs.field-0.others.items ≡ others_from c.args.window 0 (errands_of script) = search rules in
     let writes : WritesOutput (IsEndedText c.args.window refused ended) old new refusal = search rules in
-    all_written c.args.window c.args.desks script c.in_ok-jobs.field-0.jobs.items c.in_ok-jobs.field-0.others.items refused c.in_ok-ended.ended.replies.items ended jobs_are others_are c.in_ok-ended.ensures.ended
+    all_written c.args.window c.args.desks script c.in_ok-jobs.field-0.jobs.items c.in_ok-jobs.field-0.others.items refused
+    c.in_ok-ended.ended.replies.items ended jobs_are others_are c.in_ok-ended.ensures.ended
     (search rules) c.in_ok-refused.ensures.ascend old new (g.I.Read.remaining c.args.reader.now) read short refusal writes

@@ -19,8 +19,10 @@ loop-keeper-preserved g c =
       c.with_kept-all.ensures.count n was.2,
       λ numbered.
           let k = was.3 numbered in
-          let here : AreNumbered n (keeper.promise.desk ∷ map (λ t. t.promise.desk) left) = subst (AreNumbered n) (ap (map (λ t. t.promise.desk)) first) k.0 in (
+          let here : AreNumbered n (keeper.promise.desk ∷ map (λ t. t.promise.desk) left) =
+          subst (AreNumbered n) (ap (map (λ t. t.promise.desk)) first) k.0 in (
             here.1,
-            c.with_kept-all.ensures.kept n k.1 (subst (λ (d : ℕ). IfOk c.join.result (λ v. AreMerged d v.answers.items (published v.held.keeper))) here.0 c.join.ensures),
+            c.with_kept-all.ensures.kept n k.1
+                (subst (λ (d : ℕ). IfOk c.join.result (λ v. AreMerged d v.answers.items (published v.held.keeper))) here.0 c.join.ensures),
           ),
     )

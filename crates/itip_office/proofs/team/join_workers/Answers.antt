@@ -10,10 +10,12 @@ loop-worker-preserved g c = λ desks all.
     let was = c.loop-worker.invariant desks all in
     let worker = c.in-Some.worker in
     let left = into_iter_items c.next.new.self in
-    let both : All (λ t. t.promise.desks ≡ desks) (worker ∷ left) = subst (All (λ t. t.promise.desks ≡ desks)) c.in-Some.ensures.steps.0 was.0 in (
+    let both : All (λ t. t.promise.desks ≡ desks) (worker ∷ left) =
+    subst (All (λ t. t.promise.desks ≡ desks)) c.in-Some.ensures.steps.0 was.0 in (
       All-tail (λ t. t.promise.desks ≡ desks) worker left both,
       c.with_answers-all.ensures desks was.1
-          (subst (λ (n : ℕ). IfOk c.join.result (λ v. All (λ a. AnswersAlone n a.0.work a.1) v.items)) (All-head (λ t. t.promise.desks ≡ desks) worker left both) c.join.ensures),
+          (subst (λ (n : ℕ). IfOk c.join.result (λ v. All (λ a. AnswersAlone n a.0.work a.1) v.items))
+          (All-head (λ t. t.promise.desks ≡ desks) worker left both) c.join.ensures),
     )
 
 pub returns : goal.returns

@@ -6,4 +6,5 @@ use Rattle.itip_office.proofs.team.join_workers.Given as goal
 
 abbrev pub invariant-loop-worker : goal.invariant-loop-worker
 invariant-loop-worker g l = (desks : ℕ) → All (λ t. t.promise.desks ≡ desks) l.fn.workers.items
-    → All (λ t. t.promise.desks ≡ desks) (into_iter_items l.worker-iterator) × IfOk l.all (λ all. All (λ a. AnswersAlone desks a.0.work a.1) all.items)
+    → All (λ t. t.promise.desks ≡ desks) (into_iter_items l.worker-iterator) ×
+    IfOk l.all (λ all. All (λ a. AnswersAlone desks a.0.work a.1) all.items)

@@ -11,7 +11,8 @@ returns-in_err-value c =
     let i = c.loop-b.b-index in
     let cut : drop i word ≡ get_or word i 0 ∷ drop (i + 1) word = rw add-one (drop-cons word i 0 c.loop-b-test.true) in
     c.from_residual.ensures ∙ sym (number_refused word c.loop-b.value (get_or word i 0) (drop (i + 1) word)
-    (c.loop-b.invariant.0 ∙ ap (list_all is_digit) cut) (c.loop-b.invariant.1 ∙ ap (digits_value c.loop-b.value) cut) c.in_err-value.ensures)
+    (c.loop-b.invariant.0 ∙ ap (list_all is_digit) cut) (c.loop-b.invariant.1 ∙ ap (digits_value c.loop-b.value) cut)
+    c.in_err-value.ensures)
 
 pub returns : goal.returns
 returns c =

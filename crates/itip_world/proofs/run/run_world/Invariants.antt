@@ -6,4 +6,5 @@ use Rattle.itip_world.proofs.run.run_world.Given as goal
 -- the world after the events so far, and an outcome of each, with room for those of the others
 abbrev pub invariant-loop-done : goal.invariant-loop-done
 invariant-loop-done l =
-    IsWorldAfter (no_past l.desks) (take l.done l.events) l.world l.outcomes.items × (vec_len l.outcomes ≡ l.done) × (length l.events ≤ vec_capacity l.outcomes)
+    IsWorldAfter (no_past l.desks) (take l.done l.events) l.world l.outcomes.items × (vec_len l.outcomes ≡ l.done) ×
+    (length l.events ≤ vec_capacity l.outcomes)

@@ -12,7 +12,8 @@ returns-in_err-shown-clause-many c = λ spent heard are.
     let p = err_from_is_err_and c.from_residual.result c.from_residual.ensures.1 in
     let given : p.0 ≡ c.in_err-shown.field-0.0 = p.2 in
     let same : p.0 ≡ TooManyRows = error_of p.0 TooManyRows c.from_residual.result p.1 spent in
-    many_where_of_kept (Shows c.args.address.now) c.args.self.now.kept heard are c.args.window (c.in_err-shown.ensures.many (ap Err (sym given ∙ same)))
+    many_where_of_kept (Shows c.args.address.now) c.args.self.now.kept heard are c.args.window
+    (c.in_err-shown.ensures.many (ap Err (sym given ∙ same)))
 
 pub returns-clause-text : goal.returns-clause-text
 returns-clause-text c = λ heard are.

@@ -26,8 +26,10 @@ are_news c =
 -- the UIDs are those that the batch moves
 moved : (c : In_ok-uids) → AreMoved c.in_ok-uids.uids.items c.args.self.now.kept c.args.batch.now
 moved c =
-    let uids : AreUidsOf c.in_ok-uids.uids.items (news c) = subst (λ xs. AreUidsOf c.in_ok-uids.uids.items (map (λ item. item.now) xs)) c.deref.ensures.value c.in_ok-uids.ensures in
-    moved_by_news c.in_ok-uids.uids.items c.args.self.now.kept c.args.batch.now (news c) uids (news_move c.args.self.now.kept c.args.batch.now (news c) (are_news c))
+    let uids : AreUidsOf c.in_ok-uids.uids.items (news c) =
+    subst (λ xs. AreUidsOf c.in_ok-uids.uids.items (map (λ item. item.now) xs)) c.deref.ensures.value c.in_ok-uids.ensures in
+    moved_by_news c.in_ok-uids.uids.items c.args.self.now.kept c.args.batch.now (news c) uids
+    (news_move c.args.self.now.kept c.args.batch.now (news c) (are_news c))
 
 -- what the desk keeps is a state
 state : (c : In_ok-uids) → IsState c.args.self.now.kept
@@ -36,17 +38,20 @@ state c =
     subst IsState kept c.in_ok-news.ensures.state
 
 -- hearing the news is hearing the batch
-kept_with : (c : In_ok-uids) (new : List Item) → AreKept new (c.self.inside.kept ++ news c) → AreKept new (c.args.self.now.kept ++ c.args.batch.now)
+kept_with : (c : In_ok-uids) (new : List Item) → AreKept new (c.self.inside.kept ++ news c) →
+    AreKept new (c.args.self.now.kept ++ c.args.batch.now)
 kept_with c new are_new =
     let kept : c.self.inside.kept ≡ c.args.self.now.kept = ap (λ (d : Shown). d.kept) c.self.view_is in
-    are_kept_by new (c.args.self.now.kept ++ news c) (c.args.self.now.kept ++ c.args.batch.now) (news_kept c.args.self.now.kept c.args.batch.now (news c) (are_news c))
+    are_kept_by new (c.args.self.now.kept ++ news c) (c.args.self.now.kept ++ c.args.batch.now)
+    (news_kept c.args.self.now.kept c.args.batch.now (news c) (are_news c))
     (subst (λ (k : List Item). AreKept new (k ++ news c)) kept are_new)
 
 pub returns-then-is_empty-clause-kept : goal.returns-then-is_empty-clause-kept
 returns-then-is_empty-clause-kept c =
     let before = (goal.at.returns-then-is_empty-clause-kept c).In_ok-uids in
     let none : length c.in_ok-uids.uids.items ≡ 0 = grind arith in
-    none_moved c.args.self.now.kept c.args.batch.now (state before) (none_in c.in_ok-uids.uids.items c.args.self.now.kept c.args.batch.now (moved before) none)
+    none_moved c.args.self.now.kept c.args.batch.now (state before) (none_in
+    c.in_ok-uids.uids.items c.args.self.now.kept c.args.batch.now (moved before) none)
 
 pub returns-then-is_empty-clause-uids : goal.returns-then-is_empty-clause-uids
 returns-then-is_empty-clause-uids c = moved (goal.at.returns-then-is_empty-clause-uids c).In_ok-uids
@@ -61,14 +66,17 @@ pub returns-then-is_empty-clause-carried : goal.returns-then-is_empty-clause-car
 returns-then-is_empty-clause-carried c =
     let before = (goal.at.returns-then-is_empty-clause-carried c).In_ok-uids in
     let none : length c.in_ok-uids.uids.items ≡ 0 = grind arith in
-    nothing_carried c.args.self.now c.args.batch.now (none_in c.in_ok-uids.uids.items c.args.self.now.kept c.args.batch.now (moved before) none)
+    nothing_carried c.args.self.now c.args.batch.now (none_in
+    c.in_ok-uids.uids.items c.args.self.now.kept c.args.batch.now (moved before) none)
 
 pub returns-then-is_empty-clause-step : goal.returns-then-is_empty-clause-step
 returns-then-is_empty-clause-step c = λ steps start.
     let before = (goal.at.returns-then-is_empty-clause-step c).In_ok-uids in
     let none : length c.in_ok-uids.uids.items ≡ 0 = grind arith in
     let same = none_in c.in_ok-uids.uids.items c.args.self.now.kept c.args.batch.now (moved before) none in
-    one_more_step steps start c.args.self.now c.args.self.now c.args.batch.now (none_moved c.args.self.now.kept c.args.batch.now (state before) same) (inr (same, refl)) (still_carry c.args.self.now c.args.batch.now same)
+    one_more_step steps start c.args.self.now c.args.self.now c.args.batch.now
+    (none_moved c.args.self.now.kept c.args.batch.now (state before) same) (inr (same, refl))
+    (still_carry c.args.self.now c.args.batch.now same)
 
 pub returns-then-self-clause-spent : goal.returns-then-self-clause-spent
 returns-then-self-clause-spent c = λ _.
@@ -78,7 +86,10 @@ returns-then-self-clause-spent c = λ _.
     (sym at ∙ c.if-self.true, some_moved c.in_ok-uids.uids.items c.args.self.now.kept c.args.batch.now (moved before) some)
 
 pub returns-clause-kept : goal.returns-clause-kept
-returns-clause-kept c = kept_with (goal.at.returns-clause-kept c).In_ok-uids c.hear.new.self (subst (λ xs. AreKept c.hear.new.self (c.self.inside.kept ++ map (λ item. item.now) xs)) c.deref-3.ensures.value c.in_default.ensures.ok)
+returns-clause-kept c =
+    kept_with (goal.at.returns-clause-kept c).In_ok-uids c.hear.new.self
+    (subst (λ xs. AreKept c.hear.new.self (c.self.inside.kept ++ map (λ item. item.now) xs)) c.deref-3.ensures.value
+    c.in_default.ensures.ok)
 
 pub returns-clause-uids : goal.returns-clause-uids
 returns-clause-uids c = moved (goal.at.returns-clause-uids c).In_ok-uids
@@ -97,10 +108,13 @@ returns-clause-step c = λ steps start.
     let at : c.self.inside.tick ≡ c.args.self.now.tick = ap (λ (d : Shown). d.tick) c.self.view_is in
     let new : Shown = record { kept = c.hear.new.self; tick = c.self.inside.tick + 1; changed = c.mark.new.self } in
     let made = c.in_ok-add_places.ensures.places in
-    one_more_step steps start c.args.self.now new c.args.batch.now (kept_with before c.hear.new.self (subst (λ xs. AreKept c.hear.new.self (c.self.inside.kept ++ map (λ item. item.now) xs)) c.deref-3.ensures.value c.in_default.ensures.ok))
+    one_more_step steps start c.args.self.now new c.args.batch.now
+    (kept_with before c.hear.new.self (subst (λ xs. AreKept c.hear.new.self (c.self.inside.kept ++ map (λ item. item.now) xs))
+    c.deref-3.ensures.value c.in_default.ensures.ok))
     (inl (some_moved c.in_ok-uids.uids.items c.args.self.now.kept c.args.batch.now (moved before) some, ap (λ t. t + 1) at))
     (carry_step c.self.inside.moves made.0 c.mark.new.self made.2 c.in_ok-uids.uids.items (c.self.inside.tick + 1)
-    (λ uid. c.mark.ensures.marked uid ∙ ap (λ us. cond (is_listed us uid) (Some (c.self.inside.tick + 1)) (at_uid c.add_places.new.self uid)) c.deref-4.ensures.value
+    (λ uid. c.mark.ensures.marked uid ∙ ap (λ us. cond (is_listed us uid) (Some (c.self.inside.tick + 1))
+    (at_uid c.add_places.new.self uid)) c.deref-4.ensures.value
     ∙ ap (λ es. cond (is_listed c.in_ok-uids.uids.items uid) (Some (c.self.inside.tick + 1)) (at_uid es uid)) made.1)
     c.args.self.now new c.args.batch.now (sym (ap (λ (d : Shown). d.changed) c.self.view_is)) refl refl (moved before))
 
@@ -110,15 +124,18 @@ returns-clause-carried c =
     let new : Shown = record { kept = c.hear.new.self; tick = c.self.inside.tick + 1; changed = c.mark.new.self } in
     let made = c.in_ok-add_places.ensures.places in
     carried_on c.self.inside.moves made.0 c.mark.new.self made.2 c.in_ok-uids.uids.items (c.self.inside.tick + 1)
-    (λ uid. c.mark.ensures.marked uid ∙ ap (λ us. cond (is_listed us uid) (Some (c.self.inside.tick + 1)) (at_uid c.add_places.new.self uid)) c.deref-4.ensures.value
+    (λ uid. c.mark.ensures.marked uid ∙ ap (λ us. cond (is_listed us uid) (Some (c.self.inside.tick + 1))
+    (at_uid c.add_places.new.self uid)) c.deref-4.ensures.value
     ∙ ap (λ es. cond (is_listed c.in_ok-uids.uids.items uid) (Some (c.self.inside.tick + 1)) (at_uid es uid)) made.1)
     c.args.self.now new c.args.batch.now (sym (ap (λ (d : Shown). d.changed) c.self.view_is)) refl refl (moved before)
 
 pub mark-requires : goal.mark-requires
-mark-requires c = λ uid listed. c.in_ok-add_places.ensures.all uid (ap (λ us. is_listed us uid) (c.deref-2.ensures.value ∙ sym c.deref-4.ensures.value) ∙ listed)
+mark-requires c = λ uid listed. c.in_ok-add_places.ensures.all uid
+    (ap (λ us. is_listed us uid) (c.deref-2.ensures.value ∙ sym c.deref-4.ensures.value) ∙ listed)
 
 pub invariant_of-self-2 : goal.invariant_of-self-2
 invariant_of-self-2 c =
     let made = c.in_ok-add_places.ensures.places in
     c.mark.ensures.falls (subst (FallFrom (c.self.inside.tick + 1)) (sym made.1)
-    (fall_places (c.self.inside.tick + 1) c.self.inside.moves made.0 made.2 (fall_more c.self.inside.tick (c.self.inside.tick + 1) c.self.inside.moves (omega arith) c.self.invariant)))
+    (fall_places (c.self.inside.tick + 1) c.self.inside.moves made.0 made.2
+    (fall_more c.self.inside.tick (c.self.inside.tick + 1) c.self.inside.moves (omega arith) c.self.invariant)))

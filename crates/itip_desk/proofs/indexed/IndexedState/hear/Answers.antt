@@ -8,7 +8,8 @@ use Rattle.itip_desk.proofs.indexed.IndexedState.hear.Goals as goal
 pub hear_others-requires : goal.hear_others-requires
 hear_others-requires c =
     let news : List Item = map (λ item. item.now) c.args.news.now in
-    let none : length c.in_ok-found.found.items ≡ 0 = omega (arith, c.in_ok-found.found.ok, eqb-true _ _ (sym c.is_empty.ensures ∙ c.if-is_empty.true)) in
+    let none : length c.in_ok-found.found.items ≡ 0 =
+    omega (arith, c.in_ok-found.found.ok, eqb-true _ _ (sym c.is_empty.ensures ∙ c.if-is_empty.true)) in
     subst (λ items. AreOfRows (map (λ item. item.now) items) news) (nothing_in c.in_ok-found.found.items none) c.in_ok-found.ensures
 
 pub hear_rows-requires : goal.hear_rows-requires

@@ -11,9 +11,11 @@ use Rattle.itip_desk.proofs.indexed.IndexedState.uids_in.Goals as goal
 
 pub returns : goal.returns
 returns c =
-    if_ok_both (λ uids. (uid : List ℕ) (day : ℤ) → c.args.window.from ≤ℤ day → day <ℤ c.args.window.to → has c.self.inside.index (entry_at uid (Day day)) ≡ true → Contains (map (λ u. u.now) uids.items) uid)
+    if_ok_both (λ uids. (uid : List ℕ) (day : ℤ) → c.args.window.from ≤ℤ day → day <ℤ c.args.window.to →
+    has c.self.inside.index (entry_at uid (Day day)) ≡ true → Contains (map (λ u. u.now) uids.items) uid)
     (λ uids. (uid : List ℕ) → has c.self.inside.index (entry_at uid Always) ≡ true → Contains (map (λ u. u.now) uids.items) uid)
     (λ uids. (uid : List ℕ) → HasRowsIn c.args.self.now c.args.window uid → Contains (map (λ u. u.now) uids.items) uid) c.find_in.result
-    (λ uids days always uid rows. found_in c.self.inside.state c.self.inside.index c.args.window (map (λ u. u.now) uids.items) c.self.invariant days always uid
+    (λ uids days always uid rows. found_in c.self.inside.state c.self.inside.index c.args.window (map (λ u. u.now) uids.items)
+    c.self.invariant days always uid
     (subst (λ (kept : List Item). HasRowsIn kept c.args.window uid) (sym c.self.view_is) rows))
     c.find_in.ensures.days c.find_in.ensures.always

@@ -8,4 +8,5 @@ use Rattle.itip_world.proofs.asked.Desks.answer.Goals as goal
 pub returns-in-Malformed-clause-answers : goal.returns-in-Malformed-clause-answers
 returns-in-Malformed-clause-answers c =
     let asked = c.args.self.now in
-    subst (λ (order : Order). Answers asked.window order asked.world (refused NoCommand) asked.world) (sym (ap order_of c.in-Malformed.is)) (answers_refused asked.window asked.world)
+    subst (λ (order : Order). Answers asked.window order asked.world (refused NoCommand) asked.world) (sym (ap order_of c.in-Malformed.is))
+    (answers_refused asked.window asked.world)

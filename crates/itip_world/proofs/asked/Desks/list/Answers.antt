@@ -16,5 +16,7 @@ returns-in-Ok-clause-answers c =
 pub returns-in-Err-clause-answers : goal.returns-in-Err-clause-answers
 returns-in-Err-clause-answers c =
     let asked = c.args.self.now in
-    too_many c.no_rows.result c.in-Err.error (λ answer. Answers asked.window (lists c.args.desk) asked.world (answer_of answer) asked.world) c.no_rows.ensures.refused
-    (λ many. answers_too_many asked.window asked.world c.args.desk c.in-Some.listed.now c.in-Some.ensures (c.in-Err.ensures.many (ap (λ e. Err e) many)))
+    too_many c.no_rows.result c.in-Err.error (λ answer. Answers asked.window (lists c.args.desk) asked.world (answer_of answer)
+    asked.world) c.no_rows.ensures.refused
+    (λ many. answers_too_many asked.window asked.world c.args.desk c.in-Some.listed.now c.in-Some.ensures
+    (c.in-Err.ensures.many (ap (λ e. Err e) many)))

@@ -5,7 +5,8 @@ use Rattle.itip_world.proofs.Answering.{answers_next, answers_no_next}
 use Rattle.itip_world.proofs.asked.Desks.next.Goals as goal
 
 pub returns-in_default-clause-answers : goal.returns-in_default-clause-answers
-returns-in_default-clause-answers c = answers_no_next c.args.self.now.window c.args.self.now.world c.args.desk c.in_default.ensures c.args.uid.now
+returns-in_default-clause-answers c =
+    answers_no_next c.args.self.now.window c.args.self.now.world c.args.desk c.in_default.ensures c.args.uid.now
 
 pub returns-clause-answers : goal.returns-clause-answers
 returns-clause-answers c =

@@ -6,7 +6,8 @@ use Rattle.itip_world.proofs.Answering.{answers_resend, answers_no_resend}
 use Rattle.itip_world.proofs.asked.Desks.resend.Goals as goal
 
 pub returns-in_default-clause-answers : goal.returns-in_default-clause-answers
-returns-in_default-clause-answers c = answers_no_resend c.args.self.now.window c.args.self.now.world c.args.desk c.in_default.ensures c.args.uid.now
+returns-in_default-clause-answers c =
+    answers_no_resend c.args.self.now.window c.args.self.now.world c.args.desk c.in_default.ensures c.args.uid.now
 
 pub returns-clause-answers : goal.returns-clause-answers
 returns-clause-answers c =

@@ -19,13 +19,15 @@ came c = Posted c.len-number.result (length c.as_slice-items.result.now)
 
 steps : (c : In_ok-push) → Steps (old c) (Post c.args.desk c.args.since) (came c) (new c)
 steps c =
-    let within : c.args.desk < length (old c).desks = subst (λ (w : ShownWorld). c.args.desk < length w.desks) (sym c.self.view_is) c.requires in
+    let within : c.args.desk < length (old c).desks =
+    subst (λ (w : ShownWorld). c.args.desk < length w.desks) (sym c.self.view_is) c.requires in
     let shown = c.index.result.now in
     let number : length (old c).packets ≡ c.len-number.result = grind arith in
     let count : length c.in_ok-batch.batch ≡ length c.as_slice-items.result.now = sym (ap length c.as_slice-items.ensures.items) in
     subst (λ (o : Outcome). Steps (old c) (Post c.args.desk c.args.since) o (new c))
     (ap (λ n. Posted n (length c.in_ok-batch.batch)) number ∙ ap (λ n. Posted c.len-number.result n) count)
-    (steps_post (old c) (new c) c.args.desk c.args.since shown c.in_ok-batch.batch c.of_batch-packet.result (slice_get-get_or (old c).desks c.args.desk shown within ∙ ap Some (sym c.index.ensures))
+    (steps_post (old c) (new c) c.args.desk c.args.since shown c.in_ok-batch.batch c.of_batch-packet.result
+    (slice_get-get_or (old c).desks c.args.desk shown within ∙ ap Some (sym c.index.ensures))
     c.in_ok-batch.ensures c.of_batch-packet.ensures refl c.in_ok-push.ensures.items)
 
 pub returns-clause-step : goal.returns-clause-step

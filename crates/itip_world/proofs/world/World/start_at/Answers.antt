@@ -8,7 +8,8 @@ pub loop-preserved : goal.loop-preserved
 loop-preserved c =
     let more = one_more_desk c.loop.counter c.args.tick c.loop.all.items c.empty_at.result c.loop.invariant c.empty_at.ensures in
     let counted : AreDesksOf (histories_from (c.loop.counter + 1) c.args.tick) (c.loop.all.items ++ c.empty_at.result ∷ []) =
-    subst (λ (n : ℕ). AreDesksOf (histories_from n c.args.tick) (c.loop.all.items ++ c.empty_at.result ∷ [])) (sym (add-one c.loop.counter)) more in
+    subst (λ (n : ℕ). AreDesksOf (histories_from n c.args.tick) (c.loop.all.items ++ c.empty_at.result ∷ []))
+    (sym (add-one c.loop.counter)) more in
     subst (λ (ds : List Shown). AreDesksOf (histories_from (c.loop.counter + 1) c.args.tick) ds) (sym c.in_ok-push.ensures.items) counted
 
 pub invariant_of-result : goal.invariant_of-result

@@ -1,0 +1,168 @@
+//! Cutting a text of many messages, such as a delta, into messages. Nothing is copied: each is a slice of the text.
+ghost use Rattle.std.specs.Prelude.{◌≡◌, ◌<◌, ◌≤◌, [], length, MatchOption, IfSome};
+ghost use Rattle.itip_message.specs.Scanned.{begins_blank, ends_line, line_length, is_return, says, said, is_empty, ends_calendar};
+ghost use Rattle.itip_message.specs.Scanned.{messages_of, CutsMessage, StaysCut};
+ghost use Rattle.itip_message.specs.Passing.{IsFirstLine, StaysFirstLine, SaysFirst, is_left_out};
+ghost use Rattle.itip_lines.specs.Cutting.{is_blank};
+
+const CR: u8 = b'\r';
+
+const LF: u8 = b'\n';
+
+/// The first message of some octets, and what follows it. Empty lines alone are no message.
+///
+/// A message ends behind its line END:VCALENDAR, unfolded and without regard to case, or with the octets.
+pub fn next_message(bytes: &[u8]) -> Option<(&[u8], &[u8])>
+    ensures { MatchOption result (messages_of bytes.now ≡ []) (λ cut. CutsMessage bytes.now cut.0.now cut.1.now) }
+{
+    let mut rest = bytes;
+    let mut all_empty = true;
+    while let Some((line, after)) = first_line(rest) {
+        if ends_calendar(line) {
+            let message = &bytes[..bytes.len() - after.len()];
+            return Some((message, after));
+        }
+        all_empty = all_empty && is_empty(line);
+        rest = after;
+    }
+    if all_empty { None } else { Some((bytes, &[])) }
+}
+
+/// The first message of some octets that others may follow, and what stands behind it. `None` where it is not known yet
+/// where the first message ends: a line is at its end only where an octet behind it shows that no fold goes on.
+pub fn whole_message(bytes: &[u8]) -> Option<(&[u8], &[u8])>
+    ensures { IfSome result (λ cut. StaysCut bytes.now cut.0.now cut.1.now) }
+{
+    let mut rest = bytes;
+    while let Some((line, after)) = whole_line(rest) {
+        if ends_calendar(line) {
+            let message = &bytes[..bytes.len() - after.len()];
+            return Some((message, after));
+        }
+        rest = after;
+    }
+    None
+}
+
+/// The first line as it came, with its folds and its break, and what follows it, where an octet behind shows that it is at its end.
+fn whole_line(bytes: &[u8]) -> Option<(&[u8], &[u8])>
+    ensures stays { IfSome result (λ cut. StaysFirstLine bytes.now cut.0.now cut.1.now) }
+    ensures shorter { IfSome result (λ cut. length cut.1.now < length bytes.now) }
+{
+    let end = line_length(bytes);
+    if end < bytes.len() {
+        Some((&bytes[..end], &bytes[end..]))
+    } else {
+        None
+    }
+}
+
+/// The first line as it came, with its folds and its break, and what follows it.
+fn first_line(bytes: &[u8]) -> Option<(&[u8], &[u8])>
+    ensures { MatchOption result (bytes.now ≡ []) (λ cut. IsFirstLine bytes.now cut.0.now cut.1.now) }
+{
+    if bytes.is_empty() {
+        return None;
+    }
+    let end = line_length(bytes);
+    Some((&bytes[..end], &bytes[end..]))
+}
+
+fn line_length(bytes: &[u8]) -> usize
+    ensures exact { result ≡ line_length bytes.now }
+    ensures within { result ≤ length bytes.now }
+{
+    let mut rest = bytes;
+    while let [b, after @ ..] = rest {
+        if ends_line(*b, after) {
+            return bytes.len() - after.len();
+        }
+        rest = after;
+    }
+    bytes.len()
+}
+
+fn ends_line(b: u8, after: &[u8]) -> bool
+    ensures { result ≡ ends_line b after.now }
+{
+    b == LF && !begins_blank(after)
+}
+
+fn begins_blank(bytes: &[u8]) -> bool
+    ensures { result ≡ begins_blank bytes.now }
+{
+    match bytes {
+        [b, ..] => is_blank(*b),
+        [] => false,
+    }
+}
+
+fn is_blank(b: u8) -> bool
+    ensures { result ≡ is_blank b }
+{
+    b == b' ' || b == b'\t'
+}
+
+/// Whether the octet is the CR of a break.
+fn is_return(b: u8, after: &[u8]) -> bool
+    ensures { result ≡ is_return b after.now }
+{
+    match after {
+        [c, ..] => b == CR && *c == LF,
+        [] => false,
+    }
+}
+
+fn ends_calendar(line: &[u8]) -> bool
+    ensures { result ≡ ends_calendar line.now }
+{
+    says(line, b"END:VCALENDAR")
+}
+
+fn is_empty(line: &[u8]) -> bool
+    ensures { result ≡ is_empty line.now }
+{
+    says(line, b"")
+}
+
+/// Whether a line, unfolded and without its break, is a word without regard to case. The word is given in upper case.
+fn says(line: &[u8], word: &[u8]) -> bool
+    ensures { result ≡ says line.now word.now }
+{
+    let mut left = word;
+    let mut rest = line;
+    while let Some((b, after)) = first_said(rest) {
+        let [first, others @ ..] = left else {
+            return false;
+        };
+        if b.to_ascii_uppercase() != *first {
+            return false;
+        }
+        rest = after;
+        left = others;
+    }
+    left.is_empty()
+}
+
+/// The first octet that a line says, and what follows it.
+fn first_said(line: &[u8]) -> Option<(u8, &[u8])>
+    ensures { MatchOption result (said line.now ≡ []) (λ cut. SaysFirst line.now cut.0 cut.1.now) }
+{
+    let mut rest = line;
+    let mut is_behind = false;
+    while let [b, after @ ..] = rest {
+        if !is_left_out(*b, is_behind, after) {
+            return Some((*b, after));
+        }
+        is_behind = *b == LF;
+        rest = after;
+    }
+    None
+}
+
+/// Whether an octet is of a break, or is the blank behind one.
+fn is_left_out(b: u8, is_behind: bool, after: &[u8]) -> bool
+    ensures { result ≡ is_left_out b is_behind after.now }
+{
+    b == LF || is_return(b, after) || (is_behind && is_blank(b))
+}
