@@ -1,8 +1,7 @@
 //! One run of the program: its words, and what they ask for.
-ghost use Rattle.std.specs.Prelude.{◌≡◌};
 ghost use Rattle.itip_words.specs.Words.{AreDesks, AreWorkers};
 
-use crate::tell::{Explainer, Progress};
+use crate::tell::{Explainer, Progress, complain};
 use itip_inbox::{Notation, Watch, check, compact, list, list_records};
 use itip_office::{ScriptError, run_jobs};
 use itip_streams::StreamFault;
@@ -17,6 +16,8 @@ use std::sync::Wait;
 use std::thread::Threads;
 use std::{env, io};
 
+const BAD_WORDS: u8 = 2;
+
 const FAULT: u8 = 3;
 
 /// Runs the program and gives its status; `is_terminal` says whether standard error is one.
@@ -29,7 +30,7 @@ pub(crate) fn status<
         Err(error) if error.kind() == io::ErrorKind::OutOfMemory => {
             return complain(rt, &"no memory", FAULT);
         }
-        Err(_) => return complain(rt, &"bad words", 2),
+        Err(_) => return complain(rt, &"bad words", BAD_WORDS),
     };
     match read_words(rt.alloc(), words.as_slice()) {
         Ok(Call::Run(scripted)) => ended(rt, run(rt, scripted)),
@@ -40,7 +41,7 @@ pub(crate) fn status<
             Ok(()) => 0,
             Err(_) => complain(rt, &"write failed", FAULT),
         },
-        Err(NoCall::BadWords) => complain(rt, &"bad words", 2),
+        Err(NoCall::BadWords) => complain(rt, &"bad words", BAD_WORDS),
         Err(NoCall::NoMemory) => complain(rt, &"no memory", FAULT),
     }
 }
@@ -154,12 +155,4 @@ fn ended<R: Eprint, E: Display + Drop>(rt: &R, done: Result<bool, E>) -> u8 {
         Ok(true) => 1,
         Err(fault) => complain(rt, &fault, FAULT),
     }
-}
-
-// Where standard error takes no text, the status alone says what was wrong.
-fn complain<R: Eprint, T: Display>(rt: &R, what: &T, status: u8) -> u8
-    ensures { result ≡ status }
-{
-    let _ = eprintln!(rt; "itipdesk: {what}");
-    status
 }

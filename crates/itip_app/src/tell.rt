@@ -1,7 +1,10 @@
 //! What is said on standard error: what was refused, where and why, and how far the reading is. What can't be written there is left out.
+ghost use Rattle.std.specs.Prelude.{◌≡◌};
+
 use itip_desk::Refusal;
 use itip_message::MessageRefusal;
 use itip_script::Command;
+use std::fmt::Display;
 
 /// Names refused messages by number, and shows the progress.
 #[derive(Drop)]
@@ -111,4 +114,12 @@ fn name(command: &Command<'_>) -> &'static str {
         Command::Entries { .. } => "entries",
         Command::Malformed => "command",
     }
+}
+
+/// Says why nothing is done, and gives the status. Where standard error takes no text, the status alone says what was wrong.
+pub(crate) fn complain<R: Eprint, T: Display>(rt: &R, what: &T, status: u8) -> u8
+    ensures { result ≡ status }
+{
+    let _ = eprintln!(rt; "itipdesk: {what}");
+    status
 }
