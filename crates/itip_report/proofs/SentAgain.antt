@@ -1,4 +1,4 @@
--- What is sent again of a to-do of which no instance stands is a message.
+-- What is sent again of a to-do of which no instance and no range stands is a message.
 use Rattle.std.proofs.Common.{◌≡◌, ℕ, List, [], ◌∷◌, sym, ◌∙◌, ap, subst, append-nil}
 use Rattle.std.specs.List.{flat_map}
 use Rattle.itip_message.specs.Message.{ReadsMessage}

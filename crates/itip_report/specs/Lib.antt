@@ -3,6 +3,5 @@ pub mod Reports
 pub mod Load
 pub mod Progress
 pub mod Organizing
-pub mod Live
 pub mod Sought
 pub mod Tally

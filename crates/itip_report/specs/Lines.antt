@@ -11,7 +11,8 @@ use Rattle.itip_items.specs.KeyParts.{uid_of, rank_of, instance_of, attendee_of}
 use Rattle.itip_items.specs.declared.item.Item.{Item}
 use Rattle.itip_items.specs.declared.key.Key.{Key}
 
--- by UID, then the to-do as a whole before its instances by moment, then by attendee, an instance before a range and an answer before a refresh request
+-- by UID, then the to-do as a whole before its instances and ranges by moment, then by attendee, then by rank: an instance
+-- before a range, and an answer before a refresh request
 abbrev pub place_cmp : Key → Key → Ordering
 place_cmp a b =
     ordering_then (slice_cmp nat_cmp (uid_of a) (uid_of b))

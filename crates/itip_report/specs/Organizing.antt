@@ -7,11 +7,11 @@ use Rattle.itip_view.specs.Standing.{IsLiveSeries}
 use Rattle.itip_report.specs.Lines.{AreReported}
 use Rattle.itip_report.specs.Reports.{IsStanding}
 
--- the instance and range items of a UID that stand, by moment, an instance before a range
+-- the overrides of a UID: its instance and range items that stand, by moment, an instance before a range of its moment
 abbrev pub AreStanding : List Item → List ℕ → List Item → Type 0
 AreStanding heard uid items = AreReported (IsStanding heard uid) items
 
--- the canonical messages of the live series item, and then of the instance and range items that stand
+-- the canonical messages of the live series item, and then of the overrides
 pub record IsResend (heard : List Item) (uid : List ℕ) (bytes : List ℕ) : Type 0 where
   pub series : Item
   pub live : IsLiveSeries heard uid series
@@ -28,7 +28,8 @@ IsResendOf heard uid (Some bytes) = IsResend heard uid bytes
 abbrev pub last_sequence : ℕ
 last_sequence = 2_147_483_647
 
--- One more than the greatest effective sequence of the kept items of the organizer of a UID, or 0 where there is none; none is left after the greatest there is.
+-- One more than the greatest effective sequence of the kept items of the organizer of a UID, or 0 where there is none; none
+-- is left after the greatest there is.
 abbrev pub IsNext : List Item → List ℕ → Option ℕ → Type 0
 IsNext heard uid None = IsLastUsed heard uid (Some last_sequence)
 IsNext heard uid (Some zero) = IsLastUsed heard uid None

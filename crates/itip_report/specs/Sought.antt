@@ -1,12 +1,18 @@
 -- What is looked for among the kept items of one UID (our own form).
 use Rattle.std.specs.Prelude.{◌≡◌}
+use Rattle.std.specs.List.{Contains}
 use Rattle.itip_items.specs.declared.item.Item.{Item}
-use Rattle.itip_state.specs.OfUid.{UidPart}
+use Rattle.itip_state.specs.OfUid.{UidPart, IsUidPart}
 use Rattle.itip_report.specs.Reports.{IsStanding, IsCancellation, IsOrphan, IsWanted}
 use Rattle.itip_report.specs.declared.report.Report.{Report}
 use Rattle.itip_report.specs.declared.report.Report.TheVariants as report
 use Rattle.itip_report.specs.declared.sought.Sought.{Sought}
 use Rattle.itip_report.specs.declared.sought.Sought.TheVariants as sought
+
+-- an item of what is kept of a UID
+pub record IsAmong (part : UidPart) (item : Item) : Type 0 where
+  pub part_is : IsUidPart part
+  pub there : Contains part.items item
 
 -- the ranges that it is measured by are of these items
 abbrev pub IsOver : UidPart → Sought → Type 0

@@ -10,7 +10,8 @@ abbrev pub one_if : Bool → ℕ
 one_if true = 1
 one_if false = 0
 
--- what was counted of an attendee: the rows done that show him, and the row at hand where it has shown him so far; the place of the last of them
+-- what was counted of an attendee: the rows done that show him, and the row at hand where it has shown him so far; the place
+-- of the last of them
 pub record IsCounted (done : List Row) (before : List (List ℕ)) (key : List ℕ) (seen : Tallied) : Type 0 where
   pub rows : seen.rows ≡ rows_with key done + one_if (list_any (same_text key) before)
   pub here : list_any (same_text key) before ≡ true → seen.last ≡ length done

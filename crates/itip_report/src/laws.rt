@@ -2,26 +2,30 @@
 ghost use Rattle.std.specs.Prelude.{◌≡◌, ◌∷◌, [], ℕ, List, Option};
 ghost use Rattle.itip_message.specs.Message.{ReadsMessage};
 ghost use Rattle.itip_items.specs.declared.item.Item.{Item};
-ghost use Rattle.itip_state.specs.Kept.{AreKept};
+ghost use Rattle.itip_view.specs.OfKept.{FollowsFromKept};
 ghost use Rattle.itip_report.specs.Reports.{AreReportLines};
 ghost use Rattle.itip_report.specs.Organizing.{IsResend, IsResendOf, IsNext};
 ghost use Rattle.itip_report.specs.declared.report.Report.{Report};
 
 /// What the reports say of what is kept is what they say of all that was heard (our own rules).
 pub fn reports_of_kept()
-    ensures lines { (kept heard : List Item) → AreKept kept heard → (report : Report) (lines : List (List ℕ)) → AreReportLines report kept lines → AreReportLines report heard lines }
-    ensures resend { (kept heard : List Item) → AreKept kept heard → (uid : List ℕ) (bytes : Option (List ℕ)) → IsResendOf kept uid bytes → IsResendOf heard uid bytes }
-    ensures next { (kept heard : List Item) → AreKept kept heard → (uid : List ℕ) (next : Option ℕ) → IsNext kept uid next → IsNext heard uid next }
+    ensures lines { (report : Report) (lines : List (List ℕ)) → FollowsFromKept (λ heard. AreReportLines report heard lines) }
+    ensures resend { (uid : List ℕ) (bytes : Option (List ℕ)) → FollowsFromKept (λ heard. IsResendOf heard uid bytes) }
+    ensures next { (uid : List ℕ) (next : Option ℕ) → FollowsFromKept (λ heard. IsNext heard uid next) }
 {}
 
 /// Each report has one answer (our own rules).
 pub fn one_report()
-    ensures lines { (heard : List Item) (report : Report) (lines others : List (List ℕ)) → AreReportLines report heard lines → AreReportLines report heard others → lines ≡ others }
-    ensures resend { (heard : List Item) (uid : List ℕ) (bytes others : Option (List ℕ)) → IsResendOf heard uid bytes → IsResendOf heard uid others → bytes ≡ others }
-    ensures next { (heard : List Item) (uid : List ℕ) (next other : Option ℕ) → IsNext heard uid next → IsNext heard uid other → next ≡ other }
+    ensures lines { (heard : List Item) (report : Report) (lines others : List (List ℕ)) → AreReportLines report heard lines
+        → AreReportLines report heard others → lines ≡ others }
+    ensures resend { (heard : List Item) (uid : List ℕ) (bytes others : Option (List ℕ)) → IsResendOf heard uid bytes
+        → IsResendOf heard uid others → bytes ≡ others }
+    ensures next { (heard : List Item) (uid : List ℕ) (next other : Option ℕ) → IsNext heard uid next
+        → IsNext heard uid other → next ≡ other }
 {}
 
-/// What is sent again of a to-do of which no instance stands is a message that gives its one item.
+/// What is sent again of a to-do of which no instance and no range stands is a message that gives its one item.
 pub fn resend_is_read()
-    ensures { (heard : List Item) (uid bytes : List ℕ) (sent : IsResend heard uid bytes) → sent.overrides ≡ [] → ReadsMessage bytes (sent.series ∷ []) }
+    ensures { (heard : List Item) (uid bytes : List ℕ) (sent : IsResend heard uid bytes)
+        → sent.overrides ≡ [] → ReadsMessage bytes (sent.series ∷ []) }
 {}

@@ -1,8 +1,7 @@
-//! What an office asks of a desk beside its list: who carries how much, how far it is, what is cancelled, which answers belong to nothing, who waits for a newer
-//! revision, what to send again, and the next sequence to use.
+//! What an office asks of a desk beside its list: who carries how much, how far it is, what is cancelled, which answers belong
+//! to nothing, who waits for a newer revision, what to send again, and the next sequence to use.
 #![tactic(auto)]
 
-mod governing;
 mod laws;
 mod line;
 mod lines;

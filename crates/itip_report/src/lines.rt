@@ -10,7 +10,8 @@ use crate::reported::reported;
 use itip_state::State;
 use std::alloc::Global;
 
-/// What is cancelled: `uid -` for each cancelled to-do, `uid id` for each cancelled instance that stands, `uid id+` for each cancelled range that stands.
+/// What is cancelled: `uid -` for each cancelled to-do, `uid id` for each cancelled instance that stands, `uid id+` for each
+/// cancelled range that stands.
 pub fn cancelled(alloc: Global, state: &State) -> Result<Vec<String>, NoMemory>
     ensures { IfOk result (λ lines. AreReportLines Report.Cancelled state.now (map string_bytes lines.items)) }
 {

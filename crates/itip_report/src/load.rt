@@ -2,7 +2,6 @@
 ghost use Rattle.std.specs.Prelude.{◌≡◌, ◌<◌, ◌++◌, ◌∷◌, [], ℕ, List, IfOk, OnOk, codes, length, map};
 ghost use Rattle.std.specs.Fmt.{decimal};
 ghost use Rattle.std.specs.Map.{lookup};
-ghost use Rattle.std.specs.Option.{option_copied};
 ghost use Rattle.std.specs.String.{string_bytes};
 ghost use Rattle.itip_view.specs.declared.row.Row.{Row};
 ghost use Rattle.itip_report.specs.Load.{load_lines, same_text};
@@ -22,8 +21,8 @@ struct Tallied {
     last: usize,
 }
 
-/// `address count` for each attendee whom rows show: the address with ASCII letters in lower case, and the number of rows that show him, in the order of
-/// first appearance.
+/// `address count` for each attendee whom rows show: the address with ASCII letters in lower case, and the number of rows that
+/// show him, in the order of first appearance.
 pub fn load_by_attendee(alloc: Global, rows: &[Row]) -> Result<Vec<String>, NoMemory>
     ensures { IfOk result (λ lines. map string_bytes lines.items ≡ load_lines rows.now) }
 {
@@ -67,7 +66,8 @@ fn count_row(
     place: usize,
 ) -> Result<(), NoMemory>
     requires { place < usize.MAX }
-    ensures { OnOk result ((done : List Row) → length done ≡ place → IsTally done [] tally.old.entries → IsTally (done ++ row.now ∷ []) [] tally.new.entries) }
+    ensures { OnOk result ((done : List Row) → length done ≡ place
+        → IsTally done [] tally.old.entries → IsTally (done ++ row.now ∷ []) [] tally.new.entries) }
 {
     for attendee in row.attendees.as_slice() {
         let key = attendee_key(alloc, attendee.address.as_str())?;
@@ -79,7 +79,8 @@ fn count_row(
 /// Counts the row at a place for one attendee, unless it was counted for him.
 fn count(tally: &mut IndexMap<Text, Tallied>, key: Text, place: usize) -> Result<(), NoMemory>
     requires { place < usize.MAX }
-    ensures { OnOk result ((done : List Row) (before : List (List ℕ)) → length done ≡ place → IsTally done before tally.old.entries → IsTally done (before ++ key ∷ []) tally.new.entries) }
+    ensures { OnOk result ((done : List Row) (before : List (List ℕ)) → length done ≡ place
+        → IsTally done before tally.old.entries → IsTally done (before ++ key ∷ []) tally.new.entries) }
 {
     let Some(rows) = rows_before(tally, &key, place) else {
         return Ok(());

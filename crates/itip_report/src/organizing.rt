@@ -5,15 +5,15 @@ ghost use Rattle.std.specs.Option.{option_map};
 ghost use Rattle.itip_report.specs.Organizing.{IsResendOf, IsNext};
 
 use crate::NoMemory;
-use crate::governing::if_live;
 use crate::sought::{Sought, sought_items};
 use itip_items::Item;
 use itip_state::{ItemsOfUid, State};
 use itip_todo::Uid;
+use itip_view::if_live;
 use std::alloc::Global;
 
-/// The messages to send again of a UID: the canonical octets of its live series item, then those of the instance and range items that stand, by
-/// moment, an instance before a range; `None` where no series item of the UID is live.
+/// The messages to send again of a UID: the canonical octets of its live series item, then those of the instance and range
+/// items that stand, by moment, an instance before a range of its moment; `None` where no series item of the UID is live.
 pub fn resend(alloc: Global, state: &State, uid: &Uid) -> Result<Option<Vec<u8>>, NoMemory>
     ensures { IfOk result (λ messages. IsResendOf state.now uid.now (option_map (λ bytes. bytes.items) messages)) }
 {
@@ -45,8 +45,8 @@ fn put_messages(out: &mut Vec<u8>, items: &[&Item]) -> Result<(), NoMemory>
     Ok(())
 }
 
-/// The next SEQUENCE to use for a UID (RFC 5545 3.8.7.4): one more than the greatest effective sequence of its kept items of REQUEST, ADD and CANCEL, or 0
-/// where there is none; `None` where 2147483647 was used. It takes no memory.
+/// The next SEQUENCE to use for a UID (RFC 5545 3.8.7.4): one more than the greatest effective sequence of its kept items of
+/// REQUEST, ADD and CANCEL, or 0 where there is none; `None` where 2147483647 was used. It takes no memory.
 pub fn next_seq(state: &State, uid: &Uid) -> Option<u32>
     ensures { IsNext state.now uid.now result }
 {

@@ -7,7 +7,8 @@ use crate::NoMemory;
 use itip_items::{Item, Key};
 use std::cmp::Ordering;
 
-/// By UID, then the to-do as a whole before its instances, then by attendee, an answer before a refresh request.
+/// By UID, then the to-do as a whole before its instances and ranges by moment, then by attendee, then by rank: an instance
+/// before a range, and an answer before a refresh request.
 fn compare_places(key: &Key, other: &Key) -> Ordering
     ensures { result ≡ place_cmp key.now other.now }
 {

@@ -1,7 +1,7 @@
 //! The reports over kept items.
 
-/// A report over the kept items of a desk. Its lines are by UID, then the to-do as a whole before its instances by moment, then by attendee, an answer
-/// before a refresh request.
+/// A report over the kept items of a desk. Its lines are by UID, then the to-do as a whole before its instances and ranges by
+/// moment, an instance before a range of its moment, then by attendee, an answer before a refresh request.
 #[derive(Clone, Copy, Debug, PartialEq, Eq)]
 pub enum Report {
     /// What is cancelled.

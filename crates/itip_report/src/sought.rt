@@ -5,18 +5,16 @@ ghost use Rattle.itip_items.specs.KeyParts.{instance_of};
 ghost use Rattle.itip_items.specs.declared.item.Item.{Item};
 ghost use Rattle.itip_moment.specs.declared.moment.Moment.{Moment};
 ghost use Rattle.itip_report.specs.Lines.{AreReported};
-ghost use Rattle.itip_report.specs.Live.{IsAmong};
-ghost use Rattle.itip_report.specs.Reports.{IsCancellation, IsOrphan, IsWanted, IsOfAttendee, IsRefresh};
-ghost use Rattle.itip_report.specs.Sought.{IsOver, IsSought, IsFor};
+ghost use Rattle.itip_report.specs.Reports.{IsStanding, IsCancellation, NoneAtInstance, IsOrphan, IsWanted, IsOfAttendee, IsRefresh};
+ghost use Rattle.itip_report.specs.Sought.{IsAmong, IsOver, IsSought, IsFor};
 
 use crate::NoMemory;
-use crate::governing::{governing, is_standing, none_at_instance};
 use crate::places::by_place;
 use crate::report::Report;
 use itip_items::{Item, Key};
 use itip_moment::Moment;
 use itip_state::ItemsOfUid;
-use itip_view::{Ranges, is_live};
+use itip_view::{Ranges, governing, is_live, stands_beside};
 use std::alloc::Global;
 
 /// What is looked for among the kept items of one UID.
@@ -82,6 +80,17 @@ fn is_sought<'a>(items: &ItemsOfUid<'a>, sought: &Sought<'_, 'a>, item: &Item) -
     }
 }
 
+/// Whether one of the kept items of a UID is an instance or range item that stands.
+fn is_standing(items: &ItemsOfUid<'_>, item: &Item) -> bool
+    requires { IsAmong items.now item.now }
+    ensures { IsTrue result ↔ IsStanding items.now.items items.now.uid item.now }
+{
+    match &item.key {
+        Key::Instance(_, _) | Key::Range(_, _) => stands_beside(items.series(), item),
+        Key::Series(_) | Key::Answer(_, _, _) | Key::Refresh(_, _, _) => false,
+    }
+}
+
 /// Whether an item cancels the to-do, or an instance at which it stands, or all from one on.
 fn is_cancellation(items: &ItemsOfUid<'_>, item: &Item) -> bool
     requires { IsAmong items.now item.now }
@@ -107,6 +116,16 @@ fn is_orphan(items: &ItemsOfUid<'_>, item: &Item) -> bool
     match items.series() {
         Some(_) => false,
         None => none_at_instance(items, id),
+    }
+}
+
+/// Whether no instance item is kept at the instance that is named, where one is named.
+fn none_at_instance(items: &ItemsOfUid<'_>, id: &Option<Moment>) -> bool
+    ensures { IsTrue result ↔ NoneAtInstance items.now.items items.now.uid id.now }
+{
+    match id {
+        Some(at) => items.instance(at).is_none(),
+        None => true,
     }
 }
 

@@ -4,6 +4,7 @@ pub mod Sequences
 pub mod Alike
 pub mod OneList
 pub mod OneRow
+pub mod Governed
 pub mod Beside
 pub mod Deciding
 pub mod InDays

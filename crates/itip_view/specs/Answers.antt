@@ -55,7 +55,9 @@ unless_removed kind.Refresh attendee = Some attendee
 -- what an ATTENDEE line shows where this answer decides; with none the line stands as it is, and no percentage
 abbrev pub shown_line : Property → Option Item → Option ShownAttendee
 shown_line line None = Some (record { address = line.value; partstat = partstat_of line.params; percent = None })
-shown_line line (Some answer) = unless_removed answer.kind (record { address = line.value; partstat = partstat_in answer.todo.attendees; percent = answer.todo.percent })
+shown_line line (Some answer) =
+    unless_removed answer.kind
+    (record { address = line.value; partstat = partstat_in answer.todo.attendees; percent = answer.todo.percent })
 
 abbrev pub in_front : Option ShownAttendee → List ShownAttendee → List ShownAttendee
 in_front None others = others

@@ -57,4 +57,5 @@ module _ (view : UidView) where
 
   -- a row with this name and these dates, and what else it shows of the item that governs it
   abbrev pub IsRowWith : Item → RowId → Option Moment → Option Moment → List Question → Row → Type 0
-  IsRowWith item id start due questions row = IsRowOf view.items.now.items item view.items.now.uid id start due (asked_by view.items.now.uid questions) row
+  IsRowWith item id start due questions row =
+      IsRowOf view.items.now.items item view.items.now.uid id start due (asked_by view.items.now.uid questions) row

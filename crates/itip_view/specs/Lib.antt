@@ -12,3 +12,4 @@ pub mod ListText
 pub mod Showing
 pub mod Shown
 pub mod RowDays
+pub mod OfKept

@@ -24,7 +24,9 @@ id_text (At moment) = shown_moment moment
 id_text Opaque = codes "opaque"
 
 abbrev pub attendee_text : ShownAttendee → List ℕ
-attendee_text a = codes "  ATTENDEE " ++ (a.address ++ (codes " " ++ (partstat_text a.partstat ++ (codes " " ++ (shown decimal a.percent ++ codes "\n")))))
+attendee_text a =
+    codes "  ATTENDEE " ++ (a.address
+    ++ (codes " " ++ (partstat_text a.partstat ++ (codes " " ++ (shown decimal a.percent ++ codes "\n")))))
 
 -- UID and identifier
 abbrev pub names_text : Row → List ℕ
@@ -49,7 +51,9 @@ abbrev pub progress_text : Row → List ℕ
 progress_text row = codes "  PROGRESS " ++ (shown decimal row.progress ++ codes "\n")
 
 abbrev pub row_text : Row → List ℕ
-row_text row = names_text row ++ (numbers_text row ++ (dates_text row ++ (summary_text row ++ (flat_map attendee_text row.attendees ++ progress_text row))))
+row_text row =
+    names_text row ++ (numbers_text row
+    ++ (dates_text row ++ (summary_text row ++ (flat_map attendee_text row.attendees ++ progress_text row))))
 
 abbrev pub list_text : List Row → List ℕ
 list_text rows = flat_map row_text rows

@@ -46,7 +46,8 @@ abbrev pub asked_by : List ℕ → List Question → Property → List Asked
 asked_by uid questions line = asked_of uid questions (attendee_key line.value)
 
 -- a row with this name and these dates, and what else it shows of the item that governs it
-pub record IsRowOf (heard : List Item) (item : Item) (uid : List ℕ) (id : RowId) (start due : Option Moment) (asked : Property → List Asked) (row : Row) : Type 0 where
+pub record IsRowOf (heard : List Item) (item : Item) (uid : List ℕ) (id : RowId) (start due : Option Moment)
+    (asked : Property → List Asked) (row : Row) : Type 0 where
   pub uid_is : row.uid ≡ uid
   pub id_is : row.id ≡ id
   pub fields : HasFields item row
@@ -83,7 +84,8 @@ pub record IsOccurrence (heard : List Item) (window : Window) (uid : List ℕ) (
 abbrev pub AreOccurrencesOf : List Item → Window → List ℕ → List Moment → Type 0
 AreOccurrencesOf heard window uid moments = (at : Moment) → Contains moments at ↔ IsOccurrence heard window uid at
 
--- what governs where no instance item stands: the live series item of the UID, or a range item; nothing is known of them where nothing occurs in the window
+-- what governs where no instance item stands: the live series item of the UID, or a range item; nothing is known of them
+-- where nothing occurs in the window
 abbrev pub IsBetween : UidPart → Window → Option Between → Type 0
 IsBetween part window None = (at : Moment) → ¬ IsOccurrence part.items window part.uid at
 IsBetween part window (Some between) = IsLiveSeries part.items part.uid between.series.item.now × (between.ranges ≡ part)

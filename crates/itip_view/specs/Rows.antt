@@ -1,5 +1,6 @@
--- The rows of a task list (our own rules): one for each standing live instance, one for each occurrence of a live series at which no instance stands and which an item governs, and one
--- for each live to-do that doesn't recur or whose recurrence isn't expanded.
+-- The rows of a task list (our own rules): one for each standing live instance, one for each occurrence of a live series at
+-- which no instance stands and which an item governs, and one for each live to-do that doesn't recur or whose recurrence
+-- isn't expanded.
 use Rattle.std.specs.Prelude.{◌≡◌, ◌⊎◌, ℕ, ◌<◌, ℤ, pos, ◌-ℤ◌, List, [], ◌∷◌, Option, Some, None, unwrap_or, length, max}
 use Rattle.std.specs.Option.{option_map, option_cmp}
 use Rattle.std.specs.List.{Contains, AllPairs}
@@ -19,7 +20,7 @@ use Rattle.itip_recur.specs.declared.series.Shape.TheVariants as shape
 use Rattle.itip_items.specs.declared.item.Item.{Item}
 use Rattle.itip_view.specs.Answers.{Asked, AreShown, answer_key}
 use Rattle.itip_view.specs.Progress.{progress_of}
-use Rattle.itip_view.specs.Standing.{IsLive, HaveOneForm, NoneStands, Rules, NoneRules, IsLiveSeries, IsLiveInstance}
+use Rattle.itip_view.specs.Standing.{IsLive, HaveOneForm, NoneStands, Rules, NoneRules, IsLiveSeries, IsLiveInstance, Governs}
 use Rattle.itip_view.specs.Window.{IsInWindow}
 use Rattle.itip_view.specs.declared.row.Row.{Row}
 use Rattle.itip_view.specs.declared.row.RowId.{RowId}
@@ -59,9 +60,11 @@ instance_answers uid at item line = answers_since item.own uid (Some at) line �
 abbrev pub occurrence_answers : List ℕ → Moment → Item → Property → List Asked
 occurrence_answers uid at item line = answers_since item.own uid (Some at) line ∷ answers_since item.own uid None line ∷ []
 
--- on the row of an occurrence that a range item rules the same, where those to the to-do as a whole are no earlier than the series item either
+-- on the row of an occurrence that a range item rules the same, where those to the to-do as a whole are no earlier than the
+-- series item either
 abbrev pub range_answers : List ℕ → Moment → Item → Item → Property → List Asked
-range_answers uid at item series line = answers_since item.own uid (Some at) line ∷ answers_since (max item.own series.own) uid None line ∷ []
+range_answers uid at item series line =
+    answers_since item.own uid (Some at) line ∷ answers_since (max item.own series.own) uid None line ∷ []
 
 -- on any other row those to the to-do as a whole
 abbrev pub series_answers : List ℕ → Item → Property → List Asked
@@ -120,8 +123,8 @@ pub record IsOccurrenceRow (heard : List Item) (window : Window) (row : Row) : T
   pub attendees : AreShown heard (occurrence_answers row.uid at item) item.todo.attendees row.attendees
   pub progress : HasProgress row
 
--- A date of a range item as an occurrence shows it: moved as far as the occurrence lies from the id; absent where its form or zone isn't that of the id, and
--- where it can't be moved.
+-- A date of a range item as an occurrence shows it: moved as far as the occurrence lies from the id; absent where its form or
+-- zone isn't that of the id, and where it can't be moved.
 abbrev pub IsDateFrom : Moment → Moment → Moment → Option Moment → Type 0
 IsDateFrom date from at None = HaveOneForm from date → CanShift date (days_to from at) (seconds_to from at) → ⊥
 IsDateFrom date from at (Some shown) = HaveOneForm from date × IsMoved date from at shown
@@ -194,13 +197,20 @@ pub record IsOpaqueRow (heard : List Item) (window : Window) (row : Row) : Type 
 -- the row is one of the view of a set in a window
 abbrev pub IsRow : List Item → Window → Row → Type 0
 IsRow heard window row =
-    IsInstanceRow heard window row ⊎ (IsOccurrenceRow heard window row ⊎ (IsRangeRow heard window row ⊎ (IsSingleRow heard window row ⊎ IsOpaqueRow heard window row)))
+    IsInstanceRow heard window row ⊎ (IsOccurrenceRow heard window row
+    ⊎ (IsRangeRow heard window row ⊎ (IsSingleRow heard window row ⊎ IsOpaqueRow heard window row)))
 
 -- the moment that names a row
 abbrev pub moment_of : RowId → Option Moment
 moment_of id.Single = None
 moment_of (id.At at) = Some at
 moment_of id.Opaque = None
+
+-- the row shows the item that governs what it names
+pub record ShowsGoverning (heard : List Item) (row : Row) : Type 0 where
+  pub item : Item
+  pub governs : Governs heard row.uid (moment_of row.id) item
+  pub fields : HasFields item row
 
 -- rows by UID, then rows without a moment, then by moment
 abbrev pub row_cmp : Row → Row → Ordering

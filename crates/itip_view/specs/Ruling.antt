@@ -23,11 +23,13 @@ range_cmp = then_cmp form_cmp moment_cmp
 -- these are exactly the range items that stand
 pub record AreRanges (part : UidPart) (found : List RangeFrom) : Type 0 where
   pub each : (range : RangeFrom) → Contains found range → StandsFrom part.items part.uid range.id.now range.item.now
-  pub all : (id : Moment) (item : Item) → StandsFrom part.items part.uid id item → (range : RangeFrom) × Contains found range × (range.id.now ≡ id) × (range.item.now ≡ item)
+  pub all : (id : Moment) (item : Item) → StandsFrom part.items part.uid id item
+      → (range : RangeFrom) × Contains found range × (range.id.now ≡ id) × (range.item.now ≡ item)
 
 -- by their ids
 abbrev pub AscendRanges : List RangeFrom → Type 0
-AscendRanges found = (i j : ℕ) (d : RangeFrom) → i ≤ j → j < length found → is_gt (range_cmp (slice_index_or found i d).id.now (slice_index_or found j d).id.now) ≡ false
+AscendRanges found = (i j : ℕ) (d : RangeFrom) → i ≤ j → j < length found
+    → is_gt (range_cmp (slice_index_or found i d).id.now (slice_index_or found j d).id.now) ≡ false
 
 pub record AreRangesInOrder (part : UidPart) (found : List RangeFrom) : Type 0 where
   pub ascend : AscendRanges found

@@ -1,5 +1,5 @@
--- Which item stands at an instance, and which one governs a place of the list (our own rules).
-use Rattle.std.specs.Prelude.{◌≡◌, ◌≢◌, ◌⊎◌, ◌≤◌, ◌<◌, ℕ, Bool, true, false, List, Option, Some, None}
+-- Which item stands at an instance or from one on, and which one governs a place of the list (our own rules).
+use Rattle.std.specs.Prelude.{◌≡◌, ◌≢◌, ◌⊎◌, ◌≤◌, ◌<◌, ℕ, Bool, true, false, List, Option, Some, None, if◌then◌else◌}
 use Rattle.std.specs.declared.cmp.Ordering.TheVariants.{Less}
 use Rattle.itip_moment.specs.Moment.{moment_form, moment_zone}
 use Rattle.itip_moment.specs.Order.{moment_cmp}
@@ -11,7 +11,7 @@ use Rattle.itip_items.specs.declared.kind.Kind.{Kind}
 use Rattle.itip_items.specs.declared.kind.Kind.TheVariants as kind
 use Rattle.itip_state.specs.Kept.{IsBest}
 
--- what was asked for or added is live, what was cancelled is not; answers and the like are neither of a series nor of an instance
+-- what was asked for or added is live, what was cancelled is not; answers and the like are of no series, instance or range
 abbrev pub is_live : Kind → Bool
 is_live kind.Request = true
 is_live kind.Add = true
@@ -23,11 +23,17 @@ is_live kind.Refresh = false
 abbrev pub IsLive : Item → Type 0
 IsLive item = is_live item.kind ≡ true
 
+-- an item where it is live
+abbrev pub if_live : Option Item → Option Item
+if_live None = None
+if_live (Some item) = if is_live item.kind then Some item else None
+
 -- said of series, instance and range items alone
 abbrev pub IsCancelled : Item → Type 0
 IsCancelled item = is_live item.kind ≡ false
 
--- an instance or range item stands beside a live series item that it is not below, and beside a cancelled one that it is above
+-- An instance or range item stands beside a live series item that it is not below, which is where it isn't dead, and beside a
+-- cancelled one that it is above.
 pub record StandsBeside (series item : Item) : Type 0 where
   pub live : IsLive series → series.eff ≤ item.eff
   pub cancelled : IsCancelled series → series.eff < item.eff
@@ -83,12 +89,13 @@ pub record IsLiveRange (heard : List Item) (uid : List ℕ) (at : Moment) (item 
   pub rules : Rules heard uid at id item
   pub live : IsLive item
 
--- what governs a moment at which no instance item stands: the range item that rules it, where that is live, or, where none rules it, the live series item
+-- what governs a moment at which no instance item stands: the range item that rules it, where that is live, or, where none
+-- rules it, the live series item
 abbrev pub GovernsBetween : List Item → List ℕ → Moment → Item → Type 0
 GovernsBetween heard uid at item = IsLiveRange heard uid at item ⊎ (NoneRules heard uid at × IsLiveSeries heard uid item)
 
--- The item that governs a to-do as a whole is its live series item. At an instance it is the one that stands there and is live, or, where none stands there, what
--- governs the moment.
+-- The item that governs a to-do as a whole is its live series item. At an instance it is the one that stands there and is live,
+-- or, where none stands there, what governs the moment.
 abbrev pub Governs : List Item → List ℕ → Option Moment → Item → Type 0
 Governs heard uid None item = IsLiveSeries heard uid item
 Governs heard uid (Some at) item = IsLiveInstance heard uid at item ⊎ (NoneStands heard uid at × GovernsBetween heard uid at item)

@@ -35,7 +35,8 @@ impl<'v, 'a> Asked<'v, 'a> {
         alloc: Global,
         lines: &[AttendeeLine<'_>],
     ) -> Result<ListOf<ShownAttendee>, NoMemory>
-        ensures { IfOk result (AreShown self.now.items.now.items (asked_by self.now.items.now.uid self.now.questions.now) (map (λ line. line.line.now) lines.now)) }
+        ensures { IfOk result (AreShown self.now.items.now.items (asked_by self.now.items.now.uid self.now.questions.now)
+            (map (λ line. line.line.now) lines.now)) }
     {
         let mut attendees = Vec::new(alloc);
         for line in lines {
@@ -49,7 +50,8 @@ impl<'v, 'a> Asked<'v, 'a> {
 
     /// The first answer of the attendee of a key that counts. It takes no memory.
     fn deciding(&self, attendee: &str) -> Option<&'a Item>
-        ensures { Decides self.now.items.now.items (asked_of self.now.items.now.uid self.now.questions.now attendee.now) (option_copied result) }
+        ensures { Decides self.now.items.now.items (asked_of self.now.items.now.uid self.now.questions.now attendee.now)
+            (option_copied result) }
     {
         for question in self.questions {
             if let Some(answer) = self.counting(question, attendee) {

@@ -5,7 +5,7 @@ ghost use Rattle.itip_view.specs.declared.window.Window.{Window};
 
 use crate::NoMemory;
 use crate::governing::Governing;
-use crate::ranges::GoverningRanges;
+use crate::ranges::Ranges;
 use crate::whole::Whole;
 use itip_moment::Moment;
 use itip_state::ItemsOfUid;
@@ -15,7 +15,7 @@ use std::alloc::Global;
 #[derive(Drop)]
 pub(crate) struct Between<'v, 'a> {
     pub(crate) series: Governing<'a>,
-    pub(crate) ranges: GoverningRanges<'v, 'a>,
+    pub(crate) ranges: Ranges<'v, 'a>,
 }
 
 impl<'v, 'a> Between<'v, 'a> {
@@ -27,7 +27,8 @@ impl<'v, 'a> Between<'v, 'a> {
         occurrences: &[Moment],
     ) -> Result<Option<Between<'v, 'a>>, NoMemory>
         requires { IsWhole items.now.items items.now.uid whole.now }
-        ensures { IfOk result (λ between. (window : Window) → AreOccurrencesOf items.now.items window items.now.uid occurrences.now → IsBetween items.now window between) }
+        ensures { IfOk result (λ between. (window : Window)
+            → AreOccurrencesOf items.now.items window items.now.uid occurrences.now → IsBetween items.now window between) }
     {
         let Some(whole) = whole else {
             return Ok(None);
@@ -37,7 +38,7 @@ impl<'v, 'a> Between<'v, 'a> {
             return Ok(None);
         }
         let series = Governing::of(alloc, whole.item)?;
-        let ranges = GoverningRanges::of(alloc, items)?;
+        let ranges = Ranges::of(alloc, items)?;
         Ok(Some(Between { series, ranges }))
     }
 }

@@ -48,7 +48,8 @@ pub(crate) fn due_of(
     moved(due, start, at)
 }
 
-/// START of an occurrence that a range item rules: its DTSTART, moved as far as the occurrence lies from the id; without one the occurrence itself.
+/// START of an occurrence that a range item rules: its DTSTART, moved as far as the occurrence lies from the id; without one
+/// the occurrence itself.
 pub(crate) fn start_from(
     start: &Option<Moment>,
     id: &Moment,
@@ -76,7 +77,8 @@ pub(crate) fn due_from(
     }
 }
 
-/// A date of a range item as an occurrence shows it; there is none where its form or zone isn't that of the id, nor where it can't be moved so far.
+/// A date of a range item as an occurrence shows it; there is none where its form or zone isn't that of the id, nor where it
+/// can't be moved so far.
 fn date_from(date: &Moment, id: &Moment, at: &Moment) -> Result<Option<Moment>, NoMemory>
     ensures { IfOk result (IsDateFrom date.now id.now at.now) }
 {
@@ -88,7 +90,8 @@ fn date_from(date: &Moment, id: &Moment, at: &Moment) -> Result<Option<Moment>, 
 
 /// A date, moved as far as one moment lies from another, where it can be.
 fn moved(date: &Moment, from: &Moment, at: &Moment) -> Result<Option<Moment>, NoMemory>
-    ensures { IfOk result (λ moved. MatchOption moved (CanShift date.now (days_to from.now at.now) (seconds_to from.now at.now) → ⊥) (IsMoved date.now from.now at.now)) }
+    ensures { IfOk result (λ moved. MatchOption moved
+        (CanShift date.now (days_to from.now at.now) (seconds_to from.now at.now) → ⊥) (IsMoved date.now from.now at.now)) }
 {
     let mut moved = date.clone()?;
     if moved.shift(days_to(from, at), seconds_to(from, at)) {

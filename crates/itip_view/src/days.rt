@@ -17,7 +17,8 @@ pub enum RowDays {
     Any,
 }
 
-/// Whether a row can be governed by an item: a request or an addition of a to-do as a whole, of an instance, or of an instance and all after it.
+/// Whether a row can be governed by an item: a request or an addition of a to-do as a whole, of an instance, or of an instance
+/// and all after it.
 pub fn has_rows(item: &Item) -> bool
     ensures { result ≡ has_rows item.now }
 {
@@ -27,8 +28,8 @@ pub fn has_rows(item: &Item) -> bool
     }
 }
 
-/// On which days the rows can stand for which an item of a to-do as a whole or of an instance is needed; `None` where no row needs the item.
-/// The rows of an instance and all after it stand where the to-do as a whole has its rows.
+/// On which days the rows can stand for which an item of a to-do as a whole or of an instance is needed; `None` where no row
+/// needs the item. The rows of an instance and all after it stand where the to-do as a whole has its rows.
 pub fn row_days(item: &Item) -> Option<RowDays>
     ensures { result ≡ row_days item.now }
 {

@@ -6,9 +6,10 @@ ghost use Rattle.itip_state.specs.Kept.{AreKept, ArePartOf};
 ghost use Rattle.std.specs.declared.cmp.Ordering.TheVariants.{Equal};
 ghost use Rattle.itip_moment.specs.declared.moment.Moment.{Moment};
 ghost use Rattle.itip_items.specs.declared.key.Key.TheVariants.{Answer};
+ghost use Rattle.itip_view.specs.OfKept.{NeedsOnlyKept, FollowsFromKept};
 ghost use Rattle.itip_view.specs.Standing.{Stands, StandsFrom, Rules, NoneRules, Governs, IsLiveSeries};
 ghost use Rattle.itip_view.specs.Answers.{Counts};
-ghost use Rattle.itip_view.specs.Rows.{IsRow, AreRows, AreTooMany, row_cmp};
+ghost use Rattle.itip_view.specs.Rows.{IsRow, AreRows, AreTooMany, ShowsGoverning, row_cmp};
 ghost use Rattle.itip_view.specs.ListText.{IsListText};
 ghost use Rattle.itip_todo.specs.Table.{attendee_key};
 ghost use Rattle.itip_view.specs.RowDays.{HasRowsIn, NamesIn};
@@ -18,63 +19,73 @@ ghost use Rattle.itip_view.specs.declared.window.Window.{Window};
 
 /// What stands and what governs needs only what is kept (our own rules).
 pub fn standing_of_kept()
-    ensures stands { (kept heard : List Item) → AreKept kept heard → (uid : List ℕ) (id : Moment) (item : Item) → Stands kept uid id item ↔ Stands heard uid id item }
-    ensures stands_from { (kept heard : List Item) → AreKept kept heard → (uid : List ℕ) (id : Moment) (item : Item) → StandsFrom kept uid id item ↔ StandsFrom heard uid id item }
-    ensures rules { (kept heard : List Item) → AreKept kept heard → (uid : List ℕ) (at id : Moment) (item : Item) → Rules kept uid at id item ↔ Rules heard uid at id item }
-    ensures none_rules { (kept heard : List Item) → AreKept kept heard → (uid : List ℕ) (at : Moment) → NoneRules kept uid at ↔ NoneRules heard uid at }
-    ensures governs { (kept heard : List Item) → AreKept kept heard → (uid : List ℕ) (id : Option Moment) (item : Item) → Governs kept uid id item ↔ Governs heard uid id item }
+    ensures stands { (uid : List ℕ) (id : Moment) (item : Item) → NeedsOnlyKept (λ heard. Stands heard uid id item) }
+    ensures stands_from { (uid : List ℕ) (id : Moment) (item : Item) → NeedsOnlyKept (λ heard. StandsFrom heard uid id item) }
+    ensures rules { (uid : List ℕ) (at id : Moment) (item : Item) → NeedsOnlyKept (λ heard. Rules heard uid at id item) }
+    ensures none_rules { (uid : List ℕ) (at : Moment) → NeedsOnlyKept (λ heard. NoneRules heard uid at) }
+    ensures governs { (uid : List ℕ) (id : Option Moment) (item : Item) → NeedsOnlyKept (λ heard. Governs heard uid id item) }
 {}
 
-/// Which answers count needs only what is kept: an answer to an instance never dies, and one to the to-do as a whole that is no earlier than the live series
-/// isn't dead (our own rules).
+/// Which answers count needs only what is kept: an answer to an instance never dies, and one to the to-do as a whole that is no
+/// earlier than the live series isn't dead (our own rules).
 pub fn answers_of_kept()
-    ensures to_instance { (kept heard : List Item) → AreKept kept heard → (uid : List ℕ) (id : Moment) (attendee : List ℕ) (since : ℕ) (answer : Item) →
-        Counts kept (record { key = Answer uid (Some id) attendee; since = since }) answer ↔ Counts heard (record { key = Answer uid (Some id) attendee; since = since }) answer }
-    ensures to_series { (kept heard : List Item) → AreKept kept heard → (series : Item) (uid attendee : List ℕ) (since : ℕ) (answer : Item) → IsLiveSeries heard uid series → series.own ≤ since →
-        Counts kept (record { key = Answer uid None attendee; since = since }) answer ↔ Counts heard (record { key = Answer uid None attendee; since = since }) answer }
+    ensures to_instance { (uid : List ℕ) (id : Moment) (attendee : List ℕ) (since : ℕ) (answer : Item)
+        → NeedsOnlyKept (λ heard. Counts heard (record { key = Answer uid (Some id) attendee; since = since }) answer) }
+    ensures to_series { (kept heard : List Item) → AreKept kept heard → (series : Item) (uid attendee : List ℕ) (since : ℕ) (answer : Item)
+        → IsLiveSeries heard uid series → series.own ≤ since
+        → Counts kept (record { key = Answer uid None attendee; since = since }) answer
+        ↔ Counts heard (record { key = Answer uid None attendee; since = since }) answer }
 {}
 
 /// The view of what is kept is the view of all that was heard (our own rule).
 pub fn view_of_kept()
-    ensures row { (kept heard : List Item) → AreKept kept heard → (window : Window) (row : Row) → IsRow kept window row ↔ IsRow heard window row }
-    ensures rows { (kept heard : List Item) → AreKept kept heard → (window : Window) (rows : List Row) → AreRows kept window rows → AreRows heard window rows }
-    ensures text { (kept heard : List Item) → AreKept kept heard → (window : Window) (text : List ℕ) → IsListText kept window text → IsListText heard window text }
-    ensures many { (kept heard : List Item) → AreKept kept heard → (window : Window) → AreTooMany kept window → AreTooMany heard window }
-    ensures text_for { (kept heard : List Item) → AreKept kept heard → (window : Window) (address text : List ℕ) → IsListTextFor address kept window text →
-        IsListTextFor address heard window text }
-    ensures many_for { (kept heard : List Item) → AreKept kept heard → (window : Window) (address : List ℕ) → AreTooManyWhere (Shows address) kept window →
-        AreTooManyWhere (Shows address) heard window }
+    ensures row { (window : Window) (row : Row) → NeedsOnlyKept (λ heard. IsRow heard window row) }
+    ensures rows { (window : Window) (rows : List Row) → FollowsFromKept (λ heard. AreRows heard window rows) }
+    ensures text { (window : Window) (text : List ℕ) → FollowsFromKept (λ heard. IsListText heard window text) }
+    ensures many { (window : Window) → FollowsFromKept (λ heard. AreTooMany heard window) }
+    ensures text_for { (window : Window) (address text : List ℕ) → FollowsFromKept (λ heard. IsListTextFor address heard window text) }
+    ensures many_for { (window : Window) (address : List ℕ) → FollowsFromKept (λ heard. AreTooManyWhere (Shows address) heard window) }
 {}
 
-/// What was heard has one list in a window, or too many rows for one, and never both. A UID and an identifier have one row, and the order tells all rows
-/// apart (our own rules).
+/// What was heard has one list in a window, or too many rows for one, and never both. A UID and an identifier have one row, and
+/// the order tells all rows apart (our own rules).
 pub fn one_list()
-    ensures row { (heard : List Item) (window : Window) (row other : Row) → IsRow heard window row → IsRow heard window other → row.uid ≡ other.uid →
-        row.id ≡ other.id → row ≡ other }
-    ensures order { (heard : List Item) (window : Window) (row other : Row) → IsRow heard window row → IsRow heard window other → row_cmp row other ≡ Equal →
-        row ≡ other }
-    ensures rows { (heard : List Item) (window : Window) (rows others : List Row) → AreRows heard window rows → AreRows heard window others → rows ≡ others }
-    ensures text { (heard : List Item) (window : Window) (text other : List ℕ) → IsListText heard window text → IsListText heard window other → text ≡ other }
+    ensures row { (heard : List Item) (window : Window) (row other : Row) → IsRow heard window row → IsRow heard window other
+        → row.uid ≡ other.uid → row.id ≡ other.id → row ≡ other }
+    ensures order { (heard : List Item) (window : Window) (row other : Row) → IsRow heard window row → IsRow heard window other
+        → row_cmp row other ≡ Equal → row ≡ other }
+    ensures rows { (heard : List Item) (window : Window) (rows others : List Row) → AreRows heard window rows
+        → AreRows heard window others → rows ≡ others }
+    ensures text { (heard : List Item) (window : Window) (text other : List ℕ) → IsListText heard window text
+        → IsListText heard window other → text ≡ other }
     ensures apart { (heard : List Item) (window : Window) (text : List ℕ) → IsListText heard window text → AreTooMany heard window → ⊥ }
-    ensures rows_for { (heard : List Item) (window : Window) (address : List ℕ) (rows others : List Row) → AreRowsWhere (Shows address) heard window rows →
-        AreRowsWhere (Shows address) heard window others → rows ≡ others }
-    ensures text_for { (heard : List Item) (window : Window) (address text other : List ℕ) → IsListTextFor address heard window text →
-        IsListTextFor address heard window other → text ≡ other }
-    ensures apart_for { (heard : List Item) (window : Window) (address text : List ℕ) → IsListTextFor address heard window text →
-        AreTooManyWhere (Shows address) heard window → ⊥ }
+    ensures rows_for { (heard : List Item) (window : Window) (address : List ℕ) (rows others : List Row)
+        → AreRowsWhere (Shows address) heard window rows → AreRowsWhere (Shows address) heard window others → rows ≡ others }
+    ensures text_for { (heard : List Item) (window : Window) (address text other : List ℕ) → IsListTextFor address heard window text
+        → IsListTextFor address heard window other → text ≡ other }
+    ensures apart_for { (heard : List Item) (window : Window) (address text : List ℕ) → IsListTextFor address heard window text
+        → AreTooManyWhere (Shows address) heard window → ⊥ }
 {}
 
-/// A row needs an item of its UID whose rows can stand in the window; and an item of its UID that can have rows names each attendee that it shows (our own rules).
+/// One item at most governs a to-do as a whole, and one an instance; a row shows the one that governs what it names (our own rules).
+pub fn rows_are_governed()
+    ensures row { (heard : List Item) (window : Window) (row : Row) → IsRow heard window row → ShowsGoverning heard row }
+    ensures one { (heard : List Item) (uid : List ℕ) (id : Option Moment) (item other : Item) → Governs heard uid id item
+        → Governs heard uid id other → item ≡ other }
+{}
+
+/// A row needs an item of its UID whose rows can stand in the window; and an item of its UID that can have rows names each
+/// attendee that it shows (our own rules).
 pub fn rows_need_items()
     ensures days { (heard : List Item) (window : Window) (row : Row) → IsRow heard window row → HasRowsIn heard window row.uid }
-    ensures names { (heard : List Item) (window : Window) (address : List ℕ) (row : Row) → IsRow heard window row → Shows address row →
-        NamesIn heard (attendee_key address) row.uid }
+    ensures names { (heard : List Item) (window : Window) (address : List ℕ) (row : Row) → IsRow heard window row → Shows address row
+        → NamesIn heard (attendee_key address) row.uid }
 {}
 
 /// The rows of some UIDs need only the items of these UIDs, and of other UIDs these give no row (our own rule).
 pub fn rows_of_part()
-    ensures row { (part whole : List Item) (uids : List (List ℕ)) → ArePartOf part whole uids → (window : Window) (row : Row) → Contains uids row.uid →
-        IsRow part window row ↔ IsRow whole window row }
-    ensures uids { (part whole : List Item) (uids : List (List ℕ)) → ArePartOf part whole uids → (window : Window) (row : Row) → IsRow part window row →
-        Contains uids row.uid }
+    ensures row { (part whole : List Item) (uids : List (List ℕ)) → ArePartOf part whole uids → (window : Window) (row : Row)
+        → Contains uids row.uid → IsRow part window row ↔ IsRow whole window row }
+    ensures uids { (part whole : List Item) (uids : List (List ℕ)) → ArePartOf part whole uids → (window : Window) (row : Row)
+        → IsRow part window row → Contains uids row.uid }
 {}

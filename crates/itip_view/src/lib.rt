@@ -7,6 +7,7 @@ mod dates;
 mod days;
 mod error;
 mod governing;
+mod governs;
 mod laws;
 mod list;
 mod of_uid;
@@ -14,7 +15,6 @@ mod progress;
 mod ranges;
 mod row;
 mod shown;
-mod shown_row;
 mod standing;
 mod turn;
 mod view;
@@ -23,13 +23,15 @@ mod window;
 
 pub use days::{RowDays, has_rows, row_days};
 pub use error::{BadWindow, ViewError};
+pub use governs::governing;
 pub use laws::{
-    answers_of_kept, one_list, rows_need_items, rows_of_part, standing_of_kept, view_of_kept,
+    answers_of_kept, one_list, rows_are_governed, rows_need_items, rows_of_part, standing_of_kept,
+    view_of_kept,
 };
 pub use list::{list_text, write_list};
 pub use ranges::Ranges;
 pub use row::{Row, RowId, ShownAttendee};
-pub use standing::{is_live, standing_item, stands_beside};
+pub use standing::{if_live, is_live, stands_beside};
 pub use std::alloc::AllocError as NoMemory;
 pub use turn::in_order;
 pub use view::{rows, rows_among, rows_for, rows_of};

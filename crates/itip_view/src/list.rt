@@ -1,11 +1,12 @@
 //! The text of rows.
-ghost use Rattle.std.specs.Prelude.{◌≡◌, ◌++◌, ◌∷◌, [], IfOk, OnOk, OnErr, Option, Some, None};
+ghost use Rattle.std.specs.Prelude.{◌≡◌, ◌++◌, IfOk, OnOk, OnErr, Option, Some, None};
 ghost use Rattle.std.specs.Fmt.{decimal};
 ghost use Rattle.std.specs.List.{flat_map};
 ghost use Rattle.itip_lines.specs.Writing.{Extends};
 ghost use Rattle.itip_moment.specs.Shown.{shown_moment};
 ghost use Rattle.itip_todo.specs.StatusText.{status_text};
-ghost use Rattle.itip_view.specs.ListText.{list_text, row_text, attendee_text, id_text, names_text, numbers_text, dates_text, summary_text, progress_text, shown};
+ghost use Rattle.itip_view.specs.ListText.{list_text, row_text, attendee_text, id_text, names_text, numbers_text, dates_text};
+ghost use Rattle.itip_view.specs.ListText.{summary_text, progress_text, shown};
 
 use crate::row::{Row, RowId, ShownAttendee};
 use itip_lines::Text;

@@ -4,7 +4,8 @@ ghost use Rattle.std.specs.Option.{option_map};
 ghost use Rattle.itip_recur.specs.ToDoShape.{IsShape};
 ghost use Rattle.itip_todo.specs.declared.property.Property.{Property};
 ghost use Rattle.itip_view.specs.OfUid.{AreRowsOf};
-ghost use Rattle.itip_view.specs.InUid.{HasWhole, HasBetween, HasRows, HasOccurrences, HasPlaces, HasAnswerAt, HasOccurrence, HasStanding, HasNoStanding, HasRuling, HasNoRuling, HasNoneAtStart, HasLiveSeries, IsRowWith};
+ghost use Rattle.itip_view.specs.InUid.{HasWhole, HasBetween, HasRows, HasOccurrences, HasPlaces, HasAnswerAt, HasOccurrence};
+ghost use Rattle.itip_view.specs.InUid.{HasStanding, HasNoStanding, HasRuling, HasNoRuling, HasNoneAtStart, HasLiveSeries, IsRowWith};
 
 use crate::NoMemory;
 use crate::answers::{Asked, Question};
@@ -174,7 +175,8 @@ impl<'v, 'a> UidView<'v, 'a> {
 
     /// A row with the dates of the item that governs it, the one row of that item.
     fn own_row(&self, item: &Item, id: RowId, asked: Option<&Moment>) -> Result<Row, NoMemory>
-        ensures { IfOk result (IsRowWith self.now item.now id item.now.todo.start item.now.todo.due (record { id = asked.entry; since = item.now.own } ∷ [])) }
+        ensures { IfOk result (IsRowWith self.now item.now id item.now.todo.start item.now.todo.due
+            (record { id = asked.entry; since = item.now.own } ∷ [])) }
     {
         let place = RowHead {
             id,

@@ -1,6 +1,5 @@
 //! The range items of a UID that stand.
 ghost use Rattle.std.specs.Prelude.{◌≡◌, ◌<◌, IfOk, MatchOption, length, map};
-ghost use Rattle.std.specs.Option.{option_copied};
 ghost use Rattle.itip_moment.specs.declared.moment.Moment.{Moment};
 ghost use Rattle.itip_moment.specs.Moment.{moment_zone};
 ghost use Rattle.itip_state.specs.OfUid.{UidPart};
@@ -25,63 +24,17 @@ struct RangeFrom<'a> {
     item: &'a Item,
 }
 
-/// The range items of a UID that stand, by the form, the zone and the moment of their ids.
-///
-/// They are the ones of its kept items, by the invariant of the type.
-#[derive(Debug, Drop)]
-pub struct Ranges<'v, 'a> {
-    items: &'v ItemsOfUid<'a>,
-    standing: Vec<RangeFrom<'a>>,
-}
-
-impl<'v, 'a> Model for Ranges<'v, 'a> {
-    ghost use Rattle.itip_state.specs.OfUid.{UidPart, uid_part_code};
-    ghost use Rattle.itip_view.specs.Ruling.{AreRangesInOrder};
-
-    ghost Value = { UidPart };
-
-    ghost coded = { uid_part_code };
-
-    ghost view = { λ r. r.items.now };
-
-    ghost invariant = { λ r. AreRangesInOrder r.items.now r.standing.items };
-}
-
-impl<'v, 'a> Ranges<'v, 'a> {
-    /// The range items that stand among the kept items of a UID.
-    pub fn of(alloc: Global, items: &'v ItemsOfUid<'a>) -> Result<Ranges<'v, 'a>, NoMemory>
-        ensures { IfOk result (λ ranges. ranges ≡ items.now) }
-    {
-        let found = standing_ranges(alloc, items)?;
-        let standing = by_id(found)?;
-        Ok(Ranges { items, standing })
-    }
-
-    /// The range item that rules a moment: of those with an id of its form and zone that is not after it the one with the greatest id; `None` where there
-    /// is none. It is found by a binary search, and takes no memory.
-    pub fn ruling(&self, at: &Moment) -> Option<&'a Item>
-        ensures { MatchOption (option_copied result) (NoneRules self.now.items self.now.uid at.now)
-            (λ item. (id : Moment) × Rules self.now.items self.now.uid at.now id item) }
-    {
-        let standing = self.standing.as_slice();
-        match ruling_place(standing, at) {
-            Some(place) => Some(standing[place].item),
-            None => None,
-        }
-    }
-}
-
 /// The range items of a UID that stand, by the form, the zone and the moment of their ids, each with the keys of its attendees.
 ///
 /// They are the ones of its kept items, by the invariant of the type.
 #[derive(Drop)]
-pub(crate) struct GoverningRanges<'v, 'a> {
+pub struct Ranges<'v, 'a> {
     items: &'v ItemsOfUid<'a>,
     standing: Vec<RangeFrom<'a>>,
     governing: Vec<Governing<'a>>,
 }
 
-impl<'v, 'a> Model for GoverningRanges<'v, 'a> {
+impl<'v, 'a> Model for Ranges<'v, 'a> {
     ghost use Rattle.std.specs.Prelude.{◌≡◌, map};
     ghost use Rattle.itip_state.specs.OfUid.{UidPart, uid_part_code};
     ghost use Rattle.itip_view.specs.Ruling.{AreRangesInOrder};
@@ -92,28 +45,27 @@ impl<'v, 'a> Model for GoverningRanges<'v, 'a> {
 
     ghost view = { λ r. r.items.now };
 
-    ghost invariant = { λ r. AreRangesInOrder r.items.now r.standing.items × (map (λ range. range.item.now) r.standing.items ≡ map (λ range. range.item.now) r.governing.items) };
+    ghost invariant = { λ r. AreRangesInOrder r.items.now r.standing.items
+        × (map (λ range. range.item.now) r.standing.items ≡ map (λ range. range.item.now) r.governing.items) };
 }
 
-impl<'v, 'a> GoverningRanges<'v, 'a> {
+impl<'v, 'a> Ranges<'v, 'a> {
     /// The range items that stand among the kept items of a UID.
-    pub(crate) fn of(
-        alloc: Global,
-        items: &'v ItemsOfUid<'a>,
-    ) -> Result<GoverningRanges<'v, 'a>, NoMemory>
+    pub fn of(alloc: Global, items: &'v ItemsOfUid<'a>) -> Result<Ranges<'v, 'a>, NoMemory>
         ensures { IfOk result (λ ranges. ranges ≡ items.now) }
     {
         let found = standing_ranges(alloc, items)?;
         let standing = by_id(found)?;
         let governing = governing_each(alloc, &standing)?;
-        Ok(GoverningRanges {
+        Ok(Ranges {
             items,
             standing,
             governing,
         })
     }
 
-    /// The range item that rules a moment, or `None` where there is none. It takes no memory.
+    /// The range item that rules a moment: of those with an id of its form and zone that is not after it the one with the greatest
+    /// id; `None` where there is none. It is found by a binary search, and takes no memory.
     pub(crate) fn ruling(&self, at: &Moment) -> Option<&Governing<'a>>
         ensures { MatchOption result (NoneRules self.now.items self.now.uid at.now)
             (λ range. (id : Moment) × Rules self.now.items self.now.uid at.now id range.now.item.now) }
@@ -142,7 +94,8 @@ fn governing_each<'a>(
 /// The place of the range item that rules a moment among these; `None` where none rules it.
 fn ruling_place(standing: &[RangeFrom<'_>], at: &Moment) -> Option<usize>
     ensures inside { MatchOption result (Unit {0}) (λ place. place < length standing.now) }
-    ensures rules { (part : UidPart) → AreRangesInOrder part standing.now → MatchOption result (NoneRules part.items part.uid at.now) (RulesAt part standing.now at.now) }
+    ensures rules { (part : UidPart) → AreRangesInOrder part standing.now
+        → MatchOption result (NoneRules part.items part.uid at.now) (RulesAt part standing.now at.now) }
 {
     let reached = standing.partition_point(|range| !compare(range.id, at).is_gt());
     if reached == 0 {

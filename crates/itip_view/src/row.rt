@@ -24,8 +24,8 @@ pub struct ShownAttendee {
     pub percent: Option<u8>,
 }
 
-/// A row of the task list. SEQUENCE, STATUS, PERCENT-COMPLETE, PRIORITY and SUMMARY are those of the item that governs it, and so are START and DUE but on
-/// the row of an occurrence, where they are moved to it.
+/// A row of the task list. SEQUENCE, STATUS, PERCENT-COMPLETE, PRIORITY and SUMMARY are those of the item that governs it, and
+/// so are START and DUE but on the row of an occurrence, where they are moved to it.
 #[derive(Debug, Drop)]
 pub struct Row {
     pub uid: Uid,

@@ -2,20 +2,31 @@
 ghost use Rattle.std.specs.Prelude.{◌≡◌, ◌↔◌, IsTrue, MatchOption};
 ghost use Rattle.std.specs.Option.{option_copied};
 ghost use Rattle.itip_view.specs.OfUid.{StandsBesideOf};
-ghost use Rattle.itip_view.specs.Standing.{is_live, Stands, NoneStands};
+ghost use Rattle.itip_view.specs.Standing.{if_live, is_live, Stands, NoneStands};
 
 use itip_items::{Item, Kind};
 use itip_moment::Moment;
 use itip_state::ItemsOfUid;
 
-/// Whether an item of this kind is a request or an addition: of the kinds of series and instance items, those that are not cancelled.
+/// Whether an item of this kind is a request or an addition: of the kinds of series, instance and range items, those that are not
+/// cancelled.
 pub fn is_live(kind: Kind) -> bool
     ensures { result ≡ is_live kind }
 {
     matches!(kind, Kind::Request | Kind::Add)
 }
 
-/// Whether an instance item stands beside the series item of its UID, where there is one.
+/// An item, where it is live.
+pub fn if_live<'a>(item: Option<&'a Item>) -> Option<&'a Item>
+    ensures { option_copied result ≡ if_live (option_copied item.entry) }
+{
+    match item {
+        Some(item) if is_live(item.kind) => Some(item),
+        _ => None,
+    }
+}
+
+/// Whether an instance or range item stands beside the series item of its UID, where there is one.
 pub fn stands_beside(series: Option<&Item>, item: &Item) -> bool
     ensures { IsTrue result ↔ StandsBesideOf (option_copied series.entry) item.now }
 {
@@ -32,7 +43,7 @@ pub fn stands_beside(series: Option<&Item>, item: &Item) -> bool
 }
 
 /// The item that stands at an instance of a UID. It takes no memory.
-pub fn standing_item<'a>(items: &ItemsOfUid<'a>, at: &Moment) -> Option<&'a Item>
+pub(crate) fn standing_item<'a>(items: &ItemsOfUid<'a>, at: &Moment) -> Option<&'a Item>
     ensures { MatchOption (option_copied result)
         (NoneStands items.now.items items.now.uid at.now)
         (Stands items.now.items items.now.uid at.now) }

@@ -20,7 +20,8 @@ pub(crate) const ROW_LIMIT: usize = 100_000;
 /// The UIDs given, by octets, each once. A refusal (out of memory) drops them.
 pub fn in_order<'a>(uids: Vec<&'a Uid>) -> Result<Vec<&'a Uid>, NoMemory>
     ensures ascend { IfOk result (λ sorted. AscendTexts (map (λ uid. uid.now) sorted.items)) }
-    ensures same { IfOk result (λ sorted. (uid : List ℕ) → Contains (map (λ uid. uid.now) sorted.items) uid ↔ Contains (map (λ uid. uid.now) uids.entry.items) uid) }
+    ensures same { IfOk result (λ sorted. (uid : List ℕ)
+        → Contains (map (λ uid. uid.now) sorted.items) uid ↔ Contains (map (λ uid. uid.now) uids.entry.items) uid) }
 {
     let mut uids = uids;
     uids.sort()?;
@@ -37,9 +38,11 @@ pub(crate) fn rows_in_turn(
     shown: Option<&str>,
 ) -> Result<Vec<Row>, ViewError>
     requires { AscendTexts (map (λ uid. uid.now) uids.now) }
-    ensures rows { IfOk result (λ rows. AreRowsWhere (IsAmong (map (λ uid. uid.now) uids.now) (option_map (λ a. a.now) shown.entry)) state.now window rows.items) }
+    ensures rows { IfOk result (λ rows. AreRowsWhere
+        (IsAmong (map (λ uid. uid.now) uids.now) (option_map (λ a. a.now) shown.entry)) state.now window rows.items) }
     ensures few { IfOk result (λ rows. length rows.items ≤ row_limit) }
-    ensures many { IsErrOf result ViewError.TooManyRows → AreTooManyWhere (IsAmong (map (λ uid. uid.now) uids.now) (option_map (λ a. a.now) shown.entry)) state.now window }
+    ensures many { IsErrOf result ViewError.TooManyRows
+        → AreTooManyWhere (IsAmong (map (λ uid. uid.now) uids.now) (option_map (λ a. a.now) shown.entry)) state.now window }
 {
     let mut rows = Vec::new(alloc);
     for uid in uids {

@@ -42,7 +42,8 @@ pub fn rows_for(
     rows_in_turn(alloc, state, &uids, window, Some(address))
 }
 
-/// The rows of one UID in a window, in their order, at most 100,000; where an address is given, those that show its attendee. No other UID is looked at.
+/// The rows of one UID in a window, in their order, at most 100,000; where an address is given, those that show its attendee. No
+/// other UID is looked at.
 ///
 /// Refused where there are more of these (31), or when out of memory (32).
 pub fn rows_of(
@@ -54,7 +55,8 @@ pub fn rows_of(
 ) -> Result<Vec<Row>, ViewError>
     ensures rows { IfOk result (λ rows. AreRowsWhere (IsOf uid.now (option_map (λ a. a.now) shown.entry)) state.now window rows.items) }
     ensures few { IfOk result (λ rows. length rows.items ≤ row_limit) }
-    ensures many { IsErrOf result ViewError.TooManyRows → AreTooManyWhere (IsOf uid.now (option_map (λ a. a.now) shown.entry)) state.now window }
+    ensures many { IsErrOf result ViewError.TooManyRows
+        → AreTooManyWhere (IsOf uid.now (option_map (λ a. a.now) shown.entry)) state.now window }
 {
     let rows = shown_rows(alloc, state, uid, window, shown)?;
     if rows.len() > ROW_LIMIT {
@@ -63,7 +65,8 @@ pub fn rows_of(
     Ok(rows)
 }
 
-/// The rows of these UIDs in a window, in their order, at most 100,000; where an address is given, those that show its attendee. No other UID is looked at.
+/// The rows of these UIDs in a window, in their order, at most 100,000; where an address is given, those that show its attendee.
+/// No other UID is looked at.
 ///
 /// The UIDs stand in any order, perhaps more than once. Refused where there are more rows (31), or when out of memory (32).
 pub fn rows_among(
@@ -73,9 +76,11 @@ pub fn rows_among(
     window: Window,
     shown: Option<&str>,
 ) -> Result<Vec<Row>, ViewError>
-    ensures rows { IfOk result (λ rows. AreRowsWhere (IsAmong (map (λ uid. uid.now) uids.entry.items) (option_map (λ a. a.now) shown.entry)) state.now window rows.items) }
+    ensures rows { IfOk result (λ rows. AreRowsWhere
+        (IsAmong (map (λ uid. uid.now) uids.entry.items) (option_map (λ a. a.now) shown.entry)) state.now window rows.items) }
     ensures few { IfOk result (λ rows. length rows.items ≤ row_limit) }
-    ensures many { IsErrOf result ViewError.TooManyRows → AreTooManyWhere (IsAmong (map (λ uid. uid.now) uids.entry.items) (option_map (λ a. a.now) shown.entry)) state.now window }
+    ensures many { IsErrOf result ViewError.TooManyRows
+        → AreTooManyWhere (IsAmong (map (λ uid. uid.now) uids.entry.items) (option_map (λ a. a.now) shown.entry)) state.now window }
 {
     let uids = in_order(uids)?;
     rows_in_turn(alloc, state, &uids, window, shown)

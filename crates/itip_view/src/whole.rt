@@ -56,7 +56,8 @@ pub(crate) fn occurrences(
     whole: &Option<Whole<'_>>,
     window: Window,
 ) -> Result<Vec<Moment>, NoMemory>
-    ensures { IfOk result (λ moments. (heard : List Item) (uid : List ℕ) → IsWhole heard uid whole.now → AreOccurrencesOf heard window uid moments.items) }
+    ensures { IfOk result (λ moments. (heard : List Item) (uid : List ℕ)
+        → IsWhole heard uid whole.now → AreOccurrencesOf heard window uid moments.items) }
 {
     let Some(whole) = whole else {
         return Ok(Vec::new(alloc));

@@ -3,7 +3,7 @@ use Rattle.itip_report.proofs.laws.reports_of_kept.Goals as goal
 
 pub returns : goal.returns
 returns c = record {
-  lines = lines_of_kept;
-  resend = resend_of_kept;
-  next = next_of_kept;
+  lines = λ report lines kept heard are. lines_of_kept kept heard are report lines;
+  resend = λ uid bytes kept heard are. resend_of_kept kept heard are uid bytes;
+  next = λ uid next kept heard are. next_of_kept kept heard are uid next;
 }

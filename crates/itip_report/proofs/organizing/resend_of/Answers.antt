@@ -5,7 +5,7 @@ use Rattle.std.specs.Option.{option_copied}
 use Rattle.itip_items.specs.declared.item.Item.{Item}
 use Rattle.itip_view.specs.Standing.{IsLiveSeries}
 use Rattle.itip_report.proofs.Mapped.{flat_map_mapped}
-use Rattle.itip_report.proofs.Telling.{live_series}
+use Rattle.itip_view.proofs.Governed.{live_series}
 use Rattle.itip_report.proofs.organizing.resend_of.Goals as goal
 
 pub returns-in_default : goal.returns-in_default

@@ -3,7 +3,7 @@ use Rattle.itip_view.proofs.Alike.{alike_back, series_alike, instance_counts, se
 use Rattle.itip_view.proofs.laws.answers_of_kept.Goals as goal
 
 pub returns-clause-to_instance : goal.returns-clause-to_instance
-returns-clause-to_instance c kept heard are uid id attendee since answer =
+returns-clause-to_instance c uid id attendee since answer kept heard are =
     let same = kept_again kept heard are in
     let back = alike_back kept heard same in
     (instance_counts kept heard same uid id attendee since answer, instance_counts heard kept back uid id attendee since answer)

@@ -5,21 +5,21 @@ use Rattle.itip_view.specs.Showing.{Shows}
 use Rattle.itip_view.proofs.laws.view_of_kept.Goals as goal
 
 pub returns-clause-row : goal.returns-clause-row
-returns-clause-row c kept heard are window row =
+returns-clause-row c window row kept heard are =
     let same = kept_again kept heard are in
     (row_of_same kept heard same window row, row_of_same heard kept (alike_back kept heard same) window row)
 
 pub returns-clause-rows : goal.returns-clause-rows
-returns-clause-rows c = rows_of_kept
+returns-clause-rows c window rows kept heard are = rows_of_kept kept heard are window rows
 
 pub returns-clause-text : goal.returns-clause-text
-returns-clause-text c = text_of_kept
+returns-clause-text c window text kept heard are = text_of_kept kept heard are window text
 
 pub returns-clause-many : goal.returns-clause-many
-returns-clause-many c = too_many_of_kept
+returns-clause-many c window kept heard are = too_many_of_kept kept heard are window
 
 pub returns-clause-text_for : goal.returns-clause-text_for
-returns-clause-text_for c kept heard are window address = text_for_of_kept address kept heard are window
+returns-clause-text_for c window address text kept heard are = text_for_of_kept address kept heard are window text
 
 pub returns-clause-many_for : goal.returns-clause-many_for
-returns-clause-many_for c kept heard are window address = many_where_of_kept (Shows address) kept heard are window
+returns-clause-many_for c window address kept heard are = many_where_of_kept (Shows address) kept heard are window

@@ -5,8 +5,8 @@ use Rattle.itip_moment.specs.declared.moment.Moment.{Moment}
 use Rattle.itip_items.specs.declared.item.Item.{Item}
 use Rattle.itip_state.specs.OfUid.{UidPart}
 use Rattle.itip_view.specs.Standing.{GovernsBetween, Rules, NoneRules}
-use Rattle.itip_report.proofs.Telling.{governs_ruled, governs_unruled}
-use Rattle.itip_report.proofs.governing.governing_between.Goals as goal
+use Rattle.itip_view.proofs.Governed.{governs_ruled, governs_unruled}
+use Rattle.itip_view.proofs.governs.governing_between.Goals as goal
 
 -- the item that governs the moment, or that none does
 abbrev IsGoverning : List Item → List ℕ → Moment → Option Item → Type 0
@@ -17,8 +17,8 @@ returns-in-Some c =
     let items : List Item = c.args.items.now.items in
     let uid : List ℕ = c.args.items.now.uid in
     let at : Moment = c.args.at.now in
-    let ruling : (id : Moment) × Rules items uid at id c.in-Some.item.now = subst (λ (p : UidPart). (id : Moment) × Rules p.items p.uid at id c.in-Some.item.now) c.requires c.in-Some.ensures in
-    subst (IsGoverning items uid at) (sym c.if_live.ensures) (governs_ruled items uid at ruling.0 c.in-Some.item.now ruling.1)
+    let ruling : (id : Moment) × Rules items uid at id c.in-Some.range.now.item.now = subst (λ (p : UidPart). (id : Moment) × Rules p.items p.uid at id c.in-Some.range.now.item.now) c.requires c.in-Some.ensures in
+    subst (IsGoverning items uid at) (sym c.if_live.ensures) (governs_ruled items uid at ruling.0 c.in-Some.range.now.item.now ruling.1)
 
 pub returns-in-None : goal.returns-in-None
 returns-in-None c =

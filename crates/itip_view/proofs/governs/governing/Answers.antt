@@ -4,8 +4,8 @@ use Rattle.std.specs.Option.{option_copied}
 use Rattle.itip_moment.specs.declared.moment.Moment.{Moment}
 use Rattle.itip_items.specs.declared.item.Item.{Item}
 use Rattle.itip_view.specs.Standing.{Governs}
-use Rattle.itip_report.proofs.Telling.{live_series, governs_standing, governs_between}
-use Rattle.itip_report.proofs.governing.governing.Goals as goal
+use Rattle.itip_view.proofs.Governed.{live_series, governs_standing, governs_between}
+use Rattle.itip_view.proofs.governs.governing.Goals as goal
 
 -- the item that governs, or that none does
 abbrev IsGoverning : List Item → List ℕ → Option Moment → Option Item → Type 0

@@ -1,6 +1,6 @@
 use Rattle.std.specs.Option.{option_copied}
 use Rattle.itip_report.proofs.Telling.{standing_of, standing_beside}
-use Rattle.itip_report.proofs.governing.is_standing.Goals as goal
+use Rattle.itip_report.proofs.sought.is_standing.Goals as goal
 
 pub returns-in-Instance : goal.returns-in-Instance
 returns-in-Instance c =

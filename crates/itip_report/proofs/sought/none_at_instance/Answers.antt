@@ -7,7 +7,7 @@ use Rattle.itip_items.specs.declared.key.Key.{Key}
 use Rattle.itip_items.specs.declared.key.Key.TheVariants.{Instance}
 use Rattle.itip_state.specs.Kept.{IsBestOf}
 use Rattle.itip_report.specs.Reports.{NoneAt, NoneAtInstance}
-use Rattle.itip_report.proofs.governing.none_at_instance.Goals as goal
+use Rattle.itip_report.proofs.sought.none_at_instance.Goals as goal
 
 none_there : (items : List Item) (key : Key) (o : Option (Bor Item)) (r : Bool) → is_some o ≡ not r → IsBestOf items key (option_copied o) → IsTrue r ↔ NoneAt items key
 none_there items key None true e h = (λ _. h, λ _. refl)
