@@ -11,7 +11,7 @@ use crate::indexed::IndexedState;
 use crate::moves::MovedUids;
 use itip_state::{SharedItem, State, uids};
 use itip_todo::Uid;
-use itip_view::{Row, ViewError, Window, in_order, list_text, rows_among};
+use itip_view::{Row, ViewError, Window, list_text, rows_among, sorted_uids};
 use std::alloc::{AllocError, Global};
 use std::marker::Model;
 
@@ -183,7 +183,7 @@ impl Desk {
         ensures part { IfOk result (λ part. (uids : List (List ℕ)) × ArePartOf part self.now.kept uids) }
         ensures rows { IfOk result (λ part. (row : Row) → IsRow part window row ↔ IsRow self.now.kept window row) }
     {
-        let there = in_order(self.kept.uids_in(window)?)?;
+        let there = sorted_uids(self.kept.uids_in(window)?)?;
         self.kept.state().part(&there)
     }
 
@@ -196,7 +196,7 @@ impl Desk {
         ensures rows { IfOk result (λ part. (window : Window) (row : Row)
             → Shows address.now row → IsRow part window row ↔ IsRow self.now.kept window row) }
     {
-        let naming = in_order(self.kept.uids_naming(address)?)?;
+        let naming = sorted_uids(self.kept.uids_naming(address)?)?;
         self.kept.state().part(&naming)
     }
 

@@ -21,7 +21,8 @@ octet_small b e = grind (arith, nat_tests)
 
 ascii_of : (text : List ℕ) → list_all is_stamp_octet text ≡ true → IsAscii text
 ascii_of [] e = IsAscii-nil
-ascii_of (b ∷ bs) e = let parts = both (is_stamp_octet b) (list_all is_stamp_octet bs) e in IsAscii-cons b bs (octet_small b parts.0) (ascii_of bs parts.1)
+ascii_of (b ∷ bs) e = let parts = both (is_stamp_octet b) (list_all is_stamp_octet bs) e in
+    IsAscii-cons b bs (octet_small b parts.0) (ascii_of bs parts.1)
 
 front : (xs ys : List ℕ) → list_all is_stamp_octet (xs ++ ys) ≡ true → list_all is_stamp_octet xs ≡ true
 front xs ys e = (both (list_all is_stamp_octet xs) (list_all is_stamp_octet ys) (sym (list_all-append is_stamp_octet xs ys) ∙ e)).0

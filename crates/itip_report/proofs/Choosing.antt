@@ -35,7 +35,8 @@ module _ (Is : Item → Type 0) where
 
     pub chosen_more : ((i : Item) → Contains done i → IsBefore i item) → Is item → Chosen Is (done ++ item ∷ []) (found ++ item ∷ [])
     chosen_more later is = record {
-      ascend = all_pairs_push IsBefore found item so.ascend (λ k d below. later (get_or found k d) (so.each (get_or found k d) (Contains-get_or found k d below)).0);
+      ascend = all_pairs_push IsBefore found item so.ascend
+          (λ k d below. later (get_or found k d) (so.each (get_or found k d) (Contains-get_or found k d below)).0);
       each = λ i h. elim (Contains-push_cases found item i h) [
         | inl earlier ↦ let r = so.each i earlier in (Contains-append_left done (item ∷ []) i r.0, r.1)
         | inr same ↦ (subst (Contains (done ++ item ∷ [])) same (Contains-push done item), subst Is same is)
@@ -47,7 +48,8 @@ module _ (Is : Item → Type 0) where
     }
 
   -- by place they are the reported ones
-  pub chosen_by_place : (items found sorted : List Item) → ((item : Item) → Is item → Contains items item) → Chosen Is items found → AscendPlaces sorted → SameItems sorted found → AreReported Is sorted
+  pub chosen_by_place : (items found sorted : List Item) → ((item : Item) → Is item → Contains items item) → Chosen Is items found →
+      AscendPlaces sorted → SameItems sorted found → AreReported Is sorted
   chosen_by_place items found sorted heard so ascend same = record {
     ascend = ascend;
     each = λ i h. (so.each i ((same i).0 h)).1;
@@ -55,7 +57,8 @@ module _ (Is : Item → Type 0) where
   }
 
 -- one more of the items is looked at
-module _ (Is : Item → Type 0) (refs : List (Bor Item)) (ordered : AscendKeys (map (λ item. item.now) refs)) (i : ℕ) (ref : Bor Item) (below : i < length refs) (here : ref ≡ get_or refs i ref)
+module _ (Is : Item → Type 0) (refs : List (Bor Item)) (ordered : AscendKeys (map (λ item. item.now) refs)) (i : ℕ) (ref : Bor Item)
+    (below : i < length refs) (here : ref ≡ get_or refs i ref)
     (found : List Item) (so : Chosen Is (take i (map (λ item. item.now) refs)) found) where
   inside : i < length (map (λ (item : Bor Item). item.now) refs)
   inside = rw (length-map refs (λ (item : Bor Item). item.now)) below
@@ -67,8 +70,10 @@ module _ (Is : Item → Type 0) (refs : List (Bor Item)) (ordered : AscendKeys (
   done = take_more (map (λ item. item.now) refs) i ref.now inside ∙ ap (λ (x : Item). take i (map (λ item. item.now) refs) ++ x ∷ []) at_i
 
   pub looked_pass : (Is ref.now → ⊥) → Chosen Is (take (i + 1) (map (λ item. item.now) refs)) found
-  looked_pass not = subst (λ (xs : List Item). Chosen Is xs found) (sym done) (chosen_pass Is (take i (map (λ item. item.now) refs)) found so ref.now not)
+  looked_pass not = subst (λ (xs : List Item). Chosen Is xs found) (sym done)
+      (chosen_pass Is (take i (map (λ item. item.now) refs)) found so ref.now not)
 
   pub looked_more : Is ref.now → Chosen Is (take (i + 1) (map (λ item. item.now) refs)) (found ++ ref.now ∷ [])
   looked_more is = subst (λ (xs : List Item). Chosen Is xs (found ++ ref.now ∷ [])) (sym done)
-      (chosen_more Is (take i (map (λ item. item.now) refs)) found so ref.now (earlier_before IsBefore (map (λ item. item.now) refs) i ref.now ordered inside (sym at_i)) is)
+      (chosen_more Is (take i (map (λ item. item.now) refs)) found so ref.now
+      (earlier_before IsBefore (map (λ item. item.now) refs) i ref.now ordered inside (sym at_i)) is)

@@ -43,7 +43,8 @@ pub eff_small : (item : Item) → item.eff ≤ last_sequence
 eff_small item =
     let parts : Parts = parts_of item.todo in
     let eff : ℕ = effective_sequence (method_of item.kind) (parts ∷ []) parts in
-    let small : eff ≤ last_sequence = raised_small parts _ item.todo.lawful (series_small (method_of item.kind) parts.uid (item.todo ∷ [])) in
+    let small : eff ≤ last_sequence =
+    raised_small parts _ item.todo.lawful (series_small (method_of item.kind) parts.uid (item.todo ∷ [])) in
     let k : Kind = kind_of (method_of item.kind) parts in
     let one : drafts_of k eff parts ≡ draft item ∷ [] = sym (append-nil (drafts_of k eff parts)) ∙ alone item in
     (subst (λ (ds : List ItemDraft). AllByRecursion IsSmall ds) one (drafts_small parts item.todo.lawful.seq eff small k)).0
@@ -52,7 +53,8 @@ eff_small item =
 pub last_small : (heard : List Item) (uid : List ℕ) (n : ℕ) → IsLastUsed heard uid (Some n) → n ≤ last_sequence
 last_small heard uid n (used, above) = subst (λ (m : ℕ). m ≤ last_sequence) used.eff_is (eff_small used.item)
 
-pub one_more : (heard : List Item) (uid : List ℕ) (n : ℕ) → IsLastUsed heard uid (Some n) → n ≢ last_sequence → IsNext heard uid (Some (n + 1))
+pub one_more : (heard : List Item) (uid : List ℕ) (n : ℕ) → IsLastUsed heard uid (Some n) → n ≢ last_sequence →
+    IsNext heard uid (Some (n + 1))
 one_more heard uid n last other =
     let small : n ≤ last_sequence = last_small heard uid n last in
     let next : suc n ≡ n + 1 = omega arith in

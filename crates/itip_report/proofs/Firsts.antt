@@ -21,7 +21,8 @@ same_back a b = (eq_by_cmp_equiv nat_list_cmp_total).symm a b
 
 pub any_push : {X : Type 0} (t : X → Bool) (xs : List X) (x : X) → list_any t (xs ++ x ∷ []) ≡ (list_any t xs || t x)
 any_push t [] x = elim (t x) as (λ b. (b || false) ≡ b) [ true ↦ refl | false ↦ refl ]
-any_push t (y ∷ ys) x = elim (t y) as (λ b. (b || list_any t (ys ++ x ∷ [])) ≡ ((b || list_any t ys) || t x)) [ true ↦ refl | false ↦ any_push t ys x ]
+any_push t (y ∷ ys) x =
+    elim (t y) as (λ b. (b || list_any t (ys ++ x ∷ [])) ≡ ((b || list_any t ys) || t x)) [ true ↦ refl | false ↦ any_push t ys x ]
 
 pub neither : (a b : Bool) → (a || b) ≡ false → (a ≡ false) × (b ≡ false)
 neither true b e = cc
@@ -62,9 +63,11 @@ firsts_old (x ∷ xs) k e =
     first_same false b e f = absurd (let x : true ≡ false = sym e ∙ f in cc)
 
 -- what is the same as a left out text is not the same as k
-any_filter : (x k : List ℕ) (ys : List (List ℕ)) → same_text k x ≡ false → list_any (same_text k) (filter (λ y. not (same_text x y)) ys) ≡ list_any (same_text k) ys
+any_filter : (x k : List ℕ) (ys : List (List ℕ)) → same_text k x ≡ false →
+    list_any (same_text k) (filter (λ y. not (same_text x y)) ys) ≡ list_any (same_text k) ys
 any_filter x k [] e = refl
-any_filter x k (y ∷ ys) e = by_bool (same_text x y) (list_any (same_text k) (filter (λ z. not (same_text x z)) (y ∷ ys)) ≡ list_any (same_text k) (y ∷ ys))
+any_filter x k (y ∷ ys) e =
+    by_bool (same_text x y) (list_any (same_text k) (filter (λ z. not (same_text x z)) (y ∷ ys)) ≡ list_any (same_text k) (y ∷ ys))
     (λ same.
     let away : same_text k y ≡ false = ap (same_text k) (sym (same_is x y same)) ∙ e in
     ap (λ b. list_any (same_text k) (cond (not b) (y ∷ filter (λ z. not (same_text x z)) ys) (filter (λ z. not (same_text x z)) ys))) same
@@ -77,13 +80,16 @@ pub any_firsts : (k : List ℕ) (xs : List (List ℕ)) → list_any (same_text k
 unfolding firsts
 any_firsts k [] = refl
 any_firsts k (x ∷ xs) = by_bool (same_text k x) (list_any (same_text k) (firsts (x ∷ xs)) ≡ list_any (same_text k) (x ∷ xs))
-    (λ same. ap (λ b. b || list_any (same_text k) (filter (λ y. not (same_text x y)) (firsts xs))) same ∙ ap (λ b. b || list_any (same_text k) xs) (sym same))
+    (λ same. ap (λ b. b || list_any (same_text k) (filter (λ y. not (same_text x y)) (firsts xs))) same ∙
+    ap (λ b. b || list_any (same_text k) xs) (sym same))
     (λ apart. ap (λ b. same_text k x || b) (any_filter x k (firsts xs) apart ∙ any_firsts k xs))
 
 -- each text stands there once
 all_filter : (t : List ℕ → Bool) (P : List ℕ → Type 0) (xs : List (List ℕ)) → AllByRecursion P xs → AllByRecursion P (filter t xs)
 all_filter t P [] h = tt
-all_filter t P (x ∷ xs) h = elim (t x) as (λ b. AllByRecursion P (cond b (x ∷ filter t xs) (filter t xs))) [ true ↦ (h.0, all_filter t P xs h.1) | false ↦ all_filter t P xs h.1 ]
+all_filter t P (x ∷ xs) h =
+    elim (t x) as (λ b. AllByRecursion P (cond b (x ∷ filter t xs) (filter t xs)))
+    [ true ↦ (h.0, all_filter t P xs h.1) | false ↦ all_filter t P xs h.1 ]
 
 distinct_filter : (t : List ℕ → Bool) (xs : List (List ℕ)) → IsDistinct same_text xs → IsDistinct same_text (filter t xs)
 unfolding IsDistinct
@@ -96,7 +102,9 @@ distinct_filter t (x ∷ xs) h = elim (t x) as (λ b. IsDistinct same_text (cond
 others_apart : (x : List ℕ) (xs : List (List ℕ)) → AllByRecursion (λ y. same_text x y ≡ false) (filter (λ y. not (same_text x y)) xs)
 others_apart x [] = tt
 others_apart x (y ∷ ys) =
-    elim (same_text x y) as (λ b. same_text x y ≡ b → AllByRecursion (λ z. same_text x z ≡ false) (cond (not b) (y ∷ filter (λ z. not (same_text x z)) ys) (filter (λ z. not (same_text x z)) ys))) [
+    elim (same_text x y) as (λ b. same_text x y ≡ b →
+    AllByRecursion (λ z. same_text x z ≡ false)
+    (cond (not b) (y ∷ filter (λ z. not (same_text x z)) ys) (filter (λ z. not (same_text x z)) ys))) [
       | true ↦ λ e. others_apart x ys
       | false ↦ λ e. (e, others_apart x ys)
     ] refl

@@ -5,7 +5,8 @@ use Rattle.std.specs.Option.{option_cmp}
 use Rattle.std.specs.Ordering.{nat_cmp, ordering_then}
 use Rattle.std.specs.Cmp.Lexicographic.{slice_cmp}
 use Rattle.std.specs.declared.cmp.Ordering.TheVariants.{Less}
-use Rattle.std.proofs.lemmas.List.Elements.{Contains-append_cases, Contains-append_left, Contains-append_right, Contains-push, Contains-push_cases}
+use Rattle.std.proofs.lemmas.List.Elements.{Contains-append_cases, Contains-append_left, Contains-append_right, Contains-push}
+use Rattle.std.proofs.lemmas.List.Elements.{Contains-push_cases}
 use Rattle.itip_moment.specs.Order.{moment_cmp}
 use Rattle.itip_items.specs.KeyParts.{uid_of, rank_of, instance_of, attendee_of}
 use Rattle.itip_items.specs.declared.item.Item.{Item}
@@ -31,7 +32,8 @@ module _ (asked : Report) (heard : List Item) where
   }
 
   module _ (done : List (List ℕ)) (items : List Item) (so : ReportedOf asked heard done items) (uid : List ℕ) (part more : List Item)
-      (later : (u : List ℕ) → Contains done u → slice_cmp nat_cmp u uid ≡ Less) (are : ArePart uid part heard) (of : AreReported (IsReported asked part) more) where
+      (later : (u : List ℕ) → Contains done u → slice_cmp nat_cmp u uid ≡ Less) (are : ArePart uid part heard)
+      (of : AreReported (IsReported asked part) more) where
     about : (item : Item) → Contains more item → uid_of item.key ≡ uid
     about item h = ((are item).0 (reported_heard part item asked (of.each item h))).1
 
@@ -40,7 +42,9 @@ module _ (asked : Report) (heard : List Item) where
 
     before : (item new : Item) → Contains items item → Contains more new → place_cmp item.key new.key ≡ Less
     before item new h g =
-        ap (λ o. ordering_then o (ordering_then (option_cmp moment_cmp (instance_of item.key) (instance_of new.key)) (ordering_then (slice_cmp nat_cmp (attendee_of item.key) (attendee_of new.key)) (nat_cmp (rank_of item.key) (rank_of new.key)))))
+        ap (λ o. ordering_then o (ordering_then (option_cmp moment_cmp (instance_of item.key) (instance_of new.key))
+        (ordering_then (slice_cmp nat_cmp (attendee_of item.key) (attendee_of new.key))
+        (nat_cmp (rank_of item.key) (rank_of new.key)))))
         (ap (λ (u : List ℕ). slice_cmp nat_cmp (uid_of item.key) u) (about new g) ∙ later (uid_of item.key) (so.each item h).1)
 
     pub gather_more : ReportedOf asked heard (done ++ uid ∷ []) (items ++ more)
@@ -49,16 +53,20 @@ module _ (asked : Report) (heard : List Item) where
       each = λ item h. elim (Contains-append_cases items more item h) [
         | inl earlier ↦ let r = so.each item earlier in (r.0, Contains-append_left done (uid ∷ []) (uid_of item.key) r.1)
         | inr new ↦
-            let here = about item new in
-            (reported_there part heard item (says item here) asked (of.each item new), subst (Contains (done ++ uid ∷ [])) (sym here) (Contains-push done uid))
+            let here = about item new in (
+              reported_there part heard item (says item here) asked (of.each item new),
+              subst (Contains (done ++ uid ∷ [])) (sym here) (Contains-push done uid),
+            )
       ];
       all = λ item is h. elim (Contains-push_cases done uid (uid_of item.key) h) [
         | inl earlier ↦ Contains-append_left items more item (so.all item is earlier)
-        | inr same ↦ Contains-append_right items more item (of.all item (reported_there heard part item (say_back (uid_of item.key) part heard (says item (sym same))) asked is))
+        | inr same ↦ Contains-append_right items more item
+            (of.all item (reported_there heard part item (say_back (uid_of item.key) part heard (says item (sym same))) asked is))
       ];
     }
 
-  pub all_gathered : (uids : List (List ℕ)) (items : List Item) → AreUidsOf uids heard → ReportedOf asked heard uids items → AreReported (IsReported asked heard) items
+  pub all_gathered : (uids : List (List ℕ)) (items : List Item) → AreUidsOf uids heard → ReportedOf asked heard uids items →
+      AreReported (IsReported asked heard) items
   all_gathered uids items of so = record {
     ascend = so.ascend;
     each = λ item h. (so.each item h).0;

@@ -38,7 +38,11 @@ module _ (x y : List Item) (same : KeepAlike x y) where
   standing_alike : (uid : List ℕ) (item : Item) → IsStanding x uid item → IsStanding y uid item
   standing_alike uid item is = record {
     id = is.id;
-    stands = elim is.stands [ inl at ↦ inl (stands_alike x y same uid is.id item at) | inr on ↦ inr (stands_from_alike x y same uid is.id item on) ];
+    stands = elim is.stands [
+      | inl at ↦ inl (stands_alike x y same uid is.id item at)
+      | inr on ↦ inr
+          (stands_from_alike x y same uid is.id item on)
+    ];
   }
 
   cancellation_alike : (item : Item) → IsCancellation x item → IsCancellation y item
@@ -68,7 +72,8 @@ module _ (x y : List Item) (same : KeepAlike x y) where
   reported_alike report.Orphans item is = orphan_alike item is
   reported_alike report.Refresh item is = wanted_alike item is
 
-  all_standing_alike : (uid : List ℕ) (items : List Item) → ((item : Item) → IsStanding y uid item → IsStanding x uid item) → AreStanding x uid items → AreStanding y uid items
+  all_standing_alike : (uid : List ℕ) (items : List Item) → ((item : Item) → IsStanding y uid item → IsStanding x uid item) →
+      AreStanding x uid items → AreStanding y uid items
   all_standing_alike uid items back are = record {
     ascend = are.ascend;
     each = λ item h. standing_alike uid item (are.each item h);
@@ -78,7 +83,8 @@ module _ (x y : List Item) (same : KeepAlike x y) where
   organizers_alike : (uid : List ℕ) (item : Item) → IsOrganizers x uid item → IsOrganizers y uid item
   organizers_alike uid item is = record { kept = (same item).0 is.kept; about = is.about; sent = is.sent }
 
-pub lines_alike : (x y : List Item) → KeepAlike x y → (asked : Report) (lines : List (List ℕ)) → AreReportLines asked x lines → AreReportLines asked y lines
+pub lines_alike : (x y : List Item) → KeepAlike x y → (asked : Report) (lines : List (List ℕ)) → AreReportLines asked x lines →
+    AreReportLines asked y lines
 lines_alike x y same asked lines are = record {
   items = are.items;
   reported = record {
@@ -89,7 +95,8 @@ lines_alike x y same asked lines are = record {
   lines_are = are.lines_are;
 }
 
-pub resend_alike : (x y : List Item) → KeepAlike x y → (uid : List ℕ) (bytes : Option (List ℕ)) → IsResendOf x uid bytes → IsResendOf y uid bytes
+pub resend_alike : (x y : List Item) → KeepAlike x y → (uid : List ℕ) (bytes : Option (List ℕ)) → IsResendOf x uid bytes →
+    IsResendOf y uid bytes
 resend_alike x y same uid None none = λ item live. none item (live_series_alike y x (alike_back x y same) uid item live)
 resend_alike x y same uid (Some bytes) is = record {
   series = is.series;

@@ -17,11 +17,13 @@ use Rattle.itip_report.proofs.Placing.{place_total}
 places_apart : (a b : Item) → place_cmp a.key b.key ≡ Less → place_cmp b.key a.key ≡ Less → ⊥
 places_apart a b = less_one_way place_total a.key b.key
 
-same_places : (xs ys : List Item) → AscendPlaces xs → AscendPlaces ys → ((item : Item) → Contains xs item → Contains ys item) → ((item : Item) → Contains ys item → Contains xs item) → xs ≡ ys
+same_places : (xs ys : List Item) → AscendPlaces xs → AscendPlaces ys → ((item : Item) → Contains xs item → Contains ys item) →
+    ((item : Item) → Contains ys item → Contains xs item) → xs ≡ ys
 same_places xs ys up over there back =
     same_ascending (λ (a b : Item). place_cmp a.key b.key ≡ Less) places_apart xs ys up over (λ item. (there item, back item))
 
-pub one_lines : (heard : List Item) (asked : Report) (lines others : List (List ℕ)) → AreReportLines asked heard lines → AreReportLines asked heard others → lines ≡ others
+pub one_lines : (heard : List Item) (asked : Report) (lines others : List (List ℕ)) → AreReportLines asked heard lines →
+    AreReportLines asked heard others → lines ≡ others
 one_lines heard asked lines others mine theirs =
     let same : mine.items ≡ theirs.items = same_places mine.items theirs.items mine.reported.ascend theirs.reported.ascend
     (λ item h. theirs.reported.all item (mine.reported.each item h)) (λ item h. mine.reported.all item (theirs.reported.each item h)) in
@@ -34,7 +36,8 @@ two_resends heard uid bytes others mine theirs =
     (λ item h. theirs.standing.all item (mine.standing.each item h)) (λ item h. mine.standing.all item (theirs.standing.each item h)) in
     mine.bytes_are ∙ (λ i. flat_map (λ (item : Item). item.bytes) (one i ∷ same i)) ∙ sym theirs.bytes_are
 
-pub one_resend : (heard : List Item) (uid : List ℕ) (bytes others : Option (List ℕ)) → IsResendOf heard uid bytes → IsResendOf heard uid others → bytes ≡ others
+pub one_resend : (heard : List Item) (uid : List ℕ) (bytes others : Option (List ℕ)) → IsResendOf heard uid bytes →
+    IsResendOf heard uid others → bytes ≡ others
 one_resend heard uid None None mine theirs = refl
 one_resend heard uid None (Some others) none theirs = absurd (none theirs.series theirs.live)
 one_resend heard uid (Some bytes) None mine none = absurd (none mine.series mine.live)
@@ -58,4 +61,5 @@ one_next heard uid (Some zero) (Some zero) mine theirs = refl
 one_next heard uid (Some zero) (Some (suc n)) none (theirs, few) = absurd (no_use heard uid n none theirs)
 one_next heard uid (Some (suc m)) None (mine, few) theirs = absurd (omega (arith, one_use heard uid m last_sequence mine theirs, few))
 one_next heard uid (Some (suc m)) (Some zero) (mine, few) none = absurd (no_use heard uid m none mine)
-one_next heard uid (Some (suc m)) (Some (suc n)) (mine, few) (theirs, also) = ap (λ (k : ℕ). Some (suc k)) (one_use heard uid m n mine theirs)
+one_next heard uid (Some (suc m)) (Some (suc n)) (mine, few) (theirs, also) =
+    ap (λ (k : ℕ). Some (suc k)) (one_use heard uid m n mine theirs)

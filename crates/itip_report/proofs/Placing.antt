@@ -1,5 +1,6 @@
 -- Items in the order of their keys that are sorted by place.
-use Rattle.std.proofs.Common.{◌≡◌, ◌<◌, ℕ, zero, suc, List, [], ◌∷◌, refl, sym, ap, ◌∙◌, subst, map, get_or, length, Bool, true, false, arith}
+use Rattle.std.proofs.Common.{◌≡◌, ◌<◌, ℕ, zero, suc, List, [], ◌∷◌, refl, sym, ap, ◌∙◌, subst, map, get_or, length, Bool, true, false}
+use Rattle.std.proofs.Common.{arith}
 use Rattle.std.specs.List.{Contains, AllPairs, IsDistinct, AllByRecursion}
 use Rattle.std.specs.List.Sorted.{IsPermutation, IsSortedBy}
 use Rattle.std.specs.Option.{option_cmp}
@@ -61,12 +62,14 @@ less_from a b not_below apart = by (place_cmp a b) refl
         let x : true ≡ false = sym (ap is_lt turned) ∙ not_below in absurd (cc)
 
 -- a fact of pairs of a list is one of the pairs of what is made of it
-get_map : {X : Type 0} (item_of : X → Item) (xs : List X) (i : ℕ) (d : Item) (e : X) → i < length xs → get_or (map item_of xs) i d ≡ item_of (get_or xs i e)
+get_map : {X : Type 0} (item_of : X → Item) (xs : List X) (i : ℕ) (d : Item) (e : X) → i < length xs →
+    get_or (map item_of xs) i d ≡ item_of (get_or xs i e)
 get_map item_of [] i d e h = absurd (omega (arith, h))
 get_map item_of (x ∷ xs) zero d e h = refl
 get_map item_of (x ∷ xs) (suc i) d e h = get_map item_of xs i d e (omega (arith, h))
 
-pairs_map : {X : Type 0} (R : Item → Item → Type 0) (item_of : X → Item) (xs : List X) → AllPairs (λ (a b : X). R (item_of a) (item_of b)) xs → AllPairs R (map item_of xs)
+pairs_map : {X : Type 0} (R : Item → Item → Type 0) (item_of : X → Item) (xs : List X) →
+    AllPairs (λ (a b : X). R (item_of a) (item_of b)) xs → AllPairs R (map item_of xs)
 pairs_map R item_of [] p = no_pairs R
 pairs_map R item_of (x ∷ xs) p = λ i j d below inside.
     let long : j < length (x ∷ xs) = subst (λ n. j < n) (length-map (x ∷ xs) item_of) inside in
@@ -77,9 +80,11 @@ module _ {X : Type 0} (item_of : X → Item) where
   abbrev same_keys : X → X → Bool
   same_keys a b = same_key (item_of a) (item_of b)
 
-  all_apart : (a : X) (xs : List X) → ((b : Item) → Contains (map item_of xs) b → same_key (item_of a) b ≡ false) → AllByRecursion (λ b. same_keys a b ≡ false) xs
+  all_apart : (a : X) (xs : List X) → ((b : Item) → Contains (map item_of xs) b → same_key (item_of a) b ≡ false) →
+      AllByRecursion (λ b. same_keys a b ≡ false) xs
   all_apart a [] h = tt
-  all_apart a (x ∷ xs) h = (h (item_of x) (cons_first (item_of x) (map item_of xs)), all_apart a xs (λ b g. h b (cons_later (item_of x) (map item_of xs) b g)))
+  all_apart a (x ∷ xs) h =
+      (h (item_of x) (cons_first (item_of x) (map item_of xs)), all_apart a xs (λ b g. h b (cons_later (item_of x) (map item_of xs) b g)))
 
   each_apart : (xs : List X) → AscendKeys (map item_of xs) → IsDistinct same_keys xs
   unfolding IsDistinct
@@ -90,9 +95,12 @@ module _ {X : Type 0} (item_of : X → Item) where
   )
 
   -- a sort by place puts them in order
-  pub places_ascend : (xs ys : List X) → AscendKeys (map item_of xs) → IsPermutation xs ys → IsSortedBy (λ a b. place_below (item_of a) (item_of b)) ys → AscendPlaces (map item_of ys)
+  pub places_ascend : (xs ys : List X) → AscendKeys (map item_of xs) → IsPermutation xs ys →
+      IsSortedBy (λ a b. place_below (item_of a) (item_of b)) ys → AscendPlaces (map item_of ys)
   places_ascend xs ys keys moved up = pairs_map (λ (a b : Item). place_cmp a.key b.key ≡ Less) item_of ys (λ i j d below inside.
       less_from (item_of (get_or ys i d)).key (item_of (get_or ys j d)).key
-      (sorted_far (λ a b. place_below (item_of a) (item_of b)) (ranks_by place_total (λ a. (item_of a).key)) ys up i j d (omega (arith, below)) inside)
+      (sorted_far (λ a b. place_below (item_of a) (item_of b)) (ranks_by place_total (λ a. (item_of a).key)) ys up i j d
+      (omega (arith, below)) inside)
       (apart_from_distinct same_keys ys i j d
-      (IsDistinct-IsPermutation same_keys (λ a b. (eq_by_cmp_equiv key_total).symm (item_of a).key (item_of b).key) xs ys moved (each_apart xs keys)) below inside))
+      (IsDistinct-IsPermutation same_keys (λ a b. (eq_by_cmp_equiv key_total).symm (item_of a).key (item_of b).key) xs ys moved
+      (each_apart xs keys)) below inside))

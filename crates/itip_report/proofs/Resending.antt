@@ -4,7 +4,8 @@ use Rattle.itip_items.specs.declared.item.Item.{Item}
 use Rattle.itip_report.specs.Organizing.{IsResendOf}
 use Rattle.itip_report.proofs.SameOf.{SaySame, say_back, standing_there, live_there}
 
-pub resend_there : (uid : List ℕ) (x y : List Item) → SaySame uid x y → (bytes : Option (List ℕ)) → IsResendOf x uid bytes → IsResendOf y uid bytes
+pub resend_there : (uid : List ℕ) (x y : List Item) → SaySame uid x y → (bytes : Option (List ℕ)) → IsResendOf x uid bytes →
+    IsResendOf y uid bytes
 resend_there uid x y same None none = λ item live. none item (live_there uid y x (say_back uid x y same) item live)
 resend_there uid x y same (Some bytes) sent = record {
   series = sent.series;

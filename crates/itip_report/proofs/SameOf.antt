@@ -63,7 +63,11 @@ module _ (uid : List ℕ) (x y : List Item) (same : SaySame uid x y) where
   pub standing_there : (i : Item) → IsStanding x uid i → IsStanding y uid i
   standing_there i s = record {
     id = s.id;
-    stands = elim s.stands [ inl at ↦ inl (stands_there (Instance uid s.id) refl i at) | inr on ↦ inr (stands_there (Range uid s.id) refl i on) ];
+    stands = elim s.stands [
+      | inl at ↦ inl (stands_there (Instance uid s.id) refl i at)
+      | inr on ↦ inr
+          (stands_there (Range uid s.id) refl i on)
+    ];
   }
 
   pub live_there : (i : Item) → IsLiveSeries x uid i → IsLiveSeries y uid i
@@ -91,14 +95,18 @@ module _ (uid : List ℕ) (x y : List Item) (same : SaySame uid x y) where
 
   governs_there : (id : Option Moment) (g : Item) → Governs x uid id g → Governs y uid id g
   governs_there None g live = live_there uid x y same g live
-  governs_there (Some at) g (inl here) = inl (record { stands = stands_there uid x y same (Instance uid at) refl g here.stands; live = here.live })
+  governs_there (Some at) g (inl here) =
+      inl (record { stands = stands_there uid x y same (Instance uid at) refl g here.stands; live = here.live })
   governs_there (Some at) g (inr (none, between)) =
       inr (λ i s. none i (stands_there uid y x (say_back uid x y same) (Instance uid at) refl i s), between_there at g between)
 
 -- what one of them reports of the UID the other does
-pub reported_there : (x y : List Item) (item : Item) → SaySame (uid_of item.key) x y → (asked : Report) → IsReported asked x item → IsReported asked y item
-reported_there x y item same report.Cancelled (inl s) = inl (record { best = (same.best (Series (uid_of item.key)) refl item).0 s.best; cancelled = s.cancelled })
-reported_there x y item same report.Cancelled (inr s) = inr (record { standing = standing_there (uid_of item.key) x y same item s.standing; cancelled = s.cancelled })
+pub reported_there : (x y : List Item) (item : Item) → SaySame (uid_of item.key) x y → (asked : Report) → IsReported asked x item →
+    IsReported asked y item
+reported_there x y item same report.Cancelled (inl s) =
+    inl (record { best = (same.best (Series (uid_of item.key)) refl item).0 s.best; cancelled = s.cancelled })
+reported_there x y item same report.Cancelled (inr s) =
+    inr (record { standing = standing_there (uid_of item.key) x y same item s.standing; cancelled = s.cancelled })
 reported_there x y item same report.Orphans o = record {
   kept = (same.kept item refl).0 o.kept;
   of_attendee = o.of_attendee;
@@ -130,8 +138,10 @@ sought_heard part sought.Orphans item is = reported_heard part.items item report
 sought_heard part (sought.Wanted ranges) item is = reported_heard part.items item report.Refresh is
 
 -- what is found for a report is what it reports
-pub found_for : (part : UidPart) (asked : Report) (s : Sought) (items : List Item) → IsFor asked s → AreReported (IsSought s part) items → AreReported (IsReported asked part.items) items
+pub found_for : (part : UidPart) (asked : Report) (s : Sought) (items : List Item) → IsFor asked s → AreReported (IsSought s part) items →
+    AreReported (IsReported asked part.items) items
 found_for part asked sought.Standing items for found = absurd for
 found_for part asked sought.Cancelled items for found = subst (λ (r : Report). AreReported (IsReported r part.items) items) (sym for) found
 found_for part asked sought.Orphans items for found = subst (λ (r : Report). AreReported (IsReported r part.items) items) (sym for) found
-found_for part asked (sought.Wanted ranges) items for found = subst (λ (r : Report). AreReported (IsReported r part.items) items) (sym for) found
+found_for part asked (sought.Wanted ranges) items for found =
+    subst (λ (r : Report). AreReported (IsReported r part.items) items) (sym for) found

@@ -6,16 +6,19 @@ use Rattle.itip_view.specs.Answers.{Asked, NoneCounts, Decides, AreShown, shown_
 use Rattle.itip_view.specs.declared.row.ShownAttendee.{ShownAttendee}
 
 module _ (heard : List Item) where
-  pub decides_later : (asked : Asked) (rest : List Asked) → NoneCounts heard asked → (answer : Option Item) → Decides heard rest answer → Decides heard (asked ∷ rest) answer
+  pub decides_later : (asked : Asked) (rest : List Asked) → NoneCounts heard asked → (answer : Option Item) → Decides heard rest answer →
+      Decides heard (asked ∷ rest) answer
   decides_later asked rest none None decides = (none, decides)
   decides_later asked rest none (Some answer) decides = inr (none, decides)
 
-  pub shows_more : (asked_of : Property → List Asked) (line : Property) (lines : List Property) (answer : Option Item) (others : List ShownAttendee) → Decides heard (asked_of line) answer →
+  pub shows_more : (asked_of : Property → List Asked) (line : Property) (lines : List Property) (answer : Option Item)
+      (others : List ShownAttendee) → Decides heard (asked_of line) answer →
       AreShown heard asked_of lines others → AreShown heard asked_of (line ∷ lines) (in_front (shown_line line answer) others)
   shows_more asked_of line lines answer others decides rest = (answer, others, decides, rest, refl)
 
 -- one more, or none, behind those before
-pub behind : (front others : List ShownAttendee) (shown : Option ShownAttendee) → front ++ in_front shown others ≡ (front ++ in_front shown []) ++ others
+pub behind : (front others : List ShownAttendee) (shown : Option ShownAttendee) → front ++
+    in_front shown others ≡ (front ++ in_front shown []) ++ others
 behind front others None = ap (λ (xs : List ShownAttendee). xs ++ others) (sym (nothing front))
   where
     nothing : (xs : List ShownAttendee) → xs ++ [] ≡ xs

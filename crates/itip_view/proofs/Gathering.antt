@@ -1,11 +1,13 @@
 -- The rows of several UIDs, one UID after the other.
-use Rattle.std.proofs.Common.{◌≡◌, ◌+◌, ◌<◌, ℕ, List, [], ◌∷◌, ◌++◌, sym, ◌∙◌, ap, subst, inl, inr, length, length-append, Option, Some, None, ◌↔◌}
+use Rattle.std.proofs.Common.{◌≡◌, ◌+◌, ◌<◌, ℕ, List, [], ◌∷◌, ◌++◌, sym, ◌∙◌, ap, subst, inl, inr, length, length-append, Option, Some}
+use Rattle.std.proofs.Common.{None, ◌↔◌}
 use Rattle.std.specs.List.{Contains}
 use Rattle.std.specs.Option.{option_cmp}
 use Rattle.std.specs.Ordering.{nat_cmp, ordering_then}
 use Rattle.std.specs.Cmp.Lexicographic.{slice_cmp}
 use Rattle.std.specs.declared.cmp.Ordering.TheVariants.{Less}
-use Rattle.std.proofs.lemmas.List.Elements.{Contains-append_cases, Contains-append_left, Contains-append_right, Contains-push, Contains-push_cases}
+use Rattle.std.proofs.lemmas.List.Elements.{Contains-append_cases, Contains-append_left, Contains-append_right, Contains-push}
+use Rattle.std.proofs.lemmas.List.Elements.{Contains-push_cases}
 use Rattle.itip_moment.specs.Order.{moment_cmp}
 use Rattle.itip_items.specs.KeyParts.{uid_of}
 use Rattle.itip_items.specs.declared.item.Item.{Item}
@@ -25,7 +27,8 @@ module _ (heard : List Item) (window : Window) (shown : Option (List ℕ)) where
     all = λ row is P. absurd (none_in row.uid P.uid_is);
   }
 
-  module _ (done : List (List ℕ)) (rows : List Row) (so : AreRowsWhere (IsAmong done shown) heard window rows) (uid : List ℕ) (more : List Row)
+  module _ (done : List (List ℕ)) (rows : List Row) (so : AreRowsWhere (IsAmong done shown) heard window rows) (uid : List ℕ)
+      (more : List Row)
       (later : (u : List ℕ) → Contains done u → slice_cmp nat_cmp u uid ≡ Less) (of : AreRowsWhere (IsOf uid shown) heard window more) where
     before : (row new : Row) → Contains rows row → Contains more new → row_cmp row new ≡ Less
     before row new h g =
@@ -40,8 +43,10 @@ module _ (heard : List Item) (window : Window) (shown : Option (List ℕ)) where
         | inr new ↦ of.each row new
       ];
       holds = λ row h. elim (Contains-append_cases rows more row h) [
-        | inl earlier ↦ let r = so.holds row earlier in record { uid_is = Contains-append_left done (uid ∷ []) row.uid r.uid_is; shows = r.shows }
-        | inr new ↦ let r = of.holds row new in record { uid_is = subst (Contains (done ++ uid ∷ [])) (sym r.uid_is) (Contains-push done uid); shows = r.shows }
+        | inl earlier ↦ let r = so.holds row earlier in
+            record { uid_is = Contains-append_left done (uid ∷ []) row.uid r.uid_is; shows = r.shows }
+        | inr new ↦ let r = of.holds row new in
+            record { uid_is = subst (Contains (done ++ uid ∷ [])) (sym r.uid_is) (Contains-push done uid); shows = r.shows }
       ];
       all = λ row is P. elim (Contains-push_cases done uid row.uid P.uid_is) [
         | inl earlier ↦ Contains-append_left rows more row (so.all row is (record { uid_is = earlier; shows = P.shows }))
@@ -50,25 +55,30 @@ module _ (heard : List Item) (window : Window) (shown : Option (List ℕ)) where
     }
 
     -- with UIDs behind these the rows are as many at least
-    pub gather_too_many : (rest : List (List ℕ)) → row_limit < length rows + length more → AreTooManyWhere (IsAmong ((done ++ uid ∷ []) ++ rest) shown) heard window
+    pub gather_too_many : (rest : List (List ℕ)) → row_limit < length rows + length more →
+        AreTooManyWhere (IsAmong ((done ++ uid ∷ []) ++ rest) shown) heard window
     gather_too_many rest over = record {
       some = rows ++ more;
       ascend = gather_more.ascend;
       each = gather_more.each;
-      holds = λ row h. let r = gather_more.holds row h in record { uid_is = Contains-append_left (done ++ uid ∷ []) rest row.uid r.uid_is; shows = r.shows };
+      holds = λ row h. let r = gather_more.holds row h in
+          record { uid_is = Contains-append_left (done ++ uid ∷ []) rest row.uid r.uid_is; shows = r.shows };
       many = rw (length-append rows more) over;
     }
 
 module _ (heard : List Item) (window : Window) where
   -- each row is of a UID of which something was heard
-  pub uid_of_row : (uids : List (List ℕ)) → ((item : Item) → Contains heard item → Contains uids (uid_of item.key)) → (row : Row) → IsRow heard window row → Contains uids row.uid
+  pub uid_of_row : (uids : List (List ℕ)) → ((item : Item) → Contains heard item → Contains uids (uid_of item.key)) → (row : Row) →
+      IsRow heard window row → Contains uids row.uid
   uid_of_row uids of row (inl p) = subst (Contains uids) (ap uid_of p.live.stands.best.about) (of p.item p.live.stands.best.is_heard)
   uid_of_row uids of row (inr (inl p)) = subst (Contains uids) (ap uid_of p.live.best.about) (of p.item p.live.best.is_heard)
-  uid_of_row uids of row (inr (inr (inl p))) = subst (Contains uids) (ap uid_of p.live_series.best.about) (of p.whole p.live_series.best.is_heard)
+  uid_of_row uids of row (inr (inr (inl p))) =
+      subst (Contains uids) (ap uid_of p.live_series.best.about) (of p.whole p.live_series.best.is_heard)
   uid_of_row uids of row (inr (inr (inr (inl p)))) = subst (Contains uids) (ap uid_of p.live.best.about) (of p.item p.live.best.is_heard)
   uid_of_row uids of row (inr (inr (inr (inr p)))) = subst (Contains uids) (ap uid_of p.live.best.about) (of p.item p.live.best.is_heard)
 
-  pub all_gathered : (uids : List (List ℕ)) (rows : List Row) → AreUidsOf uids heard → AreRowsWhere (IsAmong uids None) heard window rows → AreRows heard window rows
+  pub all_gathered : (uids : List (List ℕ)) (rows : List Row) → AreUidsOf uids heard → AreRowsWhere (IsAmong uids None) heard window rows →
+      AreRows heard window rows
   all_gathered uids rows of so = record {
     ascend = so.ascend;
     each = so.each;
@@ -80,7 +90,8 @@ module _ (heard : List Item) (window : Window) where
 
   -- the same of the rows that show an attendee
   module _ (address : List ℕ) where
-    pub all_showing : (uids : List (List ℕ)) (rows : List Row) → AreUidsOf uids heard → AreRowsWhere (IsAmong uids (Some address)) heard window rows →
+    pub all_showing : (uids : List (List ℕ)) (rows : List Row) → AreUidsOf uids heard →
+        AreRowsWhere (IsAmong uids (Some address)) heard window rows →
         AreRowsWhere (Shows address) heard window rows
     all_showing uids rows of so = record {
       ascend = so.ascend;
@@ -89,12 +100,16 @@ module _ (heard : List Item) (window : Window) where
       all = λ row is shows. so.all row is (record { uid_is = uid_of_row uids of.all row is; shows = shows });
     }
 
-    pub many_showing : (uids : List (List ℕ)) → AreTooManyWhere (IsAmong uids (Some address)) heard window → AreTooManyWhere (Shows address) heard window
-    many_showing uids over = record { some = over.some; ascend = over.ascend; each = over.each; holds = λ row h. (over.holds row h).shows; many = over.many }
+    pub many_showing : (uids : List (List ℕ)) → AreTooManyWhere (IsAmong uids (Some address)) heard window →
+        AreTooManyWhere (Shows address) heard window
+    many_showing uids over =
+        record { some = over.some; ascend = over.ascend; each = over.each; holds = λ row h. (over.holds row h).shows; many = over.many }
 
 -- UIDs in another order, or named more than once, have the same rows
-module _ (heard : List Item) (window : Window) (shown : Option (List ℕ)) (uids others : List (List ℕ)) (same : (uid : List ℕ) → Contains uids uid ↔ Contains others uid) where
-  pub rows_of_same_uids : (rows : List Row) → AreRowsWhere (IsAmong uids shown) heard window rows → AreRowsWhere (IsAmong others shown) heard window rows
+module _ (heard : List Item) (window : Window) (shown : Option (List ℕ)) (uids others : List (List ℕ)) (same : (uid : List ℕ) →
+    Contains uids uid ↔ Contains others uid) where
+  pub rows_of_same_uids : (rows : List Row) → AreRowsWhere (IsAmong uids shown) heard window rows →
+      AreRowsWhere (IsAmong others shown) heard window rows
   rows_of_same_uids rows are = record {
     ascend = are.ascend;
     each = are.each;

@@ -17,24 +17,31 @@ use Rattle.itip_view.proofs.OneRow.{one_best}
 use Rattle.itip_view.proofs.PlaceRows.{single_has_none, opaque_has_none}
 
 module _ (heard : List Item) (window : Window) (uid : List ℕ) where
-  pub occurrences_are : (whole : Whole) (series : Series) (moments : List Moment) → whole.shape ≡ shape.Repeats series → IsWhole heard uid (Some whole)
+  pub occurrences_are : (whole : Whole) (series : Series) (moments : List Moment) → whole.shape ≡ shape.Repeats series →
+      IsWhole heard uid (Some whole)
       → AreOccurrences series window.from window.to moments → AreOccurrencesOf heard window uid moments
   occurrences_are whole series moments e (live, is) are at =
       let repeats : IsSeriesOf whole.item.now.todo series = subst (IsShape whole.item.now.todo) e is in (
         λ h. record { item = whole.item.now; series = series; live = live; repeats = repeats; occurs = (are.exactly at).0 h },
         λ o. (are.exactly at).1 (subst (λ (s : Series). OccursIn s window.from window.to at)
             (series_one whole.item.now.todo o.series series
-            (subst (λ (i : Item). IsSeriesOf i.todo o.series) (one_best heard (key.Series uid) o.item whole.item.now o.live.best live.best) o.repeats) repeats) o.occurs),
+            (subst (λ (i : Item). IsSeriesOf i.todo o.series) (one_best heard (key.Series uid) o.item whole.item.now o.live.best live.best)
+            o.repeats) repeats) o.occurs),
       )
 
-  none_occur : (moments : List Moment) → moments ≡ [] → ((at : Moment) → IsOccurrence heard window uid at → ⊥) → AreOccurrencesOf heard window uid moments
+  none_occur : (moments : List Moment) → moments ≡ [] → ((at : Moment) → IsOccurrence heard window uid at → ⊥) →
+      AreOccurrencesOf heard window uid moments
   none_occur moments e none at = (λ h. absurd (none_in at (subst (λ (ms : List Moment). Contains ms at) e h)), λ o. absurd (none at o))
 
   pub absent_occurs : (moments : List Moment) → moments ≡ [] → IsWhole heard uid None → AreOccurrencesOf heard window uid moments
   absent_occurs moments e none = none_occur moments e (λ at o. none o.item o.live)
 
-  pub single_occurs : (whole : Whole) (moments : List Moment) → moments ≡ [] → whole.shape ≡ shape.Single → IsWhole heard uid (Some whole) → AreOccurrencesOf heard window uid moments
-  single_occurs whole moments e s (live, is) = none_occur moments e (λ at. single_has_none heard window uid whole.item.now live at (subst (IsShape whole.item.now.todo) s is))
+  pub single_occurs : (whole : Whole) (moments : List Moment) → moments ≡ [] → whole.shape ≡ shape.Single →
+      IsWhole heard uid (Some whole) → AreOccurrencesOf heard window uid moments
+  single_occurs whole moments e s (live, is) =
+      none_occur moments e (λ at. single_has_none heard window uid whole.item.now live at (subst (IsShape whole.item.now.todo) s is))
 
-  pub opaque_occurs : (whole : Whole) (moments : List Moment) → moments ≡ [] → whole.shape ≡ shape.Opaque → IsWhole heard uid (Some whole) → AreOccurrencesOf heard window uid moments
-  opaque_occurs whole moments e s (live, is) = none_occur moments e (λ at. opaque_has_none heard window uid whole.item.now live at (subst (IsShape whole.item.now.todo) s is))
+  pub opaque_occurs : (whole : Whole) (moments : List Moment) → moments ≡ [] → whole.shape ≡ shape.Opaque →
+      IsWhole heard uid (Some whole) → AreOccurrencesOf heard window uid moments
+  opaque_occurs whole moments e s (live, is) =
+      none_occur moments e (λ at. opaque_has_none heard window uid whole.item.now live at (subst (IsShape whole.item.now.todo) s is))

@@ -5,14 +5,17 @@ use Rattle.itip_moment.specs.declared.moment.Moment.{Moment}
 use Rattle.itip_items.specs.declared.item.Item.{Item}
 use Rattle.itip_state.specs.Kept.{AreKept}
 use Rattle.itip_state.proofs.Keeping.{kept_again}
-use Rattle.itip_view.specs.Rows.{IsInstanceRow, IsOccurrenceRow, IsRangeRow, IsSingleRow, IsOpaqueRow, NoneStandsAtStart, IsRow, AreRows, AreTooMany}
+use Rattle.itip_view.specs.Rows.{IsInstanceRow, IsOccurrenceRow, IsRangeRow, IsSingleRow, IsOpaqueRow, NoneStandsAtStart, IsRow, AreRows}
+use Rattle.itip_view.specs.Rows.{AreTooMany}
 use Rattle.itip_view.specs.ListText.{IsListText}
 use Rattle.itip_view.specs.Showing.{Shows, AreRowsWhere, AreTooManyWhere, IsListTextFor}
 use Rattle.itip_view.specs.declared.row.Row.{Row}
 use Rattle.itip_view.specs.declared.window.Window.{Window}
-use Rattle.itip_view.proofs.Alike.{KeepAlike, alike_back, none_stands_alike, rules_alike, none_rules_alike, live_series_alike, live_instance_alike, instance_shown, occurrence_shown, range_shown, series_shown}
+use Rattle.itip_view.proofs.Alike.{KeepAlike, alike_back, none_stands_alike, rules_alike, none_rules_alike, live_series_alike}
+use Rattle.itip_view.proofs.Alike.{live_instance_alike, instance_shown, occurrence_shown, range_shown, series_shown}
 
-none_at_start : (x y : List Item) → KeepAlike x y → (uid : List ℕ) (start : Option Moment) → NoneStandsAtStart x uid start → NoneStandsAtStart y uid start
+none_at_start : (x y : List Item) → KeepAlike x y → (uid : List ℕ) (start : Option Moment) → NoneStandsAtStart x uid start →
+    NoneStandsAtStart y uid start
 none_at_start x y same uid None none = tt
 none_at_start x y same uid (Some start) none = none_stands_alike x y same uid start none
 
@@ -104,7 +107,8 @@ row_of_same x y same window row (inr (inr (inr (inl is)))) = inr (inr (inr (inl 
 row_of_same x y same window row (inr (inr (inr (inr is)))) = inr (inr (inr (inr (opaque_alike x y same window row is))))
 
 -- what is kept has the rows of all that was heard
-pub rows_of_kept : (kept heard : List Item) → AreKept kept heard → (window : Window) (rows : List Row) → AreRows kept window rows → AreRows heard window rows
+pub rows_of_kept : (kept heard : List Item) → AreKept kept heard → (window : Window) (rows : List Row) → AreRows kept window rows →
+    AreRows heard window rows
 rows_of_kept kept heard are window rows of =
     let same = kept_again kept heard are in
     record {
@@ -121,7 +125,8 @@ too_many_of_kept kept heard are window over = record {
   many = over.many;
 }
 
-pub text_of_kept : (kept heard : List Item) → AreKept kept heard → (window : Window) (text : List ℕ) → IsListText kept window text → IsListText heard window text
+pub text_of_kept : (kept heard : List Item) → AreKept kept heard → (window : Window) (text : List ℕ) → IsListText kept window text →
+    IsListText heard window text
 text_of_kept kept heard are window text is = record {
   rows = is.rows;
   are_rows = rows_of_kept kept heard are window is.rows is.are_rows;
@@ -149,7 +154,8 @@ module _ (P : Row → Type 0) (kept heard : List Item) (are : AreKept kept heard
     many = over.many;
   }
 
-pub text_for_of_kept : (address : List ℕ) (kept heard : List Item) → AreKept kept heard → (window : Window) (text : List ℕ) → IsListTextFor address kept window text → IsListTextFor address heard window text
+pub text_for_of_kept : (address : List ℕ) (kept heard : List Item) → AreKept kept heard → (window : Window) (text : List ℕ) →
+    IsListTextFor address kept window text → IsListTextFor address heard window text
 text_for_of_kept address kept heard are window text is = record {
   rows = is.rows;
   are_rows = rows_where_of_kept (Shows address) kept heard are window is.rows is.are_rows;

@@ -24,7 +24,8 @@ swapped : (uid : List ℕ) (x y : List Item) → HaveSameBest uid x y → HaveSa
 swapped uid x y same = λ k about i. ((same k about i).1, (same k about i).0)
 
 -- the part of a set by its UIDs has the best items of each of them
-part_same : (P : List ℕ → Type 0) (part whole : List Item) → ((item : Item) → Contains part item ↔ (Contains whole item × P (uid_of item.key))) → (uid : List ℕ) → P uid →
+part_same : (P : List ℕ → Type 0) (part whole : List Item) →
+    ((item : Item) → Contains part item ↔ (Contains whole item × P (uid_of item.key))) → (uid : List ℕ) → P uid →
     HaveSameBest uid part whole
 part_same P part whole are uid holds = λ k about i. (
   λ best. record {
@@ -46,7 +47,8 @@ AskOf uid = AllByRecursion (λ (asked : Asked). uid_of asked.key ≡ uid)
 module _ (uid : List ℕ) (x y : List Item) (same : HaveSameBest uid x y) where
   -- of an instance, or of it and all after it
   under_there : (k : Key) → uid_of k ≡ uid → (i : Item) → StandsUnder x uid k i → StandsUnder y uid k i
-  under_there k of i s = record { best = (same k of i).0 s.best; beside = λ series best. s.beside series ((same (key.Series uid) refl series).1 best) }
+  under_there k of i s =
+      record { best = (same k of i).0 s.best; beside = λ series best. s.beside series ((same (key.Series uid) refl series).1 best) }
 
   series_there : (i : Item) → IsLiveSeries x uid i → IsLiveSeries y uid i
   series_there i s = record { best = (same (key.Series uid) refl i).0 s.best; live = s.live }
@@ -66,7 +68,8 @@ module _ (uid : List ℕ) (x y : List Item) (same : HaveSameBest uid x y) where
   rules_there at id i r = record {
     stands = under_there uid x y same (key.Range uid id) refl i r.stands;
     reaches = r.reaches;
-    greatest = λ other earlier s. r.greatest other earlier (under_there uid y x (swapped uid x y same) (key.Range uid other) refl earlier s);
+    greatest = λ other earlier s. r.greatest other earlier
+        (under_there uid y x (swapped uid x y same) (key.Range uid other) refl earlier s);
   }
 
   none_rules_there : (at : Moment) → NoneRules x uid at → NoneRules y uid at
@@ -80,9 +83,11 @@ module _ (uid : List ℕ) (x y : List Item) (same : HaveSameBest uid x y) where
   decides_there [] about (Some answer) d = absurd d
   decides_there (asked ∷ rest) about None (none, d) = (none_counts_there asked about.0 none, decides_there rest about.1 None d)
   decides_there (asked ∷ rest) about (Some answer) (inl counts) = inl (counts_there uid x y same asked about.0 answer counts)
-  decides_there (asked ∷ rest) about (Some answer) (inr (none, d)) = inr (none_counts_there asked about.0 none, decides_there rest about.1 (Some answer) d)
+  decides_there (asked ∷ rest) about (Some answer) (inr (none, d)) =
+      inr (none_counts_there asked about.0 none, decides_there rest about.1 (Some answer) d)
 
-  shown_there : (asked_of : Property → List Asked) → ((line : Property) → AskOf uid (asked_of line)) → (lines : List Property) (shown : List ShownAttendee)
+  shown_there : (asked_of : Property → List Asked) → ((line : Property) → AskOf uid (asked_of line)) →
+      (lines : List Property) (shown : List ShownAttendee)
       → AreShown x asked_of lines shown → AreShown y asked_of lines shown
   shown_there asked_of about [] shown are = are
   shown_there asked_of about (line ∷ lines) shown (answer, others, decides, rest, is) =
@@ -97,7 +102,8 @@ row_there x y window row same (inl p) = inl (record {
   id = p.id;
   fields = p.fields;
   dates = p.dates;
-  attendees = shown_there row.uid x y same (instance_answers row.uid p.at p.item) (λ line. (refl, tt)) p.item.todo.attendees row.attendees p.attendees;
+  attendees = shown_there row.uid x y same (instance_answers row.uid p.at p.item) (λ line. (refl, tt)) p.item.todo.attendees row.attendees
+      p.attendees;
   progress = p.progress;
 })
 row_there x y window row same (inr (inl p)) = inr (inl (record {
@@ -113,7 +119,8 @@ row_there x y window row same (inr (inl p)) = inr (inl (record {
   fields = p.fields;
   start = p.start;
   due = p.due;
-  attendees = shown_there row.uid x y same (occurrence_answers row.uid p.at p.item) (λ line. (refl, (refl, tt))) p.item.todo.attendees row.attendees p.attendees;
+  attendees = shown_there row.uid x y same (occurrence_answers row.uid p.at p.item) (λ line. (refl, (refl, tt))) p.item.todo.attendees
+      row.attendees p.attendees;
   progress = p.progress;
 }))
 row_there x y window row same (inr (inr (inl p))) = inr (inr (inl (record {
@@ -132,7 +139,8 @@ row_there x y window row same (inr (inr (inl p))) = inr (inr (inl (record {
   fields = p.fields;
   start = p.start;
   due = p.due;
-  attendees = shown_there row.uid x y same (range_answers row.uid p.at p.item p.whole) (λ line. (refl, (refl, tt))) p.item.todo.attendees row.attendees p.attendees;
+  attendees = shown_there row.uid x y same (range_answers row.uid p.at p.item p.whole) (λ line. (refl, (refl, tt))) p.item.todo.attendees
+      row.attendees p.attendees;
   progress = p.progress;
 })))
 row_there x y window row same (inr (inr (inr (inl p)))) = inr (inr (inr (inl (record {
@@ -144,7 +152,8 @@ row_there x y window row same (inr (inr (inr (inl p)))) = inr (inr (inr (inl (re
   id = p.id;
   fields = p.fields;
   dates = p.dates;
-  attendees = shown_there row.uid x y same (series_answers row.uid p.item) (λ line. (refl, tt)) p.item.todo.attendees row.attendees p.attendees;
+  attendees = shown_there row.uid x y same (series_answers row.uid p.item) (λ line. (refl, tt)) p.item.todo.attendees row.attendees
+      p.attendees;
   progress = p.progress;
 }))))
 row_there x y window row same (inr (inr (inr (inr p)))) = inr (inr (inr (inr (record {
@@ -154,7 +163,8 @@ row_there x y window row same (inr (inr (inr (inr p)))) = inr (inr (inr (inr (re
   id = p.id;
   fields = p.fields;
   dates = p.dates;
-  attendees = shown_there row.uid x y same (series_answers row.uid p.item) (λ line. (refl, tt)) p.item.todo.attendees row.attendees p.attendees;
+  attendees = shown_there row.uid x y same (series_answers row.uid p.item) (λ line. (refl, tt)) p.item.todo.attendees row.attendees
+      p.attendees;
   progress = p.progress;
 }))))
 

@@ -50,10 +50,13 @@ module _ (series : Option Item) (before : List Moment) where
       old = λ a h. Contains-append_left places (at ∷ []) a (so.old a h);
       of_items = λ a i h by. elim (Contains-push_cases done item i h) [
         | inl earlier ↦ Contains-append_left places (at ∷ []) a (so.of_items a i earlier by)
-        | inr same ↦ subst (Contains (places ++ at ∷ [])) (one_place (key.Instance is.uid at) a at by.uid is.uid (sym by.about ∙ ap (λ (x : Item). x.key) (sym same) ∙ is.about)) (Contains-push places at)
+        | inr same ↦ subst (Contains (places ++ at ∷ []))
+            (one_place (key.Instance is.uid at) a at by.uid is.uid (sym by.about ∙ ap (λ (x : Item). x.key) (sym same) ∙ is.about))
+            (Contains-push places at)
       ];
       each = λ a h. elim (Contains-push_cases places at a h) [
-        | inl earlier ↦ elim (so.each a earlier) [ inl old ↦ inl old | inr by ↦ inr (by.0, Contains-append_left done (item ∷ []) by.0 by.1, by.2) ]
+        | inl earlier ↦ elim (so.each a earlier)
+            [ inl old ↦ inl old | inr by ↦ inr (by.0, Contains-append_left done (item ∷ []) by.0 by.1, by.2) ]
         | inr same ↦ inr (item, Contains-push done item, subst (λ (m : Moment). IsPlacedBy series m item) same is)
       ];
     }
@@ -62,17 +65,21 @@ module _ (series : Option Item) (before : List Moment) where
         one_place k a b u v e = cc
 
 -- the places in order are those of the UID
-pub places_are : (items : List Item) (window : Window) (uid : List ℕ) (series : Option Item) (occurrences places sorted : List Moment) → AscendKeys items → AreOf uid items → IsSeriesItem items uid series
-    → AreOccurrencesOf items window uid occurrences → Places series occurrences items places → IsStrictlySortedBy moment_cmp sorted → ((at : Moment) → Contains sorted at ↔ Contains places at) → ArePlaces items window uid sorted
+pub places_are : (items : List Item) (window : Window) (uid : List ℕ) (series : Option Item) (occurrences places sorted : List Moment) →
+    AscendKeys items → AreOf uid items → IsSeriesItem items uid series
+    → AreOccurrencesOf items window uid occurrences → Places series occurrences items places → IsStrictlySortedBy moment_cmp sorted →
+    ((at : Moment) → Contains sorted at ↔ Contains places at) → ArePlaces items window uid sorted
 places_are items window uid series occurrences places sorted ordered about of are so ascend same = record {
   ascend = ascend;
-  instances = λ at item stands. (same at).1 (so.of_items at item stands.best.is_heard (record { uid = uid; about = stands.best.about; beside = beside_from items uid (key.Instance uid at) series item of stands }));
+  instances = λ at item stands. (same at).1 (so.of_items at item stands.best.is_heard
+      (record { uid = uid; about = stands.best.about; beside = beside_from items uid (key.Instance uid at) series item of stands }));
   occurrences = λ at is. (same at).1 (so.old at ((are at).1 is));
   each = λ at h none. elim (so.each at ((same at).0 h)) [
     | inl old ↦ (are at).0 old
     | inr by ↦
         let here : by.2.uid ≡ uid = sym (ap uid_of by.2.about) ∙ about by.0 by.1 in
         let key_is : by.0.key ≡ key.Instance uid at = by.2.about ∙ ap (λ (u : List ℕ). key.Instance u at) here in
-        absurd (none by.0 (stands_from items uid (key.Instance uid at) series by.0 of (best_in items ordered (key.Instance uid at) by.0 by.1 key_is) by.2.beside))
+        absurd (none by.0 (stands_from items uid (key.Instance uid at) series by.0 of (best_in
+        items ordered (key.Instance uid at) by.0 by.1 key_is) by.2.beside))
   ];
 }

@@ -44,13 +44,16 @@ one_form form.TheVariants.Zoned form.TheVariants.Zoned e = refl
 -- one form and one zone are told by the order
 one_form_equal : (id at : Moment) → HaveOneForm id at → form_cmp id at ≡ Equal
 one_form_equal id at same =
-    ap (λ f. ordering_then (nat_cmp (form_rank (moment_form id)) (form_rank f)) (slice_cmp nat_cmp (moment_zone id) (moment_zone at))) same.form
-    ∙ ap (λ o. ordering_then o (slice_cmp nat_cmp (moment_zone id) (moment_zone at))) (tied_itself nat_cmp_total (form_rank (moment_form id)))
+    ap (λ f. ordering_then (nat_cmp (form_rank (moment_form id)) (form_rank f)) (slice_cmp nat_cmp (moment_zone id) (moment_zone at)))
+    same.form
+    ∙ ap (λ o. ordering_then o (slice_cmp nat_cmp (moment_zone id) (moment_zone at)))
+    (tied_itself nat_cmp_total (form_rank (moment_form id)))
     ∙ ap (λ z. slice_cmp nat_cmp (moment_zone id) z) same.zone ∙ tied_itself nat_list_cmp_total (moment_zone id)
 
 pub equal_one_form : (id at : Moment) → form_cmp id at ≡ Equal → HaveOneForm id at
 equal_one_form id at e =
-    let parts = then_equal (nat_cmp (form_rank (moment_form id)) (form_rank (moment_form at))) (slice_cmp nat_cmp (moment_zone id) (moment_zone at)) e in record {
+    let parts = then_equal (nat_cmp (form_rank (moment_form id)) (form_rank (moment_form at)))
+    (slice_cmp nat_cmp (moment_zone id) (moment_zone at)) e in record {
       form = sym (one_form (moment_form id) (moment_form at) (exact_unsigned _ _ parts.0));
       zone = sym (exact_bytes _ _ parts.1);
     }
@@ -76,7 +79,8 @@ reach_up id at reaches = ap is_gt (by_moment id at (one_form_equal id at reaches
 
 -- and what isn't behind it, and has its form and zone, reaches it
 pub up_reach : (id at : Moment) → HaveOneForm id at → is_gt (range_cmp id at) ≡ false → Reaches id at
-up_reach id at same up = record { one_form = same; not_before = not_less-from id at (sym (ap is_gt (by_moment id at (one_form_equal id at same))) ∙ up) }
+up_reach id at same up =
+    record { one_form = same; not_before = not_less-from id at (sym (ap is_gt (by_moment id at (one_form_equal id at same))) ∙ up) }
 
 -- of two of one form and zone
 pub not_less : (a b at : Moment) → HaveOneForm a at → HaveOneForm b at → is_gt (range_cmp a b) ≡ false → moment_cmp b a ≢ Less
@@ -90,7 +94,8 @@ first_up Equal s e = refl
 first_up Greater s e = e
 
 -- what stands between one that has the form and zone of a moment and the moment has them too
-pub between_one_form : (a b at : Moment) → HaveOneForm a at → is_gt (range_cmp a b) ≡ false → is_gt (range_cmp b at) ≡ false → HaveOneForm b at
+pub between_one_form : (a b at : Moment) → HaveOneForm a at → is_gt (range_cmp a b) ≡ false → is_gt (range_cmp b at) ≡ false →
+    HaveOneForm b at
 between_one_form a b at same low high = equal_one_form b at (by (form_cmp b at) (form_cmp a b) refl refl)
   where
     by : (o p : Ordering) → form_cmp b at ≡ o → form_cmp a b ≡ p → form_cmp b at ≡ Equal

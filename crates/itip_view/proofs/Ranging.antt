@@ -1,5 +1,6 @@
 -- The range items of a UID that stand, step by step, and which of them rules a moment.
-use Rattle.std.proofs.Common.{◌≡◌, ◌-◌, ◌<◌, ◌≤◌, ℕ, List, [], ◌∷◌, ◌++◌, length, get_or, sym, ◌∙◌, ap, subst, inl, inr, Bool, true, false, not, refl, arith, Option}
+use Rattle.std.proofs.Common.{◌≡◌, ◌-◌, ◌<◌, ◌≤◌, ℕ, List, [], ◌∷◌, ◌++◌, length, get_or, sym, ◌∙◌, ap, subst, inl, inr, Bool, true, false}
+use Rattle.std.proofs.Common.{not, refl, arith, Option}
 use Rattle.std.specs.List.{Contains}
 use Rattle.std.specs.List.Sorted.{IsPartitionPoint, IsPartitionedBy, IsPermutation, IsSortedBy}
 use Rattle.std.specs.Ordering.{is_gt, is_lt, ordering_reverse}
@@ -55,7 +56,8 @@ module _ (series : Option Item) where
       ];
     }
 
-    pub found_more : (range : RangeFrom) → range.item.now ≡ item → IsRangeBy series range.id.now item → FoundIn series (done ++ item ∷ []) (found ++ range ∷ [])
+    pub found_more : (range : RangeFrom) → range.item.now ≡ item → IsRangeBy series range.id.now item →
+        FoundIn series (done ++ item ∷ []) (found ++ range ∷ [])
     found_more range is by = record {
       each = λ r h. elim (Contains-push_cases found range r h) [
         | inl earlier ↦ let e = so.each r earlier in (Contains-append_left done (item ∷ []) r.item.now e.0, e.1)
@@ -63,7 +65,14 @@ module _ (series : Option Item) where
             (subst (λ (i : Item). Contains (done ++ item ∷ []) i × IsRangeBy series range.id.now i) (sym is) (Contains-push done item, by))
       ];
       all = λ id i h also. elim (Contains-push_cases done item i h) [
-        | inl earlier ↦ let f = so.all id i earlier also in record { range = f.range; is_in = Contains-append_left found (range ∷ []) f.range f.is_in; id_is = f.id_is; item_is = f.item_is }
+        | inl earlier ↦ let f = so.all id i earlier also in
+            record {
+              range = f.range;
+              is_in = Contains-append_left found (range ∷ []) f.range f.is_in;
+              id_is = f.id_is;
+              item_is =
+                  f.item_is;
+            }
         | inr same ↦ record {
           range = range;
           is_in = Contains-push found range;
@@ -77,23 +86,33 @@ module _ (series : Option Item) where
         one_id u v a b e = cc
 
 -- with all items they are the ones that stand
-pub found_all : (part : UidPart) (series : Option Item) (found : List RangeFrom) → IsUidPart part → IsSeriesItem part.items part.uid series → FoundIn series part.items found → AreRanges part found
+pub found_all : (part : UidPart) (series : Option Item) (found : List RangeFrom) → IsUidPart part →
+    IsSeriesItem part.items part.uid series → FoundIn series part.items found → AreRanges part found
 found_all part series found is of so = record {
   each = λ range h.
       let by = so.each range h in
       let here : by.1.uid ≡ part.uid = sym (ap uid_of by.1.about) ∙ is.about range.item.now by.0 in
       let key_is : range.item.now.key ≡ key.Range part.uid range.id.now = by.1.about ∙ ap (λ (u : List ℕ). key.Range u range.id.now) here in
-      stands_from part.items part.uid (key.Range part.uid range.id.now) series range.item.now of (best_in part.items is.ascend (key.Range part.uid range.id.now) range.item.now by.0 key_is) by.1.beside;
+      stands_from part.items part.uid (key.Range part.uid range.id.now) series range.item.now of (best_in
+      part.items is.ascend (key.Range part.uid range.id.now) range.item.now by.0 key_is) by.1.beside;
   all = λ id item stands.
-      let f = so.all id item stands.best.is_heard (record { uid = part.uid; about = stands.best.about; beside = beside_from part.items part.uid (key.Range part.uid id) series item of stands }) in
+      let f = so.all id item stands.best.is_heard
+      (record {
+        uid = part.uid;
+        about = stands.best.about;
+        beside =
+            beside_from part.items part.uid (key.Range part.uid id) series item of stands;
+      }) in
       (f.range, f.is_in, f.id_is, f.item_is);
 }
 
 -- sorted by their ids they are in order
-pub in_order : (part : UidPart) (found sorted : List RangeFrom) → AreRanges part found → IsPermutation found sorted → IsSortedBy (λ a b. is_lt (range_cmp a.id.now b.id.now)) sorted → AreRangesInOrder part sorted
+pub in_order : (part : UidPart) (found sorted : List RangeFrom) → AreRanges part found → IsPermutation found sorted →
+    IsSortedBy (λ a b. is_lt (range_cmp a.id.now b.id.now)) sorted → AreRangesInOrder part sorted
 in_order part found sorted are moved up = record {
   ascend = λ i j d low inside.
-      let not_below = sorted_far (λ a b. is_lt (range_cmp a.id.now b.id.now)) (ranks_by range_total (λ (a : RangeFrom). a.id.now)) sorted up i j d low inside in
+      let not_below = sorted_far (λ a b. is_lt (range_cmp a.id.now b.id.now)) (ranks_by range_total (λ (a : RangeFrom). a.id.now)) sorted
+      up i j d low inside in
       not_greater (get_or sorted i d).id.now (get_or sorted j d).id.now not_below;
   are = record {
     each = λ range h. are.each range (Contains-permutation _ _ range (IsPermutation-sym _ _ moved) h);
@@ -125,43 +144,52 @@ module _ (part : UidPart) (found : List RangeFrom) (are : AreRangesInOrder part 
   parted i j d up inside h =
       ap not (upto range_total (get_or found i d).id.now (get_or found j d).id.now at (are.ascend i j d up inside) (not_is _ h))
 
-  module _ (reached : ℕ) (bound : reached ≤ length found) (split : IsPartitionPoint (λ range. is_up_to at range ≡ true) (λ range. is_up_to at range ≡ false) found reached) where
+  module _ (reached : ℕ) (bound : reached ≤ length found)
+      (split : IsPartitionPoint (λ range. is_up_to at range ≡ true) (λ range. is_up_to at range ≡ false) found reached) where
     -- what reaches the moment is among the first ones
     among : (range : RangeFrom) → (h : Contains found range) → Reaches range.id.now at → h.0 < reached
     among range h reaches = elim (cases_lt h.0 reached) [
       | inl lt ↦ lt
       | inr ge ↦
-          let behind : is_gt (range_cmp range.id.now at) ≡ true = ap (λ (r : RangeFrom). is_gt (range_cmp r.id.now at)) (sym h.2) ∙ not_from _ (split.1 h.0 range ge h.1) in
+          let behind : is_gt (range_cmp range.id.now at) ≡ true = ap (λ (r : RangeFrom). is_gt (range_cmp r.id.now at)) (sym h.2) ∙
+          not_from _ (split.1 h.0 range ge h.1) in
           let x : true ≡ false = sym behind ∙ reach_up range.id.now at reaches in absurd cc
     ]
 
-    reaching : (id : Moment) (item : Item) → StandsFrom part.items part.uid id item → Reaches id at → (range : RangeFrom) × (h : Contains found range) × (range.id.now ≡ id) × (h.0 < reached)
+    reaching : (id : Moment) (item : Item) → StandsFrom part.items part.uid id item → Reaches id at → (range : RangeFrom) ×
+        (h : Contains found range) × (range.id.now ≡ id) × (h.0 < reached)
     reaching id item stands reaches =
         let f = are.are.all id item stands in (f.0, f.1, f.2, among f.0 f.1 (subst (λ (m : Moment). Reaches m at) (sym f.2) reaches))
 
     pub none_reaches : reached ≡ 0 → NoneRules part.items part.uid at
-    none_reaches none id item stands reaches = let r = reaching id item stands reaches in let below : r.1.0 < reached = r.3 in absurd (omega (arith, below, none))
+    none_reaches none id item stands reaches = let r = reaching id item stands reaches in let below : r.1.0 < reached = r.3 in
+        absurd (omega (arith, below, none))
 
     module _ (last : RangeFrom) (some : 0 < reached) (is : last ≡ get_or found (reached - 1) last) where
       up : is_gt (range_cmp last.id.now at) ≡ false
-      up = ap (λ (r : RangeFrom). is_gt (range_cmp r.id.now at)) is ∙ not_is _ (split.0 (reached - 1) last (omega arith) (omega (arith, some)))
+      up = ap (λ (r : RangeFrom). is_gt (range_cmp r.id.now at)) is ∙
+          not_is _ (split.0 (reached - 1) last (omega arith) (omega (arith, some)))
 
       -- none of those that reach the moment stands behind the last one
       before_last : (range : RangeFrom) (h : Contains found range) → h.0 < reached → is_gt (range_cmp range.id.now last.id.now) ≡ false
       before_last range h below =
-          ap (λ (r : RangeFrom). is_gt (range_cmp r.id.now last.id.now)) (sym (get_or_default found h.0 last range h.1 ∙ h.2)) ∙ ap (λ (r : RangeFrom). is_gt (range_cmp (get_or found h.0 last).id.now r.id.now)) is
+          ap (λ (r : RangeFrom). is_gt (range_cmp r.id.now last.id.now)) (sym (get_or_default found h.0 last range h.1 ∙ h.2)) ∙
+          ap (λ (r : RangeFrom). is_gt (range_cmp (get_or found h.0 last).id.now r.id.now)) is
           ∙ are.ascend h.0 (reached - 1) last (omega (arith, below)) (omega (arith, some, bound))
 
       pub last_rules : HaveOneForm last.id.now at → Rules part.items part.uid at last.id.now last.item.now
       last_rules same = record {
-        stands = are.are.each last (subst (Contains found) (sym is) (Contains-get_or found (reached - 1) last (omega (arith, some, bound))));
+        stands = are.are.each last (subst (Contains found) (sym is)
+            (Contains-get_or found (reached - 1) last (omega (arith, some, bound))));
         reaches = up_reach last.id.now at same up;
         greatest = λ other earlier stands reaches.
             let r = reaching other earlier stands reaches in
-            not_less other last.id.now at reaches.one_form same (subst (λ (m : Moment). is_gt (range_cmp m last.id.now) ≡ false) r.2 (before_last r.0 r.1 r.3));
+            not_less other last.id.now at reaches.one_form same
+            (subst (λ (m : Moment). is_gt (range_cmp m last.id.now) ≡ false) r.2 (before_last r.0 r.1 r.3));
       }
 
       pub last_not : (HaveOneForm last.id.now at → ⊥) → NoneRules part.items part.uid at
       last_not apart id item stands reaches =
           let r = reaching id item stands reaches in
-          apart (between_one_form id last.id.now at reaches.one_form (subst (λ (m : Moment). is_gt (range_cmp m last.id.now) ≡ false) r.2 (before_last r.0 r.1 r.3)) up)
+          apart (between_one_form id last.id.now at reaches.one_form
+          (subst (λ (m : Moment). is_gt (range_cmp m last.id.now) ≡ false) r.2 (before_last r.0 r.1 r.3)) up)

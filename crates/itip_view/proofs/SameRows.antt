@@ -21,10 +21,12 @@ module _ (x y : List Item) (window : Window) (same : (row : Row) → IsRow x win
   }
 
   pub many_of_same_rows : AreTooMany x window → AreTooMany y window
-  many_of_same_rows over = record { some = over.some; ascend = over.ascend; each = λ row h. (same row).0 (over.each row h); many = over.many }
+  many_of_same_rows over =
+      record { some = over.some; ascend = over.ascend; each = λ row h. (same row).0 (over.each row h); many = over.many }
 
 -- the same of those that show an attendee
-module _ (address : List ℕ) (x y : List Item) (window : Window) (same : (row : Row) → Shows address row → IsRow x window row ↔ IsRow y window row) where
+module _ (address : List ℕ) (x y : List Item) (window : Window) (same : (row : Row) → Shows address row → IsRow x window row ↔
+    IsRow y window row) where
   pub text_for_of_same_rows : (text : List ℕ) → IsListTextFor address x window text → IsListTextFor address y window text
   text_for_of_same_rows text is = record {
     rows = is.rows;

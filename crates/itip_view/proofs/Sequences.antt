@@ -7,7 +7,8 @@ use Rattle.itip_moment.specs.declared.moment.Moment.{Moment}
 use Rattle.itip_todo.specs.Parts.{Parts}
 use Rattle.itip_todo.specs.PartsOf.{parts_of}
 use Rattle.itip_todo.specs.declared.property.Property.{Property}
-use Rattle.itip_items.specs.Items.{ItemDraft, drafts_of, task_draft, add_drafts, attendee_draft, draft_of, instance_key, effective_sequence, kind_of, method_of}
+use Rattle.itip_items.specs.Items.{ItemDraft, drafts_of, task_draft, add_drafts, attendee_draft, draft_of, instance_key, effective_sequence}
+use Rattle.itip_items.specs.Items.{kind_of, method_of}
 use Rattle.itip_items.specs.declared.item.Item.{Item}
 use Rattle.itip_items.specs.declared.key.Key.{Key}
 use Rattle.itip_items.specs.declared.key.Key.TheVariants.{Series, Instance, Range, Answer, Refresh}
@@ -70,5 +71,6 @@ eff_is_own item not_instance = stable (told_numbers _ _) (∥∥₁_map item.can
 pub series_eff : (item : Item) (uid : List ℕ) → item.key ≡ Series uid → item.eff ≡ item.own
 series_eff item uid about = eff_is_own item (ap is_instance about)
 
-pub answer_eff : (item : Item) (uid : List ℕ) (id : Option Moment) (attendee : List ℕ) → item.key ≡ Answer uid id attendee → item.eff ≡ item.own
+pub answer_eff : (item : Item) (uid : List ℕ) (id : Option Moment) (attendee : List ℕ) → item.key ≡ Answer uid id attendee →
+    item.eff ≡ item.own
 answer_eff item uid id attendee about = eff_is_own item (ap is_instance about)

@@ -1,5 +1,6 @@
 -- The rows that show an attendee.
-use Rattle.std.proofs.Common.{◌≡◌, ◌∙◌, ℕ, List, [], ◌∷◌, sym, ap, subst, ◌⊎◌, inl, inr, Bool, true, false, cond, refl, Some, None, Option, ◌||◌}
+use Rattle.std.proofs.Common.{◌≡◌, ◌∙◌, ℕ, List, [], ◌∷◌, sym, ap, subst, ◌⊎◌, inl, inr, Bool, true, false, cond, refl, Some, None, Option}
+use Rattle.std.proofs.Common.{◌||◌}
 use Rattle.std.specs.List.{Contains, list_any, filter}
 use Rattle.std.specs.Cmp.Lexicographic.{bytes_decides}
 use Rattle.std.proofs.lemmas.List.Kept.{AllPairs-filter}
@@ -42,7 +43,8 @@ module _ {X : Type 0} (p : X → Bool) where
     | inl same ↦ subst (λ b. Contains (cond b (y ∷ filter p ys) (filter p ys)) x) (sym (subst (λ z. p z ≡ true) (sym same) pass))
         (subst (Contains (y ∷ filter p ys)) same (cons_first y (filter p ys)))
     | inr rest ↦ by_bool (p y) (Contains (filter p (y ∷ ys)) x)
-        (λ yes. subst (λ b. Contains (cond b (y ∷ filter p ys) (filter p ys)) x) (sym yes) (cons_later y (filter p ys) x (into_filter ys x rest pass)))
+        (λ yes. subst (λ b. Contains (cond b (y ∷ filter p ys) (filter p ys)) x) (sym yes)
+        (cons_later y (filter p ys) x (into_filter ys x rest pass)))
         (λ no. subst (λ b. Contains (cond b (y ∷ filter p ys) (filter p ys)) x) (sym no) (into_filter ys x rest pass))
   ]
 
@@ -69,10 +71,12 @@ row_shows address row is =
 
 pub is_shown_in : (address : List ℕ) (row : Row) → Shows address row → shows address row ≡ true
 is_shown_in address row s =
-    finds (is_named address) row.attendees s.attendee s.there ((bytes_decides (attendee_key s.attendee.address) (attendee_key address)).1 s.same)
+    finds (is_named address) row.attendees s.attendee s.there
+    ((bytes_decides (attendee_key s.attendee.address) (attendee_key address)).1 s.same)
 
 module _ (heard : List Item) (window : Window) (uid : List ℕ) where
-  pub rows_of_part : (part : List Item) (rows : List Row) → ArePart uid part heard → AreRowsOf part window uid rows → AreRowsWhere (IsOf uid None) heard window rows
+  pub rows_of_part : (part : List Item) (rows : List Row) → ArePart uid part heard → AreRowsOf part window uid rows →
+      AreRowsWhere (IsOf uid None) heard window rows
   rows_of_part part rows are of = record {
     ascend = of.ascend;
     each = λ row h. let r = of.each row h in row_of_part uid part heard are window row r.1 r.0;
@@ -80,10 +84,16 @@ module _ (heard : List Item) (window : Window) (uid : List ℕ) where
     all = λ row is P. of.all row (row_in_part uid part heard are window row P.uid_is is) P.uid_is;
   }
 
-  pub rows_showing : (address : List ℕ) (rows : List Row) → AreRowsWhere (IsOf uid None) heard window rows → AreRowsWhere (IsOf uid (Some address)) heard window (filter (shows address) rows)
+  pub rows_showing : (address : List ℕ) (rows : List Row) → AreRowsWhere (IsOf uid None) heard window rows →
+      AreRowsWhere (IsOf uid (Some address)) heard window (filter (shows address) rows)
   rows_showing address rows are = record {
     ascend = AllPairs-filter (λ (a b : Row). row_cmp a b ≡ Less) (shows address) rows are.ascend;
     each = λ row h. are.each row (in_filter (shows address) rows row h);
-    holds = λ row h. record { uid_is = (are.holds row (in_filter (shows address) rows row h)).uid_is; shows = row_shows address row (passes (shows address) rows row h) };
-    all = λ row is P. into_filter (shows address) rows row (are.all row is (record { uid_is = P.uid_is; shows = tt })) (is_shown_in address row P.shows);
+    holds = λ row h. record {
+      uid_is = (are.holds row (in_filter (shows address) rows row h)).uid_is;
+      shows =
+          row_shows address row (passes (shows address) rows row h);
+    };
+    all = λ row is P. into_filter (shows address) rows row (are.all row is (record { uid_is = P.uid_is; shows = tt })) (is_shown_in
+        address row P.shows);
   }

@@ -5,7 +5,7 @@ ghost use Rattle.itip_view.specs.Answers.{Counts, NoneCounts, Decides, AreShown,
 ghost use Rattle.itip_view.specs.OfUid.{asked_by, asked_of, to_question};
 
 use crate::NoMemory;
-use crate::governing::AttendeeLine;
+use crate::keyed_item::AttendeeLine;
 use crate::row::ShownAttendee;
 use itip_items::{Item, Kind};
 use itip_lines::ListOf;
@@ -23,12 +23,12 @@ pub(crate) struct Question<'q> {
 
 /// Which answers a row asks: those of the UID to each of these in turn.
 #[derive(Drop)]
-pub(crate) struct Asked<'v, 'a> {
+pub(crate) struct AnswerSearch<'v, 'a> {
     pub(crate) items: &'v ItemsOfUid<'a>,
     pub(crate) questions: &'v [Question<'v>],
 }
 
-impl<'v, 'a> Asked<'v, 'a> {
+impl<'v, 'a> AnswerSearch<'v, 'a> {
     /// The attendees that these lines show, in their order.
     pub(crate) fn shown_attendees(
         &self,

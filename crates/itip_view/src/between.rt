@@ -4,7 +4,7 @@ ghost use Rattle.itip_view.specs.OfUid.{IsWhole, AreOccurrencesOf, IsBetween};
 ghost use Rattle.itip_view.specs.declared.window.Window.{Window};
 
 use crate::NoMemory;
-use crate::governing::Governing;
+use crate::keyed_item::KeyedItem;
 use crate::ranges::Ranges;
 use crate::whole::Whole;
 use itip_moment::Moment;
@@ -14,7 +14,7 @@ use std::alloc::Global;
 /// The live series item of a UID, and the range items that stand.
 #[derive(Drop)]
 pub(crate) struct Between<'v, 'a> {
-    pub(crate) series: Governing<'a>,
+    pub(crate) series: KeyedItem<'a>,
     pub(crate) ranges: Ranges<'v, 'a>,
 }
 
@@ -37,7 +37,7 @@ impl<'v, 'a> Between<'v, 'a> {
         if occurrences.is_empty() {
             return Ok(None);
         }
-        let series = Governing::of(alloc, whole.item)?;
+        let series = KeyedItem::of(alloc, whole.item)?;
         let ranges = Ranges::of(alloc, items)?;
         Ok(Some(Between { series, ranges }))
     }

@@ -1,47 +1,48 @@
-//! Items that govern rows.
-ghost use Rattle.std.specs.Prelude.{◌≡◌, IfOk, map};
-ghost use Rattle.itip_todo.specs.Table.{attendee_key};
+//! Which item governs a to-do as a whole, or an instance.
+ghost use Rattle.std.specs.Prelude.{◌≡◌, MatchOption};
+ghost use Rattle.std.specs.Option.{option_copied};
+ghost use Rattle.itip_items.specs.declared.item.Item.{Item};
+ghost use Rattle.itip_view.specs.Standing.{Governs, GovernsBetween};
 
-use crate::NoMemory;
+use crate::ranges::Ranges;
+use crate::standing::{if_live, standing_item};
 use itip_items::Item;
-use itip_lines::Text;
-use itip_todo::{Property, attendee_key};
-use std::alloc::Global;
+use itip_moment::Moment;
+use itip_state::ItemsOfUid;
 
-/// An ATTENDEE line, and the key of its attendee.
-#[derive(Drop)]
-pub(crate) struct AttendeeLine<'a> {
-    pub(crate) line: &'a Property,
-    pub(crate) key: Text,
-    pub(crate) ghost of_line: { key ≡ attendee_key line.now.value },
-}
-
-/// An item that can govern rows, and its ATTENDEE lines with their keys, which are made once for all of these rows.
-#[derive(Drop)]
-pub(crate) struct Governing<'a> {
-    pub(crate) item: &'a Item,
-    pub(crate) lines: Vec<AttendeeLine<'a>>,
-    pub(crate) ghost of_item: { map (λ line. line.line.now) lines.items ≡ item.now.todo.attendees },
-}
-
-impl<'a> Governing<'a> {
-    /// An item, with the keys of its ATTENDEE lines.
-    pub(crate) fn of(alloc: Global, item: &'a Item) -> Result<Governing<'a>, NoMemory>
-        ensures { IfOk result (λ governing. governing.item.now ≡ item.now) }
-    {
-        let lines = with_keys(alloc, item.todo.attendees.as_slice())?;
-        Ok(Governing { item, lines })
-    }
-}
-
-/// ATTENDEE lines with their keys, in their order.
-fn with_keys(alloc: Global, lines: &[Property]) -> Result<Vec<AttendeeLine<'_>>, NoMemory>
-    ensures { IfOk result (λ keyed. map (λ line. line.line.now) keyed.items ≡ lines.now) }
+/// The item that governs a to-do as a whole, or an instance of it. It takes no memory.
+pub fn governing<'a>(
+    items: &ItemsOfUid<'a>,
+    ranges: &Ranges<'_, 'a>,
+    id: &Option<Moment>,
+) -> Option<&'a Item>
+    requires { ranges.now ≡ items.now }
+    ensures { MatchOption (option_copied result)
+        ((item : Item) → ¬ Governs items.now.items items.now.uid id.now item)
+        (Governs items.now.items items.now.uid id.now) }
 {
-    let mut keyed = Vec::with_capacity(alloc, lines.len())?;
-    for line in lines {
-        let key = attendee_key(alloc, line.value.as_str())?;
-        keyed.push(AttendeeLine { line, key })?;
+    let Some(at) = id else {
+        return if_live(items.series());
+    };
+    match standing_item(items, at) {
+        Some(instance) => if_live(Some(instance)),
+        None => governing_between(items, ranges, at),
     }
-    Ok(keyed)
+}
+
+/// The item that governs a moment at which no instance item stands.
+fn governing_between<'a>(
+    items: &ItemsOfUid<'a>,
+    ranges: &Ranges<'_, 'a>,
+    at: &Moment,
+) -> Option<&'a Item>
+    requires { ranges.now ≡ items.now }
+    ensures { MatchOption (option_copied result)
+        ((item : Item) → ¬ GovernsBetween items.now.items items.now.uid at.now item)
+        (GovernsBetween items.now.items items.now.uid at.now) }
+{
+    match ranges.ruling(at) {
+        Some(range) => if_live(Some(range.item)),
+        None => if_live(items.series()),
+    }
 }

@@ -8,14 +8,14 @@ ghost use Rattle.itip_view.specs.InUid.{HasWhole, HasBetween, HasRows, HasOccurr
 ghost use Rattle.itip_view.specs.InUid.{HasStanding, HasNoStanding, HasRuling, HasNoRuling, HasNoneAtStart, HasLiveSeries, IsRowWith};
 
 use crate::NoMemory;
-use crate::answers::{Asked, Question};
+use crate::answers::{AnswerSearch, Question};
 use crate::between::Between;
 use crate::dates::{day_of, due_from, due_of, instance_day, start_from};
-use crate::governing::Governing;
+use crate::keyed_item::KeyedItem;
 use crate::progress::progress_of;
 use crate::row::{Row, RowId};
 use crate::standing::{is_live, standing_item, stands_beside};
-use crate::whole::{Whole, in_order, occurrences, whole_of};
+use crate::whole::{Whole, occurrences, sorted_moments, whole_of};
 use crate::window::Window;
 use itip_items::{Item, Key};
 use itip_lines::Text;
@@ -97,7 +97,7 @@ impl<'v, 'a> UidView<'v, 'a> {
                 }
             }
         }
-        in_order(places)
+        sorted_moments(places)
     }
 
     /// The row of the to-do as a whole.
@@ -187,7 +187,7 @@ impl<'v, 'a> UidView<'v, 'a> {
             id: asked,
             since: item.own,
         };
-        let governing = Governing::of(self.alloc, item)?;
+        let governing = KeyedItem::of(self.alloc, item)?;
         self.row_of(&governing, place, &[question])
     }
 
@@ -212,7 +212,7 @@ impl<'v, 'a> UidView<'v, 'a> {
     fn range_row(
         &self,
         series: &Item,
-        range: &Governing<'_>,
+        range: &KeyedItem<'_>,
         at: &Moment,
     ) -> Result<Option<Row>, NoMemory>
         requires live { HasLiveSeries self.now series.now }
@@ -242,7 +242,7 @@ impl<'v, 'a> UidView<'v, 'a> {
     /// The row of an occurrence that no range item rules.
     fn occurrence_row(
         &self,
-        governing: &Governing<'_>,
+        governing: &KeyedItem<'_>,
         at: &Moment,
     ) -> Result<Option<Row>, NoMemory>
         requires whole { HasWhole self.now }
@@ -273,7 +273,7 @@ impl<'v, 'a> UidView<'v, 'a> {
     /// The row at a place that an item governs; of each attendee these are asked, one after the other.
     fn row_of(
         &self,
-        governing: &Governing<'_>,
+        governing: &KeyedItem<'_>,
         place: RowHead,
         questions: &[Question<'_>],
     ) -> Result<Row, NoMemory>
@@ -281,7 +281,7 @@ impl<'v, 'a> UidView<'v, 'a> {
     {
         let item = governing.item;
         let todo = &item.todo;
-        let asked = Asked {
+        let asked = AnswerSearch {
             items: self.items,
             questions,
         };

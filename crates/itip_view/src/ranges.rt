@@ -8,7 +8,7 @@ ghost use Rattle.itip_view.specs.Standing.{Rules, NoneRules};
 
 use crate::NoMemory;
 use crate::dates::have_one_form;
-use crate::governing::Governing;
+use crate::keyed_item::KeyedItem;
 use crate::standing::stands_beside;
 use itip_items::{Item, Key};
 use itip_moment::Moment;
@@ -31,7 +31,7 @@ struct RangeFrom<'a> {
 pub struct Ranges<'v, 'a> {
     items: &'v ItemsOfUid<'a>,
     standing: Vec<RangeFrom<'a>>,
-    governing: Vec<Governing<'a>>,
+    governing: Vec<KeyedItem<'a>>,
 }
 
 impl<'v, 'a> Model for Ranges<'v, 'a> {
@@ -66,7 +66,7 @@ impl<'v, 'a> Ranges<'v, 'a> {
 
     /// The range item that rules a moment: of those with an id of its form and zone that is not after it the one with the greatest
     /// id; `None` where there is none. It is found by a binary search, and takes no memory.
-    pub(crate) fn ruling(&self, at: &Moment) -> Option<&Governing<'a>>
+    pub(crate) fn ruling(&self, at: &Moment) -> Option<&KeyedItem<'a>>
         ensures { MatchOption result (NoneRules self.now.items self.now.uid at.now)
             (λ range. (id : Moment) × Rules self.now.items self.now.uid at.now id range.now.item.now) }
     {
@@ -81,12 +81,12 @@ impl<'v, 'a> Ranges<'v, 'a> {
 fn governing_each<'a>(
     alloc: Global,
     standing: &[RangeFrom<'a>],
-) -> Result<Vec<Governing<'a>>, NoMemory>
+) -> Result<Vec<KeyedItem<'a>>, NoMemory>
     ensures { IfOk result (λ governing. map (λ range. range.item.now) standing.now ≡ map (λ range. range.item.now) governing.items) }
 {
     let mut governing = Vec::with_capacity(alloc, standing.len())?;
     for range in standing {
-        governing.push(Governing::of(alloc, range.item)?)?;
+        governing.push(KeyedItem::of(alloc, range.item)?)?;
     }
     Ok(governing)
 }

@@ -40,7 +40,7 @@ pub(crate) fn whole_of<'a>(
 }
 
 /// The moments given, ascending, each once.
-pub(crate) fn in_order(moments: Vec<Moment>) -> Result<Vec<Moment>, NoMemory>
+pub(crate) fn sorted_moments(moments: Vec<Moment>) -> Result<Vec<Moment>, NoMemory>
     ensures ascend { IfOk result (λ sorted. IsStrictlySortedBy moment_cmp sorted.items) }
     ensures same { IfOk result (λ sorted. (at : Moment) → Contains sorted.items at ↔ Contains moments.items at) }
 {

@@ -9,6 +9,7 @@ returns c = record {
   reported = c.in_ok-items.ensures;
   lines_are =
       c.loop-item.invariant
-      ∙ ap (map (λ item. line_of c.args.report item.now)) (take_all c.loop-item.item-index c.deref-item-items.result.now c.loop-item-test.false ∙ c.deref-item-items.ensures.value)
+      ∙ ap (map (λ item. line_of c.args.report item.now))
+      (take_all c.loop-item.item-index c.deref-item-items.result.now c.loop-item-test.false ∙ c.deref-item-items.ensures.value)
       ∙ map_twice (line_of c.args.report) (λ item. item.now) c.in_ok-items.items.items;
 }

@@ -6,10 +6,14 @@ use Rattle.itip_report.proofs.Tallying.{eq_is, count_done, count_more}
 use Rattle.itip_report.proofs.load.count.Goals as goal
 
 pub returns-in_default : goal.returns-in_default
-returns-in_default c = λ done before long tally. count_done c.args.place done before c.args.tally.now.entries c.args.key long tally (sym c.rows_before.ensures ∙ c.in_default.is)
+returns-in_default c =
+    λ done before long tally. count_done c.args.place done before c.args.tally.now.entries c.args.key long tally
+    (sym c.rows_before.ensures ∙ c.in_default.is)
 
 pub returns : goal.returns
 returns c = λ done before long tally.
     let v : Tallied = record { rows = c.saturating_add.result; last = c.args.place } in
-    subst (IsTally done (before ++ c.args.key ∷ [])) (sym (c.in_ok-insert.ensures.entries ∙ ap (λ eq. insert_entry eq c.args.tally.now.entries c.args.key v) eq_is))
-    (count_more c.args.place done before c.args.tally.now.entries c.args.key long tally c.in-Some.rows v (sym c.rows_before.ensures ∙ c.in-Some.is) c.requires c.saturating_add.ensures refl)
+    subst (IsTally done (before ++ c.args.key ∷ []))
+    (sym (c.in_ok-insert.ensures.entries ∙ ap (λ eq. insert_entry eq c.args.tally.now.entries c.args.key v) eq_is))
+    (count_more c.args.place done before c.args.tally.now.entries c.args.key long tally c.in-Some.rows v (sym c.rows_before.ensures ∙
+    c.in-Some.is) c.requires c.saturating_add.ensures refl)

@@ -7,6 +7,8 @@ use Rattle.itip_report.proofs.load.count_row.Goals as goal
 
 pub returns : goal.returns
 returns c = λ done long tally.
-    let all = take_all c.loop-attendee.attendee-index c.as_slice-attendee-items.result.now c.loop-attendee-test.false ∙ c.as_slice-attendee-items.ensures in
+    let all = take_all c.loop-attendee.attendee-index c.as_slice-attendee-items.result.now c.loop-attendee-test.false ∙
+    c.as_slice-attendee-items.ensures in
     end_row done c.args.row.now c.loop-attendee.tally.entries
-    (subst (λ xs. IsTally done (map (λ (a : ShownAttendee). attendee_key a.address) xs) c.loop-attendee.tally.entries) all (c.loop-attendee.invariant done long tally))
+    (subst (λ xs. IsTally done (map (λ (a : ShownAttendee). attendee_key a.address) xs) c.loop-attendee.tally.entries) all
+    (c.loop-attendee.invariant done long tally))

@@ -6,7 +6,8 @@ use Rattle.itip_report.proofs.Tallying.{eq_is, equal_test, apart_test}
 use Rattle.itip_report.proofs.load.rows_before.Goals as goal
 
 pub returns-in-None : goal.returns-in-None
-returns-in-None c = ap (rows_before c.args.place) (c.in-None.ensures.value ∙ ap (λ eq. lookup (eq c.args.key.now) c.args.tally.now.entries) eq_is)
+returns-in-None c = ap (rows_before c.args.place) (c.in-None.ensures.value ∙
+    ap (λ eq. lookup (eq c.args.key.now) c.args.tally.now.entries) eq_is)
 
 pub returns-then-seen-place : goal.returns-then-seen-place
 returns-then-seen-place c =

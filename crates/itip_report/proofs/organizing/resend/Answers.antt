@@ -11,6 +11,9 @@ pub returns : goal.returns
 returns c =
     let uid : List ℕ = c.args.uid.now in
     let part : List Item = c.in_ok-items.items.items in
-    if_ok_then (λ messages. IsResendOf part c.in_ok-items.items.uid (option_map (λ bytes. bytes.items) messages)) (λ messages. IsResendOf c.args.state.now uid (option_map (λ bytes. bytes.items) messages)) c.resend_of.result
-    (λ messages sent. resend_there uid part c.args.state.now (part_says uid part c.args.state.now c.in_ok-items.ensures.items) (option_map (λ bytes. bytes.items) messages)
-    (subst (λ (u : List ℕ). IsResendOf part u (option_map (λ bytes. bytes.items) messages)) c.in_ok-items.ensures.uid sent)) c.resend_of.ensures
+    if_ok_then (λ messages. IsResendOf part c.in_ok-items.items.uid (option_map (λ bytes. bytes.items) messages))
+    (λ messages. IsResendOf c.args.state.now uid (option_map (λ bytes. bytes.items) messages)) c.resend_of.result
+    (λ messages sent. resend_there uid part c.args.state.now (part_says uid part c.args.state.now c.in_ok-items.ensures.items)
+    (option_map (λ bytes. bytes.items) messages)
+    (subst (λ (u : List ℕ). IsResendOf part u (option_map (λ bytes. bytes.items) messages)) c.in_ok-items.ensures.uid sent))
+    c.resend_of.ensures

@@ -15,11 +15,15 @@ loop-row-preserved c =
     let before : List (List ℕ) = progress_lines (take c.loop-row.row-index c.args.rows.now) in
     let more : progress_lines (take (c.loop-row.row-index + 1) c.args.rows.now) ≡ before ++ progress_line row =
     flat_map_more progress_line c.args.rows.now c.loop-row.row-index row c.loop-row-test.true c.row-item.is in
-    let told : (o : Option ℕ) → row.progress ≡ o → progress_line row ≡ option_to_list (option_map (line_with row) o) = λ o e. ap (λ p. option_to_list (option_map (line_with row) p)) e in
+    let told : (o : Option ℕ) → row.progress ≡ o → progress_line row ≡ option_to_list (option_map (line_with row) o) =
+    λ o e. ap (λ p. option_to_list (option_map (line_with row) p)) e in
     elim c.match-row.branch [
       | in-Some+in_ok-progress_line+in_ok-push w ↦
-          ap (λ v. map string_bytes v.items) w.lines-is ∙ ap (map string_bytes) w.in_ok-push.ensures.items ∙ map_both string_bytes c.loop-row.lines.items (w.in_ok-progress_line.field-0 ∷ [])
-          ∙ (λ i. c.loop-row.invariant i ++ w.in_ok-progress_line.ensures i ∷ []) ∙ ap (λ lines. before ++ lines) (sym (told (Some w.in-Some.percent) w.in-Some.is)) ∙ sym more
+          ap (λ v. map string_bytes v.items) w.lines-is ∙ ap (map string_bytes) w.in_ok-push.ensures.items ∙
+          map_both string_bytes c.loop-row.lines.items (w.in_ok-progress_line.field-0 ∷ [])
+          ∙ (λ i. c.loop-row.invariant i ++ w.in_ok-progress_line.ensures i ∷ []) ∙
+          ap (λ lines. before ++ lines) (sym (told (Some w.in-Some.percent) w.in-Some.is)) ∙ sym more
       | in_default w ↦
-          ap (λ v. map string_bytes v.items) w.lines-is ∙ c.loop-row.invariant ∙ sym (append-nil before) ∙ ap (λ lines. before ++ lines) (sym (told None w.in_default.is)) ∙ sym more
+          ap (λ v. map string_bytes v.items) w.lines-is ∙ c.loop-row.invariant ∙ sym (append-nil before) ∙
+          ap (λ lines. before ++ lines) (sym (told None w.in_default.is)) ∙ sym more
     ]

@@ -11,5 +11,6 @@ returns c =
     let todo = c.args.todo.now in
     let given = are_given todo.rule todo.rdates todo.exdates todo.others in
     c.days_from.ensures
-    ∙ ap (λ b. days_from b c.day_of.result) (same_test c.recurs.result given (Recurs todo) c.recurs.ensures (given_is todo.rule todo.rdates todo.exdates todo.others))
+    ∙ ap (λ b. days_from b c.day_of.result) (same_test c.recurs.result given (Recurs todo) c.recurs.ensures
+    (given_is todo.rule todo.rdates todo.exdates todo.others))
     ∙ ap (days_from given) c.day_of.ensures

@@ -10,5 +10,6 @@ rows-requires-clause-occurrences c = c.in_ok-occurrences.ensures c.args.items.no
 pub rows-requires-clause-between : goal.rows-requires-clause-between
 rows-requires-clause-between c =
     let part : UidPart = c.args.items.now in
-    c.in_ok-between.ensures c.args.window (subst (λ (ms : List Moment). AreOccurrencesOf part.items c.args.window part.uid ms) (sym c.as_slice.ensures.value)
+    c.in_ok-between.ensures c.args.window (subst (λ (ms : List Moment). AreOccurrencesOf part.items c.args.window part.uid ms)
+    (sym c.as_slice.ensures.value)
     (c.in_ok-occurrences.ensures part.items part.uid c.in_ok-whole.ensures))

@@ -11,8 +11,10 @@ use Rattle.itip_view.proofs.ranges.ruling_place.Goals.{After-partition_point-rea
 
 -- the search parts the ranges
 split : (c : After-partition_point-reached) (part : UidPart) → AreRangesInOrder part c.args.standing.now
-    → IsPartitionPoint (λ range. is_up_to c.args.at.now range ≡ true) (λ range. is_up_to c.args.at.now range ≡ false) c.args.standing.now c.partition_point-reached.result
-split c part are = c.partition_point-reached.ensures.partitioned (is_up_to c.args.at.now) (always_returns_same _ _ _ (λ a r f k. search rules)) (parted part c.args.standing.now are c.args.at.now)
+    → IsPartitionPoint (λ range. is_up_to c.args.at.now range ≡ true) (λ range. is_up_to c.args.at.now range ≡ false) c.args.standing.now
+    c.partition_point-reached.result
+split c part are = c.partition_point-reached.ensures.partitioned (is_up_to c.args.at.now)
+    (always_returns_same _ _ _ (λ a r f k. search rules)) (parted part c.args.standing.now are c.args.at.now)
 
 some_from : (n : ℕ) → (n ≡ 0 → ⊥) → 0 < n
 some_from zero h = absurd (h refl)
@@ -43,7 +45,8 @@ returns-then-have_one_form-clause-rules c = λ part are.
       range = first;
       inside = inside;
       is = sym is;
-      rules = last_rules part found are c.args.at.now n bound (split (goal.at.returns-then-have_one_form-clause-rules c).After-partition_point-reached part are) first some is
+      rules = last_rules part found are c.args.at.now n bound
+          (split (goal.at.returns-then-have_one_form-clause-rules c).After-partition_point-reached part are) first some is
           (c.have_one_form.ensures.0 c.if-have_one_form.true);
     }
 
@@ -55,5 +58,7 @@ returns-else-have_one_form-clause-rules c = λ part are.
     let some : 0 < n = some_from n c.if-reached-eq0.false in
     let inside : n - 1 < length found = omega (arith, bound, some) in
     let first : RangeFrom = get_or found (n - 1) c.index-standing-reached.result in
-    last_not part found are c.args.at.now n bound (split (goal.at.returns-else-have_one_form-clause-rules c).After-partition_point-reached part are) first some
-    (get_or_default found (n - 1) c.index-standing-reached.result first inside) (λ same. let x : true ≡ false = sym (c.have_one_form.ensures.1 same) ∙ c.if-have_one_form.false in cc)
+    last_not part found are c.args.at.now n bound
+    (split (goal.at.returns-else-have_one_form-clause-rules c).After-partition_point-reached part are) first some
+    (get_or_default found (n - 1) c.index-standing-reached.result first inside) (λ same. let x : true ≡ false =
+    sym (c.have_one_form.ensures.1 same) ∙ c.if-have_one_form.false in cc)

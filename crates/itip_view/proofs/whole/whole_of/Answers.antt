@@ -10,7 +10,8 @@ pub returns-in_default : goal.returns-in_default
 returns-in_default c = λ item live.
     elim c.in_default.branch [
       | in_default-via-in-Some+else-is_live w ↦
-          let same : item ≡ w.in-Some.item.now = one_best c.args.items.now.items (Series c.args.items.now.uid) item w.in-Some.item.now live.best w.in-Some.ensures in
+          let same : item ≡ w.in-Some.item.now =
+          one_best c.args.items.now.items (Series c.args.items.now.uid) item w.in-Some.item.now live.best w.in-Some.ensures in
           let x : true ≡ false = sym live.live ∙ ap (λ (i : Item). is_live i.kind) same ∙ sym w.is_live.ensures ∙ w.if-is_live.false in cc
       | in_default-via-in_default w ↦ w.in_default.ensures item live.best.is_heard live.best.about
     ]

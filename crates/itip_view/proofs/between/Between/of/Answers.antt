@@ -7,7 +7,8 @@ use Rattle.itip_view.specs.Standing.{IsLiveSeries}
 use Rattle.itip_view.proofs.between.Between.of.Goals as goal
 
 pub returns-in_default : goal.returns-in_default
-returns-in_default c = λ window are at occurs. subst (IsWhole c.args.items.now.items c.args.items.now.uid) c.in_default.is c.requires occurs.item occurs.live
+returns-in_default c =
+    λ window are at occurs. subst (IsWhole c.args.items.now.items c.args.items.now.uid) c.in_default.is c.requires occurs.item occurs.live
 
 pub returns-then-is_empty : goal.returns-then-is_empty
 returns-then-is_empty c = λ window are at occurs.
@@ -21,4 +22,7 @@ pub returns : goal.returns
 returns c =
     let items : List Item = c.args.items.now.items in
     let uid : List ℕ = c.args.items.now.uid in
-    λ window are. (subst (IsLiveSeries items uid) (sym c.in_ok-series.ensures) (subst (IsWhole items uid) c.in-Some.is c.requires).0, c.in_ok-ranges.ensures)
+    λ window are. (
+      subst (IsLiveSeries items uid) (sym c.in_ok-series.ensures) (subst (IsWhole items uid) c.in-Some.is c.requires).0,
+      c.in_ok-ranges.ensures,
+    )

@@ -4,4 +4,5 @@ use Rattle.itip_view.proofs.Placing.{Places}
 use Rattle.itip_view.proofs.of_uid.UidView.places.Given as goal
 
 abbrev pub invariant-loop-item : goal.invariant-loop-item
-invariant-loop-item l = Places (option_copied l.series) l.initial.places.items (take l.item-index (map (λ item. item.now) l.item-items)) l.places.items
+invariant-loop-item l =
+    Places (option_copied l.series) l.initial.places.items (take l.item-index (map (λ item. item.now) l.item-items)) l.places.items

@@ -16,7 +16,8 @@ one_from u v a b e = cc
 pub returns-then-not-is_live : goal.returns-then-not-is_live
 returns-then-not-is_live c =
     let off : c.is_live.result ≡ false = search rules in
-    no_range c.args.self.now.items.now.items c.args.self.now.window c.args.self.now.items.now.uid c.args.at.now c.requires.rules.0 c.args.range.now.item.now c.requires.none c.requires.rules.1
+    no_range c.args.self.now.items.now.items c.args.self.now.window c.args.self.now.items.now.uid c.args.at.now c.requires.rules.0
+    c.args.range.now.item.now c.requires.none c.requires.rules.1
     (λ live. let x : true ≡ false = sym live ∙ sym c.is_live.ensures ∙ off in cc)
 
 pub returns : goal.returns
@@ -27,12 +28,18 @@ returns c =
     let item : Item = c.args.range.now.item.now in
     let from : Moment = c.requires.rules.0 in
     let on : c.is_live.result ≡ true = search rules in
-    let series : c.args.series.now ≡ c.requires.occurs.item = one_best items (key.Series uid) c.args.series.now c.requires.occurs.item c.requires.live.best c.requires.occurs.live.best in
-    let same : c.in-Range.id ≡ from = one_from c.in-Range.field-0 uid c.in-Range.id from (sym c.in-Range.is ∙ c.requires.rules.1.stands.best.about) in
+    let series : c.args.series.now ≡ c.requires.occurs.item =
+    one_best items (key.Series uid) c.args.series.now c.requires.occurs.item c.requires.live.best c.requires.occurs.live.best in
+    let same : c.in-Range.id ≡ from =
+    one_from c.in-Range.field-0 uid c.in-Range.id from (sym c.in-Range.is ∙ c.requires.rules.1.stands.best.about) in
     let asked : c.in_turn-questions.result ≡ in_turn c.args.at item.own (max item.own c.requires.occurs.item.own) =
     c.in_turn-questions.ensures ∙ ap (in_turn c.args.at item.own) (c.max-since.ensures ∙ ap (λ (s : Item). max item.own s.own) series) in
-    range_is items c.args.self.now.window uid at from item c.in_ok-start_from.field-0 c.in_ok-due_from.field-0 c.in_ok-row.row c.requires.occurs c.requires.none c.requires.rules.1
-    (sym c.is_live.ensures ∙ on) (subst (λ (m : Moment). IsStartFrom item.todo.start m at c.in_ok-start_from.field-0) same c.in_ok-start_from.ensures)
+    range_is items c.args.self.now.window uid at from item c.in_ok-start_from.field-0 c.in_ok-due_from.field-0 c.in_ok-row.row
+    c.requires.occurs c.requires.none c.requires.rules.1
+    (sym c.is_live.ensures ∙ on) (subst (λ (m : Moment). IsStartFrom item.todo.start m at c.in_ok-start_from.field-0) same
+    c.in_ok-start_from.ensures)
     (subst (λ (m : Moment). IsDueFrom item.todo.due m at c.in_ok-due_from.field-0) same c.in_ok-due_from.ensures)
-    (subst (λ (qs : List Question). IsRowOf items item uid (id.At at) c.in_ok-start_from.field-0 c.in_ok-due_from.field-0 (asked_by uid qs) c.in_ok-row.row) asked
-    (subst (λ (m : Moment). IsRowOf items item uid (id.At m) c.in_ok-start_from.field-0 c.in_ok-due_from.field-0 (asked_by uid c.in_turn-questions.result) c.in_ok-row.row) c.in_ok-clone.ensures.cases c.in_ok-row.ensures))
+    (subst (λ (qs : List Question). IsRowOf items item uid (id.At at) c.in_ok-start_from.field-0 c.in_ok-due_from.field-0 (asked_by uid qs)
+    c.in_ok-row.row) asked
+    (subst (λ (m : Moment). IsRowOf items item uid (id.At m) c.in_ok-start_from.field-0 c.in_ok-due_from.field-0
+    (asked_by uid c.in_turn-questions.result) c.in_ok-row.row) c.in_ok-clone.ensures.cases c.in_ok-row.ensures))

@@ -15,8 +15,10 @@ use Rattle.itip_view.proofs.of_uid.UidView.rows.Goals as goal
 pub loop-at-init : goal.loop-at-init
 loop-at-init c =
     let items : List Item = c.args.self.now.items.now.items in
-    let so : c.push_some.new.rows.items ≡ option_to_list c.in_ok-row.row = c.in_ok-push_some.ensures ∙ ap (λ (xs : List Row). xs ++ option_to_list c.in_ok-row.row) c.in_ok-rows.ensures.items in
-    subst (λ (rows : List Row). RowsUpTo items c.args.self.now.window c.args.self.now.items.now.uid [] rows) (sym so) (rows_begin items c.args.self.now.window c.args.self.now.items.now.uid c.in_ok-row.row c.in_ok-row.ensures)
+    let so : c.push_some.new.rows.items ≡ option_to_list c.in_ok-row.row = c.in_ok-push_some.ensures ∙
+    ap (λ (xs : List Row). xs ++ option_to_list c.in_ok-row.row) c.in_ok-rows.ensures.items in
+    subst (λ (rows : List Row). RowsUpTo items c.args.self.now.window c.args.self.now.items.now.uid [] rows) (sym so) (rows_begin
+    items c.args.self.now.window c.args.self.now.items.now.uid c.in_ok-row.row c.in_ok-row.ensures)
 
 pub row_at-requires-clause-occurs : goal.row_at-requires-clause-occurs
 row_at-requires-clause-occurs c =
@@ -35,19 +37,27 @@ loop-at-preserved c =
     let i : ℕ = c.loop-at.at-index in
     let at : Moment = c.at-item.result in
     let rows : List Row = c.loop-at.rows.items in
-    let done : take (i + 1) moments ≡ take i moments ++ at ∷ [] = take_more moments i at c.loop-at-test.true ∙ ap (λ (m : Moment). take i moments ++ m ∷ []) (sym c.at-item.is) in
+    let done : take (i + 1) moments ≡ take i moments ++ at ∷ [] = take_more moments i at c.loop-at-test.true ∙
+    ap (λ (m : Moment). take i moments ++ m ∷ []) (sym c.at-item.is) in
     let pairs : AllPairs (λ (a b : Moment). moment_cmp a b ≡ Less) moments =
-    subst (λ (ms : List Moment). AllPairs (λ (a b : Moment). moment_cmp a b ≡ Less) ms) (sym c.deref-at-items.ensures.value) (pairs_ascend moment_cmp c.in_ok-places.places.items places.ascend) in
-    let later : (m : Moment) → Contains (take i moments) m → moment_cmp m at ≡ Less = earlier_before (λ (a b : Moment). moment_cmp a b ≡ Less) moments i at pairs c.loop-at-test.true c.at-item.is in
-    subst (λ (rs : List Row). RowsUpTo items c.args.self.now.window c.args.self.now.items.now.uid (take (i + 1) moments) rs) (sym c.in_ok-push_some-2.ensures)
-    (subst (λ (ms : List Moment). RowsUpTo items c.args.self.now.window c.args.self.now.items.now.uid ms (rows ++ option_to_list c.in_ok-row-2.row)) (sym done)
-    (rows_next items c.args.self.now.window c.args.self.now.items.now.uid (take i moments) at rows c.loop-at.invariant later c.in_ok-row-2.row c.in_ok-row-2.ensures))
+    subst (λ (ms : List Moment). AllPairs (λ (a b : Moment). moment_cmp a b ≡ Less) ms) (sym c.deref-at-items.ensures.value)
+    (pairs_ascend moment_cmp c.in_ok-places.places.items places.ascend) in
+    let later : (m : Moment) → Contains (take i moments) m → moment_cmp m at ≡ Less =
+    earlier_before (λ (a b : Moment). moment_cmp a b ≡ Less) moments i at pairs c.loop-at-test.true c.at-item.is in
+    subst (λ (rs : List Row). RowsUpTo items c.args.self.now.window c.args.self.now.items.now.uid (take (i + 1) moments) rs)
+    (sym c.in_ok-push_some-2.ensures)
+    (subst (λ (ms : List Moment). RowsUpTo items c.args.self.now.window c.args.self.now.items.now.uid ms (rows ++
+    option_to_list c.in_ok-row-2.row)) (sym done)
+    (rows_next items c.args.self.now.window c.args.self.now.items.now.uid (take i moments) at rows c.loop-at.invariant later
+    c.in_ok-row-2.row c.in_ok-row-2.ensures))
 
 pub returns : goal.returns
 returns c =
     let items : List Item = c.args.self.now.items.now.items in
     let places : ArePlaces items c.args.self.now.window c.args.self.now.items.now.uid c.in_ok-places.places.items =
     c.in_ok-places.ensures in
-    let all : take c.loop-at.at-index c.deref-at-items.result.now ≡ c.in_ok-places.places.items = take_all c.loop-at.at-index c.deref-at-items.result.now c.loop-at-test.false ∙ c.deref-at-items.ensures.value in
+    let all : take c.loop-at.at-index c.deref-at-items.result.now ≡ c.in_ok-places.places.items =
+    take_all c.loop-at.at-index c.deref-at-items.result.now c.loop-at-test.false ∙ c.deref-at-items.ensures.value in
     rows_of_places items c.args.self.now.window c.args.self.now.items.now.uid c.in_ok-places.places.items c.loop-at.rows.items places
-    (subst (λ (ms : List Moment). RowsUpTo items c.args.self.now.window c.args.self.now.items.now.uid ms c.loop-at.rows.items) all c.loop-at.invariant)
+    (subst (λ (ms : List Moment). RowsUpTo items c.args.self.now.window c.args.self.now.items.now.uid ms c.loop-at.rows.items) all
+    c.loop-at.invariant)

@@ -9,11 +9,15 @@ use Rattle.itip_view.proofs.of_uid.UidView.whole_row.Goals as goal
 pub returns-in_ok-row-in-Opaque : goal.returns-in_ok-row-in-Opaque
 returns-in_ok-row-in-Opaque c =
     let items : List Item = c.args.self.now.items.now.items in
-    let whole : IsWhole items c.args.self.now.items.now.uid (Some c.in-Some.whole) = subst (λ (w : Option Whole). IsWhole items c.args.self.now.items.now.uid w) c.in-Some.is c.requires in
-    opaque_is items c.args.self.now.window c.args.self.now.items.now.uid c.in-Some.whole.item.now c.in_ok-row-in-Opaque.row whole.0 (subst (IsShape c.in-Some.whole.item.now.todo) c.in-Opaque.is whole.1) c.in_ok-row-in-Opaque.ensures
+    let whole : IsWhole items c.args.self.now.items.now.uid (Some c.in-Some.whole) =
+    subst (λ (w : Option Whole). IsWhole items c.args.self.now.items.now.uid w) c.in-Some.is c.requires in
+    opaque_is items c.args.self.now.window c.args.self.now.items.now.uid c.in-Some.whole.item.now c.in_ok-row-in-Opaque.row whole.0
+    (subst (IsShape c.in-Some.whole.item.now.todo) c.in-Opaque.is whole.1) c.in_ok-row-in-Opaque.ensures
 
 pub returns-in-Repeats : goal.returns-in-Repeats
 returns-in-Repeats c =
     let items : List Item = c.args.self.now.items.now.items in
-    let whole : IsWhole items c.args.self.now.items.now.uid (Some c.in-Some.whole) = subst (λ (w : Option Whole). IsWhole items c.args.self.now.items.now.uid w) c.in-Some.is c.requires in
-    no_whole_repeats items c.args.self.now.window c.args.self.now.items.now.uid c.in-Some.whole.item.now whole.0 c.in-Repeats.field-0 (subst (IsShape c.in-Some.whole.item.now.todo) c.in-Repeats.is whole.1)
+    let whole : IsWhole items c.args.self.now.items.now.uid (Some c.in-Some.whole) =
+    subst (λ (w : Option Whole). IsWhole items c.args.self.now.items.now.uid w) c.in-Some.is c.requires in
+    no_whole_repeats items c.args.self.now.window c.args.self.now.items.now.uid c.in-Some.whole.item.now whole.0 c.in-Repeats.field-0
+    (subst (IsShape c.in-Some.whole.item.now.todo) c.in-Repeats.is whole.1)
