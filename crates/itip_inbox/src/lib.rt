@@ -9,7 +9,7 @@
 //! in any order, and the results once more.
 #![tactic(auto)]
 
-mod compact;
+mod compaction;
 mod csv_records;
 mod inbox;
 mod json_records;
@@ -24,7 +24,7 @@ mod tasks;
 mod texts;
 mod watch;
 
-pub use compact::{compact, write_items};
+pub use compaction::{compact, write_items};
 pub use csv_records::csv_text;
 pub use inbox::Inbox;
 pub use json_records::json_text;

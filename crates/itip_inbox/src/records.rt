@@ -7,7 +7,7 @@ ghost use Rattle.itip_state.specs.Kept.{AreKept};
 ghost use Rattle.itip_streams.specs.Written.{WritesOutput};
 ghost use Rattle.itip_inbox.specs.Records.{IsRecorded, AreRecords, WritesRecordsFront};
 
-use crate::compact::tell;
+use crate::compaction::tell;
 use crate::csv_records::csv_text;
 use crate::json_records::json_text;
 use crate::read::read_inbox;

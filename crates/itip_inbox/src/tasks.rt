@@ -9,7 +9,7 @@ ghost use Rattle.itip_inbox.specs.TaskList.{IsTaskList, IsListed, IsTextFor, Are
 ghost use Rattle.itip_view.specs.Rows.{row_limit};
 ghost use Rattle.itip_view.specs.Showing.{AreRowsWhere, AreTooManyWhere, Shows};
 
-use crate::compact::tell;
+use crate::compaction::tell;
 use crate::read::read_inbox;
 use crate::refused::refusal_text;
 use crate::watch::Watch;

@@ -4,18 +4,18 @@
 
 mod cause_lines;
 mod components;
+mod cutting;
 mod error;
 mod frame;
 mod head;
 mod laws;
-mod next_message;
+mod parallel;
 mod read;
-mod read_all;
 mod sort;
 
+pub use cutting::{next_message, whole_message};
 pub use error::{MessageCause, MessageRefusal, ReadError};
 pub use laws::{message_cutting, one_reading, read_again};
-pub use next_message::{next_message, whole_message};
+pub use parallel::read_all;
 pub use read::read_message;
-pub use read_all::read_all;
 pub use std::alloc::AllocError as NoMemory;

@@ -1,8 +1,8 @@
 -- What a worker does with a job (our own form).
 use Rattle.std.specs.Prelude.{◌<◌, ℕ}
 use Rattle.itip_office.specs.declared.job.Work.{Work}
-use Rattle.itip_office.specs.declared.worker_loop.Step.{Step}
-use Rattle.itip_office.specs.declared.worker_loop.Step.TheVariants.{Answers, HandsOn}
+use Rattle.itip_office.specs.declared.job_loop.Step.{Step}
+use Rattle.itip_office.specs.declared.job_loop.Step.TheVariants.{Answers, HandsOn}
 use Rattle.itip_office.specs.Texts.{Merges, AreThere}
 use Rattle.itip_office.specs.Answers.{AnswersAlone}
 

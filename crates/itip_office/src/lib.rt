@@ -8,12 +8,13 @@
 //! depends on the schedule, and no clause says which items these may be.
 #![tactic(auto)]
 
+mod desk_loop;
 mod error;
 mod exchange;
 mod gate;
 mod gather;
 mod job;
-mod keeper_loop;
+mod job_loop;
 mod merge;
 mod office;
 mod outcome;
@@ -23,15 +24,14 @@ mod script;
 mod script_jobs;
 mod team;
 mod watch;
-mod worker_loop;
 
+pub use desk_loop::keeper_loop;
 pub use error::{OfficeError, ScriptError};
 pub use gate::{Gate, OpenGate};
 pub use job::{Job, Work};
-pub use keeper_loop::keeper_loop;
+pub use job_loop::worker_loop;
 pub use merge::Merge;
 pub use office::{Office, run_office};
 pub use outcome::Outcome;
 pub use script::run_jobs;
 pub use watch::Watch;
-pub use worker_loop::worker_loop;

@@ -5,14 +5,14 @@ ghost use Rattle.itip_office.specs.Answers.{AnswersAlone};
 ghost use Rattle.itip_office.specs.Merged.{AreMerged};
 ghost use Rattle.itip_office.specs.Team.{AreOfDesks, AreNumbered};
 
+use crate::desk_loop::keeper_loop;
 use crate::error::OfficeError;
 use crate::gate::Gate;
 use crate::job::Job;
-use crate::keeper_loop::keeper_loop;
+use crate::job_loop::worker_loop;
 use crate::merge::Merge;
 use crate::outcome::Outcome;
 use crate::owned_keeper::OwnedKeeper;
-use crate::worker_loop::worker_loop;
 use crossbeam_channel::{Receiver, Sender, unbounded};
 use itip_running::{LiveError, Pass, start_desk};
 use std::alloc::Global;

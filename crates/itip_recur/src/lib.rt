@@ -18,7 +18,7 @@ mod periods;
 mod read;
 mod rule;
 mod series;
-mod shape;
+mod todo_shape;
 mod waits;
 mod walk;
 
@@ -29,5 +29,5 @@ pub use pattern::is_day;
 pub use read::{Reading, read_rule};
 pub use rule::{End, Frequency, MonthDays, MonthWeekday, Place, Rule, WeekDays, YearDays};
 pub use series::{Series, Shape};
-pub use shape::{recurs, shape};
 pub use std::alloc::AllocError as NoMemory;
+pub use todo_shape::{recurs, shape};

@@ -6,33 +6,33 @@ mod between;
 mod dates;
 mod days;
 mod error;
-mod governing;
+mod governs;
 mod keyed_item;
 mod laws;
-mod list_text;
 mod of_uid;
 mod progress;
 mod ranges;
 mod row;
 mod row_order;
-mod rows;
+mod row_text;
 mod shown;
 mod standing;
+mod state_rows;
 mod whole;
 mod window;
 
 pub use days::{RowDays, has_rows, row_days};
 pub use error::{BadWindow, ViewError};
-pub use governing::governing;
+pub use governs::governing;
 pub use laws::{
     answers_of_kept, one_list, rows_are_governed, rows_need_items, rows_of_part, standing_of_kept,
     view_of_kept,
 };
-pub use list_text::{list_text, write_list};
 pub use ranges::Ranges;
 pub use row::{Row, RowId, ShownAttendee};
 pub use row_order::sorted_uids;
-pub use rows::{rows, rows_among, rows_for, rows_of};
+pub use row_text::{list_text, write_list};
 pub use standing::{if_live, is_live, stands_beside};
+pub use state_rows::{rows, rows_among, rows_for, rows_of};
 pub use std::alloc::AllocError as NoMemory;
 pub use window::Window;
