@@ -36,7 +36,8 @@ pub enum Notation {
 /// refused, or the list.
 ///
 /// A refused message is told to `watch`. The whole input is read before anything is written. After a fault of reading
-/// nothing was written, after another fault a front of the records.
+/// nothing was written; after another fault, where there are too many rows, a front of `refused 31`, else of a text of the
+/// records.
 pub fn list_records<R: Read, W: Write, S: Watch>(
     rt: &(impl Threads + Sync),
     alloc: Global,

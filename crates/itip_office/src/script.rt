@@ -26,7 +26,8 @@ use std::thread::Threads;
 
 /// Runs the jobs of a script on threads, as [`run_office`] does: one for each worker, and one for the keeper of each desk. Each job that is
 /// refused is written as `job N refused C`, in the order of the jobs, and then the list of each desk. Says whether something written was a
-/// refusal. Beside the output `watch` is told what is refused.
+/// refusal. Beside the output `watch` is told what is refused, and nothing where the script could not be read or the jobs ended
+/// in an error.
 ///
 /// Jobs are numbered from 0, by their commands. The whole script is read before anything is done. A script of more than
 /// [`MAX_OCTETS`](itip_script::MAX_OCTETS) is refused as a whole (61). After a fault a front of the output was written, nothing of it

@@ -38,7 +38,8 @@ pub fn run_script<R: Read, W: Write>(
     run_script_watched(alloc, reader, writer, desks, window, &mut ())
 }
 
-/// Runs a script as [`run_script`] does. Beside the output `watch` is told of each command that was answered.
+/// Runs a script as [`run_script`] does. Beside the output `watch` is told of each command that was answered; of none where
+/// the script could not be read.
 pub fn run_script_watched<R: Read, W: Write, T: Watch>(
     alloc: Global,
     reader: &mut R,
