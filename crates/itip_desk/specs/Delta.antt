@@ -13,6 +13,12 @@ unfoldable pub delta_octets : List Item → List ℕ
 delta_octets [] = []
 delta_octets (item ∷ items) = item.bytes ++ delta_octets items
 
+-- a text is a message, and the batch has its items
+pub record GivesBatch (text : List ℕ) (batch : List Item) : Type 0 where
+  pub items : List Item
+  pub reads : ReadsMessage text items
+  pub batch_is : IsItemsOf batch items
+
 -- each of these texts is a message, and gives the items beside it
 abbrev pub AreMessages : List (List ℕ) → List (List Item) → Type 0
 AreMessages [] [] = Unit {0}

@@ -1,7 +1,8 @@
 //! The octets of a batch, and the batch that octets tell.
 ghost use Rattle.std.specs.Prelude.{◌≡◌, IfOk, IfErr};
+ghost use Rattle.itip_message.specs.Message.{RefusesMessage};
 ghost use Rattle.itip_message.specs.Refusals.{IfRefused};
-ghost use Rattle.itip_desk.specs.Delta.{delta_octets, ReadsDelta, RefusesDelta};
+ghost use Rattle.itip_desk.specs.Delta.{delta_octets, GivesBatch, ReadsDelta, RefusesDelta};
 
 use crate::NoMemory;
 use crate::batch::Batch;
@@ -18,6 +19,17 @@ pub fn write_delta(alloc: Global, batch: &Batch) -> Result<Vec<u8>, NoMemory>
         octets.extend_from_slice(item.bytes.as_slice())?;
     }
     Ok(octets)
+}
+
+/// The batch of the items that a message gives. It is the one way from the octets of a message to what a desk takes.
+///
+/// The text is refused where [`read_message`] refuses it, with its place; or when out of memory.
+pub fn read_batch(alloc: Global, text: &[u8]) -> Result<Batch, ReadError>
+    ensures found { IfOk result (GivesBatch text.now) }
+    ensures fault { IfErr result (λ e. IfRefused e (RefusesMessage text.now)) }
+{
+    let items = read_message(alloc, text)?;
+    Ok(Batch::of_items(items)?)
 }
 
 /// The batch of all items that the messages of a delta give.

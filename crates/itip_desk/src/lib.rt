@@ -16,7 +16,7 @@ mod moves;
 mod refusal;
 
 pub use batch::Batch;
-pub use delta::{read_delta, write_delta};
+pub use delta::{read_batch, read_delta, write_delta};
 pub use desk::{Changed, Desk};
 pub use error::DeskError;
 pub use laws::{delta_brings_up_to_date, delta_read_again, desks_converge, one_delta};

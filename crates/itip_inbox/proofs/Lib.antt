@@ -1,3 +1,4 @@
+mod NewsGiven
 mod Hearing
 mod Keeping
 mod Streams

@@ -9,11 +9,13 @@ use Rattle.itip_message.specs.RefusalNumbers.{number_of}
 use Rattle.itip_message.specs.declared.error.MessageRefusal.{MessageRefusal}
 use Rattle.itip_message.specs.Refusals.{of_lines}
 use Rattle.itip_message.proofs.OneMessage.{one_message, one_cause, message_apart}
+use Rattle.itip_state.specs.Kept.{IsItemsOf}
+use Rattle.itip_desk.specs.Delta.{GivesBatch}
 use Rattle.itip_desk.specs.Refusals.{refused_text}
 use Rattle.itip_streams.specs.Written.{AppendsFront, WritesOutput}
 use Rattle.itip_streams.specs.declared.fault.StreamFault.{StreamFault}
 use Rattle.itip_inbox.specs.declared.shown.Shown.{Shown}
-use Rattle.itip_inbox.specs.Shown.{items_text, IsItemsText, IsShownAs, IsShown}
+use Rattle.itip_inbox.specs.Shown.{items_text, IsShownAs, IsShown}
 use Rattle.itip_streams.proofs.Writing.{front_none}
 use Rattle.itip_inbox.proofs.Outputs.{same_items}
 
@@ -52,15 +54,18 @@ read_too_long read refusal (Err fault) long is named told = tt
 
 -- ---- one thing is shown of a text
 
-same_text : (items : List Item) (xs ys : List ℕ) → IsItemsText items xs → IsItemsText items ys → xs ≡ ys
-same_text items xs ys a b = a.shown_is ∙ ap items_text (same_items a.batch b.batch items a.batch_is b.batch_is) ∙ sym b.shown_is
+one_batch : (text : List ℕ) (xs ys : List Item) → GivesBatch text xs → GivesBatch text ys → xs ≡ ys
+one_batch text xs ys a b =
+    let same : a.items ≡ b.items = one_message text a.items b.items a.reads b.reads in
+    same_items xs ys b.items (subst (λ (items : List Item). IsItemsOf xs items) same a.batch_is) b.batch_is
 
 pub shown_once : (text xs ys : List ℕ) (refused other : Bool) → IsShown text xs refused → IsShown text ys other → xs ≡ ys
 shown_once text xs ys refused other (inl a) (inl b) =
-    let same : a.0.items ≡ b.0.items = one_message text a.0.items b.0.items a.0.reads b.0.reads in
-    same_text b.0.items xs ys (subst (λ (items : List Item). IsItemsText items xs) same a.0.shows) b.0.shows
-shown_once text xs ys refused other (inl a) (inr b) = absurd (message_apart text a.0.items b.0.0 a.0.reads b.0.1.refuses)
-shown_once text xs ys refused other (inr a) (inl b) = absurd (message_apart text b.0.items a.0.0 b.0.reads a.0.1.refuses)
+    a.0.shown_is ∙ ap items_text (one_batch text a.0.batch b.0.batch a.0.gives b.0.gives) ∙ sym b.0.shown_is
+shown_once text xs ys refused other (inl a) (inr b) =
+    absurd (message_apart text a.0.gives.items b.0.0 a.0.gives.reads b.0.1.refuses)
+shown_once text xs ys refused other (inr a) (inl b) =
+    absurd (message_apart text b.0.gives.items a.0.0 b.0.gives.reads a.0.1.refuses)
 shown_once text xs ys refused other (inr a) (inr b) =
     a.0.1.shown_is ∙ ap (λ (r : MessageRefusal). refused_text (number_of r)) (one_cause text a.0.0 b.0.0 a.0.1.refuses b.0.1.refuses) ∙
     sym b.0.1.shown_is

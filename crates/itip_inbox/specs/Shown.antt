@@ -2,28 +2,21 @@
 use Rattle.std.specs.Prelude.{◌≡◌, ◌⊎◌, ℕ, Bool, true, false, List, ◌∷◌, ◌++◌, length, Option, Some, None, codes}
 use Rattle.std.specs.Fmt.{decimal}
 use Rattle.itip_items.specs.declared.item.Item.{Item}
-use Rattle.itip_message.specs.Message.{ReadsMessage, RefusesMessage}
+use Rattle.itip_message.specs.Message.{RefusesMessage}
 use Rattle.itip_message.specs.RefusalNumbers.{number_of}
 use Rattle.itip_message.specs.declared.error.MessageRefusal.{MessageRefusal}
-use Rattle.itip_state.specs.Kept.{IsItemsOf}
-use Rattle.itip_desk.specs.Delta.{delta_octets}
+use Rattle.itip_desk.specs.Delta.{delta_octets, GivesBatch}
 use Rattle.itip_desk.specs.Refusals.{refused_text}
 
 -- how many items there are, and their octets
 abbrev pub items_text : List Item → List ℕ
 items_text batch = codes "items " ++ decimal (length batch) ++ 10 ∷ delta_octets batch
 
--- the text of these items, by canonical octets and each once
-pub record IsItemsText (items : List Item) (shown : List ℕ) : Type 0 where
-  pub batch : List Item
-  pub batch_is : IsItemsOf batch items
-  pub shown_is : shown ≡ items_text batch
-
--- the items that a text is read as
+-- the items that a text is read as, by canonical octets and each once
 pub record ShowsItems (text shown : List ℕ) : Type 0 where
-  pub items : List Item
-  pub reads : ReadsMessage text items
-  pub shows : IsItemsText items shown
+  pub batch : List Item
+  pub gives : GivesBatch text batch
+  pub shown_is : shown ≡ items_text batch
 
 -- the number of the refusal of a text
 pub record ShowsRefusal (text : List ℕ) (refusal : MessageRefusal) (shown : List ℕ) : Type 0 where

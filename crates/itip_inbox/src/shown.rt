@@ -4,14 +4,13 @@ ghost use Rattle.std.specs.Io.KnownBytes.{Keeps};
 ghost use Rattle.itip_message.specs.RefusalNumbers.{number_of};
 ghost use Rattle.itip_desk.specs.Refusals.{refused_text};
 ghost use Rattle.itip_streams.specs.Written.{AppendsFront, WritesOutput};
-ghost use Rattle.itip_inbox.specs.Shown.{IsItemsText, IsShown, IsShownAs};
+ghost use Rattle.itip_inbox.specs.Shown.{items_text, IsShown, IsShownAs};
 
 use crate::refused::refusal_text;
 use crate::watch::Watch;
-use itip_desk::{Batch, Refusal, write_delta};
-use itip_items::Item;
+use itip_desk::{Batch, Refusal, read_batch, write_delta};
 use itip_lines::{LineCause, LineRefusal};
-use itip_message::{MessageRefusal, ReadError, read_message};
+use itip_message::{MessageRefusal, ReadError};
 use itip_streams::{StreamFault, read_within, write_output};
 use std::alloc::{AllocError, Global};
 use std::io::{Read, Write};
@@ -71,9 +70,9 @@ fn shown_of(alloc: Global, text: &[u8]) -> Result<Shown, StreamFault>
     ensures shown { IfOk result (λ shown. IsShownAs text.now shown.refusal shown.text.items) }
     ensures fault { IfErr result (λ fault. fault ≡ StreamFault.Memory) }
 {
-    match read_message(alloc, text) {
-        Ok(items) => Ok(Shown {
-            text: items_text(alloc, items)?,
+    match read_batch(alloc, text) {
+        Ok(batch) => Ok(Shown {
+            text: batch_text(alloc, &batch)?,
             refusal: None,
         }),
         Err(ReadError::Refused(refusal)) => shown_refusal(alloc, refusal),
@@ -92,13 +91,12 @@ fn shown_refusal(alloc: Global, refusal: MessageRefusal) -> Result<Shown, Stream
     })
 }
 
-fn items_text(alloc: Global, items: Vec<Item>) -> Result<Vec<u8>, AllocError>
-    ensures { IfOk result (λ text. IsItemsText items.items text.items) }
+fn batch_text(alloc: Global, batch: &Batch) -> Result<Vec<u8>, AllocError>
+    ensures { IfOk result (λ text. text.items ≡ items_text batch.now) }
 {
-    let batch = Batch::of_items(items)?;
     let count = batch.as_slice().len();
     let mut text = format!(in alloc; "items {count}\n")?.into_bytes();
-    let octets = write_delta(alloc, &batch)?;
+    let octets = write_delta(alloc, batch)?;
     text.extend_from_slice(octets.as_slice())?;
     Ok(text)
 }

@@ -3,9 +3,9 @@ ghost use Rattle.std.specs.Prelude.{◌≡◌, map, IfOk, IfErr};
 ghost use Rattle.std.specs.List.{AllZip};
 ghost use Rattle.itip_inbox.specs.Streaming.{MayTell};
 
-use itip_items::Item;
+use itip_desk::read_batch;
 use itip_lines::ListOf;
-use itip_message::{ReadError, read_message};
+use itip_message::ReadError;
 use itip_state::{SharedItem, State};
 use rayon::prelude::*;
 use std::alloc::{AllocError, Global};
@@ -38,20 +38,9 @@ pub(crate) fn read_texts(
 fn read_text(alloc: Global, state: &State, text: &[u8]) -> Result<ListOf<SharedItem>, ReadError>
     ensures { MayTell state.now text.now result }
 {
-    let items = shared(alloc, read_message(alloc, text)?)?;
-    let news = state.news(items.as_slice())?;
+    let batch = read_batch(alloc, text)?;
+    let news = state.news(batch.as_slice())?;
     Ok(ListOf::from_vec(copies(alloc, news.as_slice())?))
-}
-
-/// The items, each to be shared.
-fn shared(alloc: Global, items: Vec<Item>) -> Result<Vec<SharedItem>, AllocError>
-    ensures { IfOk result (λ shared. shared.items ≡ items.items) }
-{
-    let mut shared = Vec::with_capacity(alloc, items.len())?;
-    for item in items {
-        shared.push(SharedItem::new(alloc, item)?)?;
-    }
-    Ok(shared)
 }
 
 // A state keeps copies, which have no spare room. What is made while a text is read has, and lies among what is let go.

@@ -10,8 +10,8 @@ use crate::job::{Job, Work};
 use crate::merge::Merge;
 use crate::outcome::Outcome;
 use crossbeam_channel::{Receiver, Sender};
-use itip_desk::{Batch, Refusal};
-use itip_message::{ReadError, read_message};
+use itip_desk::{Batch, Refusal, read_batch};
+use itip_message::ReadError;
 use itip_running::{Pass, PassError};
 use itip_view::Window;
 use std::alloc::Global;
@@ -103,11 +103,8 @@ fn read_text(alloc: Global, desks: usize, at: u64, bytes: &[u8]) -> Result<Step,
     if desk >= desks {
         return Ok(refused(Refusal::NoDesk(at)));
     }
-    match read_message(alloc, bytes) {
-        Ok(items) => {
-            let batch = Batch::of_items(items)?;
-            Ok(Step::HandsOn { desk, batch })
-        }
+    match read_batch(alloc, bytes) {
+        Ok(batch) => Ok(Step::HandsOn { desk, batch }),
         Err(ReadError::Refused(refusal)) => Ok(refused(Refusal::Message(refusal))),
         Err(ReadError::NoMemory) => Err(OfficeError::NoMemory),
     }

@@ -7,8 +7,8 @@ use crate::NoMemory;
 use crate::event::{Event, Outcome};
 use crate::packet::Packet;
 use crate::stop::Cause;
-use itip_desk::{Batch, Desk, DeskError, Refusal};
-use itip_message::{ReadError, read_message};
+use itip_desk::{Batch, Desk, DeskError, Refusal, read_batch};
+use itip_message::ReadError;
 use std::alloc::Global;
 use std::marker::Model;
 
@@ -130,14 +130,13 @@ impl World {
         ensures cause { IfErr result (λ cause. StopsFor self.old (Event.Deliver desk bytes.now) cause) }
         ensures err { OnErr result (self.new ≡ self.old) }
     {
-        let items = match read_message(self.alloc, bytes) {
-            Ok(items) => items,
+        let batch = match read_batch(self.alloc, bytes) {
+            Ok(batch) => batch,
             Err(ReadError::NoMemory) => return Err(Cause::NoMemory),
             Err(ReadError::Refused(refusal)) => {
                 return Ok(Outcome::Refused(Refusal::Message(refusal)));
             }
         };
-        let batch = Batch::of_items(items)?;
         hear(&mut self.desks[desk], desk, &batch)
     }
 

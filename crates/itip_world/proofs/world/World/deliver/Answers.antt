@@ -30,14 +30,14 @@ there c =
     subst (λ (w : ShownWorld). c.args.desk < length w.desks) (sym c.self.view_is) c.requires in
     slice_get-get_or (old c).desks c.args.desk c.index_mut.result.now within ∙ ap (λ (s : Shown). Some s) (sym c.index_mut.ensures.value)
 
-at : (c : After-hear) (outcome : Outcome) → HearsBatch c.index_mut.result.now c.in_ok-batch.batch c.hear.new.desk outcome →
-    HearsAt (old c) c.args.desk c.in_ok-batch.batch outcome (new c)
-at c = hears_at (old c) (new c) c.args.desk c.in_ok-batch.batch c.index_mut.result.now c.hear.new.desk (there c) refl refl
+at : (c : After-hear) (outcome : Outcome) → HearsBatch c.index_mut.result.now c.in-Ok.batch c.hear.new.desk outcome →
+    HearsAt (old c) c.args.desk c.in-Ok.batch outcome (new c)
+at c = hears_at (old c) (new c) c.args.desk c.in-Ok.batch c.index_mut.result.now c.hear.new.desk (there c) refl refl
 
 pub invariant_of-self : goal.invariant_of-self
 invariant_of-self c =
     let done = (goal.at.invariant_of-self c).After-hear in
-    past_hearing (old done) (new done) c.args.desk c.in_ok-batch.batch c.index_mut.result.now c.hear.new.desk (there done) refl refl
+    past_hearing (old done) (new done) c.args.desk c.in-Ok.batch c.index_mut.result.now c.hear.new.desk (there done) refl refl
     c.hear.result c.hear.ensures.hears c.hear.ensures.err c.self.invariant
 
 pub returns-clause-step : goal.returns-clause-step
@@ -45,21 +45,21 @@ returns-clause-step c =
     let done = (goal.at.returns-clause-step c).After-hear in
     subst (λ (w : ShownWorld). IfOk c.hear.result (λ outcome. Steps w (Deliver c.args.desk c.args.bytes.now) outcome (new done)))
     c.self.view_is
-    (IfOk-weaker c.hear.result _ _ (λ outcome hears. steps_deliver (old done) (new done) c.args.desk c.args.bytes.now c.in-Ok.items.items
-    c.in_ok-batch.batch outcome c.in-Ok.ensures.found c.in_ok-batch.ensures.same (at done outcome hears)) c.hear.ensures.hears)
+    (IfOk-weaker c.hear.result _ _ (λ outcome hears. steps_deliver (old done) (new done) c.args.desk c.args.bytes.now c.in-Ok.ensures.found.items
+    c.in-Ok.batch outcome c.in-Ok.ensures.found.reads c.in-Ok.ensures.found.batch_is.same (at done outcome hears)) c.hear.ensures.hears)
 
 pub returns-clause-others : goal.returns-clause-others
 returns-clause-others c =
     let done = (goal.at.returns-clause-others c).After-hear in
     subst (λ (w : ShownWorld). OnOk c.hear.result (OthersStay w (Deliver c.args.desk c.args.bytes.now) (new done))) c.self.view_is
-    (heard_by c.hear.result (λ outcome hears. others_heard (old done) (new done) c.args.desk c.in_ok-batch.batch outcome
+    (heard_by c.hear.result (λ outcome hears. others_heard (old done) (new done) c.args.desk c.in-Ok.batch outcome
     (at done outcome hears)) c.hear.ensures.hears)
 
 pub returns-clause-cause : goal.returns-clause-cause
 returns-clause-cause c =
     let done = (goal.at.returns-clause-cause c).After-hear in
     subst (λ (w : ShownWorld). IfErr c.hear.result (λ why. StopsFor w (Deliver c.args.desk c.args.bytes.now) why)) c.self.view_is
-    (stops_for_all (old done) (Deliver c.args.desk c.args.bytes.now) c.index_mut.result.now c.in_ok-batch.batch
-    (spends_deliver (old done) c.args.desk c.args.bytes.now c.in-Ok.items.items c.in_ok-batch.batch c.index_mut.result.now (there done)
-    c.in-Ok.ensures.found c.in_ok-batch.ensures.same)
+    (stops_for_all (old done) (Deliver c.args.desk c.args.bytes.now) c.index_mut.result.now c.in-Ok.batch
+    (spends_deliver (old done) c.args.desk c.args.bytes.now c.in-Ok.ensures.found.items c.in-Ok.batch c.index_mut.result.now (there done)
+    c.in-Ok.ensures.found.reads c.in-Ok.ensures.found.batch_is.same)
     c.hear.result c.hear.ensures.cause)
