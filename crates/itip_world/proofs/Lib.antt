@@ -8,5 +8,6 @@ pub mod Events
 pub mod Packets
 pub mod Runnings
 pub mod Runs
+pub mod SameHistories
 pub mod Swaps
 pub mod Uids

@@ -45,7 +45,8 @@ returns-clause-step c =
     let done = (goal.at.returns-clause-step c).After-hear in
     subst (λ (w : ShownWorld). IfOk c.hear.result (λ outcome. Steps w (Deliver c.args.desk c.args.bytes.now) outcome (new done)))
     c.self.view_is
-    (IfOk-weaker c.hear.result _ _ (λ outcome hears. steps_deliver (old done) (new done) c.args.desk c.args.bytes.now c.in-Ok.ensures.found.items
+    (IfOk-weaker c.hear.result _ _ (λ outcome hears. steps_deliver (old done) (new done) c.args.desk c.args.bytes.now
+    c.in-Ok.ensures.found.items
     c.in-Ok.batch outcome c.in-Ok.ensures.found.reads c.in-Ok.ensures.found.batch_is.same (at done outcome hears)) c.hear.ensures.hears)
 
 pub returns-clause-others : goal.returns-clause-others
