@@ -1,6 +1,6 @@
 //! The program `itipdesk`: desks for to-dos under iTIP, driven by a script on standard input, one command after another
-//! or as jobs on threads; messages filtered to what counts of them, or to their task list; or a message shown as its
-//! items.
+//! or as jobs on threads; messages of files, folders and standard input filtered to what counts of them, to their task
+//! list or to a report; or a message shown as its items.
 //!
 //! Its status is 0, or 1 where something printed was a refusal, 2 for bad words or a bad window, and 3 for a fault.
 #![tactic(auto)]
@@ -8,10 +8,14 @@
 mod run;
 mod tell;
 
+use run::Terminals;
 use std::io::IsTerminal;
 use std::process::ExitCode;
 
 fn main(rt: HostRuntime) -> ExitCode {
-    let is_terminal = rt.stderr().is_terminal();
-    ExitCode::from(run::status(&rt, is_terminal))
+    let terminals = Terminals {
+        output: rt.stdout().is_terminal(),
+        errors: rt.stderr().is_terminal(),
+    };
+    ExitCode::from(run::status(&rt, terminals))
 }

@@ -1,34 +1,125 @@
-//! What is said on standard error: what was refused, where and why, and how far the reading is. What can't be written there is left out.
+//! What is said on standard error: what was refused, where and why, and how far the reading is. What can't be written there, or
+//! has no memory, is left out.
 ghost use Rattle.std.specs.Prelude.{◌≡◌};
 
 use itip_desk::Refusal;
-use itip_message::MessageRefusal;
+use itip_inbox::RefusedMessage;
 use itip_script::Command;
+use itip_streams::{SourceName, refused_line};
+use itip_view::MostRows;
+use itip_words::{Filter, most_line};
+use std::alloc::AllocError;
 use std::fmt::Display;
 
-/// Names refused messages by number, and shows the progress.
+/// Names the refused messages of sources, and the to-do with the most rows where there are too many; and shows the progress.
 #[derive(Drop)]
-pub(crate) struct Progress<'a, R> {
+pub(crate) struct Teller<'a, R> {
     rt: &'a R,
+    names: &'a [SourceName],
+    filter: &'a Filter,
     is_shown: bool,
+    /// The place of the source that was opened last.
+    opened: usize,
+    progress: Progress,
+    /// The progress that was shown last.
+    shown: Progress,
 }
 
-impl<'a, R> Progress<'a, R> {
-    pub(crate) fn new(rt: &'a R, is_shown: bool) -> Progress<'a, R> {
-        Progress { rt, is_shown }
-    }
+/// How many messages and octets of all sources were read.
+#[derive(Clone, Copy)]
+struct Progress {
+    messages: u64,
+    octets: u64,
 }
 
-impl<'a, R: Eprint> itip_inbox::Watch for Progress<'a, R> {
-    fn read(&mut self, messages: u64, octets: u64) {
-        if self.is_shown {
-            let _ = eprintln!(self.rt; "{messages} messages, {octets} octets");
+const NO_PROGRESS: Progress = Progress {
+    messages: 0,
+    octets: 0,
+};
+
+// How many octets are read between two lines of progress: a folder of many small files has no line for each.
+const SHARE: u64 = 1_048_576;
+
+impl<'a, R: AllocGlobal + Eprint> Teller<'a, R> {
+    /// `is_terminal` says whether standard error is one.
+    pub(crate) fn new(
+        rt: &'a R,
+        names: &'a [SourceName],
+        filter: &'a Filter,
+        is_terminal: bool,
+    ) -> Teller<'a, R> {
+        Teller {
+            rt,
+            names,
+            filter,
+            is_shown: is_terminal || filter.intake.progress,
+            opened: 0,
+            progress: NO_PROGRESS,
+            shown: NO_PROGRESS,
         }
     }
 
-    fn refused(&mut self, message: u64, refusal: MessageRefusal) {
+    /// The place of the source that was opened last, from 0.
+    pub(crate) fn opened(&self) -> usize {
+        self.opened
+    }
+
+    /// Shows how much was read, where that is asked for and more was read than was shown.
+    pub(crate) fn show_progress(&mut self) {
+        let Progress { messages, octets } = self.progress;
+        if self.is_shown && octets > self.shown.octets {
+            let _ = eprintln!(self.rt; "{messages} messages, {octets} octets");
+            self.shown = self.progress;
+        }
+    }
+
+    fn say(&self, line: Result<String, AllocError>) {
+        if let Ok(line) = line {
+            let _ = eprintln!(self.rt; "{line}");
+        }
+    }
+
+    fn line_of(&self, name: &SourceName, refused: &RefusedMessage) -> Result<String, AllocError> {
+        let alloc = self.rt.alloc();
+        let refusal = Refusal::Message(refused.refusal);
         let number = refusal.number();
-        let _ = eprintln!(self.rt; "message {message}: refused {number}");
+        if !self.filter.intake.why {
+            return refused_line(alloc, name, refused.message, number, None);
+        }
+        let why = refusal.to_string(alloc)?;
+        refused_line(alloc, name, refused.message, number, Some(why.as_str()))
+    }
+}
+
+impl<'a, R: AllocGlobal + Eprint> itip_inbox::Watch for Teller<'a, R> {
+    fn opens(&mut self, source: usize) {
+        self.opened = source;
+    }
+
+    fn read(&mut self, messages: u64, octets: u64) {
+        self.progress = Progress { messages, octets };
+        if octets.saturating_sub(self.shown.octets) >= SHARE {
+            self.show_progress();
+        }
+    }
+
+    fn refused(&mut self, refused: &RefusedMessage) {
+        self.show_progress();
+        if let Some(name) = self.names.get(refused.source) {
+            self.say(self.line_of(name, refused));
+        }
+    }
+
+    fn asks_most(&self) -> bool {
+        self.filter.intake.why
+    }
+
+    fn too_many_rows(&mut self, most: Option<&MostRows>) {
+        if let Some(most) = most {
+            let word = self.filter.written.word();
+            let number = Refusal::TooManyRows.number();
+            self.say(most_line(self.rt.alloc(), word, number, most.uid.as_str(), most.rows));
+        }
     }
 }
 
@@ -66,11 +157,23 @@ impl<'a, R: Eprint> Explainer<'a, R> {
 }
 
 impl<'a, R: Eprint> itip_inbox::Watch for Explainer<'a, R> {
+    fn opens(&mut self, _source: usize) {}
+
     fn read(&mut self, _messages: u64, _octets: u64) {}
 
-    fn refused(&mut self, message: u64, refusal: MessageRefusal) {
-        self.say("message", message, Refusal::Message(refusal));
+    fn refused(&mut self, refused: &RefusedMessage) {
+        self.say(
+            "message",
+            refused.message,
+            Refusal::Message(refused.refusal),
+        );
     }
+
+    fn asks_most(&self) -> bool {
+        false
+    }
+
+    fn too_many_rows(&mut self, _most: Option<&MostRows>) {}
 }
 
 impl<'a, R: Eprint> itip_world::Watch for Explainer<'a, R> {
@@ -114,6 +217,14 @@ fn name(command: &Command<'_>) -> &'static str {
         Command::Entries { .. } => "entries",
         Command::Malformed => "command",
     }
+}
+
+/// Says what failed of something, and gives the status.
+pub(crate) fn complain_of<R: Eprint>(rt: &R, name: &str, what: &str, status: u8) -> u8
+    ensures { result ≡ status }
+{
+    let _ = eprintln!(rt; "itipdesk: {name}: {what}");
+    status
 }
 
 /// Says why nothing is done, and gives the status. Where standard error takes no text, the status alone says what was wrong.

@@ -23,13 +23,14 @@ use Rattle.itip_items.specs.declared.key.Key.{Key}
 use Rattle.itip_items.specs.declared.key.Key.TheVariants.{Series, Instance, Range, Answer, Refresh}
 use Rattle.itip_view.specs.RowDays.{is_of_rows, has_rows, days_at, row_days, Meets, HasRowsIn, NamesIn}
 use Rattle.itip_view.specs.Rows.{AreRows, AreTooMany}
-use Rattle.itip_view.specs.Showing.{Shows, IsAmong, AreRowsWhere, AreTooManyWhere}
+use Rattle.itip_view.specs.Showing.{Shows, ShowsNamed, IsAmong, AreRowsWhere, AreTooManyWhere}
 use Rattle.itip_view.specs.Standing.{is_live}
 use Rattle.itip_view.specs.declared.days.RowDays.{RowDays}
 use Rattle.itip_view.specs.declared.days.RowDays.TheVariants.{One, Any}
 use Rattle.itip_view.specs.declared.row.Row.{Row}
 use Rattle.itip_view.specs.declared.window.Window.{Window}
 use Rattle.itip_view.proofs.Needing.{row_needs_days, row_needs_name}
+use Rattle.itip_view.proofs.SameAsked.{rows_of_all, many_of_all}
 use Rattle.itip_desk.specs.Entries.{entry_cmp, entry_at, mark_of, day_entries, attendee_entries, entries_of, IsNoted}
 use Rattle.itip_desk.specs.Index.{has, IsIndexOf}
 use Rattle.itip_desk.specs.declared.entry.IndexEntry.{IndexEntry}
@@ -172,35 +173,29 @@ found_named kept index key found is by_key uid n = by_key uid ((is (entry_at uid
 -- the rows of the UIDs found are those of the view
 module _ (kept : List Item) (window : Window) (uids : List (List ℕ)) where
   pub all_rows : ((uid : List ℕ) → HasRowsIn kept window uid → Contains uids uid) → (rows : List Row) →
-      AreRowsWhere (IsAmong uids None) kept window rows → AreRows kept window rows
-  all_rows found rows are =
-      record {
-        ascend = are.ascend;
-        each = are.each;
-        all =
-            λ row is. are.all row is (record { uid_is = found row.uid (row_needs_days kept window row is); shows = tt });
-      }
+      AreRowsWhere (IsAmong uids (ShowsNamed None)) kept window rows → AreRows kept window rows
+  all_rows found = rows_of_all (IsAmong uids (ShowsNamed None)) kept window
+      (λ row is. record { uid_is = found row.uid (row_needs_days kept window row is); holds = tt })
 
-  pub all_many : AreTooManyWhere (IsAmong uids None) kept window → AreTooMany kept window
-  all_many over = record { some = over.some; ascend = over.ascend; each = over.each; many = over.many }
+  pub all_many : AreTooManyWhere (IsAmong uids (ShowsNamed None)) kept window → AreTooMany kept window
+  all_many = many_of_all (IsAmong uids (ShowsNamed None)) kept window
 
   module _ (address : List ℕ) where
     pub rows_naming : ((uid : List ℕ) → NamesIn kept (attendee_key address) uid → Contains uids uid) → (rows : List Row) →
-        AreRowsWhere (IsAmong uids (Some address)) kept window rows →
+        AreRowsWhere (IsAmong uids (ShowsNamed (Some address))) kept window rows →
         AreRowsWhere (Shows address) kept window rows
     rows_naming found rows are = record {
       ascend = are.ascend;
       each = are.each;
-      holds = λ row h. (are.holds row h).shows;
-      all = λ row is s. are.all row is (record { uid_is = found row.uid (row_needs_name kept address window row is s); shows = s });
+      holds = λ row h. (are.holds row h).holds;
+      all = λ row is s. are.all row is (record { uid_is = found row.uid (row_needs_name kept address window row is s); holds = s });
     }
 
-    pub many_naming : AreTooManyWhere (IsAmong uids (Some address)) kept window → AreTooManyWhere (Shows address) kept window
+    pub many_naming : AreTooManyWhere (IsAmong uids (ShowsNamed (Some address))) kept window → AreTooManyWhere (Shows address) kept window
     many_naming over = record {
       some = over.some;
       ascend = over.ascend;
       each = over.each;
-      holds = λ row h. (over.holds row h).shows;
-      many =
-          over.many;
+      holds = λ row h. (over.holds row h).holds;
+      many = over.many;
     }

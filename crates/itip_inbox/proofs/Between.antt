@@ -1,15 +1,16 @@
 -- An input that is cut between messages has the messages of its parts.
-use Rattle.std.proofs.Common.{◌≡◌, ◌≢◌, ◌∙◌, sym, ap, refl, subst, ℕ, ◌⊎◌, List, [], ◌∷◌, ◌++◌, inl, inr, append_assoc, append-nil}
+use Rattle.std.proofs.Common.{◌≡◌, ◌≢◌, ◌∙◌, sym, ap, refl, subst, ℕ, ◌⊎◌, ◌↔◌, List, [], ◌∷◌, ◌++◌, inl, inr, append_assoc, append-nil}
 use Rattle.std.specs.List.{Contains, AllByRecursion, concat}
 use Rattle.std.proofs.lemmas.List.Elements.{All-nil, Contains-append_cases, Contains-append_left, Contains-append_right}
 use Rattle.itip_lines.specs.Cutting.{lines_of}
 use Rattle.itip_lines.specs.Stretches.{LacksBlank}
-use Rattle.itip_state.proofs.Members.{none_in}
+use Rattle.itip_state.proofs.Members.{none_in, cons_cases, cons_first, cons_later}
 use Rattle.itip_message.specs.Cutting.{IsCalendar, AreApart, IsRest, unless_empty, IsCutInto}
 use Rattle.itip_message.specs.Scanned.{messages_of}
 use Rattle.itip_message.proofs.Cuts.{cut_by_scan}
 use Rattle.itip_message.proofs.OneCut.{one_cut}
-use Rattle.itip_inbox.specs.Compaction.{HasMessage, HasSameMessages, EndsBetween, EachEndsBetween, IsPartedInto}
+use Rattle.itip_inbox.specs.Compaction.{HasMessage, HaveSameMessages, EndsBetween, EachEndsBetween, IsPartedInto}
+use Rattle.itip_inbox.proofs.Telling.{has_among}
 
 concat_both : (xs ys : List (List ℕ)) → concat (xs ++ ys) ≡ concat xs ++ concat ys
 concat_both [] ys = refl
@@ -75,6 +76,12 @@ cut_before calendars rest each apart messages cut = record {
 
 -- ---- one part, and the rest
 
+-- a message of one text
+record IsMessageOf (text message : List ℕ) : Type 0 where
+  messages : List (List ℕ)
+  cut : IsCutInto text messages
+  among : Contains messages message
+
 module _ (part rest : List ℕ) (ends : EndsBetween part rest) where
   cut_of_part : IsCutInto part ends.calendars
   cut_of_part = subst (λ (t : List ℕ). IsCutInto t ends.calendars) (sym ends.whole)
@@ -86,7 +93,7 @@ module _ (part rest : List ℕ) (ends : EndsBetween part rest) where
       (cut_before ends.calendars rest ends.each ends.apart messages cut)
 
   -- a message of both is one of either
-  of_both : (message : List ℕ) → HasMessage (part ++ rest) message → HasMessage part message ⊎ HasMessage rest message
+  of_both : (message : List ℕ) → IsMessageOf (part ++ rest) message → IsMessageOf part message ⊎ IsMessageOf rest message
   of_both message has =
       let cut : IsCutInto rest (messages_of rest) = cut_by_scan rest in
       let among : Contains (ends.calendars ++ messages_of rest) message =
@@ -98,7 +105,7 @@ module _ (part rest : List ℕ) (ends : EndsBetween part rest) where
         | inr later ↦ inr (record { messages = messages_of rest; cut = cut; among = later })
       ]
 
-  in_both : (message : List ℕ) → HasMessage part message ⊎ HasMessage rest message → HasMessage (part ++ rest) message
+  in_both : (message : List ℕ) → IsMessageOf part message ⊎ IsMessageOf rest message → IsMessageOf (part ++ rest) message
   in_both message (inl has) = record {
     messages = ends.calendars ++ messages_of rest;
     cut = cut_of_both (messages_of rest) (cut_by_scan rest);
@@ -113,23 +120,65 @@ module _ (part rest : List ℕ) (ends : EndsBetween part rest) where
 
 -- ---- all parts
 
-no_message : (message : List ℕ) → HasMessage [] message → ⊥
+no_message : (message : List ℕ) → IsMessageOf [] message → ⊥
 no_message message has =
     none_in message (subst (λ (ms : List (List ℕ)). Contains ms message) (one_cut [] has.messages [] has.cut (cut_alone [] tt tt))
     has.among)
 
-has_parts : (parts : List (List ℕ)) → EachEndsBetween parts → HasSameMessages (concat parts) parts
-has_parts [] between message = (no_message message, λ some. absurd some)
+one_has : (text : List ℕ) (texts : List (List ℕ)) (message : List ℕ) → IsMessageOf text message → HasMessage (text ∷ texts) message
+one_has text texts message has =
+    record { input = text; given = cons_first text texts; messages = has.messages; cut = has.cut; among = has.among }
+
+-- a message of the first of these texts, or of the others
+first_or : (text : List ℕ) (texts : List (List ℕ)) (message : List ℕ) → HasMessage (text ∷ texts) message →
+    IsMessageOf text message ⊎ HasMessage texts message
+first_or text texts message has =
+    elim (cons_cases text texts has.input has.given) [
+      | inl is ↦ inl (record {
+        messages = has.messages;
+        cut = subst (λ (t : List ℕ). IsCutInto t has.messages) (sym is) has.cut;
+        among = has.among;
+      })
+      | inr later ↦ inr (record {
+        input = has.input;
+        given = later;
+        messages = has.messages;
+        cut = has.cut;
+        among = has.among;
+      })
+    ]
+
+none_has : (message : List ℕ) → HasMessage [] message → ⊥
+none_has message has = none_in has.input has.given
+
+later_has : (text : List ℕ) (texts : List (List ℕ)) (message : List ℕ) → HasMessage texts message → HasMessage (text ∷ texts) message
+later_has text texts = has_among texts (text ∷ texts) (cons_later text texts)
+
+has_parts : (parts : List (List ℕ)) → EachEndsBetween parts → (message : List ℕ) → IsMessageOf (concat parts) message ↔
+    HasMessage parts message
+has_parts [] between message = (λ has. absurd (no_message message has), λ has. absurd (none_has message has))
 has_parts (part ∷ []) between message = (
-  λ has. inl (subst (λ (t : List ℕ). HasMessage t message) (append-nil part) has),
-  λ some. elim some [ inl has ↦ subst (λ (t : List ℕ). HasMessage t message) (sym (append-nil part)) has | inr none ↦ absurd none ],
+  λ has. one_has part [] message (subst (λ (t : List ℕ). IsMessageOf t message) (append-nil part) has),
+  λ has. elim (first_or part [] message has) [
+    | inl first ↦ subst (λ (t : List ℕ). IsMessageOf t message) (sym (append-nil part)) first
+    | inr none ↦ absurd (none_has message none)
+  ],
 )
 has_parts (part ∷ (next ∷ parts)) between message = (
-  λ has. elim (of_both part (concat (next ∷ parts)) between.0 message has)
-      [ inl first ↦ inl first | inr later ↦ inr ((has_parts (next ∷ parts) between.1 message).0 later) ],
-  λ some. in_both part (concat (next ∷ parts)) between.0 message
-      (elim some [ inl first ↦ inl first | inr later ↦ inr ((has_parts (next ∷ parts) between.1 message).1 later) ]),
+  λ has. elim (of_both part (concat (next ∷ parts)) between.0 message has) [
+    | inl first ↦ one_has part (next ∷ parts) message first
+    | inr later ↦ later_has part (next ∷ parts) message ((has_parts (next ∷ parts) between.1 message).0 later)
+  ],
+  λ has. in_both part (concat (next ∷ parts)) between.0 message (elim (first_or part (next ∷ parts) message has)
+      [ inl first ↦ inl first | inr later ↦ inr ((has_parts (next ∷ parts) between.1 message).1 later) ]),
 )
 
-pub parted_messages : (whole : List ℕ) (parts : List (List ℕ)) → IsPartedInto whole parts → HasSameMessages whole parts
-parted_messages whole parts is = subst (λ (t : List ℕ). HasSameMessages t parts) (sym is.joined) (has_parts parts is.between)
+pub parted_messages : (whole : List ℕ) (parts : List (List ℕ)) → IsPartedInto whole parts → HaveSameMessages (whole ∷ []) parts
+parted_messages whole parts is message = (
+  λ has. elim (first_or whole [] message has) [
+    | inl of_whole ↦ (has_parts parts is.between message).0 (subst (λ (t : List ℕ). IsMessageOf t message) is.joined of_whole)
+    | inr none ↦ absurd (none_has message none)
+  ],
+  λ has. one_has whole [] message (subst (λ (t : List ℕ). IsMessageOf t message) (sym is.joined)
+      ((has_parts parts is.between message).1 has)),
+)

@@ -2,6 +2,7 @@ mod NewsGiven
 mod Hearing
 mod Keeping
 mod Streams
+mod Sources
 mod OneInbox
 mod ByOctets
 mod SomeInbox
@@ -12,3 +13,5 @@ mod Parts
 mod Outputs
 mod Showing
 mod Recording
+mod Reporting
+mod SameTold

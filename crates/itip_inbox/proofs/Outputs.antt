@@ -1,7 +1,7 @@
--- What is written of an input.
+-- What is written of inputs.
 use Rattle.std.proofs.Common.{◌≡◌, ◌∙◌, sym, ap, refl, subst, ℕ, ◌+◌, ◌<◌, ◌≤◌, ◌||◌, Bool, List, [], ◌∷◌, ◌++◌, length, take, drop, get_or}
-use Rattle.std.proofs.Common.{inl, inr, append_assoc, take-append-drop, Option, Some, None, Result, Ok, Err}
-use Rattle.std.specs.Prelude.{IfSome, OnErr}
+use Rattle.std.proofs.Common.{inl, inr, append_assoc, take-append-drop, Option, Result, Ok, Err}
+use Rattle.std.specs.Prelude.{OnErr}
 use Rattle.std.specs.Io.KnownBytes.{Appends}
 use Rattle.std.proofs.KnownBytes.{Appends-nil, Appends-trans}
 use Rattle.std.proofs.lemmas.List.{take_more, take_all}
@@ -9,19 +9,19 @@ use Rattle.itip_items.specs.declared.item.Item.{Item}
 use Rattle.itip_state.specs.Kept.{AreKept, IsItemsOf}
 use Rattle.itip_view.specs.ListText.{list_text}
 use Rattle.itip_view.specs.Rows.{row_limit}
-use Rattle.itip_view.specs.Showing.{Shows}
+use Rattle.itip_view.specs.Showing.{AreRowsWhere}
 use Rattle.itip_view.specs.declared.row.Row.{Row}
 use Rattle.itip_view.specs.declared.window.Window.{Window}
-use Rattle.itip_view.proofs.OneList.{one_list_text, text_or_too_many, one_text_for, text_for_or_too_many}
-use Rattle.itip_view.proofs.OfKept.{text_of_kept, text_for_of_kept, too_many_of_kept, many_where_of_kept}
+use Rattle.itip_view.proofs.OneList.{one_where, few_or_too_many}
+use Rattle.itip_view.proofs.OfKept.{rows_where_of_kept}
 use Rattle.itip_desk.specs.Delta.{delta_octets}
 use Rattle.itip_desk.proofs.ReadDeltas.{one_order}
 use Rattle.itip_streams.specs.Written.{AppendsFront, MovesOut, WritesOutput}
 use Rattle.itip_streams.proofs.Writing.{front_none}
 use Rattle.itip_inbox.specs.declared.refused.RefusedMessage.{RefusedMessage}
-use Rattle.itip_inbox.specs.Inbox.{Holds, is_some_refused}
+use Rattle.itip_inbox.specs.Inbox.{AreInputs, Holds, is_some_refused}
 use Rattle.itip_inbox.specs.Compaction.{IsCompaction, WritesSoFar}
-use Rattle.itip_inbox.specs.TaskList.{IsTextFor, AreRowsFor, AreTooManyFor, IsListed, IsTaskList}
+use Rattle.itip_inbox.specs.TaskList.{IsTextWhere, IsListed, IsTaskList}
 use Rattle.itip_inbox.proofs.Octets.{octets_none, octets_both, octets_push}
 use Rattle.itip_inbox.proofs.OneInbox.{one_inbox}
 
@@ -92,12 +92,10 @@ items_end old mid new items i kept so_far past appended =
 kept_items : (batch kept heard : List Item) → IsItemsOf batch kept → AreKept kept heard → AreKept batch heard
 kept_items batch kept heard is keeps i = (λ h. (keeps i).0 ((is.same i).0 h), λ k. (is.same i).1 ((keeps i).1 k))
 
-pub compaction_written : (old new read : Option (List ℕ)) (kept batch : List Item) (refusals : List RefusedMessage) (count : ℕ)
-    (refused : Bool) → IfSome read (λ input. Holds input kept refusals count) → IsItemsOf batch kept
-    → Appends old new (delta_octets batch) → refused ≡ is_some_refused refusals →
-    IfSome read (λ input. WritesOutput (IsCompaction input) old new refused)
-compaction_written old new None kept batch refusals count refused holds items appended is = tt
-compaction_written old new (Some input) kept batch refusals count refused holds items appended is = record {
+pub compaction_written : (old new : Option (List ℕ)) (inputs : List (List ℕ)) (kept batch : List Item) (refusals : List RefusedMessage)
+    (refused : Bool) → Holds inputs kept refusals → IsItemsOf batch kept
+    → Appends old new (delta_octets batch) → refused ≡ is_some_refused refusals → WritesOutput (IsCompaction inputs) old new refused
+compaction_written old new inputs kept batch refusals refused holds items appended is = record {
   output = delta_octets batch;
   is_output = record {
     heard = holds.heard;
@@ -115,95 +113,80 @@ same_items items batch set a b =
     one_order items batch a.ascend b.ascend (λ i. (λ h. (b.same i).1 ((a.same i).0 h), λ h. (a.same i).1 ((b.same i).0 h)))
 
 -- the batch of a compaction is that of what is kept
-its_batch : (input octets : List ℕ) (kept : List Item) (refusals : List RefusedMessage) (count : ℕ) (refused : Bool) →
-    Holds input kept refusals count → (is : IsCompaction input octets refused) → IsItemsOf is.kept.batch kept
-its_batch input octets kept refusals count refused holds is =
-    let one : is.heard ≡ holds.heard = (one_inbox input is.heard holds.heard is.refusals refusals is.inbox holds.inbox).0 in
+its_batch : (inputs : List (List ℕ)) (octets : List ℕ) (kept : List Item) (refusals : List RefusedMessage) (refused : Bool) →
+    Holds inputs kept refusals → (is : IsCompaction inputs octets refused) → IsItemsOf is.kept.batch kept
+its_batch inputs octets kept refusals refused holds is =
+    let one : is.heard ≡ holds.heard = (one_inbox inputs is.heard holds.heard is.refusals refusals is.inbox holds.inbox).0 in
     let are : AreKept is.kept.batch holds.heard = subst (λ (heard : List Item). AreKept is.kept.batch heard) one is.kept.kept in
     record { ascend = is.kept.ascend; same = λ i. (λ h. (holds.keeps i).1 ((are i).0 h), λ h. (are i).1 ((holds.keeps i).0 h)) }
-
-pub compaction_front : (old new read : Option (List ℕ)) (kept batch : List Item) (refusals : List RefusedMessage) (count : ℕ) →
-    IfSome read (λ input. Holds input kept refusals count) → IsItemsOf batch kept → AppendsFront old new (delta_octets batch)
-    → IfSome read (λ input. (octets : List ℕ) (refused : Bool) → IsCompaction input octets refused → AppendsFront old new octets)
-compaction_front old new None kept batch refusals count holds items front = tt
-compaction_front old new (Some input) kept batch refusals count holds items front = λ octets refused is.
-    let same : batch ≡ is.kept.batch =
-    same_items batch is.kept.batch kept items (its_batch input octets kept refusals count refused holds is) in
-    subst (λ (t : List ℕ). AppendsFront old new t) (ap delta_octets same ∙ sym is.kept.octets_are) front
-
-pub compaction_unread : (o read : Option (List ℕ)) →
-    IfSome read (λ input. (octets : List ℕ) (refused : Bool) → IsCompaction input octets refused → AppendsFront o o octets)
-compaction_unread o None = tt
-compaction_unread o (Some input) = λ octets refused is. front_none o octets
 
 -- ---- the task list
 
 -- the text of the rows of what is kept is that of what was heard
-pub text_of_rows : (attendee : Option (List ℕ)) (kept heard : List Item) (window : Window) (rows : List Row) (text : List ℕ) →
-    AreKept kept heard → AreRowsFor attendee kept window rows → length rows ≤ row_limit
-    → text ≡ list_text rows → IsTextFor attendee heard window text
-text_of_rows None kept heard window rows text are rows_are few is =
-    text_of_kept kept heard are window text (record { rows = rows; are_rows = rows_are; few = few; text_is = is })
-text_of_rows (Some address) kept heard window rows text are rows_are few is =
-    text_for_of_kept address kept heard are window text (record { rows = rows; are_rows = rows_are; few = few; text_is = is })
+pub text_of_rows : (P : Row → Type 0) (kept heard : List Item) (window : Window) (rows : List Row) (text : List ℕ) →
+    AreKept kept heard → AreRowsWhere P kept window rows → length rows ≤ row_limit
+    → text ≡ list_text rows → IsTextWhere P heard window text
+text_of_rows P kept heard window rows text are rows_are few is =
+    record { rows = rows; are_rows = rows_where_of_kept P kept heard are window rows rows_are; few = few; text_is = is }
 
-pub many_of_rows : (attendee : Option (List ℕ)) (kept heard : List Item) (window : Window) → AreKept kept heard →
-    AreTooManyFor attendee kept window → AreTooManyFor attendee heard window
-many_of_rows None kept heard window are many = too_many_of_kept kept heard are window many
-many_of_rows (Some address) kept heard window are many = many_where_of_kept (Shows address) kept heard are window many
+pub listed_once : (P : Row → Type 0) (heard : List Item) (window : Window) (text other : List ℕ) (refusal more : Bool) →
+    IsListed P heard window text refusal → IsListed P heard window other more → text ≡ other
+listed_once P heard window text other refusal more (inl a) (inl b) =
+    a.0.text_is ∙ ap list_text (one_where P heard window a.0.rows b.0.rows a.0.are_rows b.0.are_rows) ∙ sym b.0.text_is
+listed_once P heard window text other refusal more (inl a) (inr b) =
+    absurd (few_or_too_many P heard window a.0.rows a.0.are_rows a.0.few b.0)
+listed_once P heard window text other refusal more (inr a) (inl b) =
+    absurd (few_or_too_many P heard window b.0.rows b.0.are_rows b.0.few a.0)
+listed_once P heard window text other refusal more (inr a) (inr b) = a.1 ∙ sym b.1
 
-text_once : (attendee : Option (List ℕ)) (heard : List Item) (window : Window) (text other : List ℕ) →
-    IsTextFor attendee heard window text → IsTextFor attendee heard window other → text ≡ other
-text_once None heard window text other a b = one_list_text heard window text other a b
-text_once (Some address) heard window text other a b = one_text_for address heard window text other a b
-
-text_apart : (attendee : Option (List ℕ)) (heard : List Item) (window : Window) (text : List ℕ) → IsTextFor attendee heard window text →
-    AreTooManyFor attendee heard window → ⊥
-text_apart None heard window text a b = text_or_too_many heard window text a b
-text_apart (Some address) heard window text a b = text_for_or_too_many address heard window text a b
-
-listed_once : (heard : List Item) (window : Window) (attendee : Option (List ℕ)) (text other : List ℕ) (refusal more : Bool) →
-    IsListed heard window attendee text refusal → IsListed heard window attendee other more → text ≡ other
-listed_once heard window attendee text other refusal more (inl a) (inl b) = text_once attendee heard window text other a.0 b.0
-listed_once heard window attendee text other refusal more (inl a) (inr b) = absurd (text_apart attendee heard window text a.0 b.0)
-listed_once heard window attendee text other refusal more (inr a) (inl b) = absurd (text_apart attendee heard window other b.0 a.0)
-listed_once heard window attendee text other refusal more (inr a) (inr b) = a.1 ∙ sym b.1
-
-pub list_written : (old new read : Option (List ℕ)) (kept : List Item) (refusals : List RefusedMessage) (count : ℕ) (window : Window)
-    (attendee : Option (List ℕ)) (text : List ℕ) (refusal refused : Bool)
-    → IfSome read (λ input. Holds input kept refusals count) →
-    ((heard : List Item) → AreKept kept heard → IsListed heard window attendee text refusal) → Appends old new text
-    → refused ≡ (is_some_refused refusals || refusal) →
-    IfSome read (λ input. WritesOutput (IsTaskList input window attendee) old new refused)
-list_written old new None kept refusals count window attendee text refusal refused holds listed appended is = tt
-list_written old new (Some input) kept refusals count window attendee text refusal refused holds listed appended is = record {
+pub list_written : (P : Row → Type 0) (old new : Option (List ℕ)) (inputs : List (List ℕ)) (kept : List Item)
+    (refusals : List RefusedMessage) (window : Window) (text : List ℕ) (refusal refused : Bool) → Holds inputs kept refusals →
+    ((heard : List Item) → AreKept kept heard → IsListed P heard window text refusal) → Appends old new text
+    → refused ≡ (is_some_refused refusals || refusal) → WritesOutput (IsTaskList P inputs window) old new refused
+list_written P old new inputs kept refusals window text refusal refused holds listed appended is = record {
   output = text;
   is_output = record {
     heard = holds.heard;
     refusals = refusals;
     inbox = holds.inbox;
     refusal = refusal;
-    listed =
-        listed holds.heard holds.keeps;
+    listed = listed holds.heard holds.keeps;
     refused_is = is;
   };
   appended = appended;
 }
 
-pub list_front : (old new read : Option (List ℕ)) (kept : List Item) (refusals : List RefusedMessage) (count : ℕ) (window : Window)
-    (attendee : Option (List ℕ)) (text : List ℕ) (refusal : Bool)
-    → IfSome read (λ input. Holds input kept refusals count) →
-    ((heard : List Item) → AreKept kept heard → IsListed heard window attendee text refusal) → AppendsFront old new text
-    → IfSome read (λ input. (other : List ℕ) (refused : Bool) → IsTaskList input window attendee other refused → AppendsFront old new other)
-list_front old new None kept refusals count window attendee text refusal holds listed front = tt
-list_front old new (Some input) kept refusals count window attendee text refusal holds listed front = λ other refused is.
-    let one : is.heard ≡ holds.heard = (one_inbox input is.heard holds.heard is.refusals refusals is.inbox holds.inbox).0 in
-    let same : text ≡ other =
-    listed_once holds.heard window attendee text other refusal is.refusal (listed holds.heard holds.keeps)
-    (subst (λ (heard : List Item). IsListed heard window attendee other is.refusal) one is.listed) in
-    subst (λ (t : List ℕ). AppendsFront old new t) same front
+-- ---- where a fault ends it
 
-pub list_unread : (o read : Option (List ℕ)) (window : Window) (attendee : Option (List ℕ)) →
-    IfSome read (λ input. (text : List ℕ) (refused : Bool) → IsTaskList input window attendee text refused → AppendsFront o o text)
-list_unread o None window attendee = tt
-list_unread o (Some input) window attendee = λ text refused is. front_none o text
+module _ {R : Type 0} (remaining : R → Option (List ℕ)) (sources : List R) (old new : Option (List ℕ)) (kept : List Item)
+    (refusals : List RefusedMessage)
+    (holds : (inputs : List (List ℕ)) → AreInputs remaining sources inputs → Holds inputs kept refusals) where
+  pub compaction_front : (batch : List Item) → IsItemsOf batch kept → AppendsFront old new (delta_octets batch) →
+      (inputs : List (List ℕ)) → AreInputs remaining sources inputs → (octets : List ℕ) (refused : Bool) →
+      IsCompaction inputs octets refused → AppendsFront old new octets
+  compaction_front batch items front inputs are octets refused is =
+      let same : batch ≡ is.kept.batch =
+      same_items batch is.kept.batch kept items (its_batch inputs octets kept refusals refused (holds inputs are) is) in
+      subst (λ (t : List ℕ). AppendsFront old new t) (ap delta_octets same ∙ sym is.kept.octets_are) front
+
+  pub list_front : (P : Row → Type 0) (window : Window) (text : List ℕ) (refusal : Bool) →
+      ((heard : List Item) → AreKept kept heard → IsListed P heard window text refusal) → AppendsFront old new text →
+      (inputs : List (List ℕ)) → AreInputs remaining sources inputs → (other : List ℕ) (refused : Bool) →
+      IsTaskList P inputs window other refused → AppendsFront old new other
+  list_front P window text refusal listed front inputs are other refused is =
+      let here : Holds inputs kept refusals = holds inputs are in
+      let one : is.heard ≡ here.heard = (one_inbox inputs is.heard here.heard is.refusals refusals is.inbox here.inbox).0 in
+      let same : text ≡ other =
+      listed_once P here.heard window text other refusal is.refusal (listed here.heard here.keeps)
+      (subst (λ (heard : List Item). IsListed P heard window other is.refusal) one is.listed) in
+      subst (λ (t : List ℕ). AppendsFront old new t) same front
+
+-- nothing was written yet
+module _ {R : Type 0} (remaining : R → Option (List ℕ)) (sources : List R) (o : Option (List ℕ)) where
+  pub compaction_unread : (inputs : List (List ℕ)) → AreInputs remaining sources inputs → (octets : List ℕ) (refused : Bool) →
+      IsCompaction inputs octets refused → AppendsFront o o octets
+  compaction_unread inputs are octets refused is = front_none o octets
+
+  pub list_unread : (P : Row → Type 0) (window : Window) (inputs : List (List ℕ)) → AreInputs remaining sources inputs →
+      (text : List ℕ) (refused : Bool) → IsTaskList P inputs window text refused → AppendsFront o o text
+  list_unread P window inputs are text refused is = front_none o text

@@ -1,14 +1,15 @@
 -- An input that is read by and by.
-use Rattle.std.proofs.Common.{◌≡◌, ◌∙◌, sym, ap, refl, ℕ, ◌<◌, List, [], ◌∷◌, ◌++◌, length, subst, append_assoc, append-nil, Option, Some}
-use Rattle.std.proofs.Common.{None}
+use Rattle.std.proofs.Common.{◌≡◌, ◌∙◌, sym, ap, refl, ℕ, ◌+◌, ◌<◌, List, [], ◌∷◌, ◌++◌, length, subst, arith, append_assoc, append-nil}
+use Rattle.std.proofs.Common.{Option, Some, None}
 use Rattle.std.specs.Prelude.{IfSome}
 use Rattle.std.specs.Io.KnownBytes.{Consumes, IsAtEnd}
+use Rattle.std.proofs.lemmas.List.{length-append}
 use Rattle.itip_items.specs.declared.item.Item.{Item}
 use Rattle.itip_message.specs.Scanned.{messages_of, CutsMessage, StaysCut}
-use Rattle.itip_message.proofs.Cuts.{cut_by_scan}
 use Rattle.itip_inbox.specs.declared.refused.RefusedMessage.{RefusedMessage}
-use Rattle.itip_inbox.specs.Inbox.{Hears, Holds}
+use Rattle.itip_inbox.specs.Inbox.{Placed, placed_from}
 use Rattle.itip_inbox.specs.Streaming.{MovesIn, LeavesMessages, StaysCutInto, KeepsMessages, ReadsSoFar}
+use Rattle.itip_inbox.proofs.Hearing.{placed_on}
 
 pub moves_none : (o : Option (List ℕ)) (held : List ℕ) → MovesIn o o held held
 moves_none None held = tt
@@ -40,58 +41,65 @@ leaves_cut (Some input) None messages texts held left l cut = absurd l
 leaves_cut (Some input) (Some rest) messages texts held left l cut = l ∙ ap (λ (t : List (List ℕ)). messages ++ t) (cut rest) ∙
     sym (append_assoc messages texts (messages_of (left ++ rest)))
 
-module _ (old new : Option (List ℕ)) (held : List ℕ) (kept : List Item) (refusals : List RefusedMessage) (count : ℕ) where
-  pub reads_none : old ≡ new → held ≡ [] → KeepsMessages [] kept refusals count → ReadsSoFar old new held kept refusals count
-  reads_none same none keeps = record {
-    messages = [];
-    keeps = keeps;
-    leaves = subst (λ (o : Option (List ℕ)). LeavesMessages old o [] held) same
-        (subst (λ (t : List ℕ). LeavesMessages old old [] t) (sym none) (leaves_all old));
-  }
+pub reads_none : (before : List Placed) (source count : ℕ) (o : Option (List ℕ)) (held : List ℕ) (kept : List Item)
+    (refusals : List RefusedMessage) → held ≡ [] → KeepsMessages before kept refusals
+    → ReadsSoFar before source count o o held kept refusals count
+reads_none before source count o held kept refusals nothing keeps =
+    let none : count ≡ count + 0 = omega arith in
+    record {
+      messages = [];
+      keeps = subst (λ (ms : List Placed). KeepsMessages ms kept refusals) (sym (append-nil before)) keeps;
+      leaves = subst (λ (t : List ℕ). LeavesMessages o o [] t) (sym nothing) (leaves_all o);
+      count_is = none;
+    }
 
-  -- a share is read and cut, and its messages are heard
-  pub reads_share : (newer : Option (List ℕ)) (filled left : List ℕ) (texts : List (List ℕ)) (now : List Item) (more : List RefusedMessage)
-      (number : ℕ) → ReadsSoFar old new held kept refusals count
-      → MovesIn new newer held filled → StaysCutInto filled texts left
-      → ((messages : List (List ℕ)) → KeepsMessages messages kept refusals count → KeepsMessages (messages ++ texts) now more number)
-      → ReadsSoFar old newer left now more number
-  reads_share newer filled left texts now more number so_far moved cut hears = record {
-    messages = so_far.messages ++ texts;
-    keeps = hears so_far.messages so_far.keeps;
-    leaves = leaves_cut old newer so_far.messages texts filled left
-        (leaves_moved old new newer so_far.messages held filled so_far.leaves moved) cut;
-  }
-
-holds : (old new : Option (List ℕ)) (messages texts : List (List ℕ)) (filled : List ℕ) (now : List Item) (more : List RefusedMessage)
-    (number : ℕ) → LeavesMessages old new messages filled → IsAtEnd new → texts ≡ messages_of filled
-    → KeepsMessages (messages ++ texts) now more number → IfSome old (λ input. Holds input now more number)
-holds None new messages texts filled now more number l end is keeps = tt
-holds (Some input) None messages texts filled now more number l end is keeps = absurd l
-holds (Some input) (Some rest) messages texts filled now more number l end is keeps =
+all_kept : (before : List Placed) (source base : ℕ) (old new : Option (List ℕ)) (messages texts : List (List ℕ)) (filled : List ℕ)
+    (now : List Item) (more : List RefusedMessage) → LeavesMessages old new messages filled → IsAtEnd new → texts ≡ messages_of filled
+    → KeepsMessages (before ++ placed_from source (base + 1) (messages ++ texts)) now more
+    → IfSome old (λ input. KeepsMessages (before ++ placed_from source (base + 1) (messages_of input)) now more)
+all_kept before source base None new messages texts filled now more l end is keeps = tt
+all_kept before source base (Some input) None messages texts filled now more l end is keeps = absurd l
+all_kept before source base (Some input) (Some rest) messages texts filled now more l end is keeps =
     let all : messages_of input ≡ messages ++ texts =
     l ∙ ap (λ (t : List ℕ). messages ++ messages_of (filled ++ t)) end ∙
     ap (λ (t : List ℕ). messages ++ messages_of t) (append-nil filled) ∙ ap (λ (t : List (List ℕ)). messages ++ t) (sym is) in
-    record {
-      heard = keeps.heard;
-      inbox = record {
-        messages = messages_of input;
-        cut = cut_by_scan input;
-        hears =
-            subst (λ (ms : List (List ℕ)). Hears ms keeps.heard more) (sym all) keeps.hears;
-      };
-      keeps = keeps.keeps;
-      count_is = keeps.count_is ∙ ap length (sym all);
-    }
+    subst (λ (ms : List (List ℕ)). KeepsMessages (before ++ placed_from source (base + 1) ms) now more) (sym all) keeps
 
--- the last share is read and heard
-pub reads_last : (old new newer : Option (List ℕ)) (held filled : List ℕ) (kept now : List Item) (refusals more : List RefusedMessage)
-    (count number : ℕ) (texts : List (List ℕ)) → ReadsSoFar old new held kept refusals count
-    → MovesIn new newer held filled → IsAtEnd newer → texts ≡ messages_of filled
-    → ((messages : List (List ℕ)) → KeepsMessages messages kept refusals count → KeepsMessages (messages ++ texts) now more number)
-    → IfSome old (λ input. Holds input now more number)
-reads_last old new newer held filled kept now refusals more count number texts so_far moved end is hears =
-    holds old newer so_far.messages texts filled now more number
-    (leaves_moved old new newer so_far.messages held filled so_far.leaves moved) end is (hears so_far.messages so_far.keeps)
+module _ (before : List Placed) (source base : ℕ) (old new : Option (List ℕ)) (held : List ℕ) (kept : List Item)
+    (refusals : List RefusedMessage) (count : ℕ) (so_far : ReadsSoFar before source base old new held kept refusals count) where
+  -- more of its messages are heard
+  kept_on : (texts : List (List ℕ)) (at : ℕ) (now : List Item) (more : List RefusedMessage) → at ≡ source
+      → ((before : List Placed) → KeepsMessages before kept refusals → KeepsMessages (before ++ placed_from at (count + 1) texts) now more)
+      → KeepsMessages (before ++ placed_from source (base + 1) (so_far.messages ++ texts)) now more
+  kept_on texts at now more same hears =
+      subst (λ (ms : List Placed). KeepsMessages ms now more)
+      (placed_on before source base at count so_far.messages texts same so_far.count_is)
+      (hears (before ++ placed_from source (base + 1) so_far.messages) so_far.keeps)
+
+  -- a share is read and cut, and its messages are heard
+  pub reads_share : (newer : Option (List ℕ)) (filled left : List ℕ) (texts : List (List ℕ)) (at : ℕ) (now : List Item)
+      (more : List RefusedMessage) (number : ℕ) → MovesIn new newer held filled → StaysCutInto filled texts left → at ≡ source
+      → ((before : List Placed) → KeepsMessages before kept refusals → KeepsMessages (before ++ placed_from at (count + 1) texts) now more)
+      → number ≡ count + length texts → ReadsSoFar before source base old newer left now more number
+  reads_share newer filled left texts at now more number moved cut same hears counted =
+      let longer : length (so_far.messages ++ texts) ≡ length so_far.messages + length texts = length-append so_far.messages texts in
+      let was : count ≡ base + length so_far.messages = so_far.count_is in
+      record {
+        messages = so_far.messages ++ texts;
+        keeps = kept_on texts at now more same hears;
+        leaves = leaves_cut old newer so_far.messages texts filled left
+            (leaves_moved old new newer so_far.messages held filled so_far.leaves moved) cut;
+        count_is = omega (arith, counted, was, longer);
+      }
+
+  -- the last share is read and heard
+  pub reads_last : (newer : Option (List ℕ)) (filled : List ℕ) (texts : List (List ℕ)) (at : ℕ) (now : List Item)
+      (more : List RefusedMessage) → MovesIn new newer held filled → IsAtEnd newer → texts ≡ messages_of filled → at ≡ source
+      → ((before : List Placed) → KeepsMessages before kept refusals → KeepsMessages (before ++ placed_from at (count + 1) texts) now more)
+      → IfSome old (λ input. KeepsMessages (before ++ placed_from source (base + 1) (messages_of input)) now more)
+  reads_last newer filled texts at now more moved end is same hears =
+      all_kept before source base old newer so_far.messages texts filled now more
+      (leaves_moved old new newer so_far.messages held filled so_far.leaves moved) end is (kept_on texts at now more same hears)
 
 -- ---- cutting
 

@@ -1,5 +1,5 @@
--- The compaction of an input: the octets of what is kept of all its messages (our own format).
-use Rattle.std.specs.Prelude.{◌≡◌, ◌↔◌, ◌⊎◌, ℕ, Bool, List, [], ◌∷◌, ◌++◌, Option}
+-- The compaction of some inputs: the octets of what is kept of all their messages (our own format).
+use Rattle.std.specs.Prelude.{◌≡◌, ◌↔◌, ℕ, Bool, List, [], ◌∷◌, ◌++◌, Option}
 use Rattle.std.specs.List.{Contains, AllByRecursion, concat}
 use Rattle.std.specs.Io.KnownBytes.{Appends}
 use Rattle.itip_items.specs.declared.item.Item.{Item}
@@ -17,11 +17,11 @@ pub record AreKeptOctets (heard : List Item) (octets : List ℕ) : Type 0 where
   pub kept : AreKept batch heard
   pub octets_are : octets ≡ delta_octets batch
 
--- The octets of what is kept of all messages of an input that are not refused, and whether one is.
-pub record IsCompaction (input octets : List ℕ) (refused : Bool) : Type 0 where
+-- The octets of what is kept of all messages of some inputs that are not refused, and whether one is.
+pub record IsCompaction (inputs : List (List ℕ)) (octets : List ℕ) (refused : Bool) : Type 0 where
   pub heard : List Item
   pub refusals : List RefusedMessage
-  pub inbox : IsInbox input heard refusals
+  pub inbox : IsInbox inputs heard refusals
   pub kept : AreKeptOctets heard octets
   pub refused_is : refused ≡ is_some_refused refusals
 
@@ -31,43 +31,40 @@ pub record WritesSoFar (old new : Option (List ℕ)) (done : List Item) (kept : 
   pub octets_are : delta_octets done ≡ written ++ kept
   pub appended : Appends old new written
 
--- each of these octets is the compaction of the part beside it
-abbrev pub AreCompactions : List (List ℕ) → List (List ℕ) → Type 0
+-- each of these octets is the compaction of the part beside it; a part is a list of inputs
+abbrev pub AreCompactions : List (List (List ℕ)) → List (List ℕ) → Type 0
 AreCompactions [] [] = Unit {0}
 AreCompactions [] (octets ∷ compacted) = ⊥
 AreCompactions (part ∷ parts) [] = ⊥
 AreCompactions (part ∷ parts) (octets ∷ compacted) = ((refused : Bool) × IsCompaction part octets refused) × AreCompactions parts compacted
 
--- a message of a text
-pub record HasMessage (text message : List ℕ) : Type 0 where
-  pub messages : List (List ℕ)
-  pub cut : IsCutInto text messages
-  pub among : Contains messages message
+-- the inputs of all parts
+abbrev pub all_inputs : List (List (List ℕ)) → List (List ℕ)
+all_inputs [] = []
+all_inputs (part ∷ parts) = part ++ all_inputs parts
 
--- a message of one of these texts
-abbrev pub SomeHasMessage : List (List ℕ) → List ℕ → Type 0
-SomeHasMessage [] message = ⊥
-SomeHasMessage (text ∷ texts) message = HasMessage text message ⊎ SomeHasMessage texts message
-
--- The whole has the messages of the parts, in some order, each once or more often.
-abbrev pub HasSameMessages : List ℕ → List (List ℕ) → Type 0
-HasSameMessages whole parts = (message : List ℕ) → HasMessage whole message ↔ SomeHasMessage parts message
-
--- an item that a text tells: a message of the text gives it
-pub record TellsItem (text : List ℕ) (item : Item) : Type 0 where
+-- an item that some inputs tell: a message of theirs gives it
+pub record TellsItem (inputs : List (List ℕ)) (item : Item) : Type 0 where
   pub heard : List Item
   pub refusals : List RefusedMessage
-  pub inbox : IsInbox text heard refusals
+  pub inbox : IsInbox inputs heard refusals
   pub among : Contains heard item
 
--- an item that one of these texts tells
-abbrev pub SomeTellsItem : List (List ℕ) → Item → Type 0
-SomeTellsItem [] item = ⊥
-SomeTellsItem (text ∷ texts) item = TellsItem text item ⊎ SomeTellsItem texts item
+-- They tell the same items, in whatever messages and order, each once or more often.
+abbrev pub TellSameItems : List (List ℕ) → List (List ℕ) → Type 0
+TellSameItems inputs others = (item : Item) → TellsItem inputs item ↔ TellsItem others item
 
--- The whole tells the items that the parts tell, in whatever messages and order, each once or more often.
-abbrev pub HasSameItems : List ℕ → List (List ℕ) → Type 0
-HasSameItems whole parts = (item : Item) → TellsItem whole item ↔ SomeTellsItem parts item
+-- a message of one of these inputs
+pub record HasMessage (inputs : List (List ℕ)) (message : List ℕ) : Type 0 where
+  pub input : List ℕ
+  pub given : Contains inputs input
+  pub messages : List (List ℕ)
+  pub cut : IsCutInto input messages
+  pub among : Contains messages message
+
+-- They have the same messages, in some order, each once or more often.
+abbrev pub HaveSameMessages : List (List ℕ) → List (List ℕ) → Type 0
+HaveSameMessages inputs others = (message : List ℕ) → HasMessage inputs message ↔ HasMessage others message
 
 -- A part ends between two messages, where the rest follows: it has nothing but whole calendars, and behind none of these stands a
 -- blank, which would make its last break a fold.

@@ -5,5 +5,6 @@ pub mod Inbox
 pub mod Compaction
 pub mod TaskList
 pub mod Records
+pub mod Reports
 pub mod Shown
 pub mod Streaming

@@ -1,12 +1,12 @@
-//! The octets of what is kept of an input.
-ghost use Rattle.std.specs.Prelude.{◌≡◌, ◌≢◌, ◌++◌, ℕ, Bool, List, IfOk, IfErr, OnOk, OnErr, IsErrOf, IfSome};
+//! The octets of what is kept of some inputs.
+ghost use Rattle.std.specs.Prelude.{◌≡◌, ◌≢◌, ℕ, Bool, List, IfOk, IfErr, OnOk, OnErr, IsErrOf};
 ghost use Rattle.std.specs.Io.KnownBytes.{Appends, Keeps};
 ghost use Rattle.itip_desk.specs.Delta.{delta_octets};
 ghost use Rattle.itip_streams.specs.Written.{AppendsFront, WritesOutput};
 ghost use Rattle.itip_inbox.specs.Compaction.{IsCompaction};
-ghost use Rattle.itip_inbox.specs.Inbox.{is_some_refused};
+ghost use Rattle.itip_inbox.specs.Inbox.{AreInputs, is_some_refused};
 
-use crate::read::read_inbox;
+use crate::read::read_sources;
 use crate::refused::RefusedMessage;
 use crate::watch::Watch;
 use itip_state::SharedItem;
@@ -15,26 +15,27 @@ use std::alloc::Global;
 use std::io::{Read, Write};
 use std::thread::Threads;
 
-/// Reads an input to its end and writes the octets of what is kept of its messages, and says whether one was refused.
+/// Reads sources to their ends and writes the octets of what is kept of all their messages, and says whether one was refused.
 ///
-/// The octets are those of a delta: of the kept items, by canonical octets, each once. A refused message is told to `watch`.
-/// The whole input is read before anything is written. After a fault of reading nothing was written, after another fault a
-/// front of the output.
-pub fn compact<R: Read, W: Write, S: Watch>(
+/// The octets are those of a delta: of the kept items, by canonical octets, each once. Refused messages are told to `watch`,
+/// in the order of the sources, before anything is written; and all sources are read before that. After a fault of reading
+/// nothing was written, after another fault a front of the output.
+pub fn compact<R: Read + Drop, W: Write, S: Watch>(
     rt: &(impl Threads + Sync),
     alloc: Global,
-    reader: &mut R,
+    sources: Vec<R>,
     writer: &mut W,
     threads: usize,
     watch: &mut S,
 ) -> Result<bool, StreamFault>
-    ensures output { IfOk result (λ refused. IfSome (R.remaining reader.old) (λ input.
-        WritesOutput (IsCompaction input) (W.contents writer.old) (W.contents writer.new) refused)) }
-    ensures front { OnErr result (IfSome (R.remaining reader.old) (λ input. (octets : List ℕ) (refused : Bool) →
-        IsCompaction input octets refused → AppendsFront (W.contents writer.old) (W.contents writer.new) octets)) }
+    ensures output { IfOk result (λ refused. (inputs : List (List ℕ)) → AreInputs R.remaining sources.items inputs →
+        WritesOutput (IsCompaction inputs) (W.contents writer.old) (W.contents writer.new) refused) }
+    ensures front { OnErr result ((inputs : List (List ℕ)) → AreInputs R.remaining sources.items inputs →
+        (octets : List ℕ) (refused : Bool) → IsCompaction inputs octets refused →
+        AppendsFront (W.contents writer.old) (W.contents writer.new) octets) }
     ensures unread { IsErrOf result StreamFault.Read → Keeps (W.contents writer.old) (W.contents writer.new) }
 {
-    let inbox = read_inbox(rt, alloc, reader, threads, watch)?;
+    let inbox = read_sources(rt, alloc, sources, threads, watch)?;
     let is_refused = tell(inbox.refusals.as_slice(), watch);
     let items = inbox.state.shared_items()?;
     write_items(alloc, items.as_slice(), writer)?;
@@ -46,7 +47,7 @@ pub(crate) fn tell<S: Watch>(refusals: &[RefusedMessage], watch: &mut S) -> bool
     ensures { result ≡ is_some_refused refusals.now }
 {
     for refusal in refusals {
-        watch.refused(refusal.message, refusal.refusal);
+        watch.refused(refusal);
     }
     !refusals.is_empty()
 }

@@ -1,8 +1,8 @@
-//! What hears an input.
-ghost use Rattle.std.specs.Prelude.{◌≡◌, ◌≢◌, ◌++◌, ◌+◌, ℕ, List, [], map, IfOk, IfErr, OnOk, OnErr};
-ghost use Rattle.std.specs.List.{AllZip};
+//! What hears inputs.
+ghost use Rattle.std.specs.Prelude.{◌≡◌, ◌≢◌, ◌++◌, ◌+◌, ℕ, List, [], length, map, IfOk, IfErr, OnOk, OnErr};
 ghost use Rattle.itip_items.specs.declared.item.Item.{Item};
 ghost use Rattle.itip_state.specs.Kept.{AreKept};
+ghost use Rattle.itip_inbox.specs.Inbox.{Placed, placed_from};
 ghost use Rattle.itip_inbox.specs.Streaming.{KeepsMessages, TakesSoFar};
 
 use crate::refused::RefusedMessage;
@@ -14,30 +14,54 @@ use itip_streams::StreamFault;
 use std::alloc::{AllocError, Global};
 use std::thread::Threads;
 
-/// What is kept of the messages of an input, and which were refused.
+/// What is kept of the messages of some inputs, and which were refused.
 #[derive(Drop)]
 pub struct Inbox {
     /// What is kept of the messages.
     pub state: State,
-    /// The refused messages, in their order.
+    /// The refused messages, in the order of the inputs and of their messages.
     pub refusals: Vec<RefusedMessage>,
-    /// How many messages there were, refused ones too.
+    /// The place of the input that is heard, from 0: so many were heard to their ends.
+    pub source: usize,
+    /// How many messages of this input there were so far, refused ones too.
     pub messages: u64,
 }
 
 impl Inbox {
-    /// An inbox of no message.
+    /// An inbox of no message, before the first input.
     pub(crate) fn empty(alloc: Global) -> Inbox
-        ensures { KeepsMessages [] result.state result.refusals.items result.messages }
+        ensures none { KeepsMessages [] result.state result.refusals.items }
+        ensures source { result.source ≡ 0 }
+        ensures messages { result.messages ≡ 0 }
     {
         Inbox {
             state: State::empty(alloc),
             refusals: Vec::new(alloc),
+            source: 0,
             messages: 0,
         }
     }
 
-    /// Hears more messages, read by at most so many threads. After a fault a part of them is heard.
+    /// The next input is heard from now on, and its messages are numbered from 1. After a fault nothing has changed.
+    pub(crate) fn next_source(&mut self) -> Result<(), StreamFault>
+        ensures source { OnOk result (self.new.source ≡ self.old.source + 1) }
+        ensures messages { OnOk result (self.new.messages ≡ 0) }
+        ensures state { OnOk result (self.new.state ≡ self.old.state) }
+        ensures refusals { OnOk result (self.new.refusals.items ≡ self.old.refusals.items) }
+        ensures unchanged { OnErr result (self.new ≡ self.old) }
+        ensures fault { IfErr result (λ fault. fault ≡ StreamFault.Read) }
+    {
+        match self.source.checked_add(1) {
+            Some(next) => {
+                self.source = next;
+                self.messages = 0;
+                Ok(())
+            }
+            None => Err(StreamFault::Read),
+        }
+    }
+
+    /// Hears more messages of the input, read by at most so many threads. After a fault a part of them is heard.
     pub(crate) fn hear(
         &mut self,
         rt: &(impl Threads + Sync),
@@ -45,9 +69,11 @@ impl Inbox {
         texts: &[&[u8]],
         threads: usize,
     ) -> Result<(), StreamFault>
-        ensures keeps { OnOk result ((messages : List (List ℕ)) →
-            KeepsMessages messages self.old.state self.old.refusals.items self.old.messages →
-            KeepsMessages (messages ++ map (λ text. text.now) texts.now) self.new.state self.new.refusals.items self.new.messages) }
+        ensures keeps { OnOk result ((before : List Placed) → KeepsMessages before self.old.state self.old.refusals.items →
+            KeepsMessages (before ++ placed_from self.old.source (self.old.messages + 1) (map (λ text. text.now) texts.now))
+            self.new.state self.new.refusals.items) }
+        ensures count { OnOk result (self.new.messages ≡ self.old.messages + length texts.now) }
+        ensures source { OnOk result (self.new.source ≡ self.old.source) }
         ensures fault { IfErr result (λ fault. fault ≢ StreamFault.Write) }
     {
         let answers = read_texts(rt, alloc, &self.state, texts, threads)?;
@@ -59,9 +85,12 @@ impl Inbox {
         &mut self,
         answers: Vec<Result<ListOf<SharedItem>, ReadError>>,
     ) -> Result<(), StreamFault>
-        ensures takes { OnOk result ((before texts : List (List ℕ)) (first : List Item) →
-            TakesSoFar before texts first answers.items self.old.state self.old.refusals.items self.old.messages →
-            TakesSoFar before texts first [] self.new.state self.new.refusals.items self.new.messages) }
+        ensures takes { OnOk result ((before : List Placed) (base : ℕ) (texts : List (List ℕ)) (first : List Item) →
+            TakesSoFar before self.old.source base texts first answers.items
+            self.old.state self.old.refusals.items self.old.messages →
+            TakesSoFar before self.old.source base texts first [] self.new.state self.new.refusals.items self.new.messages) }
+        ensures count { OnOk result (self.new.messages ≡ self.old.messages + length answers.items) }
+        ensures source { OnOk result (self.new.source ≡ self.old.source) }
         ensures fault { IfErr result (λ fault. fault ≢ StreamFault.Write) }
     {
         for answer in answers {
@@ -69,6 +98,7 @@ impl Inbox {
             match answer {
                 Ok(news) => hear_news(&mut self.state, news.as_slice())?,
                 Err(ReadError::Refused(refusal)) => self.refusals.push(RefusedMessage {
+                    source: self.source,
                     message: self.messages,
                     refusal,
                 })?,

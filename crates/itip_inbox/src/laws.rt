@@ -1,32 +1,57 @@
-//! The laws of compaction. They hold with no code: each function is empty.
-ghost use Rattle.std.specs.Prelude.{◌≡◌, ℕ, Bool, false, List};
+//! The laws of compactions, lists and reports. They hold with no code: each function is empty.
+ghost use Rattle.std.specs.Prelude.{◌≡◌, ◌∷◌, [], ℕ, Bool, false, List};
 ghost use Rattle.std.specs.List.{concat};
-ghost use Rattle.itip_inbox.specs.Compaction.{IsCompaction, AreCompactions, HasSameMessages, HasSameItems, IsPartedInto};
+ghost use Rattle.itip_view.specs.Wanting.{Wants};
+ghost use Rattle.itip_view.specs.declared.wanted.Wanted.{Wanted};
+ghost use Rattle.itip_view.specs.declared.window.Window.{Window};
+ghost use Rattle.itip_report.specs.declared.report_name.ReportName.{ReportName};
+ghost use Rattle.itip_inbox.specs.Compaction.{IsCompaction, AreCompactions, IsPartedInto, all_inputs};
+ghost use Rattle.itip_inbox.specs.Compaction.{HaveSameMessages, TellSameItems};
+ghost use Rattle.itip_inbox.specs.Reports.{IsReport};
+ghost use Rattle.itip_inbox.specs.TaskList.{IsTaskList};
 
-/// An input has a compaction, and only one: its octets, and whether a message was refused.
+/// Inputs have a compaction, and only one: its octets, and whether a message was refused.
 pub fn one_compaction()
-    ensures some { (input : List ℕ) → (octets : List ℕ) × (refused : Bool) × IsCompaction input octets refused }
-    ensures octets { (input octets others : List ℕ) (refused other : Bool) →
-        IsCompaction input octets refused → IsCompaction input others other → octets ≡ others }
-    ensures refused { (input octets others : List ℕ) (refused other : Bool) →
-        IsCompaction input octets refused → IsCompaction input others other → refused ≡ other }
+    ensures some { (inputs : List (List ℕ)) → (octets : List ℕ) × (refused : Bool) × IsCompaction inputs octets refused }
+    ensures octets { (inputs : List (List ℕ)) (octets others : List ℕ) (refused other : Bool) →
+        IsCompaction inputs octets refused → IsCompaction inputs others other → octets ≡ others }
+    ensures refused { (inputs : List (List ℕ)) (octets others : List ℕ) (refused other : Bool) →
+        IsCompaction inputs octets refused → IsCompaction inputs others other → refused ≡ other }
 {}
 
-/// Parts of an input that were compacted apart, and compacted once more one behind another, give the octets that the whole
-/// input gives: wherever the parts tell the items that the whole tells, in whatever messages and order, and where some
-/// stand in many. No message of what was compacted is refused.
+/// Only the items that inputs tell matter: inputs that tell the same ones, in whatever order and number, cut into whatever
+/// messages, have the same compaction, and in each window the same task list, whichever rows are wanted, and the same reports.
+pub fn only_items_matter()
+    ensures compaction { (inputs others : List (List ℕ)) (octets again : List ℕ) (refused other : Bool) → TellSameItems inputs others →
+        IsCompaction inputs octets refused → IsCompaction others again other → again ≡ octets }
+    ensures list { (inputs others : List (List ℕ)) (wanted : Wanted) (window : Window) (text again : List ℕ) (refused other : Bool) →
+        TellSameItems inputs others → IsTaskList (Wants wanted) inputs window text refused →
+        IsTaskList (Wants wanted) others window again other → again ≡ text }
+    ensures report { (inputs others : List (List ℕ)) (name : ReportName) (window : Window) (text again : List ℕ) (refused other : Bool) →
+        TellSameItems inputs others → IsReport name inputs window text refused → IsReport name others window again other →
+        again ≡ text }
+{}
+
+/// Parts that were compacted apart, and the results once more, give the octets that the whole gives, wherever the parts tell the
+/// items that the whole tells. The results may be inputs of their own, or one input in which they stand one behind another. No
+/// message of theirs is refused.
 pub fn compaction_of_compactions()
-    ensures octets { (parts compacted : List (List ℕ)) (whole octets again : List ℕ) (refused other : Bool) →
-        HasSameItems whole parts → AreCompactions parts compacted →
-        IsCompaction whole octets refused → IsCompaction (concat compacted) again other → again ≡ octets }
-    ensures refused { (parts compacted : List (List ℕ)) (again : List ℕ) (other : Bool) →
-        AreCompactions parts compacted → IsCompaction (concat compacted) again other → other ≡ false }
+    ensures octets { (parts : List (List (List ℕ))) (compacted whole : List (List ℕ)) (octets again : List ℕ) (refused other : Bool) →
+        TellSameItems whole (all_inputs parts) → AreCompactions parts compacted →
+        IsCompaction whole octets refused → IsCompaction compacted again other → again ≡ octets }
+    ensures joined { (parts : List (List (List ℕ))) (compacted whole : List (List ℕ)) (octets again : List ℕ) (refused other : Bool) →
+        TellSameItems whole (all_inputs parts) → AreCompactions parts compacted →
+        IsCompaction whole octets refused → IsCompaction (concat compacted ∷ []) again other → again ≡ octets }
+    ensures refused { (parts : List (List (List ℕ))) (compacted : List (List ℕ)) (again : List ℕ) (other : Bool) →
+        AreCompactions parts compacted → IsCompaction compacted again other → other ≡ false }
+    ensures joined_refused { (parts : List (List (List ℕ))) (compacted : List (List ℕ)) (again : List ℕ) (other : Bool) →
+        AreCompactions parts compacted → IsCompaction (concat compacted ∷ []) again other → other ≡ false }
 {}
 
-/// Parts that have the messages of an input, in whatever order and each once or more often, tell its items. The parts of an
-/// input that is cut between messages have its messages: there each part but the last has nothing but whole calendars, each
-/// up to the break behind its END:VCALENDAR, and no blank stands behind a calendar.
+/// Inputs that have the same messages, in whatever order and each once or more often, tell the same items. The parts of an input
+/// that is cut between messages have its messages: there each part but the last has nothing but whole calendars, each up to the
+/// break behind its END:VCALENDAR, and no blank stands behind a calendar.
 pub fn items_of_parts()
-    ensures messages { (whole : List ℕ) (parts : List (List ℕ)) → HasSameMessages whole parts → HasSameItems whole parts }
-    ensures parted { (whole : List ℕ) (parts : List (List ℕ)) → IsPartedInto whole parts → HasSameMessages whole parts }
+    ensures messages { (inputs others : List (List ℕ)) → HaveSameMessages inputs others → TellSameItems inputs others }
+    ensures parted { (whole : List ℕ) (parts : List (List ℕ)) → IsPartedInto whole parts → HaveSameMessages (whole ∷ []) parts }
 {}

@@ -1,12 +1,12 @@
-//! Messages in, what counts out: an input of messages one after another, of which all are heard.
+//! Messages in, what counts out: sources of messages, read one after another, of which all are heard.
 //!
-//! Octets become messages by `itip_message`: `whole_message` cuts them off while more octets may come, `next_message` once the
-//! input is at its end. Each is read by `read_message`, many side by side, and a state hears its items; a refused message is not
-//! heard, and the others are. What is kept of all is a batch, by canonical octets and each once, and is written as `itip_desk`
-//! writes a delta. There a refused message refuses all octets (`read_delta`); here it does not.
+//! Each source is cut into messages by itself, by `itip_message`: `whole_message` cuts them off while more octets may come,
+//! `next_message` once the source is at its end. Each is read by `read_message`, many side by side, and a state hears its items; a
+//! refused message is not heard, and the others are. What is kept of all is a batch, by canonical octets and each once, and is
+//! written as `itip_desk` writes a delta. There a refused message refuses all octets (`read_delta`); here it does not.
 //!
-//! What is kept of what was kept is what is kept of all. So parts of an input may be compacted apart, on any machine and
-//! in any order, and the results once more.
+//! Only which items are told counts, and what is kept of what was kept is what is kept of all. So parts of the sources may be
+//! compacted apart, on any machine and in any order, and the results once more.
 #![tactic(auto)]
 
 mod compaction;
@@ -18,6 +18,7 @@ mod messages;
 mod read;
 mod records;
 mod refused;
+mod reports;
 mod row_texts;
 mod shown;
 mod tasks;
@@ -28,10 +29,11 @@ pub use compaction::{compact, write_items};
 pub use csv_records::csv_text;
 pub use inbox::Inbox;
 pub use json_records::json_text;
-pub use laws::{compaction_of_compactions, items_of_parts, one_compaction};
-pub use read::read_inbox;
+pub use laws::{compaction_of_compactions, items_of_parts, one_compaction, only_items_matter};
+pub use read::read_sources;
 pub use records::{Notation, list_records};
 pub use refused::RefusedMessage;
+pub use reports::report;
 pub use shown::check;
-pub use tasks::{list, rows_for};
+pub use tasks::list;
 pub use watch::Watch;

@@ -1,7 +1,7 @@
-//! Reading an input to its end, and no more of it at a time than a share.
-ghost use Rattle.std.specs.Prelude.{◌≢◌, ◌++◌, ℕ, List, IfOk, IfErr, OnOk, IfSome};
+//! Reading inputs to their ends, and no more of one at a time than a share.
+ghost use Rattle.std.specs.Prelude.{◌≡◌, ◌≢◌, ◌++◌, ◌+◌, ℕ, List, length, IfOk, IfErr, OnOk, IfSome};
 ghost use Rattle.itip_message.specs.Scanned.{messages_of};
-ghost use Rattle.itip_inbox.specs.Inbox.{Holds};
+ghost use Rattle.itip_inbox.specs.Inbox.{AreInputs, Holds, Placed, placed_from};
 ghost use Rattle.itip_inbox.specs.Streaming.{Fills, HearsFirst, KeepsMessages};
 
 use crate::inbox::Inbox;
@@ -18,36 +18,92 @@ const SHARE: usize = 1_048_576;
 // How much one read may bring.
 const ROOM: usize = 65_536;
 
-/// Reads an input to its end, and hears its messages. They are read by at most so many threads, a share of the input at
-/// a time: about a mebibyte, or more where a message is longer.
+// How much was read, as the watch is told.
+#[derive(Clone, Copy)]
+struct Progress {
+    // Of the sources that were read to their ends.
+    messages: u64,
+    // Of all sources.
+    octets: u64,
+}
+
+/// Reads sources one after another, each to its end, and hears their messages. These are read by at most so many threads, a
+/// share of a source at a time: about a mebibyte, or more where a message is longer.
 ///
-/// The octets are cut into messages as those of a delta are. A refused message is noted and not heard.
-/// A failed read is [`StreamFault::Read`], and so are too many messages.
-pub fn read_inbox<R: Read, W: Watch>(
+/// The octets of each source are cut into messages by themselves, as those of a delta are. A refused message is noted and not
+/// heard. A source is dropped at its end; once a read has failed, no other is read. A failed read is [`StreamFault::Read`], and
+/// so are too many messages.
+pub fn read_sources<R: Read + Drop, W: Watch>(
+    rt: &(impl Threads + Sync),
+    alloc: Global,
+    sources: Vec<R>,
+    threads: usize,
+    watch: &mut W,
+) -> Result<Inbox, StreamFault>
+    ensures holds { IfOk result (λ inbox. (inputs : List (List ℕ)) → AreInputs R.remaining sources.items inputs →
+        Holds inputs inbox.state inbox.refusals.items) }
+    ensures source { IfOk result (λ inbox. inbox.source ≡ length sources.items) }
+    ensures messages { IfOk result (λ inbox. inbox.messages ≡ 0) }
+    ensures fault { IfErr result (λ fault. fault ≢ StreamFault.Write) }
+{
+    let mut inbox = Inbox::empty(alloc);
+    let mut progress = Progress {
+        messages: 0,
+        octets: 0,
+    };
+    for mut source in sources {
+        watch.opens(inbox.source);
+        read_source(
+            &mut inbox,
+            rt,
+            alloc,
+            &mut source,
+            threads,
+            &mut progress,
+            watch,
+        )?;
+        progress.messages = progress.messages.saturating_add(inbox.messages);
+        inbox.next_source()?;
+    }
+    Ok(inbox)
+}
+
+/// Reads a source to its end, and hears its messages. After a fault a part of them is heard.
+fn read_source<R: Read, W: Watch>(
+    inbox: &mut Inbox,
     rt: &(impl Threads + Sync),
     alloc: Global,
     reader: &mut R,
     threads: usize,
+    progress: &mut Progress,
     watch: &mut W,
-) -> Result<Inbox, StreamFault>
-    ensures holds { IfOk result (λ inbox. IfSome (R.remaining reader.old) (λ input.
-        Holds input inbox.state inbox.refusals.items inbox.messages)) }
+) -> Result<(), StreamFault>
+    ensures keeps { OnOk result ((before : List Placed) → KeepsMessages before inbox.old.state inbox.old.refusals.items →
+        IfSome (R.remaining reader.old) (λ input.
+        KeepsMessages (before ++ placed_from inbox.old.source (inbox.old.messages + 1) (messages_of input))
+        inbox.new.state inbox.new.refusals.items)) }
+    ensures source { OnOk result (inbox.new.source ≡ inbox.old.source) }
     ensures fault { IfErr result (λ fault. fault ≢ StreamFault.Write) }
 {
-    let mut inbox = Inbox::empty(alloc);
     let mut held = Vec::new(alloc);
-    let mut octets = 0u64;
     for _ in 0..u64::MAX {
         let before = held.len();
         let is_end = fill(reader, &mut held)?;
-        octets = octets.saturating_add(held.len().saturating_sub(before) as u64);
+        let more = held.len().saturating_sub(before) as u64;
+        progress.octets = progress.octets.saturating_add(more);
         if is_end {
-            hear_all(&mut inbox, rt, alloc, held.as_slice(), threads)?;
-            watch.read(inbox.messages, octets);
-            return Ok(inbox);
+            hear_all(inbox, rt, alloc, held.as_slice(), threads)?;
+            watch.read(
+                progress.messages.saturating_add(inbox.messages),
+                progress.octets,
+            );
+            return Ok(());
         }
-        held = hear_first(&mut inbox, rt, alloc, held.as_slice(), threads)?;
-        watch.read(inbox.messages, octets);
+        held = hear_first(inbox, rt, alloc, held.as_slice(), threads)?;
+        watch.read(
+            progress.messages.saturating_add(inbox.messages),
+            progress.octets,
+        );
     }
     Err(StreamFault::Read)
 }
@@ -60,9 +116,10 @@ fn hear_all(
     octets: &[u8],
     threads: usize,
 ) -> Result<(), StreamFault>
-    ensures hears { OnOk result ((messages : List (List ℕ)) →
-        KeepsMessages messages inbox.old.state inbox.old.refusals.items inbox.old.messages →
-        KeepsMessages (messages ++ messages_of octets.now) inbox.new.state inbox.new.refusals.items inbox.new.messages) }
+    ensures hears { OnOk result ((before : List Placed) → KeepsMessages before inbox.old.state inbox.old.refusals.items →
+        KeepsMessages (before ++ placed_from inbox.old.source (inbox.old.messages + 1) (messages_of octets.now))
+        inbox.new.state inbox.new.refusals.items) }
+    ensures source { OnOk result (inbox.new.source ≡ inbox.old.source) }
     ensures fault { IfErr result (λ fault. fault ≢ StreamFault.Write) }
 {
     let texts = all_messages(alloc, octets)?;
@@ -77,8 +134,9 @@ fn hear_first(
     octets: &[u8],
     threads: usize,
 ) -> Result<Vec<u8>, StreamFault>
-    ensures hears { IfOk result (λ left. HearsFirst octets.now left.items inbox.old.state inbox.new.state
-        inbox.old.refusals.items inbox.new.refusals.items inbox.old.messages inbox.new.messages) }
+    ensures hears { IfOk result (λ left. HearsFirst octets.now left.items inbox.old.source inbox.old.messages
+        inbox.old.state inbox.new.state inbox.old.refusals.items inbox.new.refusals.items inbox.new.messages) }
+    ensures source { OnOk result (inbox.new.source ≡ inbox.old.source) }
     ensures fault { IfErr result (λ fault. fault ≢ StreamFault.Write) }
 {
     let share = first_messages(alloc, octets)?;

@@ -1,23 +1,24 @@
-//! The task list of an input, as records for other programs.
-ghost use Rattle.std.specs.Prelude.{◌≡◌, List, IfOk, IfErr, OnErr, IsErrOf, IfSome};
+//! The task list of some inputs, as records for other programs.
+ghost use Rattle.std.specs.Prelude.{◌≡◌, ℕ, List, IfOk, IfErr, OnErr, IsErrOf};
 ghost use Rattle.std.specs.Io.KnownBytes.{Keeps};
-ghost use Rattle.std.specs.Option.{option_map};
 ghost use Rattle.itip_items.specs.declared.item.Item.{Item};
 ghost use Rattle.itip_state.specs.Kept.{AreKept};
+ghost use Rattle.itip_view.specs.Wanting.{Wants};
 ghost use Rattle.itip_streams.specs.Written.{WritesOutput};
+ghost use Rattle.itip_inbox.specs.Inbox.{AreInputs};
 ghost use Rattle.itip_inbox.specs.Records.{IsRecorded, AreRecords, WritesRecordsFront};
 
 use crate::compaction::tell;
 use crate::csv_records::csv_text;
 use crate::json_records::json_text;
-use crate::read::read_inbox;
+use crate::read::read_sources;
 use crate::refused::refusal_text;
-use crate::tasks::{Listed, rows_for};
+use crate::tasks::{Listed, tell_most};
 use crate::watch::Watch;
 use itip_desk::Refusal;
 use itip_state::State;
 use itip_streams::{StreamFault, write_output};
-use itip_view::{Row, ViewError, Window};
+use itip_view::{Row, ViewError, Wanted, Window, rows_where};
 use std::alloc::{AllocError, Global};
 use std::io::{Read, Write};
 use std::thread::Threads;
@@ -31,34 +32,33 @@ pub enum Notation {
     Json,
 }
 
-/// Reads an input to its end and writes the rows of its task list in a window as records, or `refused 31` where more than
-/// 100,000 rows stand there; where an attendee is named, only the rows that show this address. Says whether a message was
-/// refused, or the list.
+/// Reads sources to their ends and writes the rows of the task list of all their messages in a window as records, those that
+/// are wanted; or `refused 31` where more than 100,000 of these stand there. Says whether a message was refused, or the list.
 ///
-/// A refused message is told to `watch`. The whole input is read before anything is written. After a fault of reading
-/// nothing was written; after another fault, where there are too many rows, a front of `refused 31`, else of a text of the
-/// records.
-pub fn list_records<R: Read, W: Write, S: Watch>(
+/// Refused messages are told to `watch`, in the order of the sources, before anything is written; and all sources are read
+/// before that. After a fault of reading nothing was written; after another fault, where there are too many rows, a front of
+/// `refused 31`, else of a text of the records.
+pub fn list_records<R: Read + Drop, W: Write, S: Watch>(
     rt: &(impl Threads + Sync),
     alloc: Global,
-    reader: &mut R,
+    sources: Vec<R>,
     writer: &mut W,
     window: Window,
-    attendee: Option<&str>,
+    wanted: &Wanted<'_>,
     notation: Notation,
     threads: usize,
     watch: &mut S,
 ) -> Result<bool, StreamFault>
-    ensures output { IfOk result (λ refused. IfSome (R.remaining reader.old) (λ input.
-        WritesOutput (AreRecords input window (option_map (λ a. a.now) attendee.entry))
-        (W.contents writer.old) (W.contents writer.new) refused)) }
-    ensures front { OnErr result (IfSome (R.remaining reader.old) (λ input.
-        WritesRecordsFront input window (option_map (λ a. a.now) attendee.entry) (W.contents writer.old) (W.contents writer.new))) }
+    ensures output { IfOk result (λ refused. (inputs : List (List ℕ)) → AreInputs R.remaining sources.items inputs →
+        WritesOutput (AreRecords (Wants wanted.now) inputs window) (W.contents writer.old) (W.contents writer.new) refused) }
+    ensures front { OnErr result ((inputs : List (List ℕ)) → AreInputs R.remaining sources.items inputs →
+        WritesRecordsFront (Wants wanted.now) inputs window (W.contents writer.old) (W.contents writer.new)) }
     ensures unread { IsErrOf result StreamFault.Read → Keeps (W.contents writer.old) (W.contents writer.new) }
 {
-    let inbox = read_inbox(rt, alloc, reader, threads, watch)?;
+    let inbox = read_sources(rt, alloc, sources, threads, watch)?;
     let is_refused = tell(inbox.refusals.as_slice(), watch);
-    let recorded = records_of(alloc, &inbox.state, window, attendee, notation)?;
+    let recorded = records_of(alloc, &inbox.state, window, wanted, notation)?;
+    tell_most(alloc, &inbox, window, wanted, &recorded, watch)?;
     write_output(writer, recorded.text.as_slice())?;
     Ok(is_refused || recorded.is_refusal)
 }
@@ -67,14 +67,14 @@ fn records_of(
     alloc: Global,
     state: &State,
     window: Window,
-    attendee: Option<&str>,
+    wanted: &Wanted<'_>,
     notation: Notation,
 ) -> Result<Listed, StreamFault>
     ensures recorded { IfOk result (λ recorded. (heard : List Item) → AreKept state.now heard →
-        IsRecorded heard window (option_map (λ a. a.now) attendee.entry) recorded.text.items recorded.is_refusal) }
+        IsRecorded (Wants wanted.now) heard window recorded.text.items recorded.is_refusal) }
     ensures fault { IfErr result (λ fault. fault ≡ StreamFault.Memory) }
 {
-    match rows_for(alloc, state, window, attendee) {
+    match rows_where(alloc, state, window, wanted) {
         Ok(rows) => Ok(Listed {
             text: records_text(alloc, notation, rows.as_slice())?,
             is_refusal: false,

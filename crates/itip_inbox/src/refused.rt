@@ -6,10 +6,12 @@ use itip_desk::Refusal;
 use itip_message::MessageRefusal;
 use std::alloc::{AllocError, Global};
 
-/// A message of an input that was refused.
+/// A message of some inputs that was refused.
 #[derive(Clone, Copy, Debug, PartialEq, Eq)]
 pub struct RefusedMessage {
-    /// Its place among all messages of the input, from 1.
+    /// The place of its input, from 0.
+    pub source: usize,
+    /// Its place among all messages of that input, from 1.
     pub message: u64,
     pub refusal: MessageRefusal,
 }

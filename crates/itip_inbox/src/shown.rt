@@ -6,7 +6,7 @@ ghost use Rattle.itip_desk.specs.Refusals.{refused_text};
 ghost use Rattle.itip_streams.specs.Written.{AppendsFront, WritesOutput};
 ghost use Rattle.itip_inbox.specs.Shown.{items_text, IsShown, IsShownAs};
 
-use crate::refused::refusal_text;
+use crate::refused::{RefusedMessage, refusal_text};
 use crate::watch::Watch;
 use itip_desk::{Batch, Refusal, read_batch, write_delta};
 use itip_lines::{LineCause, LineRefusal};
@@ -26,7 +26,7 @@ const TOO_LONG: LineRefusal = LineRefusal {
 /// Reads one message and writes `items N` and the canonical octets of its N items, by these octets and each once, or
 /// `refused N` where the text is no message; one of more than 1,048,576 octets is `refused 1`. Says whether it was refused.
 ///
-/// A refusal is told to `watch`, as that of message 1, once it is written. After a fault of reading nothing was written, after
+/// A refusal is told to `watch`, as that of message 1 of source 0, once it is written. After a fault of reading nothing was written, after
 /// another fault a front of the output. One read more than [`MAX_READS`](itip_streams::MAX_READS) is a fault of reading.
 pub fn check<R: Read, W: Write, S: Watch>(
     alloc: Global,
@@ -44,7 +44,11 @@ pub fn check<R: Read, W: Write, S: Watch>(
     let shown = read_shown(alloc, reader)?;
     write_output(writer, shown.text.as_slice())?;
     if let Some(refusal) = shown.refusal {
-        watch.refused(1, refusal);
+        watch.refused(&RefusedMessage {
+            source: 0,
+            message: 1,
+            refusal,
+        });
     }
     Ok(shown.refusal.is_some())
 }

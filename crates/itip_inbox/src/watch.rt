@@ -1,17 +1,36 @@
 //! Who is told how far the reading is, and what was refused.
-use itip_message::MessageRefusal;
+use crate::refused::RefusedMessage;
+use itip_view::MostRows;
 
-/// What is told of an input beside the output. Nothing that is read or written depends on it.
+/// What is told of sources beside the output. Nothing that is read or written depends on it.
 pub trait Watch {
-    /// How many messages were heard or refused so far, and how many octets were read.
+    /// The source of this place, from 0, is read from now on.
+    fn opens(&mut self, source: usize);
+
+    /// How many messages were heard or refused so far, and how many octets were read, of all sources.
     fn read(&mut self, messages: u64, octets: u64);
 
-    /// The message of this number, from 1, was refused.
-    fn refused(&mut self, message: u64, refusal: MessageRefusal);
+    /// This message was refused.
+    fn refused(&mut self, refused: &RefusedMessage);
+
+    /// Whether it is to be told which to-do has the most rows, where there are too many: all rows are gone through once more
+    /// for that.
+    fn asks_most(&self) -> bool;
+
+    /// No message was refused, but there were too many rows; this to-do has the most of them.
+    fn too_many_rows(&mut self, most: Option<&MostRows>);
 }
 
 impl Watch for () {
+    fn opens(&mut self, _source: usize) {}
+
     fn read(&mut self, _messages: u64, _octets: u64) {}
 
-    fn refused(&mut self, _message: u64, _refusal: MessageRefusal) {}
+    fn refused(&mut self, _refused: &RefusedMessage) {}
+
+    fn asks_most(&self) -> bool {
+        false
+    }
+
+    fn too_many_rows(&mut self, _most: Option<&MostRows>) {}
 }

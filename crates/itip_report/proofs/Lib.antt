@@ -12,3 +12,4 @@ pub mod Effective
 pub mod OfKept
 pub mod OneReport
 pub mod SentAgain
+pub mod NamedReports

@@ -2,6 +2,8 @@ pub mod Lines
 pub mod Reports
 pub mod Load
 pub mod Progress
+pub mod ReportNames
+pub mod Named
 pub mod Organizing
 pub mod Sought
 pub mod Tally

@@ -19,7 +19,7 @@ use crate::pair_protocol::{PublishedReader, PublishedReading, Sees};
 use crate::receipt::Receipt;
 use itip_desk::{Batch, Desk};
 use itip_state::State;
-use itip_view::{Row, Window, list_text, rows, rows_for};
+use itip_view::{Row, Wanted, Window, list_text, rows, rows_where};
 use std::alloc::Global;
 
 /// A reader, and what it has seen.
@@ -195,7 +195,7 @@ fn text_for(
     ensures many { IsErrOf result PassError.TooManyRows → AreTooManyWhere (Shows address.now) state.now window }
     ensures causes { IfErr result (λ e. (e ≡ PassError.TooManyRows) ⊎ (e ≡ PassError.NoListMemory)) }
 {
-    match rows_for(alloc, state, window, address) {
+    match rows_where(alloc, state, window, &Wanted::showing(Some(address))) {
         Ok(rows) => text_of(&rows),
         Err(fault) => Err(fault.into()),
     }

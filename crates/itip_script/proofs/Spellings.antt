@@ -6,14 +6,15 @@ use Rattle.std.proofs.lemmas.Slice.Eq.{bytes_eq-Decides}
 use Rattle.std.proofs.lemmas.List.{take_at, drop_at, length-append}
 use Rattle.std.specs.Str.{bytes_eq}
 use Rattle.std.specs.List.{AllByRecursion, list_all, position_or_len}
+use Rattle.itip_report.specs.ReportNames.{name_text}
 use Rattle.itip_script.specs.declared.command.Verb.{Verb}
 use Rattle.itip_script.specs.declared.command.Verb.TheVariants as verb
-use Rattle.itip_script.specs.declared.command.ReportName.{ReportName}
-use Rattle.itip_script.specs.declared.command.ReportName.TheVariants as name
+use Rattle.itip_report.specs.declared.report_name.ReportName.{ReportName}
+use Rattle.itip_report.specs.declared.report_name.ReportName.TheVariants as name
 use Rattle.itip_script.specs.Orders.{Order, takes, lists, lists_for, posts, arrives, reports, resends, asks_next, counts, malformed}
 use Rattle.itip_script.specs.Orders.{is_digit, number_of, digits_value, rest_of, report_of, verb_of, before_space, after_space, spelled_by}
 use Rattle.itip_script.specs.Orders.{spelled, ◌>>=◌}
-use Rattle.itip_script.specs.Spelling.{Spells, SpellsNumber, SpellsBehind, name_text}
+use Rattle.itip_script.specs.Spelling.{Spells, SpellsNumber, SpellsBehind}
 
 abbrev HasNoSpace : List ℕ → Type 0
 HasNoSpace bytes = AllByRecursion (λ b. b ≢ 32) bytes

@@ -7,8 +7,8 @@ use Rattle.itip_script.specs.declared.command.Command.{Command}
 use Rattle.itip_script.specs.declared.command.Command.TheVariants as command
 use Rattle.itip_script.specs.declared.command.Verb.{Verb}
 use Rattle.itip_script.specs.declared.command.Verb.TheVariants as verb
-use Rattle.itip_script.specs.declared.command.ReportName.{ReportName}
-use Rattle.itip_script.specs.declared.command.ReportName.TheVariants as name
+use Rattle.itip_report.specs.declared.report_name.ReportName.{ReportName}
+use Rattle.itip_report.specs.declared.report_name.ReportName.TheVariants as name
 
 -- A command without where its bytes lie.
 pub data Order : Type 0 where

@@ -1,7 +1,6 @@
 -- What each command looks like on its line (our own format).
 use Rattle.std.specs.Prelude.{◌≡◌, ◌<◌, ◌++◌, ℕ, List, ◌∷◌, length, Some, codes}
-use Rattle.itip_script.specs.declared.command.ReportName.{ReportName}
-use Rattle.itip_script.specs.declared.command.ReportName.TheVariants as name
+use Rattle.itip_report.specs.ReportNames.{name_text}
 use Rattle.itip_script.specs.Orders.{Order, takes, lists, lists_for, posts, arrives, reports}
 use Rattle.itip_script.specs.Orders.{resends, asks_next, counts, malformed, number_of}
 
@@ -26,13 +25,6 @@ pub record SpellsNumbers (line : List ℕ) (verb : List ℕ) (first second : ℕ
 pub record SpellsRest (line : List ℕ) (verb : List ℕ) (number : ℕ) (rest : List ℕ) : Type 0 where
   pub some : 0 < length rest
   pub front : SpellsBehind line verb number rest
-
-abbrev pub name_text : ReportName → List ℕ
-name_text name.Load = codes "load"
-name_text name.Progress = codes "progress"
-name_text name.Cancelled = codes "cancelled"
-name_text name.Orphans = codes "orphans"
-name_text name.Refresh = codes "refresh"
 
 -- The line, with this message behind it, is the command. No line spells what is malformed.
 abbrev pub Spells : List ℕ → List ℕ → Order → Type 0

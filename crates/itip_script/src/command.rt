@@ -4,21 +4,7 @@ ghost use Rattle.std.specs.Option.{option_map};
 ghost use Rattle.itip_script.specs.Orders.{order_of, spelled, spelled_by, verb_of, report_of, rest_of};
 
 use crate::word::{is_word, read_number, split_word};
-
-/// The reports that a script can ask for.
-#[derive(Clone, Copy, Debug, PartialEq, Eq)]
-pub enum ReportName {
-    /// How many rows show each attendee.
-    Load,
-    /// How far rows are.
-    Progress,
-    /// Cancelled series, instances and ranges.
-    Cancelled,
-    /// Answers and refresh requests that belong to nothing.
-    Orphans,
-    /// Refresh requests that wait for an answer.
-    Refresh,
-}
+use itip_report::ReportName;
 
 /// A command of a script. Desks, packets and ticks are numbers as written, whether or not there is such a desk.
 #[derive(Clone, Copy, Debug)]
@@ -100,7 +86,7 @@ fn spelled_by<'a>(verb: Verb, arguments: &'a [u8], message: &'a [u8]) -> Option<
         }
         Verb::Report => {
             let desk = read_number(first)?;
-            let name = report_of(second)?;
+            let name = read_report_name(second)?;
             Some(Command::Report { desk, name })
         }
         Verb::Resend => {
@@ -146,7 +132,8 @@ pub(crate) fn verb_of(word: &[u8]) -> Option<Verb>
     }
 }
 
-fn report_of(word: &[u8]) -> Option<ReportName>
+/// The report of this name: `load`, `progress`, `cancelled`, `orphans` or `refresh`; `None` for every other word.
+pub fn read_report_name(word: &[u8]) -> Option<ReportName>
     ensures { result ≡ report_of word.now }
 {
     if is_word(word, b"load") {

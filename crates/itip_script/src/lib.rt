@@ -12,7 +12,7 @@ mod laws;
 mod line;
 mod word;
 
-pub use command::{Command, ReportName};
+pub use command::{Command, read_report_name};
 pub use commands::Commands;
 pub use input::{MAX_OCTETS, read_script};
 pub use itip_streams::StreamFault as ScriptFault;

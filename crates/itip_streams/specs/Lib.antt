@@ -1,1 +1,5 @@
 pub mod Written
+pub mod Visible
+pub mod Folders
+pub mod Sources
+pub mod Told

@@ -1,10 +1,23 @@
-//! Reading octets from a stream and writing them to one, with each failure told apart.
+//! Reading octets from a stream and writing them to one, with each failure told apart; the files, folders and standard input that
+//! words name; and text with its control characters shown.
 #![tactic(auto)]
 
 mod fault;
+mod folders;
 mod input;
 mod output;
+mod replacement;
+mod source;
+mod source_name;
+mod terminal_writer;
+mod visible;
 
 pub use fault::StreamFault;
+pub use folders::source_names;
 pub use input::{MAX_READS, read_some, read_within};
 pub use output::{write_if_many, write_output};
+pub use replacement::Replacement;
+pub use source::{Source, sources_of};
+pub use source_name::{SourceName, refused_line, unread_line};
+pub use terminal_writer::TerminalWriter;
+pub use visible::visible_text;

@@ -12,13 +12,13 @@ not_is : (b : Bool) → not b ≡ true → b ≡ false
 not_is true e = cc
 not_is false e = refl
 
-truth : (b : Bool) → b ≡ true → T b
+pub truth : (b : Bool) → b ≡ true → T b
 truth b e = subst T (sym e) tt
 
 untruth : (b : Bool) → b ≡ false → T (not b)
 untruth b e = subst (λ x. T (not x)) (sym e) tt
 
-int_lt-true : (a b : ℤ) → a <ℤ b → int_lt a b ≡ true
+pub int_lt-true : (a b : ℤ) → a <ℤ b → int_lt a b ≡ true
 int_lt-true a b h = elim (int_lt a b) as (λ r. int_lt a b ≡ r → int_lt a b ≡ true) [
   | true ↦ λ e. e
   | false ↦ λ e. let not : b ≤ℤ a = lt_z_no (untruth (int_lt a b) e) in absurd (<ℤ_irrefl (<ℤ-≤ℤ_trans h not))

@@ -12,8 +12,11 @@ pub mod PlaceRows
 pub mod Placing
 pub mod Collecting
 pub mod Showing
+pub mod Wanting
 pub mod Needing
+pub mod SameAsked
 pub mod Gathering
+pub mod Leading
 pub mod OfPart
 pub mod SameRows
 pub mod Occurring

@@ -1,20 +1,15 @@
--- The rows that show an attendee.
-use Rattle.std.proofs.Common.{◌≡◌, ◌∙◌, ℕ, List, [], ◌∷◌, sym, ap, subst, ◌⊎◌, inl, inr, Bool, true, false, cond, refl, Some, None, Option}
-use Rattle.std.proofs.Common.{◌||◌}
+-- The rows that pass a test.
+use Rattle.std.proofs.Common.{◌≡◌, ◌↔◌, ◌∙◌, ℕ, List, [], ◌∷◌, sym, ap, subst, inl, inr, Bool, true, cond, ◌||◌}
 use Rattle.std.specs.List.{Contains, list_any, filter}
-use Rattle.std.specs.Cmp.Lexicographic.{bytes_decides}
 use Rattle.std.proofs.lemmas.List.Kept.{AllPairs-filter}
-use Rattle.itip_todo.specs.Table.{attendee_key}
 use Rattle.itip_items.specs.declared.item.Item.{Item}
 use Rattle.itip_state.specs.Kept.{ArePart}
 use Rattle.itip_state.proofs.Members.{by_bool, none_in, cons_cases, cons_first, cons_later}
 use Rattle.std.specs.declared.cmp.Ordering.TheVariants.{Less}
 use Rattle.itip_view.specs.OfUid.{AreRowsOf}
 use Rattle.itip_view.specs.Rows.{row_cmp}
-use Rattle.itip_view.specs.Showing.{Shows, IsOf, AreRowsWhere}
-use Rattle.itip_view.specs.Shown.{is_named, is_shown, shows}
+use Rattle.itip_view.specs.Showing.{IsOf, AreRowsWhere}
 use Rattle.itip_view.specs.declared.row.Row.{Row}
-use Rattle.itip_view.specs.declared.row.ShownAttendee.{ShownAttendee}
 use Rattle.itip_view.specs.declared.window.Window.{Window}
 use Rattle.itip_view.proofs.OfPart.{row_of_part, row_in_part}
 
@@ -63,37 +58,19 @@ module _ {X : Type 0} (p : X → Bool) where
         (λ no. ap (λ b. b || list_any p ys) no ∙ finds ys x rest pass)
   ]
 
--- the test tells which rows show the attendee
-pub row_shows : (address : List ℕ) (row : Row) → shows address row ≡ true → Shows address row
-row_shows address row is =
-    let one = found (is_named address) row.attendees is in
-    record { attendee = one.0; there = one.1; same = (bytes_decides (attendee_key one.0.address) (attendee_key address)).0 one.2 }
-
-pub is_shown_in : (address : List ℕ) (row : Row) → Shows address row → shows address row ≡ true
-is_shown_in address row s =
-    finds (is_named address) row.attendees s.attendee s.there
-    ((bytes_decides (attendee_key s.attendee.address) (attendee_key address)).1 s.same)
-
-module _ (heard : List Item) (window : Window) (uid : List ℕ) where
-  pub rows_of_part : (part : List Item) (rows : List Row) → ArePart uid part heard → AreRowsOf part window uid rows →
-      AreRowsWhere (IsOf uid None) heard window rows
-  rows_of_part part rows are of = record {
-    ascend = of.ascend;
-    each = λ row h. let r = of.each row h in row_of_part uid part heard are window row r.1 r.0;
-    holds = λ row h. record { uid_is = (of.each row h).1; shows = tt };
-    all = λ row is P. of.all row (row_in_part uid part heard are window row P.uid_is is) P.uid_is;
-  }
-
-  pub rows_showing : (address : List ℕ) (rows : List Row) → AreRowsWhere (IsOf uid None) heard window rows →
-      AreRowsWhere (IsOf uid (Some address)) heard window (filter (shows address) rows)
-  rows_showing address rows are = record {
-    ascend = AllPairs-filter (λ (a b : Row). row_cmp a b ≡ Less) (shows address) rows are.ascend;
-    each = λ row h. are.each row (in_filter (shows address) rows row h);
+-- of the rows of a UID those that pass a test are the ones of which that holds which the test decides
+module _ (heard : List Item) (window : Window) (uid : List ℕ) (P : Row → Type 0) (p : Row → Bool)
+    (decides : (row : Row) → (p row ≡ true) ↔ P row) where
+  pub rows_passing : (part : List Item) (rows : List Row) → ArePart uid part heard → AreRowsOf part window uid rows →
+      AreRowsWhere (IsOf uid P) heard window (filter p rows)
+  rows_passing part rows are of = record {
+    ascend = AllPairs-filter (λ (a b : Row). row_cmp a b ≡ Less) p rows of.ascend;
+    each = λ row h. let r = of.each row (in_filter p rows row h) in row_of_part uid part heard are window row r.1 r.0;
     holds = λ row h. record {
-      uid_is = (are.holds row (in_filter (shows address) rows row h)).uid_is;
-      shows =
-          row_shows address row (passes (shows address) rows row h);
+      uid_is = (of.each row (in_filter p rows row h)).1;
+      holds = (decides row).0 (passes p rows row h);
     };
-    all = λ row is P. into_filter (shows address) rows row (are.all row is (record { uid_is = P.uid_is; shows = tt })) (is_shown_in
-        address row P.shows);
+    all = λ row is of_uid. into_filter p rows row
+        (of.all row (row_in_part uid part heard are window row of_uid.uid_is is) of_uid.uid_is)
+        ((decides row).1 of_uid.holds);
   }

@@ -10,6 +10,8 @@ pub mod Ruling
 pub mod InUid
 pub mod ListText
 pub mod Showing
-pub mod Shown
+pub mod Wanting
+pub mod Wanted
+pub mod Most
 pub mod RowDays
 pub mod OfKept

@@ -20,15 +20,15 @@ abbrev pub ShowsNamed : Option (List ℕ) → Row → Type 0
 ShowsNamed None row = Unit {0}
 ShowsNamed (Some address) row = Shows address row
 
--- a row of a UID, which shows the attendee where one is named
-pub record IsOf (uid : List ℕ) (shown : Option (List ℕ)) (row : Row) : Type 0 where
+-- a row of a UID, of which something more holds
+pub record IsOf (uid : List ℕ) (P : Row → Type 0) (row : Row) : Type 0 where
   pub uid_is : row.uid ≡ uid
-  pub shows : ShowsNamed shown row
+  pub holds : P row
 
--- a row of one of these UIDs, which shows the attendee where one is named
-pub record IsAmong (uids : List (List ℕ)) (shown : Option (List ℕ)) (row : Row) : Type 0 where
+-- a row of one of these UIDs, of which something more holds
+pub record IsAmong (uids : List (List ℕ)) (P : Row → Type 0) (row : Row) : Type 0 where
   pub uid_is : Contains uids row.uid
-  pub shows : ShowsNamed shown row
+  pub holds : P row
 
 -- the rows of the view of which this holds, in their order, each once
 pub record AreRowsWhere (P : Row → Type 0) (heard : List Item) (window : Window) (rows : List Row) : Type 0 where

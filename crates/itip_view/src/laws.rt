@@ -1,5 +1,5 @@
 //! The laws of views, of every finite set of items. They hold with no code: each function is empty.
-ghost use Rattle.std.specs.Prelude.{List, ℕ, Option, Some, None, ◌↔◌, ◌≡◌, ◌≤◌};
+ghost use Rattle.std.specs.Prelude.{List, ℕ, Option, Some, None, ◌↔◌, ◌≡◌, ◌≤◌, length};
 ghost use Rattle.std.specs.List.{Contains};
 ghost use Rattle.itip_items.specs.declared.item.Item.{Item};
 ghost use Rattle.itip_state.specs.Kept.{AreKept, ArePartOf};
@@ -9,12 +9,16 @@ ghost use Rattle.itip_items.specs.declared.key.Key.TheVariants.{Answer};
 ghost use Rattle.itip_view.specs.OfKept.{NeedsOnlyKept, FollowsFromKept};
 ghost use Rattle.itip_view.specs.Standing.{Stands, StandsFrom, Rules, NoneRules, Governs, IsLiveSeries};
 ghost use Rattle.itip_view.specs.Answers.{Counts};
-ghost use Rattle.itip_view.specs.Rows.{IsRow, AreRows, AreTooMany, ShowsGoverning, row_cmp};
+ghost use Rattle.itip_view.specs.Rows.{IsRow, AreRows, AreTooMany, ShowsGoverning, row_cmp, row_limit};
 ghost use Rattle.itip_view.specs.ListText.{IsListText};
 ghost use Rattle.itip_todo.specs.Table.{attendee_key};
 ghost use Rattle.itip_view.specs.RowDays.{HasRowsIn, NamesIn};
 ghost use Rattle.itip_view.specs.Showing.{Shows, AreRowsWhere, AreTooManyWhere, IsListTextFor};
+ghost use Rattle.itip_view.specs.Most.{IsMostOf};
+ghost use Rattle.itip_view.specs.Wanting.{Wants};
+ghost use Rattle.itip_view.specs.declared.most.MostRows.{MostRows};
 ghost use Rattle.itip_view.specs.declared.row.Row.{Row};
+ghost use Rattle.itip_view.specs.declared.wanted.Wanted.{Wanted};
 ghost use Rattle.itip_view.specs.declared.window.Window.{Window};
 
 /// What stands and what governs needs only what is kept (our own rules).
@@ -45,10 +49,16 @@ pub fn view_of_kept()
     ensures many { (window : Window) → FollowsFromKept (λ heard. AreTooMany heard window) }
     ensures text_for { (window : Window) (address text : List ℕ) → FollowsFromKept (λ heard. IsListTextFor address heard window text) }
     ensures many_for { (window : Window) (address : List ℕ) → FollowsFromKept (λ heard. AreTooManyWhere (Shows address) heard window) }
+    ensures rows_where { (window : Window) (wanted : Wanted) (rows : List Row)
+        → FollowsFromKept (λ heard. AreRowsWhere (Wants wanted) heard window rows) }
+    ensures many_where { (window : Window) (wanted : Wanted) → FollowsFromKept (λ heard. AreTooManyWhere (Wants wanted) heard window) }
+    ensures most { (window : Window) (wanted : Wanted) (most : Option MostRows)
+        → FollowsFromKept (λ heard. IsMostOf (Wants wanted) heard window most) }
 {}
 
-/// What was heard has one list in a window, or too many rows for one, and never both. A UID and an identifier have one row, and
-/// the order tells all rows apart (our own rules).
+/// What was heard has one list in a window, or too many rows for one, and never both; and so it is of the rows that are asked
+/// for, of which one to-do at most has the most. A UID and an identifier have one row, and the order tells all rows apart (our own
+/// rules).
 pub fn one_list()
     ensures row { (heard : List Item) (window : Window) (row other : Row) → IsRow heard window row → IsRow heard window other
         → row.uid ≡ other.uid → row.id ≡ other.id → row ≡ other }
@@ -65,6 +75,12 @@ pub fn one_list()
         → IsListTextFor address heard window other → text ≡ other }
     ensures apart_for { (heard : List Item) (window : Window) (address text : List ℕ) → IsListTextFor address heard window text
         → AreTooManyWhere (Shows address) heard window → ⊥ }
+    ensures rows_where { (heard : List Item) (window : Window) (wanted : Wanted) (rows others : List Row)
+        → AreRowsWhere (Wants wanted) heard window rows → AreRowsWhere (Wants wanted) heard window others → rows ≡ others }
+    ensures apart_where { (heard : List Item) (window : Window) (wanted : Wanted) (rows : List Row)
+        → AreRowsWhere (Wants wanted) heard window rows → length rows ≤ row_limit → AreTooManyWhere (Wants wanted) heard window → ⊥ }
+    ensures most { (heard : List Item) (window : Window) (wanted : Wanted) (most other : Option MostRows)
+        → IsMostOf (Wants wanted) heard window most → IsMostOf (Wants wanted) heard window other → most ≡ other }
 {}
 
 /// One item at most governs a to-do as a whole, and one an instance; a row shows the one that governs what it names (our own rules).

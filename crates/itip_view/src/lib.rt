@@ -9,6 +9,7 @@ mod error;
 mod governs;
 mod keyed_item;
 mod laws;
+mod most;
 mod of_uid;
 mod progress;
 mod ranges;
@@ -18,6 +19,7 @@ mod row_text;
 mod shown;
 mod standing;
 mod state_rows;
+mod wanted;
 mod whole;
 mod window;
 
@@ -28,11 +30,13 @@ pub use laws::{
     answers_of_kept, one_list, rows_are_governed, rows_need_items, rows_of_part, standing_of_kept,
     view_of_kept,
 };
+pub use most::{MostRows, most_rows};
 pub use ranges::Ranges;
 pub use row::{Row, RowId, ShownAttendee};
 pub use row_order::sorted_uids;
 pub use row_text::{list_text, write_list};
 pub use standing::{if_live, is_live, stands_beside};
-pub use state_rows::{rows, rows_among, rows_for, rows_of};
+pub use state_rows::{rows, rows_among, rows_of, rows_where};
 pub use std::alloc::AllocError as NoMemory;
+pub use wanted::Wanted;
 pub use window::Window;

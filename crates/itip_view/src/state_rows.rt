@@ -2,12 +2,14 @@
 ghost use Rattle.std.specs.Prelude.{◌≤◌, IfOk, IsErrOf, length, map};
 ghost use Rattle.std.specs.Option.{option_map};
 ghost use Rattle.itip_view.specs.Rows.{AreRows, AreTooMany, row_limit};
-ghost use Rattle.itip_view.specs.Showing.{Shows, AreRowsWhere, AreTooManyWhere, IsAmong, IsOf};
+ghost use Rattle.itip_view.specs.Showing.{ShowsNamed, AreRowsWhere, AreTooManyWhere, IsAmong, IsOf};
+ghost use Rattle.itip_view.specs.Wanting.{Wants};
 
 use crate::error::ViewError;
 use crate::row::Row;
 use crate::row_order::{ROW_LIMIT, rows_by_uid, sorted_uids};
 use crate::shown::shown_rows;
+use crate::wanted::Wanted;
 use crate::window::Window;
 use itip_state::State;
 use itip_todo::Uid;
@@ -22,24 +24,24 @@ pub fn rows(alloc: Global, state: &State, window: Window) -> Result<Vec<Row>, Vi
     ensures many { IsErrOf result ViewError.TooManyRows → AreTooMany state.now window }
 {
     let uids = state.uids()?;
-    rows_by_uid(alloc, state, &uids, window, None)
+    rows_by_uid(alloc, state, &uids, window, &Wanted::all())
 }
 
-/// The rows of a state in a window that show the attendee of an address, in their order, at most 100,000. Each UID is looked at.
+/// The rows of a state in a window that are asked for, in their order, at most 100,000. Each UID is looked at.
 ///
-/// Refused where more rows there show the attendee (31), or when out of memory (32).
-pub fn rows_for(
+/// Refused where more rows there are asked for (31), or when out of memory (32).
+pub fn rows_where(
     alloc: Global,
     state: &State,
     window: Window,
-    address: &str,
+    wanted: &Wanted<'_>,
 ) -> Result<Vec<Row>, ViewError>
-    ensures rows { IfOk result (λ rows. AreRowsWhere (Shows address.now) state.now window rows.items) }
+    ensures rows { IfOk result (λ rows. AreRowsWhere (Wants wanted.now) state.now window rows.items) }
     ensures few { IfOk result (λ rows. length rows.items ≤ row_limit) }
-    ensures many { IsErrOf result ViewError.TooManyRows → AreTooManyWhere (Shows address.now) state.now window }
+    ensures many { IsErrOf result ViewError.TooManyRows → AreTooManyWhere (Wants wanted.now) state.now window }
 {
     let uids = state.uids()?;
-    rows_by_uid(alloc, state, &uids, window, Some(address))
+    rows_by_uid(alloc, state, &uids, window, wanted)
 }
 
 /// The rows of one UID in a window, in their order, at most 100,000; where an address is given, those that show its attendee. No
@@ -53,12 +55,13 @@ pub fn rows_of(
     window: Window,
     shown: Option<&str>,
 ) -> Result<Vec<Row>, ViewError>
-    ensures rows { IfOk result (λ rows. AreRowsWhere (IsOf uid.now (option_map (λ a. a.now) shown.entry)) state.now window rows.items) }
+    ensures rows { IfOk result (λ rows. AreRowsWhere
+        (IsOf uid.now (ShowsNamed (option_map (λ a. a.now) shown.entry))) state.now window rows.items) }
     ensures few { IfOk result (λ rows. length rows.items ≤ row_limit) }
     ensures many { IsErrOf result ViewError.TooManyRows
-        → AreTooManyWhere (IsOf uid.now (option_map (λ a. a.now) shown.entry)) state.now window }
+        → AreTooManyWhere (IsOf uid.now (ShowsNamed (option_map (λ a. a.now) shown.entry))) state.now window }
 {
-    let rows = shown_rows(alloc, state, uid, window, shown)?;
+    let rows = shown_rows(alloc, state, uid, window, &Wanted::showing(shown))?;
     if rows.len() > ROW_LIMIT {
         return Err(ViewError::TooManyRows);
     }
@@ -77,11 +80,12 @@ pub fn rows_among(
     shown: Option<&str>,
 ) -> Result<Vec<Row>, ViewError>
     ensures rows { IfOk result (λ rows. AreRowsWhere
-        (IsAmong (map (λ uid. uid.now) uids.entry.items) (option_map (λ a. a.now) shown.entry)) state.now window rows.items) }
+        (IsAmong (map (λ uid. uid.now) uids.entry.items) (ShowsNamed (option_map (λ a. a.now) shown.entry)))
+        state.now window rows.items) }
     ensures few { IfOk result (λ rows. length rows.items ≤ row_limit) }
-    ensures many { IsErrOf result ViewError.TooManyRows
-        → AreTooManyWhere (IsAmong (map (λ uid. uid.now) uids.entry.items) (option_map (λ a. a.now) shown.entry)) state.now window }
+    ensures many { IsErrOf result ViewError.TooManyRows → AreTooManyWhere
+        (IsAmong (map (λ uid. uid.now) uids.entry.items) (ShowsNamed (option_map (λ a. a.now) shown.entry))) state.now window }
 {
     let uids = sorted_uids(uids)?;
-    rows_by_uid(alloc, state, &uids, window, shown)
+    rows_by_uid(alloc, state, &uids, window, &Wanted::showing(shown))
 }

@@ -1,14 +1,15 @@
 -- What a call of the program asks for (our own form).
-use Rattle.std.specs.Prelude.{ℕ, List, IfSome}
+use Rattle.std.specs.Prelude.{ℕ, List, map, codes, string_bytes, IfSome, IsTrue}
 use Rattle.itip_view.specs.declared.window.Window.{Window}
 use Rattle.itip_words.specs.declared.filter.Filter.{Filter}
-use Rattle.itip_words.specs.declared.filter.Listing.{Listing}
 use Rattle.itip_words.specs.declared.filter.Written.{Written}
 use Rattle.itip_words.specs.declared.filter.Written.TheVariants as written
 use Rattle.itip_words.specs.declared.words.Call.{Call}
 use Rattle.itip_words.specs.declared.words.Call.TheVariants as call
 use Rattle.itip_words.specs.declared.words.Scripted.{Scripted}
-use Rattle.itip_words.specs.Words.{AreDesks, AreWorkers, AreThreads, IsWindowOf}
+use Rattle.itip_words.specs.Words.{AreDesks, AreWorkers, AreThreads}
+use Rattle.itip_words.specs.Values.{is_input_once}
+use Rattle.itip_words.specs.Days.{HasAskedDays}
 
 -- of a call: P of how a script is run, where one is
 abbrev pub IfRun : (Scripted → Type 0) → Call → Type 0
@@ -35,18 +36,21 @@ IfFilter P (call.Filter f) = P f
 abbrev pub AreOffice : Scripted → ℕ → Type 0
 AreOffice scripted workers = AreDesks scripted.desks × AreWorkers workers
 
--- of what is written: P of the list, where it is one
-abbrev pub IfList : (Listing → Type 0) → Written → Type 0
-IfList P written.Compaction = Unit {0}
-IfList P (written.List listing) = P listing
+-- the word that writes it
+abbrev pub word_of : Written → List ℕ
+word_of (written.Compaction output) = codes "compact"
+word_of (written.List listing) = codes "list"
+word_of (written.Report reported) = codes "report"
 
--- two dates spell the ends of the window
-pub record HasDates (window : Window) : Type 0 where
-  pub from : List ℕ
-  pub to : List ℕ
-  pub days : IsWindowOf from to window
+-- of what is written: P of the window of days, where it has one
+abbrev pub IfWindow : (Window → Type 0) → Written → Type 0
+IfWindow P (written.Compaction output) = Unit {0}
+IfWindow P (written.List listing) = P listing.window
+IfWindow P (written.Report reported) = P reported.window
 
--- messages can be filtered so: by 1 to 8 threads where their number is given, and for a list in the days between two dates
+-- Messages can be filtered so: by 1 to 8 threads where their number is given, with standard input named once at most, and where
+-- rows are written, those of days that words ask for.
 pub record CanFilter (asked : Filter) : Type 0 where
   pub few : IfSome asked.intake.threads AreThreads
-  pub dates : IfList (λ listing. HasDates listing.window) asked.written
+  pub once : IsTrue (is_input_once (map string_bytes asked.intake.sources.items))
+  pub days : IfWindow HasAskedDays asked.written

@@ -1,19 +1,25 @@
 //! The words that there are, each with its help.
-use crate::help::{CHECK_HELP, COMPACT_HELP, LIST_HELP, OFFICE_HELP, RUN_HELP};
+use crate::help::{CHECK_HELP, COMPACT_HELP, LIST_HELP, OFFICE_HELP, REPORT_HELP, RUN_HELP};
 use clap::{Arg, ArgAction, Command};
 use std::alloc::{AllocError, Global};
 
-/// The program, with its five words.
+/// The version of the program.
+pub const VERSION: &str = "0.1.0";
+
+/// The program, with its six words.
 pub(crate) fn command<'a>(alloc: Global) -> Result<Command<'a>, AllocError> {
     Command::new(alloc, "itipdesk")
         .bin_name("itipdesk")?
         .about("A desk for to-dos under iTIP (RFC 5546)")
+        .version(VERSION)
         .subcommand_required(true)
+        .arg_required_else_help(true)
         .subcommand(run_command(alloc)?)?
         .subcommand(office_command(alloc)?)?
         .subcommand(check_command(alloc)?)?
         .subcommand(compact_command(alloc)?)?
-        .subcommand(list_command(alloc)?)
+        .subcommand(list_command(alloc)?)?
+        .subcommand(report_command(alloc)?)
 }
 
 fn run_command<'a>(alloc: Global) -> Result<Command<'a>, AllocError> {
@@ -45,29 +51,35 @@ fn check_command<'a>(alloc: Global) -> Result<Command<'a>, AllocError> {
 }
 
 fn compact_command<'a>(alloc: Global) -> Result<Command<'a>, AllocError> {
+    let output = Arg::new(alloc, "output")
+        .long("output")
+        .value_name("FILE")
+        .help("Replaces this file with what is kept, once all is written; - for standard output");
     let compact = Command::new(alloc, "compact")
-        .about("Reads messages from standard input and writes what is kept of them")
-        .after_help(COMPACT_HELP);
+        .about("Reads messages and writes what is kept of them")
+        .after_help(COMPACT_HELP)
+        .arg(output)?;
     intake_words(alloc, compact)
 }
 
 fn list_command<'a>(alloc: Global) -> Result<Command<'a>, AllocError> {
-    let attendee = Arg::new(alloc, "attendee")
-        .long("attendee")
-        .value_name("ADDRESS")
-        .help("Only the rows that show the attendee of this address, as mailto:a@example.com");
-    let format = Arg::new(alloc, "format")
-        .long("format")
-        .value_name("FORMAT")
-        .default_value("text")
-        .help(
-            "How rows are written: text, csv (one record an attendee) or json (one object a row)",
-        );
     let list = Command::new(alloc, "list")
-        .about("Reads messages from standard input and writes their task list")
+        .about("Reads messages and writes their task list")
         .after_help(LIST_HELP);
-    let list = days(alloc, list)?.arg(attendee)?.arg(format)?;
+    let list = row_words(alloc, days_around_today(alloc, list)?)?;
     intake_words(alloc, list)
+}
+
+fn report_command<'a>(alloc: Global) -> Result<Command<'a>, AllocError> {
+    let name = Arg::new(alloc, "name")
+        .value_name("NAME")
+        .required(true)
+        .help("Which report: load, progress, cancelled, orphans or refresh");
+    let report = Command::new(alloc, "report")
+        .about("Reads messages and writes a report of them")
+        .after_help(REPORT_HELP)
+        .arg(name)?;
+    intake_words(alloc, days_around_today(alloc, report)?)
 }
 
 fn desks_word<'a>(alloc: Global) -> Arg<'a> {
@@ -100,8 +112,58 @@ fn days<'a>(alloc: Global, command: Command<'a>) -> Result<Command<'a>, AllocErr
     command.arg(from)?.arg(to)
 }
 
-/// A command with the words for how messages are read.
+/// A command with the days of a window, which need not be given.
+fn days_around_today<'a>(alloc: Global, command: Command<'a>) -> Result<Command<'a>, AllocError> {
+    let from = Arg::new(alloc, "from")
+        .long("from")
+        .value_name("YYYYMMDD")
+        .help("The first day of the rows; without it 366 days before today, or 732 before --to");
+    let to = Arg::new(alloc, "to").long("to").value_name("YYYYMMDD").help(
+        "The day after their last; without it 366 days after today, or 732 after --from",
+    );
+    let today = Arg::new(alloc, "today")
+        .long("today")
+        .value_name("YYYYMMDD")
+        .help("The day that is taken for today; without it that of the clock, in UTC");
+    command.arg(from)?.arg(to)?.arg(today)
+}
+
+/// A command with the words for which rows are shown, and how.
+fn row_words<'a>(alloc: Global, command: Command<'a>) -> Result<Command<'a>, AllocError> {
+    let attendee = Arg::new(alloc, "attendee")
+        .long("attendee")
+        .value_name("ADDRESS")
+        .help("Only the rows that show the attendee of this address, as a@example.com");
+    let open = Arg::new(alloc, "open")
+        .long("open")
+        .action(ArgAction::SetTrue)
+        .help("Only the rows that are neither completed nor cancelled");
+    let due_before = Arg::new(alloc, "due-before")
+        .long("due-before")
+        .value_name("DAY")
+        .help("Only the rows that are due before this day, YYYYMMDD or today");
+    let format = Arg::new(alloc, "format")
+        .long("format")
+        .value_name("FORMAT")
+        .default_value("text")
+        .help(
+            "How rows are written: text, csv (one record an attendee) or json (one object a row)",
+        );
+    command
+        .arg(attendee)?
+        .arg(open)?
+        .arg(due_before)?
+        .arg(format)
+}
+
+/// A command with its sources, and the words for how they are read.
 fn intake_words<'a>(alloc: Global, command: Command<'a>) -> Result<Command<'a>, AllocError> {
+    let source = Arg::new(alloc, "source")
+        .value_name("SOURCE")
+        .action(ArgAction::Append)
+        .help(
+            "A file, a folder for the .ics files in it, or - for standard input, which is read where none is named",
+        );
     let threads = Arg::new(alloc, "threads")
         .long("threads")
         .value_name("N")
@@ -112,5 +174,9 @@ fn intake_words<'a>(alloc: Global, command: Command<'a>) -> Result<Command<'a>, 
         .help(
             "Shows how many messages and octets were read, also where standard error is no terminal",
         );
-    command.arg(threads)?.arg(progress)
+    command
+        .arg(source)?
+        .arg(threads)?
+        .arg(progress)?
+        .arg(why_word(alloc))
 }

@@ -63,10 +63,14 @@ Exit status:
 
 /// What is read and written where messages are compacted.
 pub(crate) const COMPACT_HELP: &str =
-    "Messages are read from standard input, one after another. One that is refused is not heard;
-it is named on standard error, as `message 3: refused 9`. What is written can be read again, beside other messages.
+    "Sources are files, folders, which stand for the .ics files in them, and - for standard input; without one standard input
+is read. All their messages are heard, in whatever order. One that is refused is not heard; it is named on standard error, as
+`mail.ics message 3: refused 9`, and with --why also where and why. What is written can be read again, beside other messages.
 
-  cat desk.ics message.ics | itipdesk compact > newer.ics
+  itipdesk compact desk.ics message.ics > newer.ics
+  itipdesk compact --output desk.ics desk.ics inbox
+
+With --output nothing is on standard output, and the file is the old one until all is written. It may be one of the sources.
 
 Exit status:
   0  nothing was refused
@@ -76,13 +80,49 @@ Exit status:
 
 /// What is read and written where the task list of messages is made.
 pub(crate) const LIST_HELP: &str =
-    "Messages are read from standard input, one after another. One that is refused is not heard;
-it is named on standard error, as `message 3: refused 9`. Where the list has too many rows, it is `refused 31`.
+    "Sources are files, folders, which stand for the .ics files in them, and - for standard input; without one standard input
+is read. All their messages are heard, in whatever order. One that is refused is not heard; it is named on standard error, as
+`mail.ics message 3: refused 9`, and with --why also where and why.
 
-  cat desk.ics message.ics | itipdesk list --from 20260101 --to 20270101 --format csv
+  itipdesk list desk.ics inbox
+  itipdesk list --attendee ann@example.com --open --due-before today desk.ics
+  itipdesk list --from 20260101 --to 20270101 --format csv < desk.ics
+
+The window is one of days, of which the last is not in it, at most 3660. Without --from and --to it is from 366 days before
+today to 366 days after; with one of them it is 732 days long. With --due-before it begins earlier: 3290 days before today,
+and with one of them it is 3656 days long.
+
+An address without a colon is taken with mailto: before it. Where --attendee and --open stand together, the rows are those
+that are open for this attendee: who has neither completed nor declined nor delegated it.
+
+Where there are more than 100000 of the rows that are asked for, `refused 31` is written in place of them; with --why
+standard error then names the to-do with the most rows.
 
 Exit status:
   0  nothing was refused
   1  a message was refused, or the list
   2  the words or the window are bad
-  3  a read or a write failed, or there was no memory";
+  3  a read or a write failed, there was no memory, or the clock can't be read";
+
+/// What is read and written where a report of messages is made.
+pub(crate) const REPORT_HELP: &str = "  load       how many rows show each attendee
+  progress   how far each row is that has a progress
+  cancelled  the to-dos, instances and ranges that are cancelled
+  orphans    the answers and refresh requests that belong to nothing
+  refresh    the refresh requests that wait for an answer
+
+Sources are files, folders, which stand for the .ics files in them, and - for standard input; without one standard input
+is read. All their messages are heard, in whatever order. One that is refused is not heard; it is named on standard error, as
+`mail.ics message 3: refused 9`, and with --why also where and why.
+
+  itipdesk report load --from 20260101 --to 20260201 desk.ics inbox
+  itipdesk report orphans desk.ics
+
+Days are for load and progress alone, which are of the rows of a window. Without --from and --to it is from 366 days before
+today to 366 days after; with one of them it is 732 days long. Where there are more than 100000 rows, `refused 31` is written.
+
+Exit status:
+  0  nothing was refused
+  1  a message was refused, or the report
+  2  the words or the window are bad
+  3  a read or a write failed, there was no memory, or the clock can't be read";

@@ -2,9 +2,18 @@
 #![tactic(auto)]
 
 mod commands;
+mod days;
 mod filter;
 mod help;
+mod no_call;
+mod told;
+mod values;
 mod words;
+mod wrong;
 
-pub use filter::{Filter, Format, Intake, Listing, MAX_THREADS, Written};
-pub use words::{Call, NoCall, Scripted, read_words};
+pub use commands::VERSION;
+pub use days::today;
+pub use filter::{Filter, Format, Intake, Listing, MAX_THREADS, Reported, Written};
+pub use no_call::NoCall;
+pub use told::most_line;
+pub use words::{Call, Scripted, read_words};

@@ -2,17 +2,17 @@
 ghost use Rattle.std.specs.Prelude.{◌≡◌, ℕ, IfOk, IfSome, IfNone};
 ghost use Rattle.itip_words.specs.Words.{AreDesks, desks_of, workers_of, IsWindowOf, IsScriptedOf};
 ghost use Rattle.itip_words.specs.Calls.{IfRun, IfOffice, IfFilter, AreOffice, CanFilter};
-ghost use Rattle.itip_words.specs.declared.words.NoCall.TheVariants.{NoMemory};
 ghost use Rattle.itip_view.specs.declared.window.Window.{Window};
 
 use crate::commands::command;
 use crate::filter::{Filter, filter_of};
-use clap::error::ErrorKind;
-use clap::{ArgMatches, Error};
-use itip_moment::read_date;
+use crate::no_call::{NoCall, no_call};
+use crate::wrong::what_is_wrong;
+use clap::ArgMatches;
+use itip_moment::{Day, read_date};
 use itip_script::read_number;
 use itip_view::Window;
-use std::alloc::{AllocError, Global};
+use std::alloc::Global;
 
 /// The most desks of a run.
 const MAX_DESKS: u64 = 16;
@@ -42,54 +42,55 @@ pub struct Scripted {
     pub why: bool,
 }
 
-/// Why nothing is run.
-#[derive(Drop)]
-pub enum NoCall {
-    /// Help was asked for; the error prints it.
-    Help(Error),
-    BadWords,
-    NoMemory,
-}
-
-impl From<AllocError> for NoCall {
-    ghost from_gives = { λ _ e. e ≡ NoMemory };
-
-    fn from(_: AllocError) -> NoCall {
-        NoCall::NoMemory
-    }
-}
-
-impl From<Error> for NoCall {
-    fn from(error: Error) -> NoCall {
-        match error.kind() {
-            ErrorKind::DisplayHelp => NoCall::Help(error),
-            ErrorKind::OutOfMemory => NoCall::NoMemory,
-            _ => NoCall::BadWords,
-        }
-    }
-}
-
-/// Reads the words, the first of which is the program's name.
-pub fn read_words(alloc: Global, words: &[String]) -> Result<Call, NoCall>
+/// Reads the words, the first of which is the program's name. `clock` is the day of today, where it is known.
+pub fn read_words(alloc: Global, words: &[String], clock: Option<Day>) -> Result<Call, NoCall>
     ensures run { IfOk result (IfRun (λ scripted. AreDesks scripted.desks)) }
     ensures office { IfOk result (IfOffice AreOffice) }
     ensures filter { IfOk result (IfFilter CanFilter) }
 {
-    let matches = command(alloc)?.try_get_matches_from(words)?;
+    let matches = match command(alloc)?.try_get_matches_from(words) {
+        Ok(matches) => matches,
+        Err(error) => return Err(no_call(alloc, words, error)?),
+    };
+    match call_of(alloc, &matches, clock)? {
+        Some(call) => Ok(call),
+        None => Err(NoCall::BadValue(what_is_wrong(alloc, &matches)?)),
+    }
+}
+
+/// The call that the words ask for; `None` where a value is bad.
+fn call_of(
+    alloc: Global,
+    matches: &ArgMatches<'_>,
+    clock: Option<Day>,
+) -> Result<Option<Call>, NoCall>
+    ensures run { IfOk result (λ found. IfSome found (IfRun (λ scripted. AreDesks scripted.desks))) }
+    ensures office { IfOk result (λ found. IfSome found (IfOffice AreOffice)) }
+    ensures filter { IfOk result (λ found. IfSome found (IfFilter CanFilter)) }
+{
     if let Some(words) = matches.subcommand_matches("check") {
         let why = words.get_flag("why");
-        return Ok(Call::Check { why });
+        return Ok(Some(Call::Check { why }));
     }
     if let Some(words) = matches.subcommand_matches("office") {
-        return office_of(words).ok_or(NoCall::BadWords);
+        return Ok(office_of(words));
     }
-    if let Some(filter) = filter_of(alloc, &matches)? {
-        return Ok(Call::Filter(filter));
+    if let Some(words) = matches.subcommand_matches("run") {
+        return Ok(run_of(words));
     }
-    match matches.subcommand_matches("run").and_then(scripted_of) {
-        Some(scripted) => Ok(Call::Run(scripted)),
-        None => Err(NoCall::BadWords),
+    match filter_of(alloc, matches, clock)? {
+        Some(filter) => Ok(Some(Call::Filter(filter))),
+        None => Ok(None),
     }
+}
+
+fn run_of(words: &ArgMatches<'_>) -> Option<Call>
+    ensures run { IfSome result (IfRun (λ scripted. AreDesks scripted.desks)) }
+    ensures office { IfSome result (IfOffice AreOffice) }
+    ensures filter { IfSome result (IfFilter CanFilter) }
+{
+    let scripted = scripted_of(words)?;
+    Some(Call::Run(scripted))
 }
 
 fn scripted_of(matches: &ArgMatches<'_>) -> Option<Scripted>
@@ -135,14 +136,14 @@ pub(crate) fn window_of(from: &str, to: &str) -> Option<Window>
 }
 
 /// A decimal number from 1 to 16.
-fn desks_of(text: &str) -> Option<u64>
+pub(crate) fn desks_of(text: &str) -> Option<u64>
     ensures { result ≡ desks_of text.now }
 {
     read_number(text.as_bytes()).filter(|desks| (1..=MAX_DESKS).contains(desks))
 }
 
 /// A decimal number from 1 to 8.
-fn workers_of(text: &str) -> Option<u64>
+pub(crate) fn workers_of(text: &str) -> Option<u64>
     ensures { result ≡ workers_of text.now }
 {
     read_number(text.as_bytes()).filter(|workers| (1..=MAX_WORKERS).contains(workers))

@@ -8,13 +8,12 @@ use Rattle.itip_view.specs.declared.error.ViewError.TheVariants as view
 use Rattle.itip_view.specs.Rows.{AreTooMany}
 use Rattle.itip_view.specs.Showing.{Shows, AreTooManyWhere}
 use Rattle.itip_view.proofs.OfKept.{rows_of_kept, too_many_of_kept, rows_where_of_kept, many_where_of_kept}
-use Rattle.itip_report.specs.Load.{load_lines}
-use Rattle.itip_report.specs.Progress.{progress_lines}
+use Rattle.itip_report.specs.Named.{IsReportOf, IsOfRows}
 use Rattle.itip_report.specs.Organizing.{IsResendOf, IsNext}
-use Rattle.itip_report.specs.declared.report.Report.TheVariants as report
-use Rattle.itip_report.proofs.OfKept.{lines_of_kept, resend_of_kept, next_of_kept}
+use Rattle.itip_report.specs.declared.report_name.ReportName.{ReportName}
+use Rattle.itip_report.proofs.NamedReports.{report_of_kept}
+use Rattle.itip_report.proofs.OfKept.{resend_of_kept, next_of_kept}
 use Rattle.itip_items.specs.declared.item.Item.{Item}
-use Rattle.itip_state.specs.Kept.{AreKept}
 use Rattle.itip_desk.specs.Heard.{heard}
 use Rattle.itip_desk.specs.declared.refusal.Refusal.{Refusal}
 use Rattle.itip_desk.specs.declared.refusal.Refusal.TheVariants as refusal
@@ -27,11 +26,9 @@ use Rattle.itip_world.specs.declared.event.Event.{Event}
 use Rattle.itip_world.specs.declared.event.Outcome.{Outcome}
 use Rattle.itip_world.proofs.Desks.{history_at}
 use Rattle.itip_world.proofs.Packets.{texts_length}
-use Rattle.itip_script.specs.declared.command.ReportName.{ReportName}
-use Rattle.itip_script.specs.declared.command.ReportName.TheVariants as name
 use Rattle.itip_script.specs.Orders.{Order, lists, lists_for, counts, reports, resends, asks_next, malformed}
 use Rattle.itip_world.specs.Running.{Answer, Happens, refused, listed, listed_for, counted, reported, resent, next_is, answer_to, event_of}
-use Rattle.itip_world.specs.Running.{HasTick, AreListed, AreListedFor, TellOfRows, IsReportOf, IsOfRows, Step, Answers}
+use Rattle.itip_world.specs.Running.{HasTick, AreListed, AreListedFor, Step, Answers}
 use Rattle.itip_world.specs.Running.Happens.{is_done, at_no_desk, of_no_packet, spends_ticks}
 use Rattle.itip_world.specs.Running.Step.{happens, lists_rows, lists_too_many, lists_no_desk, lists_rows_for, lists_too_many_for}
 use Rattle.itip_world.specs.Running.Step.{lists_no_desk_for, counts_kept, counts_no_desk, reports_lines, reports_too_many, reports_no_desk}
@@ -42,25 +39,6 @@ same_length [] [] are = refl
 same_length [] (d ∷ ds) are = absurd are
 same_length (h ∷ hs) [] are = absurd are
 same_length (h ∷ hs) (d ∷ ds) are = ap suc (same_length hs ds are.1)
-
--- what is told of the rows of what is kept is told of the rows of all that was heard
-told_of_kept : (tell : List Row → List (List ℕ)) (kept all : List Item) → AreKept kept all → (window : Window) (lines : List (List ℕ)) →
-    TellOfRows tell kept window lines → TellOfRows tell all window lines
-told_of_kept tell kept all are window lines is = record {
-  rows = is.rows;
-  are_rows = rows_of_kept kept all are window is.rows is.are_rows;
-  few = is.few;
-  lines_are = is.lines_are;
-}
-
--- a report over what is kept is the report over all that was heard
-report_of_kept : (kept all : List Item) → AreKept kept all → (window : Window) (named : ReportName) (lines : List (List ℕ)) →
-    IsReportOf named kept window lines → IsReportOf named all window lines
-report_of_kept kept all are window name.Load lines is = told_of_kept load_lines kept all are window lines is
-report_of_kept kept all are window name.Progress lines is = told_of_kept progress_lines kept all are window lines is
-report_of_kept kept all are window name.Cancelled lines is = lines_of_kept kept all are report.Cancelled lines is
-report_of_kept kept all are window name.Orphans lines is = lines_of_kept kept all are report.Orphans lines is
-report_of_kept kept all are window name.Refresh lines is = lines_of_kept kept all are report.Refresh lines is
 
 module _ (window : Window) (world : ShownWorld) where
   -- a step after which all is as it was

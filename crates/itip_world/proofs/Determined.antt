@@ -16,14 +16,12 @@ use Rattle.itip_view.specs.ListText.{list_text}
 use Rattle.itip_view.proofs.OfKept.{row_of_same}
 use Rattle.itip_view.specs.Showing.{Shows, AreRowsWhere, AreTooManyWhere}
 use Rattle.itip_view.proofs.OneList.{one_view, text_or_too_many, one_where, few_or_too_many}
-use Rattle.itip_report.specs.Load.{load_lines}
-use Rattle.itip_report.specs.Progress.{progress_lines}
+use Rattle.itip_report.specs.Named.{IsReportOf, IsOfRows}
 use Rattle.itip_report.specs.Organizing.{IsResendOf, IsNext}
-use Rattle.itip_report.specs.Reports.{AreReportLines}
-use Rattle.itip_report.specs.declared.report.Report.{Report}
-use Rattle.itip_report.specs.declared.report.Report.TheVariants as report
-use Rattle.itip_report.proofs.OfKept.{lines_alike, resend_alike, next_alike}
-use Rattle.itip_report.proofs.OneReport.{one_lines, one_resend, one_next}
+use Rattle.itip_report.specs.declared.report_name.ReportName.{ReportName}
+use Rattle.itip_report.proofs.NamedReports.{report_alike, one_named, named_or_too_many}
+use Rattle.itip_report.proofs.OfKept.{resend_alike, next_alike}
+use Rattle.itip_report.proofs.OneReport.{one_resend, one_next}
 use Rattle.itip_desk.specs.Heard.{heard, TickStep, Ticks, MovedAfter}
 use Rattle.itip_world.specs.Worlds.{History, Past, no_past, Takes, Hears, EventStep, CountsKept}
 use Rattle.itip_world.specs.Worlds.{IsSpent, IsPacketOf, IsBatchOf, desk_of, LacksOnlyPacket}
@@ -38,12 +36,10 @@ use Rattle.itip_world.specs.declared.event.Outcome.TheVariants.{Heard, Posted, R
 use Rattle.itip_desk.proofs.ReadDeltas.{one_order}
 use Rattle.itip_message.specs.declared.error.MessageRefusal.{MessageRefusal}
 use Rattle.itip_message.proofs.OneMessage.{one_message, one_cause, message_apart}
-use Rattle.itip_script.specs.declared.command.ReportName.{ReportName}
-use Rattle.itip_script.specs.declared.command.ReportName.TheVariants as name
 use Rattle.itip_script.specs.Orders.{Order}
 use Rattle.itip_script.specs.Script.{orders_of}
 use Rattle.itip_world.specs.Running.{Answer, refused, listed, listed_for, counted, reported, resent, next_is, answer_text, answer_to}
-use Rattle.itip_world.specs.Running.{event_of, is_refusal, HasTick, AreListed, AreListedFor, TellOfRows, IsReportOf, IsOfRows, Happens}
+use Rattle.itip_world.specs.Running.{event_of, is_refusal, HasTick, AreListed, AreListedFor, Happens}
 use Rattle.itip_world.specs.Running.{Step, Runs, Writes, IsOutput}
 use Rattle.itip_world.specs.Running.Happens.{is_done, at_no_desk, of_no_packet, spends_ticks}
 use Rattle.itip_world.specs.Running.Step.{happens, lists_rows, lists_too_many, lists_no_desk, lists_rows_for, lists_too_many_for}
@@ -124,37 +120,15 @@ module _ (address : List ℕ) (a b : List Item) (window : Window) where
 kept_same : (a b : List Item) → SameItems a b → (item : Item) → IsKept b item ↔ IsKept a item
 kept_same a b same = kept_iff b a (same_back a b same)
 
-told_one : (tell : List Row → List (List ℕ)) (a b : List Item) (window : Window) (lines lines' : List (List ℕ)) → SameItems a b →
-    TellOfRows tell a window lines → TellOfRows tell b window lines'
-    → lines ≡ lines'
-told_one tell a b window lines lines' same is is' =
-    is.lines_are ∙ ap tell (one_view a window is.rows is'.rows is.are_rows (rows_same a b window is'.rows same is'.are_rows)) ∙
-    sym is'.lines_are
-
-lines_one : (a b : List Item) (asked : Report) (lines lines' : List (List ℕ)) → SameItems a b → AreReportLines asked a lines →
-    AreReportLines asked b lines' → lines ≡ lines'
-lines_one a b asked lines lines' same are are' = one_lines a asked lines lines' are (lines_alike b a (kept_same a b same) asked lines' are')
-
 report_one : (a b : List Item) (window : Window) (named : ReportName) (lines lines' : List (List ℕ)) → SameItems a b →
     IsReportOf named a window lines → IsReportOf named b window lines' → lines ≡ lines'
-report_one a b window name.Load lines lines' same is is' = told_one load_lines a b window lines lines' same is is'
-report_one a b window name.Progress lines lines' same is is' = told_one progress_lines a b window lines lines' same is is'
-report_one a b window name.Cancelled lines lines' same is is' = lines_one a b report.Cancelled lines lines' same is is'
-report_one a b window name.Orphans lines lines' same is is' = lines_one a b report.Orphans lines lines' same is is'
-report_one a b window name.Refresh lines lines' same is is' = lines_one a b report.Refresh lines lines' same is is'
-
-told_or_too_many : (tell : List Row → List (List ℕ)) (a b : List Item) (window : Window) (lines : List (List ℕ)) → SameItems a b →
-    TellOfRows tell a window lines → AreTooMany b window → ⊥
-told_or_too_many tell a b window lines same is many =
-    rows_or_too_many a b window is.rows same (record { are_rows = is.are_rows; few = is.few }) many
+report_one a b window named lines lines' same is is' =
+    one_named a window named lines lines' is (report_alike b a (kept_same a b same) window named lines' is')
 
 report_or_too_many : (named : ReportName) → IsOfRows named → (a b : List Item) (window : Window) (lines : List (List ℕ)) → SameItems a b →
     IsReportOf named a window lines → AreTooMany b window → ⊥
-report_or_too_many name.Load of_rows = told_or_too_many load_lines
-report_or_too_many name.Progress of_rows = told_or_too_many progress_lines
-report_or_too_many name.Cancelled of_rows = absurd of_rows
-report_or_too_many name.Orphans of_rows = absurd of_rows
-report_or_too_many name.Refresh of_rows = absurd of_rows
+report_or_too_many named of_rows a b window lines same is =
+    named_or_too_many b window named of_rows lines (report_alike a b (kept_iff a b same) window named lines is)
 
 resend_one : (a b : List Item) (uid : List ℕ) (bytes bytes' : Option (List ℕ)) → SameItems a b → IsResendOf a uid bytes →
     IsResendOf b uid bytes' → bytes ≡ bytes'

@@ -2,8 +2,8 @@
 use Rattle.std.specs.Prelude.{ℕ, List, [], ◌∷◌, ◌++◌, length, codes, Option, Some, None}
 use Rattle.std.specs.Fmt.{decimal}
 use Rattle.std.specs.List.{flat_map}
-use Rattle.itip_script.specs.Spelling.{name_text}
-use Rattle.itip_script.specs.declared.command.ReportName.{ReportName}
+use Rattle.itip_report.specs.ReportNames.{name_text}
+use Rattle.itip_report.specs.declared.report_name.ReportName.{ReportName}
 
 -- the tick after a message was taken, and how many UIDs it changed
 abbrev pub taken_text : ℕ → ℕ → ℕ → List ℕ

@@ -20,15 +20,11 @@ use Rattle.itip_world.specs.declared.event.Event.{Event}
 use Rattle.itip_world.specs.declared.event.Event.TheVariants.{Deliver, Post, Arrive}
 use Rattle.itip_world.specs.declared.event.Outcome.{Outcome}
 use Rattle.itip_world.specs.declared.event.Outcome.TheVariants.{Heard, Posted, Refused}
-use Rattle.itip_report.specs.Load.{load_lines}
-use Rattle.itip_report.specs.Progress.{progress_lines}
+use Rattle.itip_report.specs.Named.{IsReportOf, IsOfRows}
 use Rattle.itip_report.specs.Organizing.{IsResendOf, IsNext}
-use Rattle.itip_report.specs.Reports.{AreReportLines}
-use Rattle.itip_report.specs.declared.report.Report.TheVariants as report
+use Rattle.itip_report.specs.declared.report_name.ReportName.{ReportName}
 use Rattle.itip_world.specs.declared.answer.Answer.{Answer as Given}
 use Rattle.itip_world.specs.declared.answer.Answer.TheVariants as given
-use Rattle.itip_script.specs.declared.command.ReportName.{ReportName}
-use Rattle.itip_script.specs.declared.command.ReportName.TheVariants as name
 use Rattle.itip_script.specs.Orders.{Order, takes, lists, lists_for, posts, arrives, reports, resends, asks_next, counts, malformed}
 use Rattle.itip_world.specs.AnswerTexts.{taken_text, posted_text, arrived_text, counted_text, reported_text, resent_text, next_text}
 use Rattle.itip_script.specs.Script.{orders_of}
@@ -146,29 +142,6 @@ pub record AreListed (heard : List Item) (window : Window) (rows : List Row) : T
 pub record AreListedFor (address : List ℕ) (heard : List Item) (window : Window) (rows : List Row) : Type 0 where
   pub are_rows : AreRowsWhere (Shows address) heard window rows
   pub few : length rows ≤ row_limit
-
--- The lines tell of the rows of the window, of which there are no more than the limit.
-pub record TellOfRows (tell : List Row → List (List ℕ)) (heard : List Item) (window : Window) (lines : List (List ℕ)) : Type 0 where
-  pub rows : List Row
-  pub are_rows : AreRows heard window rows
-  pub few : length rows ≤ row_limit
-  pub lines_are : lines ≡ tell rows
-
--- the lines of a report over what was heard
-abbrev pub IsReportOf : ReportName → List Item → Window → List (List ℕ) → Type 0
-IsReportOf name.Load all window lines = TellOfRows load_lines all window lines
-IsReportOf name.Progress all window lines = TellOfRows progress_lines all window lines
-IsReportOf name.Cancelled all window lines = AreReportLines report.Cancelled all lines
-IsReportOf name.Orphans all window lines = AreReportLines report.Orphans all lines
-IsReportOf name.Refresh all window lines = AreReportLines report.Refresh all lines
-
--- the reports that tell of the rows of the window
-abbrev pub IsOfRows : ReportName → Type 0
-IsOfRows name.Load = Unit {0}
-IsOfRows name.Progress = Unit {0}
-IsOfRows name.Cancelled = ⊥
-IsOfRows name.Orphans = ⊥
-IsOfRows name.Refresh = ⊥
 
 -- What is answered where an event is asked of a world, and what happened then.
 pub data Happens (old : Past) (event : Event) : Answer → Past → Type 0 where

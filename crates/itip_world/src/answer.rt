@@ -3,7 +3,7 @@ ghost use Rattle.std.specs.Prelude.{◌≡◌};
 ghost use Rattle.itip_world.specs.Running.{answer_of, is_refusal, refusal_of};
 
 use itip_desk::Refusal;
-use itip_script::ReportName;
+use itip_report::ReportName;
 use itip_view::Row;
 
 /// The tick of a desk after it has heard something, and how many UIDs moved.

@@ -4,15 +4,15 @@ ghost use Rattle.std.specs.Option.{option_map};
 ghost use Rattle.std.specs.String.{string_bytes};
 ghost use Rattle.itip_view.specs.Rows.{AreTooMany};
 ghost use Rattle.itip_view.specs.Showing.{Shows, AreTooManyWhere};
+ghost use Rattle.itip_report.specs.Named.{IsReportOf, IsOfRows, HasRowsFor};
 ghost use Rattle.itip_report.specs.Organizing.{IsResendOf, IsNext};
 ghost use Rattle.itip_script.specs.Orders.{lists, lists_for, counts, reports, resends, asks_next};
-ghost use Rattle.itip_world.specs.Running.{Answers, answer_of, AreListedFor, IsReportOf, IsOfRows};
+ghost use Rattle.itip_world.specs.Running.{Answers, answer_of, AreListedFor};
 
 use crate::answer::Answer;
 use crate::asked::Desks;
 use itip_desk::{Desk, Refusal};
-use itip_report::{cancelled, load_by_attendee, next_seq, orphans, progress, refresh_wanted};
-use itip_script::ReportName;
+use itip_report::{ReportName, next_seq};
 use itip_state::State;
 use itip_streams::StreamFault;
 use itip_todo::Uid;
@@ -122,6 +122,7 @@ fn no_rows(error: ViewError) -> Result<Answer, StreamFault>
     }
 }
 
+/// The lines of a report of a desk.
 fn report_lines(
     alloc: Global,
     desk: &Desk,
@@ -132,18 +133,25 @@ fn report_lines(
     ensures of_rows { IsErrOf result ViewError.TooManyRows → IsOfRows name }
     ensures many { IsErrOf result ViewError.TooManyRows → AreTooMany desk.now.kept window }
 {
-    match name {
-        ReportName::Load => {
-            let rows = desk.rows(window)?;
-            Ok(load_by_attendee(alloc, &rows)?)
-        }
-        ReportName::Progress => {
-            let rows = desk.rows(window)?;
-            Ok(progress(alloc, &rows)?)
-        }
-        ReportName::Cancelled => Ok(cancelled(alloc, desk.state())?),
-        ReportName::Orphans => Ok(orphans(alloc, desk.state())?),
-        ReportName::Refresh => Ok(refresh_wanted(alloc, desk.state())?),
+    let rows = report_rows(alloc, desk, window, name)?;
+    Ok(itip_report::report_lines(alloc, desk.state(), name, &rows)?)
+}
+
+/// The rows of a desk that a report tells of: none where it tells of no rows.
+fn report_rows(
+    alloc: Global,
+    desk: &Desk,
+    window: Window,
+    name: ReportName,
+) -> Result<Vec<Row>, ViewError>
+    ensures rows { IfOk result (λ rows. HasRowsFor name desk.now.kept window rows.items) }
+    ensures of_rows { IsErrOf result ViewError.TooManyRows → IsOfRows name }
+    ensures many { IsErrOf result ViewError.TooManyRows → AreTooMany desk.now.kept window }
+{
+    if name.is_of_rows() {
+        desk.rows(window)
+    } else {
+        Ok(Vec::new(alloc))
     }
 }
 

@@ -6,11 +6,10 @@ ghost use Rattle.std.specs.String.{string_bytes};
 ghost use Rattle.itip_world.specs.AnswerTexts.{taken_text, posted_text, arrived_text, counted_text};
 ghost use Rattle.itip_world.specs.AnswerTexts.{reported_text, resent_text, next_text, ended};
 ghost use Rattle.itip_world.specs.Running.{answer_of, answer_text};
-ghost use Rattle.itip_script.specs.Spelling.{name_text};
 
 use crate::answer::{Answer, Heard};
 use itip_desk::{write_headed, write_listed};
-use itip_script::ReportName;
+use itip_report::ReportName;
 use std::alloc::AllocError;
 
 impl Answer {
@@ -83,7 +82,7 @@ fn append_reported(
 ) -> Result<(), AllocError>
     ensures { OnOk result (output.new.items ≡ output.old.items ++ reported_text desk name (map string_bytes lines.now)) }
 {
-    let named = name_text(name);
+    let named = name.as_str();
     let count = lines.len();
     let head = format!(in *output.allocator(); "report {desk} {named} {count}\n")?;
     output.extend_from_slice(head.as_bytes())?;
@@ -98,18 +97,6 @@ fn append_lines(output: &mut Vec<u8>, lines: &[String]) -> Result<(), AllocError
         output.push(b'\n')?;
     }
     Ok(())
-}
-
-fn name_text(name: ReportName) -> &'static str
-    ensures { result.now ≡ name_text name }
-{
-    match name {
-        ReportName::Load => "load",
-        ReportName::Progress => "progress",
-        ReportName::Cancelled => "cancelled",
-        ReportName::Orphans => "orphans",
-        ReportName::Refresh => "refresh",
-    }
 }
 
 /// Appends the messages that a desk sends again, after the line that says how many octets they have, or that there are none.

@@ -1,6 +1,6 @@
-use Rattle.std.proofs.Common.{◌≡◌, ◌∙◌, sym, ap, subst, Bool, ◌||◌, List, ℕ, Bor}
-use Rattle.std.specs.Option.{option_map}
+use Rattle.std.proofs.Common.{◌≡◌, ◌∙◌, sym, ap, subst, Bool, ◌||◌, List, ℕ}
 use Rattle.std.specs.Io.KnownBytes.{Appends}
+use Rattle.itip_view.specs.Wanting.{Wants}
 use Rattle.itip_streams.specs.Written.{AppendsFront}
 use Rattle.itip_inbox.specs.Inbox.{is_some_refused}
 use Rattle.itip_inbox.proofs.Outputs.{on_err, list_written, list_front, list_unread}
@@ -9,27 +9,31 @@ use Rattle.itip_inbox.proofs.tasks.list.Goals.{then-is_refused, else-is_refused}
 
 pub returns-in_err-inbox-clause-front : goal.returns-in_err-inbox-clause-front
 returns-in_err-inbox-clause-front g c =
-    on_err c.from_residual.result (list_unread (g.W.Write.contents c.args.writer.now) (g.R.Read.remaining c.args.reader.now) c.args.window
-    (option_map (λ (a : Bor (List ℕ)). a.now) c.args.attendee))
+    on_err c.from_residual.result
+    (list_unread g.R.Read.remaining c.args.sources.items (g.W.Write.contents c.args.writer.now) (Wants c.args.wanted.now) c.args.window)
 
 pub returns-in_err-listed-clause-front : goal.returns-in_err-listed-clause-front
 returns-in_err-listed-clause-front g c =
     on_err c.from_residual-in_err-listed.result
-    (list_unread (g.W.Write.contents c.args.writer.now) (g.R.Read.remaining c.args.reader.now) c.args.window
-    (option_map (λ (a : Bor (List ℕ)). a.now) c.args.attendee))
+    (list_unread g.R.Read.remaining c.args.sources.items (g.W.Write.contents c.args.writer.now) (Wants c.args.wanted.now) c.args.window)
+
+pub returns-in_err-tell_most-clause-front : goal.returns-in_err-tell_most-clause-front
+returns-in_err-tell_most-clause-front g c =
+    on_err c.from_residual-in_err-tell_most.result
+    (list_unread g.R.Read.remaining c.args.sources.items (g.W.Write.contents c.args.writer.now) (Wants c.args.wanted.now) c.args.window)
 
 pub returns-in_err-write_output-clause-front : goal.returns-in_err-write_output-clause-front
 returns-in_err-write_output-clause-front g c =
     on_err c.from_residual-in_err-write_output.result
-    (list_front (g.W.Write.contents c.args.writer.now) (g.W.Write.contents c.write_output.new.writer)
-    (g.R.Read.remaining c.args.reader.now) c.in_ok-inbox.inbox.state c.in_ok-inbox.inbox.refusals.items c.in_ok-inbox.inbox.messages
-    c.args.window (option_map (λ (a : Bor (List ℕ)). a.now) c.args.attendee) c.in_ok-listed.listed.text.items
-    c.in_ok-listed.listed.is_refusal c.in_ok-inbox.ensures.holds c.in_ok-listed.ensures.text
+    (list_front g.R.Read.remaining c.args.sources.items (g.W.Write.contents c.args.writer.now)
+    (g.W.Write.contents c.write_output.new.writer) c.in_ok-inbox.inbox.state c.in_ok-inbox.inbox.refusals.items
+    c.in_ok-inbox.ensures.holds (Wants c.args.wanted.now) c.args.window c.in_ok-listed.listed.text.items
+    c.in_ok-listed.listed.is_refusal c.in_ok-listed.ensures.text
     (subst (λ (t : List ℕ). AppendsFront (g.W.Write.contents c.args.writer.now) (g.W.Write.contents c.write_output.new.writer) t)
     c.as_slice-2.ensures.value c.in_err-write_output.ensures.front))
 
 pub returns-clause-output : goal.returns-clause-output
-returns-clause-output g c =
+returns-clause-output g c = λ inputs are.
     let refused : c.tell-is_refused.result ≡ is_some_refused c.in_ok-inbox.inbox.refusals.items = c.tell-is_refused.ensures ∙
     ap is_some_refused c.as_slice.ensures.value in
     let one : c.if-is_refused.result ≡ (c.tell-is_refused.result || c.in_ok-listed.listed.is_refusal) =
@@ -38,10 +42,9 @@ returns-clause-output g c =
           ap (λ (b : Bool). b || c.in_ok-listed.listed.is_refusal) (sym w.if-is_refused.true)
       | else-is_refused w ↦ w.result-is ∙ ap (λ (b : Bool). b || c.in_ok-listed.listed.is_refusal) (sym w.if-is_refused.false)
     ] in
-    list_written (g.W.Write.contents c.args.writer.now) (g.W.Write.contents c.write_output.new.writer)
-    (g.R.Read.remaining c.args.reader.now) c.in_ok-inbox.inbox.state c.in_ok-inbox.inbox.refusals.items c.in_ok-inbox.inbox.messages
-    c.args.window (option_map (λ (a : Bor (List ℕ)). a.now) c.args.attendee) c.in_ok-listed.listed.text.items
-    c.in_ok-listed.listed.is_refusal c.if-is_refused.result c.in_ok-inbox.ensures.holds c.in_ok-listed.ensures.text
+    list_written (Wants c.args.wanted.now) (g.W.Write.contents c.args.writer.now) (g.W.Write.contents c.write_output.new.writer) inputs
+    c.in_ok-inbox.inbox.state c.in_ok-inbox.inbox.refusals.items c.args.window c.in_ok-listed.listed.text.items
+    c.in_ok-listed.listed.is_refusal c.if-is_refused.result (c.in_ok-inbox.ensures.holds inputs are) c.in_ok-listed.ensures.text
     (subst (λ (t : List ℕ). Appends (g.W.Write.contents c.args.writer.now) (g.W.Write.contents c.write_output.new.writer) t)
     c.as_slice-2.ensures.value c.in_ok-write_output.ensures.all)
     (one ∙ ap (λ (b : Bool). b || c.in_ok-listed.listed.is_refusal) refused)

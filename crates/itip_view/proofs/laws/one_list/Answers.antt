@@ -1,6 +1,9 @@
-use Rattle.itip_view.proofs.OneList.{one_view, one_list_text, text_or_too_many, one_where, one_text_for, text_for_or_too_many}
+use Rattle.itip_view.proofs.Leading.{one_most}
+use Rattle.itip_view.proofs.OneList.{one_view, one_list_text, text_or_too_many, one_where, few_or_too_many, one_text_for}
+use Rattle.itip_view.proofs.OneList.{text_for_or_too_many}
 use Rattle.itip_view.proofs.OneRow.{one_row, tied_rows}
 use Rattle.itip_view.specs.Showing.{Shows}
+use Rattle.itip_view.specs.Wanting.{Wants}
 use Rattle.itip_view.proofs.laws.one_list.Goals as goal
 
 pub returns-clause-row : goal.returns-clause-row
@@ -26,3 +29,12 @@ returns-clause-text_for c heard window address = one_text_for address heard wind
 
 pub returns-clause-apart_for : goal.returns-clause-apart_for
 returns-clause-apart_for c heard window address = text_for_or_too_many address heard window
+
+pub returns-clause-rows_where : goal.returns-clause-rows_where
+returns-clause-rows_where c heard window wanted = one_where (Wants wanted) heard window
+
+pub returns-clause-apart_where : goal.returns-clause-apart_where
+returns-clause-apart_where c heard window wanted = few_or_too_many (Wants wanted) heard window
+
+pub returns-clause-most : goal.returns-clause-most
+returns-clause-most c heard window wanted = one_most (Wants wanted) heard window

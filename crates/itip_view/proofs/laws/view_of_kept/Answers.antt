@@ -1,7 +1,10 @@
 use Rattle.itip_state.proofs.Keeping.{kept_again}
 use Rattle.itip_view.proofs.Alike.{alike_back}
-use Rattle.itip_view.proofs.OfKept.{row_of_same, rows_of_kept, text_of_kept, too_many_of_kept, many_where_of_kept, text_for_of_kept}
+use Rattle.itip_view.proofs.Leading.{most_of_kept}
+use Rattle.itip_view.proofs.OfKept.{row_of_same, rows_of_kept, text_of_kept, too_many_of_kept, rows_where_of_kept, many_where_of_kept}
+use Rattle.itip_view.proofs.OfKept.{text_for_of_kept}
 use Rattle.itip_view.specs.Showing.{Shows}
+use Rattle.itip_view.specs.Wanting.{Wants}
 use Rattle.itip_view.proofs.laws.view_of_kept.Goals as goal
 
 pub returns-clause-row : goal.returns-clause-row
@@ -23,3 +26,12 @@ returns-clause-text_for c window address text kept heard are = text_for_of_kept 
 
 pub returns-clause-many_for : goal.returns-clause-many_for
 returns-clause-many_for c window address kept heard are = many_where_of_kept (Shows address) kept heard are window
+
+pub returns-clause-rows_where : goal.returns-clause-rows_where
+returns-clause-rows_where c window wanted rows kept heard are = rows_where_of_kept (Wants wanted) kept heard are window rows
+
+pub returns-clause-many_where : goal.returns-clause-many_where
+returns-clause-many_where c window wanted kept heard are = many_where_of_kept (Wants wanted) kept heard are window
+
+pub returns-clause-most : goal.returns-clause-most
+returns-clause-most c window wanted most kept heard are = most_of_kept (Wants wanted) window kept heard are most

@@ -1,0 +1,90 @@
+-- Inputs that tell the same items have the same compaction, task lists and reports.
+use Rattle.std.proofs.Common.{◌≡◌, ◌↔◌, sym, ℕ, Bool, List, inl, inr}
+use Rattle.itip_items.specs.declared.item.Item.{Item}
+use Rattle.itip_state.specs.Kept.{SameItems}
+use Rattle.itip_state.proofs.Keeping.{kept_iff}
+use Rattle.itip_view.specs.Rows.{IsRow, AreTooMany}
+use Rattle.itip_view.specs.declared.row.Row.{Row}
+use Rattle.itip_view.specs.declared.window.Window.{Window}
+use Rattle.itip_view.proofs.Alike.{KeepAlike, alike_back}
+use Rattle.itip_view.proofs.OfKept.{row_of_same}
+use Rattle.itip_view.proofs.SameAsked.{rows_same, many_same}
+use Rattle.itip_report.specs.declared.report_name.ReportName.{ReportName}
+use Rattle.itip_report.proofs.NamedReports.{report_alike}
+use Rattle.itip_inbox.specs.declared.refused.RefusedMessage.{RefusedMessage}
+use Rattle.itip_inbox.specs.Inbox.{IsInbox}
+use Rattle.itip_inbox.specs.Compaction.{IsCompaction, TellSameItems}
+use Rattle.itip_inbox.specs.Reports.{IsReported, IsReport}
+use Rattle.itip_inbox.specs.TaskList.{IsListed, IsTaskList}
+use Rattle.itip_inbox.proofs.Outputs.{listed_once}
+use Rattle.itip_inbox.proofs.Parts.{octets_of_same}
+use Rattle.itip_inbox.proofs.Reporting.{reported_once}
+use Rattle.itip_inbox.proofs.Telling.{heard_told}
+
+module _ (inputs others : List (List ℕ)) (same : TellSameItems inputs others) where
+  same_heard : (heard more : List Item) (refusals noted : List RefusedMessage) → IsInbox inputs heard refusals →
+      IsInbox others more noted → SameItems heard more
+  same_heard heard more refusals noted a b item = (
+    λ h. (heard_told others more noted b item).1 ((same item).0 ((heard_told inputs heard refusals a item).0 h)),
+    λ h. (heard_told inputs heard refusals a item).1 ((same item).1 ((heard_told others more noted b item).0 h)),
+  )
+
+  pub same_compaction : (octets again : List ℕ) (refused other : Bool) → IsCompaction inputs octets refused →
+      IsCompaction others again other → again ≡ octets
+  same_compaction octets again refused other a b =
+      let are : SameItems a.heard b.heard = same_heard a.heard b.heard a.refusals b.refusals a.inbox b.inbox in
+      sym (octets_of_same a.heard b.heard octets again (kept_iff a.heard b.heard are) a.kept b.kept)
+
+-- ---- sets that keep the same
+
+module _ (x y : List Item) (same : KeepAlike x y) (window : Window) where
+  many_alike : AreTooMany x window → AreTooMany y window
+  many_alike over = record {
+    some = over.some;
+    ascend = over.ascend;
+    each = λ row h. row_of_same x y same window row (over.each row h);
+    many = over.many;
+  }
+
+  reported_alike : (name : ReportName) (text : List ℕ) (refusal : Bool) → IsReported name x window text refusal →
+      IsReported name y window text refusal
+  reported_alike name text refusal (inl is) = inl (
+    record { lines = is.0.lines; are_lines = report_alike x y same window name is.0.lines is.0.are_lines; text_is = is.0.text_is },
+    is.1,
+  )
+  reported_alike name text refusal (inr is) = inr (is.0, many_alike is.1, is.2, is.3)
+
+  module _ (P : Row → Type 0) where
+    asked_alike : (row : Row) → (IsRow x window row × P row) ↔ (IsRow y window row × P row)
+    asked_alike row = (
+      λ h. (row_of_same x y same window row h.0, h.1),
+      λ h. (row_of_same y x (alike_back x y same) window row h.0, h.1),
+    )
+
+    listed_alike : (text : List ℕ) (refusal : Bool) → IsListed P x window text refusal → IsListed P y window text refusal
+    listed_alike text refusal (inl is) = inl (
+      record {
+        rows = is.0.rows;
+        are_rows = rows_same P P x y window asked_alike is.0.rows is.0.are_rows;
+        few = is.0.few;
+        text_is = is.0.text_is;
+      },
+      is.1,
+    )
+    listed_alike text refusal (inr is) = inr (many_same P P x y window asked_alike is.0, is.1, is.2)
+
+-- ---- lists and reports
+
+module _ (inputs others : List (List ℕ)) (same : TellSameItems inputs others) (window : Window) (text again : List ℕ)
+    (refused other : Bool) where
+  pub same_list : (P : Row → Type 0) → IsTaskList P inputs window text refused → IsTaskList P others window again other → again ≡ text
+  same_list P a b =
+      let are : SameItems a.heard b.heard = same_heard inputs others same a.heard b.heard a.refusals b.refusals a.inbox b.inbox in
+      sym (listed_once P b.heard window text again a.refusal b.refusal
+      (listed_alike a.heard b.heard (kept_iff a.heard b.heard are) window P text a.refusal a.listed) b.listed)
+
+  pub same_report : (name : ReportName) → IsReport name inputs window text refused → IsReport name others window again other → again ≡ text
+  same_report name a b =
+      let are : SameItems a.heard b.heard = same_heard inputs others same a.heard b.heard a.refusals b.refusals a.inbox b.inbox in
+      sym (reported_once name b.heard window text again a.refusal b.refusal
+      (reported_alike a.heard b.heard (kept_iff a.heard b.heard are) window name text a.refusal a.reported) b.reported)

@@ -1,0 +1,36 @@
+-- A report over some inputs (our own format).
+use Rattle.std.specs.Prelude.{◌≡◌, ◌⊎◌, ℕ, Bool, true, false, ◌||◌, List, [], ◌∷◌, ◌++◌}
+use Rattle.std.specs.List.{flat_map}
+use Rattle.itip_items.specs.declared.item.Item.{Item}
+use Rattle.itip_view.specs.Rows.{AreTooMany}
+use Rattle.itip_view.specs.declared.window.Window.{Window}
+use Rattle.itip_report.specs.Named.{IsReportOf, IsOfRows}
+use Rattle.itip_report.specs.declared.report_name.ReportName.{ReportName}
+use Rattle.itip_desk.specs.Refusals.{refused_text}
+use Rattle.itip_inbox.specs.Inbox.{IsInbox, is_some_refused}
+use Rattle.itip_inbox.specs.declared.refused.RefusedMessage.{RefusedMessage}
+
+-- a line with its end
+abbrev pub ended : List ℕ → List ℕ
+ended line = line ++ 10 ∷ []
+
+-- the lines of a report over what was heard, each with its end
+pub record IsReportText (name : ReportName) (heard : List Item) (window : Window) (text : List ℕ) : Type 0 where
+  pub lines : List (List ℕ)
+  pub are_lines : IsReportOf name heard window lines
+  pub text_is : text ≡ flat_map ended lines
+
+-- The text of the report; or `refused 31`, which is a refusal, where it tells of the rows of the window and these are too many.
+abbrev pub IsReported : ReportName → List Item → Window → List ℕ → Bool → Type 0
+IsReported name heard window text refusal =
+    (IsReportText name heard window text × (refusal ≡ false))
+    ⊎ (IsOfRows name × AreTooMany heard window × (text ≡ refused_text 31) × (refusal ≡ true))
+
+-- The report over all messages of some inputs that are not refused, and whether a message or the report is.
+pub record IsReport (name : ReportName) (inputs : List (List ℕ)) (window : Window) (text : List ℕ) (refused : Bool) : Type 0 where
+  pub heard : List Item
+  pub refusals : List RefusedMessage
+  pub inbox : IsInbox inputs heard refusals
+  pub refusal : Bool
+  pub reported : IsReported name heard window text refusal
+  pub refused_is : refused ≡ (is_some_refused refusals || refusal)

@@ -1,0 +1,34 @@
+//! The lines of a report, by its name.
+ghost use Rattle.std.specs.Prelude.{IfOk, map};
+ghost use Rattle.std.specs.String.{string_bytes};
+ghost use Rattle.itip_view.specs.declared.window.Window.{Window};
+ghost use Rattle.itip_report.specs.Named.{HasRowsFor, IsReportOf};
+
+use crate::NoMemory;
+use crate::lines::{cancelled, orphans, refresh_wanted};
+use crate::load::load_by_attendee;
+use crate::report_name::ReportName;
+use crate::row_progress::progress;
+use itip_state::State;
+use itip_view::Row;
+use std::alloc::Global;
+
+/// The lines of a report over the kept items of a state. Where it tells of rows, `rows` are those of the state in a window, at most
+/// 100,000, and the report is that of the window; other reports don't look at them.
+pub fn report_lines(
+    alloc: Global,
+    state: &State,
+    name: ReportName,
+    rows: &[Row],
+) -> Result<Vec<String>, NoMemory>
+    ensures { IfOk result (λ lines. (window : Window) → HasRowsFor name state.now window rows.now
+        → IsReportOf name state.now window (map string_bytes lines.items)) }
+{
+    match name {
+        ReportName::Load => load_by_attendee(alloc, rows),
+        ReportName::Progress => progress(alloc, rows),
+        ReportName::Cancelled => cancelled(alloc, state),
+        ReportName::Orphans => orphans(alloc, state),
+        ReportName::Refresh => refresh_wanted(alloc, state),
+    }
+}

@@ -1,0 +1,61 @@
+-- Whether a row is asked for, as a test (our own form).
+use Rattle.std.specs.Prelude.{ℕ, ℤ, Bool, true, false, ◌&&◌, not, List, Option, Some, None, int_lt}
+use Rattle.std.specs.List.{list_any}
+use Rattle.std.specs.Option.{option_copied}
+use Rattle.itip_moment.specs.Moment.{moment_day}
+use Rattle.itip_moment.specs.declared.moment.Moment.{Moment}
+use Rattle.itip_todo.specs.Participation.{same_text}
+use Rattle.itip_todo.specs.Table.{attendee_key}
+use Rattle.itip_todo.specs.declared.attendee.PartStat.{PartStat}
+use Rattle.itip_todo.specs.declared.attendee.PartStat.TheVariants as part
+use Rattle.itip_todo.specs.declared.status.Status.{Status}
+use Rattle.itip_todo.specs.declared.status.Status.TheVariants as status
+use Rattle.itip_view.specs.declared.row.Row.{Row}
+use Rattle.itip_view.specs.declared.row.ShownAttendee.{ShownAttendee}
+use Rattle.itip_view.specs.declared.wanted.Wanted.{Wanted}
+
+-- the address of the attendee has the key of this address
+abbrev pub is_named : List ℕ → ShownAttendee → Bool
+is_named address attendee = same_text (attendee_key attendee.address) (attendee_key address)
+
+-- an attendee with this PARTSTAT has nothing left to do
+abbrev pub is_done : PartStat → Bool
+is_done part.NeedsAction = false
+is_done part.Accepted = false
+is_done part.Declined = true
+is_done part.Tentative = false
+is_done part.Delegated = true
+is_done part.Completed = true
+is_done part.InProcess = false
+
+-- the attendee of an address; where only open rows are asked for, with something left to do
+abbrev pub is_asked : Bool → List ℕ → ShownAttendee → Bool
+is_asked only address attendee = is_named address attendee && not (only && is_done attendee.partstat)
+
+-- one of these is the attendee who is named; where none is, any will do
+abbrev pub shows_named : Bool → Option (List ℕ) → List ShownAttendee → Bool
+shows_named only None attendees = true
+shows_named only (Some address) attendees = list_any (is_asked only address) attendees
+
+-- a to-do of this STATUS is done or cancelled
+abbrev pub is_closed : Status → Bool
+is_closed status.NeedsAction = false
+is_closed status.Completed = true
+is_closed status.InProcess = false
+is_closed status.Cancelled = true
+
+-- without STATUS it is open
+abbrev pub is_over : Option Status → Bool
+is_over None = false
+is_over (Some s) = is_closed s
+
+-- DUE is before the day that is named, where one is
+abbrev pub is_due_before : Option ℤ → Option Moment → Bool
+is_due_before None due = true
+is_due_before (Some day) None = false
+is_due_before (Some day) (Some due) = int_lt (moment_day due) day
+
+abbrev pub wants : Wanted → Row → Bool
+wants wanted row =
+    shows_named wanted.is_open (option_copied wanted.attendee) row.attendees && is_due_before wanted.due_before row.due &&
+    not (wanted.is_open && is_over row.status)

@@ -1,0 +1,127 @@
+//! Which rows are asked for.
+ghost use Rattle.std.specs.Prelude.{◌≡◌, ◌↔◌};
+ghost use Rattle.std.specs.List.{list_any};
+ghost use Rattle.std.specs.Option.{option_copied, option_map};
+ghost use Rattle.itip_view.specs.Showing.{ShowsNamed};
+ghost use Rattle.itip_view.specs.Wanted.{is_named, is_done, is_asked, shows_named, is_closed, is_over, is_due_before, wants};
+ghost use Rattle.itip_view.specs.Wanting.{Wants};
+ghost use Rattle.itip_view.specs.declared.row.Row.{Row};
+
+use crate::row::{Row, ShownAttendee};
+use itip_moment::Moment;
+use itip_todo::{PartStat, Status};
+
+/// Which rows are asked for: those that meet everything that is named here.
+#[derive(Clone, Copy, Debug, Drop)]
+pub struct Wanted<'a> {
+    /// The address of an attendee whom the row shows, compared with ASCII letters in lower case.
+    pub attendee: Option<&'a str>,
+    /// Whether only open rows are asked for: those whose STATUS is neither COMPLETED nor CANCELLED, and that show the attendee,
+    /// where one is named, with a PARTSTAT that is none of COMPLETED, DECLINED and DELEGATED.
+    pub is_open: bool,
+    /// A day, counted from 1970-01-01, that the row is due before: it has a DUE, whose day as written is before this one.
+    pub due_before: Option<i32>,
+}
+
+impl<'a> Wanted<'a> {
+    /// All rows.
+    pub fn all() -> Wanted<'a>
+        ensures { (row : Row) → Wants result row }
+    {
+        Wanted {
+            attendee: None,
+            is_open: false,
+            due_before: None,
+        }
+    }
+
+    /// The rows that show the attendee of an address; all rows where there is none.
+    pub fn showing(attendee: Option<&'a str>) -> Wanted<'a>
+        ensures { (row : Row) → Wants result row ↔ ShowsNamed (option_map (λ a. a.now) attendee.entry) row }
+    {
+        Wanted {
+            attendee,
+            is_open: false,
+            due_before: None,
+        }
+    }
+
+    /// Whether a row is asked for. It takes no memory.
+    pub(crate) fn has(&self, row: &Row) -> bool
+        ensures { result ≡ wants self.now row.now }
+    {
+        shows_named(row.attendees.as_slice(), self.attendee, self.is_open)
+            && is_due_before(&row.due, self.due_before)
+            && !(self.is_open && is_over(row.status))
+    }
+}
+
+/// Whether one of these is the attendee who is named, where one is; where only open rows are asked for, with something left to do.
+fn shows_named(attendees: &[ShownAttendee], named: Option<&str>, is_open: bool) -> bool
+    ensures { result ≡ shows_named is_open (option_copied named.entry) attendees.now }
+{
+    match named {
+        Some(address) => shows(attendees, address, is_open),
+        None => true,
+    }
+}
+
+fn shows(attendees: &[ShownAttendee], address: &str, is_open: bool) -> bool
+    ensures { result ≡ list_any (is_asked is_open address.now) attendees.now }
+{
+    attendees
+        .iter()
+        .any(|attendee| is_asked(attendee, address, is_open))
+}
+
+fn is_asked(attendee: &ShownAttendee, address: &str, is_open: bool) -> bool
+    ensures { result ≡ is_asked is_open address.now attendee.now }
+{
+    is_named(attendee, address) && !(is_open && is_done(attendee.partstat))
+}
+
+/// Whether an attendee is that of an address.
+fn is_named(attendee: &ShownAttendee, address: &str) -> bool
+    ensures { result ≡ is_named address.now attendee.now }
+{
+    attendee.address.as_str().eq_ignore_ascii_case(address)
+}
+
+/// Whether an attendee with this PARTSTAT has nothing left to do.
+fn is_done(partstat: PartStat) -> bool
+    ensures { result ≡ is_done partstat }
+{
+    matches!(
+        partstat,
+        PartStat::Completed | PartStat::Declined | PartStat::Delegated
+    )
+}
+
+/// Whether a row with this STATUS is done or cancelled.
+fn is_over(status: Option<Status>) -> bool
+    ensures { result ≡ is_over status }
+{
+    match status {
+        Some(status) => is_closed(status),
+        None => false,
+    }
+}
+
+fn is_closed(status: Status) -> bool
+    ensures { result ≡ is_closed status }
+{
+    matches!(status, Status::Completed | Status::Cancelled)
+}
+
+/// Whether DUE is before the day that is named, where one is.
+fn is_due_before(due: &Option<Moment>, day: Option<i32>) -> bool
+    ensures { result ≡ is_due_before day due.now }
+{
+    let Some(day) = day else {
+        return true;
+    };
+    match due {
+        Some(due) => due.day() < day,
+        None => false,
+    }
+}

@@ -1,0 +1,49 @@
+//! Why nothing is run.
+ghost use Rattle.std.specs.Prelude.{◌≡◌};
+ghost use Rattle.itip_words.specs.declared.no_call.NoCall.TheVariants.{NoMemory};
+
+use crate::commands::command;
+use clap::Error;
+use clap::error::ErrorKind;
+use itip_streams::visible_text;
+use std::alloc::{AllocError, Global};
+
+/// Why nothing is run.
+#[derive(Drop)]
+pub enum NoCall {
+    /// Help or the version was asked for; the error prints it.
+    Help(Error),
+    /// The words are none of the program's; the error prints what is wrong with them.
+    Refused(Error),
+    /// A value is none that its word takes; this says which, in lines of its own.
+    BadValue(String),
+    /// What is asked for depends on today, which the clock doesn't tell.
+    NoToday,
+    NoMemory,
+}
+
+impl From<AllocError> for NoCall {
+    ghost from_gives = { λ _ e. e ≡ NoMemory };
+
+    fn from(_: AllocError) -> NoCall {
+        NoCall::NoMemory
+    }
+}
+
+/// Why there is no call of words that `clap` doesn't take. They are parsed once more with their control characters shown, so that
+/// no word can write a line of its own.
+pub(crate) fn no_call(alloc: Global, words: &[String], error: Error) -> Result<NoCall, AllocError> {
+    match error.kind() {
+        ErrorKind::DisplayHelp | ErrorKind::DisplayVersion => return Ok(NoCall::Help(error)),
+        ErrorKind::OutOfMemory => return Err(AllocError),
+        _ => {}
+    }
+    let mut shown = Vec::new(alloc);
+    for word in words {
+        shown.push(visible_text(alloc, word.as_str())?)?;
+    }
+    match command(alloc)?.try_get_matches_from(shown.as_slice()) {
+        Ok(_) => Ok(NoCall::Refused(error)),
+        Err(again) => Ok(NoCall::Refused(again)),
+    }
+}

@@ -1,0 +1,93 @@
+//! What is said of a value that its word doesn't take, in the manner of `clap`.
+use crate::days::is_today;
+use crate::filter::{format_of, threads_of};
+use crate::values::is_input_once;
+use crate::words::{desks_of, workers_of};
+use clap::ArgMatches;
+use itip_moment::read_date;
+use itip_script::read_report_name;
+use itip_streams::visible_text;
+use std::alloc::{AllocError, Global};
+
+// Each word whose value is read here, and how its usage shows it.
+const VALUES: [(&str, &str); 9] = [
+    ("desks", "--desks <D>"),
+    ("workers", "--workers <N>"),
+    ("threads", "--threads <N>"),
+    ("from", "--from <YYYYMMDD>"),
+    ("to", "--to <YYYYMMDD>"),
+    ("today", "--today <YYYYMMDD>"),
+    ("due-before", "--due-before <DAY>"),
+    ("format", "--format <FORMAT>"),
+    ("name", "<NAME>"),
+];
+
+/// What is wrong with words for which there is no call: the first bad value, with its control characters shown as their octets.
+pub(crate) fn what_is_wrong(alloc: Global, matches: &ArgMatches<'_>) -> Result<String, AllocError> {
+    let Some((_, words)) = matches.subcommand() else {
+        return Ok(String::new(alloc));
+    };
+    for (id, usage) in VALUES.iter() {
+        if let Some(value) = words.get_str(id) {
+            if let Some(why) = fault_of(id, value) {
+                return bad_value(alloc, value, usage, why);
+            }
+        }
+    }
+    match words.get_strs("source") {
+        Some(sources) if !is_input_once(sources) => {
+            told(alloc, "the argument '-' cannot be used multiple times")
+        }
+        _ => wrong_days(alloc, words),
+    }
+}
+
+/// What a value has to be, where it isn't.
+fn fault_of(id: &str, value: &str) -> Option<&'static str> {
+    let (is_good, why) = match id {
+        "desks" => (desks_of(value).is_some(), "not a number from 1 to 16"),
+        "workers" => (workers_of(value).is_some(), "not a number from 1 to 8"),
+        "threads" => (threads_of(value).is_some(), "not a number from 1 to 8"),
+        "due-before" => (
+            is_today(value) || read_date(value).is_some(),
+            "neither a date, as 20260131, nor 'today'",
+        ),
+        "format" => (format_of(value).is_some(), "not one of text, csv and json"),
+        "name" => (
+            read_report_name(value.as_bytes()).is_some(),
+            "not one of load, progress, cancelled, orphans and refresh",
+        ),
+        _ => (read_date(value).is_some(), "not a date, as 20260131"),
+    };
+    if is_good { None } else { Some(why) }
+}
+
+/// What is wrong with days, each of which is a date.
+fn wrong_days(alloc: Global, words: &ArgMatches<'_>) -> Result<String, AllocError> {
+    let name = words
+        .get_str("name")
+        .and_then(|name| read_report_name(name.as_bytes()));
+    match name {
+        Some(name) if !name.is_of_rows() => {
+            let name = name.as_str();
+            let what = format!(in alloc; "the report '{name}' takes no days")?;
+            told(alloc, what.as_str())
+        }
+        _ => bad_value(
+            alloc,
+            words.get_str("to").unwrap_or(""),
+            "--to <YYYYMMDD>",
+            "not 1 to 3660 days after '--from'",
+        ),
+    }
+}
+
+fn bad_value(alloc: Global, value: &str, usage: &str, why: &str) -> Result<String, AllocError> {
+    let value = visible_text(alloc, value)?;
+    let what = format!(in alloc; "invalid value '{value}' for '{usage}': {why}")?;
+    told(alloc, what.as_str())
+}
+
+fn told(alloc: Global, what: &str) -> Result<String, AllocError> {
+    format!(in alloc; "error: {what}\n\nFor more information, try '--help'.\n")
+}
