@@ -8,7 +8,7 @@ use itip_items::{Item, Key};
 use itip_moment::{Moment, read_moment};
 use itip_state::ItemsOfUid;
 use itip_todo::{Uid, attendee_key};
-use itip_view::{list_text, rows, rows_for};
+use itip_view::{Wanted, list_text, rows, rows_where};
 use std::alloc::{AllocError, Global};
 
 pub(crate) fn answer(
@@ -117,7 +117,8 @@ fn parts(alloc: Global, address: &str, texts: &[Vec<u8>]) -> Result<Vec<u8>, Cal
     let mut told = list_text(alloc, &rows(alloc, &part, window)?)?;
     told.extend_from_slice(b"of the attendee\n")?;
     let part = desk.part_naming(address)?;
-    let mut shown = list_text(alloc, &rows_for(alloc, &part, window, address)?)?;
+    let wanted = Wanted::showing(Some(address));
+    let mut shown = list_text(alloc, &rows_where(alloc, &part, window, &wanted)?)?;
     told.append(&mut shown)?;
     Ok(told)
 }
