@@ -16,11 +16,14 @@ mod row_progress;
 mod sought;
 
 pub use laws::{one_report, reports_of_kept, resend_is_read};
+pub use line::{mark, put_instance, put_moment};
 pub use lines::{cancelled, orphans, refresh_wanted};
 pub use load::load_by_attendee;
 pub use named::report_lines;
 pub use organizing::{next_seq, resend};
+pub use places::{by_place, compare_places};
 pub use report::Report;
 pub use report_name::ReportName;
 pub use row_progress::progress;
+pub use sought::is_wanted;
 pub use std::alloc::AllocError as NoMemory;

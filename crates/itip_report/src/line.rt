@@ -53,8 +53,8 @@ fn put_name(alloc: Global, line: &mut String, item: &Item) -> Result<(), NoMemor
     put_instance(alloc, line, item.key.instance())
 }
 
-/// The moment of an instance, or `-` for the to-do as a whole.
-fn put_instance(alloc: Global, line: &mut String, id: Option<&Moment>) -> Result<(), NoMemory>
+/// Appends the moment of an instance, or `-` for the to-do as a whole. After a refusal (out of memory) a part of it stands there.
+pub fn put_instance(alloc: Global, line: &mut String, id: Option<&Moment>) -> Result<(), NoMemory>
     ensures { OnOk result (string_bytes line.new ≡ string_bytes line.old ++ shown shown_moment (option_copied id.entry)) }
 {
     match id {
@@ -63,7 +63,9 @@ fn put_instance(alloc: Global, line: &mut String, id: Option<&Moment>) -> Result
     }
 }
 
-pub(crate) fn put_moment(alloc: Global, line: &mut String, moment: &Moment) -> Result<(), NoMemory>
+/// Appends a moment, with `TZID=`, its zone and a colon before it where it is in a zone. After a refusal (out of memory) a part of it
+/// stands there.
+pub fn put_moment(alloc: Global, line: &mut String, moment: &Moment) -> Result<(), NoMemory>
     ensures { OnOk result (string_bytes line.new ≡ string_bytes line.old ++ shown_moment moment.now) }
 {
     if let Moment::Zoned(zone, _) = moment {
@@ -95,8 +97,8 @@ fn word(key: &Key) -> &'static str
     }
 }
 
-/// What stands behind the moment of a range.
-fn mark(key: &Key) -> &'static str
+/// What stands after the moment of an item: `+` for a range.
+pub fn mark(key: &Key) -> &'static str
     ensures { result.now ≡ mark_of key.now }
 {
     match key {

@@ -9,7 +9,7 @@ use std::cmp::Ordering;
 
 /// By UID, then the to-do as a whole before its instances and ranges by moment, then by attendee, then by rank: an instance
 /// before a range, and an answer before a refresh request.
-fn compare_places(key: &Key, other: &Key) -> Ordering
+pub fn compare_places(key: &Key, other: &Key) -> Ordering
     ensures { result ≡ place_cmp key.now other.now }
 {
     key.uid()
@@ -20,7 +20,7 @@ fn compare_places(key: &Key, other: &Key) -> Ordering
 }
 
 /// Items that stand in the order of their keys, by place.
-pub(crate) fn by_place<'a>(items: Vec<&'a Item>) -> Result<Vec<&'a Item>, NoMemory>
+pub fn by_place<'a>(items: Vec<&'a Item>) -> Result<Vec<&'a Item>, NoMemory>
     requires { AscendKeys (map (λ item. item.now) items.items) }
     ensures ascend { IfOk result (λ sorted. AscendPlaces (map (λ item. item.now) sorted.items)) }
     ensures same { IfOk result (λ sorted. SameItems (map (λ item. item.now) sorted.items) (map (λ item. item.now) items.entry.items)) }

@@ -129,8 +129,9 @@ fn none_at_instance(items: &ItemsOfUid<'_>, id: &Option<Moment>) -> bool
     }
 }
 
-/// Whether an item is a refresh request that is newer than the item that governs what it names.
-fn is_wanted<'a>(items: &ItemsOfUid<'a>, ranges: &Ranges<'_, 'a>, item: &Item) -> bool
+/// Whether one of the kept items of a UID is a refresh request that is newer than the item that governs what it names; `ranges` are
+/// those of the same items. It takes no memory.
+pub fn is_wanted<'a>(items: &ItemsOfUid<'a>, ranges: &Ranges<'_, 'a>, item: &Item) -> bool
     requires ranges { ranges.now ≡ items.now }
     requires among { IsAmong items.now item.now }
     ensures { IsTrue result ↔ IsWanted items.now.items item.now }

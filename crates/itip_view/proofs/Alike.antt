@@ -44,7 +44,7 @@ not_below series item beside below =
     ] refl
 
 -- of an instance, or of it and all after it
-under_kept : (x : List Item) (uid : List ℕ) (key : Key) (item : Item) → uid_of key ≡ uid → StandsUnder x uid key item → IsKept x item
+pub under_kept : (x : List Item) (uid : List ℕ) (key : Key) (item : Item) → uid_of key ≡ uid → StandsUnder x uid key item → IsKept x item
 under_kept x uid key item of stands = kept_best x key item stands.best (λ (dead : IsDead x item).
     let of_uid : IsBest x (Series uid) dead.series =
     subst (λ (u : List ℕ). IsBest x (Series u) dead.series) (ap uid_of stands.best.about ∙ of) dead.best in
@@ -86,7 +86,7 @@ pub live_instance_alike : (x y : List Item) → KeepAlike x y → (uid : List �
     IsLiveInstance y uid id item
 live_instance_alike x y same uid id item is = record { stands = stands_alike x y same uid id item is.stands; live = is.live }
 
-between_alike : (x y : List Item) → KeepAlike x y → (uid : List ℕ) (at : Moment) (item : Item) → GovernsBetween x uid at item →
+pub between_alike : (x y : List Item) → KeepAlike x y → (uid : List ℕ) (at : Moment) (item : Item) → GovernsBetween x uid at item →
     GovernsBetween y uid at item
 between_alike x y same uid at item (inl is) =
     inl (record { id = is.id; rules = rules_alike x y same uid at is.id item is.rules; live = is.live })

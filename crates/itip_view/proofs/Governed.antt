@@ -12,7 +12,7 @@ use Rattle.itip_view.specs.declared.row.Row.{Row}
 use Rattle.itip_view.specs.declared.window.Window.{Window}
 use Rattle.itip_view.proofs.OneRow.{one_best, one_rules}
 
-not_both : (i : Item) → IsLive i → IsCancelled i → ⊥
+pub not_both : (i : Item) → IsLive i → IsCancelled i → ⊥
 not_both i live not = let x : true ≡ false = sym live ∙ not in cc
 
 module _ (items : List Item) (uid : List ℕ) where

@@ -5,6 +5,7 @@ pub mod Alike
 pub mod OneList
 pub mod OneRow
 pub mod Governed
+pub mod Asking
 pub mod Beside
 pub mod Deciding
 pub mod InDays

@@ -1,15 +1,19 @@
 -- The occurrences of a to-do as a whole.
-use Rattle.std.proofs.Common.{◌≡◌, ℕ, List, [], subst, Some, None}
+use Rattle.std.proofs.Common.{◌≡◌, ◌↔◌, ℕ, ℤ, pos, ◌+ℤ◌, List, [], subst, arith, Some, None}
 use Rattle.std.specs.List.{Contains}
+use Rattle.std.proofs.lemmas.Int.{ints}
+use Rattle.itip_moment.specs.Moment.{moment_day}
 use Rattle.itip_moment.specs.declared.moment.Moment.{Moment}
+use Rattle.itip_recur.specs.Members.{Occurs}
 use Rattle.itip_recur.specs.Occurrences.{OccursIn, AreOccurrences}
-use Rattle.itip_recur.specs.ToDoShape.{IsShape, IsSeriesOf}
+use Rattle.itip_recur.specs.ToDoShape.{Recurs, IsShape, IsSeriesOf}
 use Rattle.itip_recur.specs.declared.series.Series.{Series}
 use Rattle.itip_recur.specs.declared.series.Shape.TheVariants as shape
 use Rattle.itip_recur.proofs.OneSeries.{series_one}
 use Rattle.itip_items.specs.declared.item.Item.{Item}
 use Rattle.itip_items.specs.declared.key.Key.TheVariants as key
 use Rattle.itip_state.proofs.Members.{none_in}
+use Rattle.itip_view.specs.InQuestion.{OccursAt}
 use Rattle.itip_view.specs.OfUid.{IsWhole, IsOccurrence, AreOccurrencesOf}
 use Rattle.itip_view.specs.declared.whole.Whole.{Whole}
 use Rattle.itip_view.specs.declared.window.Window.{Window}
@@ -45,3 +49,37 @@ module _ (heard : List Item) (window : Window) (uid : List ℕ) where
       IsWhole heard uid (Some whole) → AreOccurrencesOf heard window uid moments
   opaque_occurs whole moments e s (live, is) =
       none_occur moments e (λ at. opaque_has_none heard window uid whole.item.now live at (subst (IsShape whole.item.now.todo) s is))
+
+-- what occurs at a moment occurs on its day
+pub on_its_day : (series : Series) (from to : ℤ) (at : Moment) → from ≡ moment_day at → to ≡ from +ℤ pos 1 → OccursIn series from to at ↔
+    Occurs series at
+on_its_day series from to at first last =
+    (λ o. o.occurs, λ o. record { occurs = o; not_before = omega (arith, ints); before_end = omega (arith, ints) })
+
+module _ (heard : List Item) (uid : List ℕ) (at : Moment) where
+  -- a to-do that repeats occurs where its series does
+  pub whole_occurs : (whole : Whole) (series : Series) → whole.shape ≡ shape.Repeats series → IsWhole heard uid (Some whole) →
+      Occurs series at ↔ OccursAt heard uid at
+  whole_occurs whole series e (live, is) =
+      let repeats : IsSeriesOf whole.item.now.todo series = subst (IsShape whole.item.now.todo) e is in (
+        λ o. record { item = whole.item.now; series = series; live = live; repeats = repeats; occurs = o },
+        λ o. subst (λ (s : Series). Occurs s at)
+            (series_one whole.item.now.todo o.series series
+            (subst (λ (i : Item). IsSeriesOf i.todo o.series) (one_best heard (key.Series uid) o.item whole.item.now o.live.best live.best)
+            o.repeats) repeats) o.occurs,
+      )
+
+  pub absent_not : IsWhole heard uid None → OccursAt heard uid at → ⊥
+  absent_not none o = none o.item o.live
+
+  pub single_not : (whole : Whole) → whole.shape ≡ shape.Single → IsWhole heard uid (Some whole) → OccursAt heard uid at → ⊥
+  single_not whole s (live, is) o =
+      let single : Recurs whole.item.now.todo → ⊥ = subst (IsShape whole.item.now.todo) s is in
+      single (subst (λ (i : Item). Recurs i.todo) (one_best heard (key.Series uid) o.item whole.item.now o.live.best live.best)
+      o.repeats.recurs)
+
+  pub opaque_not : (whole : Whole) → whole.shape ≡ shape.Opaque → IsWhole heard uid (Some whole) → OccursAt heard uid at → ⊥
+  opaque_not whole s (live, is) o =
+      let opaque : IsShape whole.item.now.todo shape.Opaque = subst (IsShape whole.item.now.todo) s is in
+      opaque.1 o.series (subst (λ (i : Item). IsSeriesOf i.todo o.series)
+      (one_best heard (key.Series uid) o.item whole.item.now o.live.best live.best) o.repeats)

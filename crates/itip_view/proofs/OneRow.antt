@@ -83,7 +83,7 @@ one_shown heard asked_of (line ∷ lines) a b (x, xs, decides, rest, is) (y, ys,
     let others : xs ≡ ys = one_shown heard asked_of lines xs ys rest more in
     is ∙ (λ i. in_front (shown_line line (answer i)) (others i)) ∙ sym as_well
 
-same_shown : (heard : List Item) (g h : Item) (asked_of others : Property → List Asked) (a b : List ShownAttendee) → g ≡ h →
+pub same_shown : (heard : List Item) (g h : Item) (asked_of others : Property → List Asked) (a b : List ShownAttendee) → g ≡ h →
     asked_of ≡ others →
     AreShown heard asked_of g.todo.attendees a → AreShown heard others h.todo.attendees b → a ≡ b
 same_shown heard g h asked_of others a b same asked p q =

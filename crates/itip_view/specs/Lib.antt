@@ -14,4 +14,5 @@ pub mod Wanting
 pub mod Wanted
 pub mod Most
 pub mod RowDays
+pub mod InQuestion
 pub mod OfKept

@@ -1,5 +1,5 @@
 //! Which answers count, and what a row shows of the attendees.
-ghost use Rattle.std.specs.Prelude.{◌≡◌, IfOk, MatchOption, map};
+ghost use Rattle.std.specs.Prelude.{◌≡◌, ◌∷◌, [], IfOk, MatchOption, Some, None, map, max};
 ghost use Rattle.std.specs.Option.{option_copied};
 ghost use Rattle.itip_view.specs.Answers.{Counts, NoneCounts, Decides, AreShown, partstat_in, shown_line};
 ghost use Rattle.itip_view.specs.OfUid.{asked_by, asked_of, to_question};
@@ -19,6 +19,28 @@ use std::alloc::Global;
 pub(crate) struct Question<'q> {
     pub(crate) id: Option<&'q Moment>,
     pub(crate) since: u32,
+}
+
+/// On the row of an occurrence: the answers to it from one sequence on, then those to the to-do as a whole from another.
+pub(crate) fn in_turn(at: &Moment, own: u32, since: u32) -> [Question<'_>; 2]
+    ensures { result ≡ (record { id = Some at.entry; since = own } ∷ record { id = None; since = since } ∷ []) }
+{
+    [
+        Question {
+            id: Some(at),
+            since: own,
+        },
+        Question { id: None, since },
+    ]
+}
+
+/// The same where a range item rules the occurrence of a series.
+pub(crate) fn in_turn_under<'q>(at: &'q Moment, range: &Item, series: &Item) -> [Question<'q>; 2]
+    ensures { result ≡ (record { id = Some at.entry; since = range.now.own }
+        ∷ record { id = None; since = max range.now.own series.now.own } ∷ []) }
+{
+    // An answer to the to-do as a whole is dead where it is earlier than the series, so it doesn't count here either (our own rule).
+    in_turn(at, range.own, range.own.max(series.own))
 }
 
 /// Which answers a row asks: those of the UID to each of these in turn.

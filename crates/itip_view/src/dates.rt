@@ -102,7 +102,7 @@ fn moved(date: &Moment, from: &Moment, at: &Moment) -> Result<Option<Moment>, No
 }
 
 /// Whether two moments have one form and one zone.
-pub(crate) fn have_one_form(start: &Moment, at: &Moment) -> bool
+pub fn have_one_form(start: &Moment, at: &Moment) -> bool
     ensures { IsTrue result ↔ HaveOneForm start.now at.now }
 {
     match (start, at) {

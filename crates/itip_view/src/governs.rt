@@ -31,7 +31,7 @@ pub fn governing<'a>(
 }
 
 /// The item that governs a moment at which no instance item stands.
-fn governing_between<'a>(
+pub(crate) fn governing_between<'a>(
     items: &ItemsOfUid<'a>,
     ranges: &Ranges<'_, 'a>,
     at: &Moment,

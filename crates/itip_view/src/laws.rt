@@ -7,6 +7,7 @@ ghost use Rattle.std.specs.declared.cmp.Ordering.TheVariants.{Equal};
 ghost use Rattle.itip_moment.specs.declared.moment.Moment.{Moment};
 ghost use Rattle.itip_items.specs.declared.key.Key.TheVariants.{Answer};
 ghost use Rattle.itip_view.specs.OfKept.{NeedsOnlyKept, FollowsFromKept};
+ghost use Rattle.itip_view.specs.InQuestion.{IsInQuestion, NoneInQuestion, ShowsInQuestion, IsRowInQuestion};
 ghost use Rattle.itip_view.specs.Standing.{Stands, StandsFrom, Rules, NoneRules, Governs, IsLiveSeries};
 ghost use Rattle.itip_view.specs.Answers.{Counts};
 ghost use Rattle.itip_view.specs.Rows.{IsRow, AreRows, AreTooMany, ShowsGoverning, row_cmp, row_limit};
@@ -18,6 +19,7 @@ ghost use Rattle.itip_view.specs.Most.{IsMostOf};
 ghost use Rattle.itip_view.specs.Wanting.{Wants};
 ghost use Rattle.itip_view.specs.declared.most.MostRows.{MostRows};
 ghost use Rattle.itip_view.specs.declared.row.Row.{Row};
+ghost use Rattle.itip_view.specs.declared.row.ShownAttendee.{ShownAttendee};
 ghost use Rattle.itip_view.specs.declared.wanted.Wanted.{Wanted};
 ghost use Rattle.itip_view.specs.declared.window.Window.{Window};
 
@@ -88,6 +90,28 @@ pub fn rows_are_governed()
     ensures row { (heard : List Item) (window : Window) (row : Row) → IsRow heard window row → ShowsGoverning heard row }
     ensures one { (heard : List Item) (uid : List ℕ) (id : Option Moment) (item other : Item) → Governs heard uid id item
         → Governs heard uid id other → item ≡ other }
+{}
+
+/// A row of any window is the row in question with its identifier. The item that governs a row in question governs what it names;
+/// one item at most does, and the row shows one list of attendees (our own rules).
+pub fn rows_are_in_question()
+    ensures row { (heard : List Item) (window : Window) (row : Row) → IsRow heard window row → IsRowInQuestion heard row }
+    ensures shows { (heard : List Item) (uid : List ℕ) (id : Option Moment) (item : Item) (shown : List ShownAttendee)
+        → ShowsInQuestion heard uid id item shown → IsInQuestion heard uid id item }
+    ensures governs { (heard : List Item) (uid : List ℕ) (id : Option Moment) (item : Item) → IsInQuestion heard uid id item
+        → Governs heard uid id item }
+    ensures one { (heard : List Item) (uid : List ℕ) (id : Option Moment) (item other : Item) → IsInQuestion heard uid id item
+        → IsInQuestion heard uid id other → item ≡ other }
+    ensures one_shown { (heard : List Item) (uid : List ℕ) (id : Option Moment) (item other : Item) (shown others : List ShownAttendee)
+        → ShowsInQuestion heard uid id item shown → ShowsInQuestion heard uid id other others → shown ≡ others }
+{}
+
+/// What is in question, and what it shows, needs only what is kept (our own rules).
+pub fn question_of_kept()
+    ensures is_in { (uid : List ℕ) (id : Option Moment) (item : Item) → NeedsOnlyKept (λ heard. IsInQuestion heard uid id item) }
+    ensures none { (uid : List ℕ) (id : Option Moment) → NeedsOnlyKept (λ heard. NoneInQuestion heard uid id) }
+    ensures shows { (uid : List ℕ) (id : Option Moment) (item : Item) (shown : List ShownAttendee)
+        → NeedsOnlyKept (λ heard. ShowsInQuestion heard uid id item shown) }
 {}
 
 /// A row needs an item of its UID whose rows can stand in the window; and an item of its UID that can have rows names each

@@ -7,6 +7,7 @@ mod dates;
 mod days;
 mod error;
 mod governs;
+mod in_question;
 mod keyed_item;
 mod laws;
 mod most;
@@ -23,12 +24,14 @@ mod wanted;
 mod whole;
 mod window;
 
+pub use dates::have_one_form;
 pub use days::{RowDays, has_rows, row_days};
 pub use error::{BadWindow, ViewError};
 pub use governs::governing;
+pub use in_question::{InQuestion, RowInQuestion};
 pub use laws::{
-    answers_of_kept, one_list, rows_are_governed, rows_need_items, rows_of_part, standing_of_kept,
-    view_of_kept,
+    answers_of_kept, one_list, question_of_kept, rows_are_governed, rows_are_in_question,
+    rows_need_items, rows_of_part, standing_of_kept, view_of_kept,
 };
 pub use most::{MostRows, most_rows};
 pub use ranges::Ranges;

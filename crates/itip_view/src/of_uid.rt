@@ -8,7 +8,7 @@ ghost use Rattle.itip_view.specs.InUid.{HasWhole, HasBetween, HasRows, HasOccurr
 ghost use Rattle.itip_view.specs.InUid.{HasStanding, HasNoStanding, HasRuling, HasNoRuling, HasNoneAtStart, HasLiveSeries, IsRowWith};
 
 use crate::NoMemory;
-use crate::answers::{AnswerSearch, Question};
+use crate::answers::{AnswerSearch, Question, in_turn, in_turn_under};
 use crate::between::Between;
 use crate::dates::{day_of, due_from, due_of, instance_day, start_from};
 use crate::keyed_item::KeyedItem;
@@ -232,9 +232,7 @@ impl<'v, 'a> UidView<'v, 'a> {
             start: start_from(&range.item.todo.start, id, at)?,
             due: due_from(&range.item.todo.due, id, at)?,
         };
-        // An answer to the to-do as a whole is dead where it is earlier than the series, so it doesn't count here either (our own rule).
-        let since = range.item.own.max(series.own);
-        let questions = in_turn(at, range.item.own, since);
+        let questions = in_turn_under(at, range.item, series);
         let row = self.row_of(range, place, &questions)?;
         Ok(Some(row))
     }
@@ -302,19 +300,6 @@ impl<'v, 'a> UidView<'v, 'a> {
             progress,
         })
     }
-}
-
-/// On the row of an occurrence: the answers to it from one sequence on, then those to the to-do as a whole from another.
-fn in_turn(at: &Moment, own: u32, since: u32) -> [Question<'_>; 2]
-    ensures { result ≡ (record { id = Some at.entry; since = own } ∷ record { id = None; since = since } ∷ []) }
-{
-    [
-        Question {
-            id: Some(at),
-            since: own,
-        },
-        Question { id: None, since },
-    ]
 }
 
 /// Adds a row where there is one.

@@ -32,8 +32,8 @@ returns c =
     one_best items (key.Series uid) c.args.series.now c.requires.occurs.item c.requires.live.best c.requires.occurs.live.best in
     let same : c.in-Range.id ≡ from =
     one_from c.in-Range.field-0 uid c.in-Range.id from (sym c.in-Range.is ∙ c.requires.rules.1.stands.best.about) in
-    let asked : c.in_turn-questions.result ≡ in_turn c.args.at item.own (max item.own c.requires.occurs.item.own) =
-    c.in_turn-questions.ensures ∙ ap (in_turn c.args.at item.own) (c.max-since.ensures ∙ ap (λ (s : Item). max item.own s.own) series) in
+    let asked : c.in_turn_under-questions.result ≡ in_turn c.args.at item.own (max item.own c.requires.occurs.item.own) =
+    c.in_turn_under-questions.ensures ∙ ap (λ (s : Item). in_turn c.args.at item.own (max item.own s.own)) series in
     range_is items c.args.self.now.window uid at from item c.in_ok-start_from.field-0 c.in_ok-due_from.field-0 c.in_ok-row.row
     c.requires.occurs c.requires.none c.requires.rules.1
     (sym c.is_live.ensures ∙ on) (subst (λ (m : Moment). IsStartFrom item.todo.start m at c.in_ok-start_from.field-0) same
@@ -42,4 +42,4 @@ returns c =
     (subst (λ (qs : List Question). IsRowOf items item uid (id.At at) c.in_ok-start_from.field-0 c.in_ok-due_from.field-0 (asked_by uid qs)
     c.in_ok-row.row) asked
     (subst (λ (m : Moment). IsRowOf items item uid (id.At m) c.in_ok-start_from.field-0 c.in_ok-due_from.field-0
-    (asked_by uid c.in_turn-questions.result) c.in_ok-row.row) c.in_ok-clone.ensures.cases c.in_ok-row.ensures))
+    (asked_by uid c.in_turn_under-questions.result) c.in_ok-row.row) c.in_ok-clone.ensures.cases c.in_ok-row.ensures))
