@@ -1,8 +1,18 @@
--- The one line of a name, found from the first to the last.
-use Rattle.std.proofs.Common.{◌≡◌, ◌∙◌, sym, ap, refl, ℕ, Bool, true, false, cond, List, [], ◌∷◌, Option, Some, None}
+-- The one line of a name, found from the first to the last; and what the number of to-dos says of a head.
+use Rattle.std.proofs.Common.{◌≡◌, ◌∙◌, sym, ap, refl, ℕ, Bool, true, false, cond, List, [], ◌∷◌, Option, Some, None, Err}
+use Rattle.std.specs.Prelude.{Result, codes}
 use Rattle.itip_lines.specs.declared.line.NumberedLine.{NumberedLine}
 use Rattle.itip_todo.specs.Participation.{same_text}
-use Rattle.itip_message.specs.Head.{only_value, odd_line, named}
+use Rattle.itip_items.specs.declared.kind.Method.{Method}
+use Rattle.itip_items.specs.declared.kind.Method.TheVariants as methods
+use Rattle.itip_message.specs.Drafts.{draft_head_of}
+use Rattle.itip_message.specs.Head.{only_value, odd_line, named, is_version, method_in, counted, head_of}
+use Rattle.itip_message.specs.Refusals.{IfRefused, at_line}
+use Rattle.itip_message.specs.declared.error.MessageCause.TheVariants as causes
+use Rattle.itip_message.specs.declared.error.MessageRefusal.{MessageRefusal}
+use Rattle.itip_message.specs.declared.error.ReadError.{ReadError}
+use Rattle.itip_message.specs.declared.error.ReadError.TheVariants as error
+use Rattle.itip_message.specs.declared.sort.Component.{Component}
 
 -- the only value, where this one was found before
 abbrev pub completes : Option (List ℕ) → List NumberedLine → Option (List ℕ)
@@ -52,3 +62,39 @@ odd_first name line lines e = odd_after_first line (named name lines) ∙
 pub odd_again : (found : ℕ) (name : List ℕ) (line : NumberedLine) (lines : List NumberedLine) → same_text line.line.name name ≡ true →
     odd_after (Some found) (named name (line ∷ lines)) ≡ Some line.number
 odd_again found name line lines e = ap (λ (b : Bool). odd_after (Some found) (cond b (line ∷ named name lines) (named name lines))) e
+
+-- where VERSION is right and METHOD is one that is read, the number of to-dos decides
+pub head_counted : (calendar : List NumberedLine) (components : List Component) (m : Method) (r : Result Method MessageRefusal) →
+    is_version (only_value (named (codes "VERSION") calendar)) ≡ true → method_in (only_value (named (codes "METHOD") calendar)) ≡ Some m →
+    counted components (odd_line (named (codes "METHOD") calendar)) (Some m) ≡ r → head_of calendar components ≡ r
+head_counted calendar components m r version method h =
+    let line : Option ℕ = odd_line (named (codes "METHOD") calendar) in
+    ap (λ (b : Bool). cond b (counted components line (method_in (only_value (named (codes "METHOD") calendar))))
+    (Err (at_line causes.Version (odd_line (named (codes "VERSION") calendar))))) version
+    ∙ ap (λ (o : Option Method). counted components line o) method ∙ h
+
+-- what a wrong number of to-dos says of them, whatever the method is
+abbrev pub Miscounts : List Component → MessageRefusal → Type 0
+Miscounts components f = (line : Option ℕ) (m : Method) → counted components line (Some m) ≡ Err f
+
+pub head_miscounted : (e : ReadError) (calendar : List NumberedLine) (components : List Component) (m : Method) →
+    is_version (only_value (named (codes "VERSION") calendar)) ≡ true → method_in (only_value (named (codes "METHOD") calendar)) ≡ Some m →
+    IfRefused e (Miscounts components) → IfRefused e (λ f. head_of calendar components ≡ Err f)
+head_miscounted error.NoMemory calendar components m version method h = tt
+head_miscounted (error.Refused f) calendar components m version method h =
+    head_counted calendar components m (Err f) version method (h (odd_line (named (codes "METHOD") calendar)) m)
+
+-- of a draft VERSION and the number of to-dos decide
+pub draft_counted : (calendar : List NumberedLine) (components : List Component) (r : Result Method MessageRefusal) →
+    is_version (only_value (named (codes "VERSION") calendar)) ≡ true → counted components None (Some methods.Request) ≡ r →
+    draft_head_of calendar components ≡ r
+draft_counted calendar components r version h =
+    ap (λ (b : Bool). cond b (counted components None (Some methods.Request))
+    (Err (at_line causes.Version (odd_line (named (codes "VERSION") calendar))))) version ∙ h
+
+pub draft_miscounted : (e : ReadError) (calendar : List NumberedLine) (components : List Component) →
+    is_version (only_value (named (codes "VERSION") calendar)) ≡ true → IfRefused e (Miscounts components) →
+    IfRefused e (λ f. draft_head_of calendar components ≡ Err f)
+draft_miscounted error.NoMemory calendar components version h = tt
+draft_miscounted (error.Refused f) calendar components version h =
+    draft_counted calendar components (Err f) version (h None methods.Request)

@@ -1,4 +1,7 @@
 pub mod Cuts
+pub mod Dating
+pub mod DraftItems
+pub mod DraftStages
 pub mod FirstLines
 pub mod Folded
 pub mod Frames
@@ -6,6 +9,7 @@ pub mod Heads
 pub mod Making
 pub mod Messages
 pub mod OneCut
+pub mod OneDraft
 pub mod OneMessage
 pub mod Placing
 pub mod Plain

@@ -56,7 +56,7 @@ one_component_refusal m n c f g (inr h) (inr k) =
     in
     h.4 ∙ ap (λ (cause : MethodCause). in_todo n (causes.Misfit cause) (line_of_cause cause c.lines)) same ∙ sym k.4
 
-one_list : (m : Method) (all : List Component) (a b : List Todo) → AreComponents m all a → AreComponents m all b → a ≡ b
+pub one_list : (m : Method) (all : List Component) (a b : List Todo) → AreComponents m all a → AreComponents m all b → a ≡ b
 one_list m [] [] [] h k = refl
 one_list m [] [] (y ∷ b) h k = absurd k
 one_list m [] (x ∷ a) b h k = absurd h
@@ -64,14 +64,15 @@ one_list m (c ∷ all) [] b h k = absurd h
 one_list m (c ∷ all) (x ∷ a) [] h k = absurd k
 one_list m (c ∷ all) (x ∷ a) (y ∷ b) h k = λ i. one_component m c x y h.0 k.0 i ∷ one_list m all a b h.1 k.1 i
 
-list_apart : (m : Method) (n : ℕ) (all : List Component) (a : List Todo) (f : MessageRefusal) → AreComponents m all a →
+pub list_apart : (m : Method) (n : ℕ) (all : List Component) (a : List Todo) (f : MessageRefusal) → AreComponents m all a →
     FirstRefused m n all f → ⊥
 list_apart m n [] a f h k = k
 list_apart m n (c ∷ all) [] f h k = h
 list_apart m n (c ∷ all) (x ∷ a) f h (inl k) = component_apart m n c x f h.0 k
 list_apart m n (c ∷ all) (x ∷ a) f h (inr k) = list_apart m (n + 1) all a f h.1 k.1
 
-one_refused : (m : Method) (n : ℕ) (all : List Component) (f g : MessageRefusal) → FirstRefused m n all f → FirstRefused m n all g → f ≡ g
+pub one_refused : (m : Method) (n : ℕ) (all : List Component) (f g : MessageRefusal) → FirstRefused m n all f → FirstRefused m n all g →
+    f ≡ g
 one_refused m n [] f g h k = absurd h
 one_refused m n (c ∷ all) f g (inl h) (inl k) = one_component_refusal m n c f g h k
 one_refused m n (c ∷ all) f g (inl h) (inr k) = absurd (component_apart m n c k.0.0 f k.0.1 h)
@@ -128,15 +129,15 @@ each_apart n m all (parts ∷ rest) todo h (inr k) = each_apart (n + 1) m all re
 pub ok_same : {A : Type 0} (r : Result A MessageRefusal) (a b : A) → r ≡ Ok a → r ≡ Ok b → a ≡ b
 ok_same r a b h k = let e : Ok a ≡ Ok b = sym h ∙ k in cc
 
-err_same : {A : Type 0} (r : Result A MessageRefusal) (f g : MessageRefusal) → r ≡ Err f → r ≡ Err g → f ≡ g
+pub err_same : {A : Type 0} (r : Result A MessageRefusal) (f g : MessageRefusal) → r ≡ Err f → r ≡ Err g → f ≡ g
 err_same r f g h k = let e : Err f ≡ Err g = sym h ∙ k in cc
 
-ok_apart : {A : Type 0} (r : Result A MessageRefusal) (a : A) (f : MessageRefusal) → r ≡ Ok a → r ≡ Err f → ⊥
+pub ok_apart : {A : Type 0} (r : Result A MessageRefusal) (a : A) (f : MessageRefusal) → r ≡ Ok a → r ≡ Err f → ⊥
 ok_apart r a f h k = let e : Ok a ≡ Err f = sym h ∙ k in cc
 
 -- the stages behind the lines, from the last to the first: why they give no items, and which items they give
 
-abbrev LastRefusal : Method → List Component → MessageRefusal → Type 0
+abbrev pub LastRefusal : Method → List Component → MessageRefusal → Type 0
 LastRefusal m components f =
     FirstRefused m 1 components f
     ⊎ ((all : List Todo) × (todo : ℕ) × AreComponents m components all ×
@@ -152,11 +153,11 @@ abbrev Cause : List ℕ → MessageRefusal → Type 0
 Cause bytes f = ((of : LineRefusal) × lines.Refused bytes of × (f ≡ of_lines of)) ⊎
     ((content : List NumberedLine) × lines.Reads bytes content × FrameRefusal content f)
 
-record LastItems (m : Method) (components : List Component) (items : List Item) : Type 0 where
-  all : List Todo
-  read : AreComponents m components all
-  within : AllByRecursion IsWithinLimits (drafts m (map parts_of all))
-  items_are : AreItemsOf (drafts m (map parts_of all)) items
+pub record LastItems (m : Method) (components : List Component) (items : List Item) : Type 0 where
+  pub all : List Todo
+  pub read : AreComponents m components all
+  pub within : AllByRecursion IsWithinLimits (drafts m (map parts_of all))
+  pub items_are : AreItemsOf (drafts m (map parts_of all)) items
 
 record Items (content : List NumberedLine) (items : List Item) : Type 0 where
   placed : List Placed
@@ -196,7 +197,7 @@ items_of bytes items h = record {
       (record { all = h.all; read = h.read; within = h.within; items_are = h.items_are });
 }
 
-one_last : (m : Method) (components : List Component) (f g : MessageRefusal) → LastRefusal m components f → LastRefusal m components g →
+pub one_last : (m : Method) (components : List Component) (f g : MessageRefusal) → LastRefusal m components f → LastRefusal m components g →
     f ≡ g
 one_last m components f g (inl h) (inl k) = one_refused m 1 components f g h k
 one_last m components f g (inl h) (inr k) = absurd (list_apart m 1 components k.0 f k.2 h)
@@ -231,7 +232,7 @@ both_causes bytes f g (inr h) (inr k) =
 pub one_cause : (bytes : List ℕ) (f g : MessageRefusal) → RefusesMessage bytes f → RefusesMessage bytes g → f ≡ g
 one_cause bytes f g h k = both_causes bytes f g (cause bytes f h) (cause bytes g k)
 
-same_last : (m : Method) (components : List Component) (a b : List Item) → LastItems m components a → LastItems m components b → a ≡ b
+pub same_last : (m : Method) (components : List Component) (a b : List Item) → LastItems m components a → LastItems m components b → a ≡ b
 same_last m components a b h k =
     let same : h.all ≡ k.all = one_list m components h.all k.all h.read k.read in
     one_items (drafts m (map parts_of k.all)) a b (subst (λ (ts : List Todo). AreItemsOf (drafts m (map parts_of ts)) a) same h.items_are)
@@ -253,7 +254,7 @@ one_message bytes items others h k =
     same_items k.begins.content items others (subst (λ (ls : List NumberedLine). Items ls items) contents (items_of bytes items h))
     (items_of bytes others k)
 
-last_apart : (m : Method) (components : List Component) (items : List Item) (f : MessageRefusal) → LastItems m components items →
+pub last_apart : (m : Method) (components : List Component) (items : List Item) (f : MessageRefusal) → LastItems m components items →
     LastRefusal m components f → ⊥
 last_apart m components items f h (inl k) = list_apart m 1 components h.all f h.read k
 last_apart m components items f h (inr k) =

@@ -19,10 +19,10 @@ use Rattle.itip_message.specs.declared.frame.Placed.TheVariants.{CalendarLine, T
 use Rattle.itip_items.specs.declared.kind.Method.{Method}
 use Rattle.itip_message.specs.declared.error.MessageRefusal.{MessageRefusal}
 
-abbrev AreProperties : List Line → Type 0
+abbrev pub AreProperties : List Line → Type 0
 AreProperties lines = IsTrue (list_all is_property lines)
 
-abbrev HasProperties : Component → Type 0
+abbrev pub HasProperties : Component → Type 0
 HasProperties component = AreProperties (plain_lines component.lines)
 
 abbrev IsSound : Placed → Type 0
@@ -89,13 +89,13 @@ sound_place (name ∷ inside) (line ∷ lines) =
     (λ no_end. sound_front (property (name ∷ inside) line) (place (name ∷ inside) lines)
     (sound_property (name ∷ inside) line (neither line.line no_begin no_end)) (sound_place (name ∷ inside) lines)))
 
-sound_frame : (lines : List NumberedLine) → GivesSound (frame lines)
+pub sound_frame : (lines : List NumberedLine) → GivesSound (frame lines)
 sound_frame [] = err_sound _
 sound_frame (line ∷ lines) =
     cond_sound (is_begin line.line && same_text (component_name line.line) (codes "VCALENDAR")) _ _
     (λ begins. sound_place (codes "VCALENDAR" ∷ []) lines) (λ other. err_sound _)
 
-and_true : (a b : Bool) → a ≡ true → b ≡ true → (a && b) ≡ true
+pub and_true : (a b : Bool) → a ≡ true → b ≡ true → (a && b) ≡ true
 and_true true b h k = k
 and_true false b h k = absurd (cc)
 
@@ -112,7 +112,7 @@ sound_from first (TodoLine line ∷ placed) h k = sound_from (with_line first li
 sound_from first (TodoBegins number ∷ placed) h k = (h, sound_from (begun number) placed refl k.1)
 sound_from first (CalendarLine line ∷ placed) h k = sound_from first placed h k.1
 
-sound_todos : (placed : List Placed) → AreSound placed → AllByRecursion HasProperties (todos placed)
+pub sound_todos : (placed : List Placed) → AreSound placed → AllByRecursion HasProperties (todos placed)
 sound_todos [] k = tt
 sound_todos (TodoBegins number ∷ placed) k = sound_from (begun number) placed refl k.1
 sound_todos (CalendarLine line ∷ placed) k = sound_todos placed k.1
@@ -131,7 +131,7 @@ suits : (m : Method) (component : Component) (todo : Todo) → ReadsComponent m 
 suits m component todo h k =
     record { fits = h.fits; others = subst AreProperties (sym h.reads.others) (filtered _ (plain_lines component.lines) k) }
 
-all_suit : (m : Method) (components : List Component) (all : List Todo) → AreComponents m components all →
+pub all_suit : (m : Method) (components : List Component) (all : List Todo) → AreComponents m components all →
     AllByRecursion HasProperties components → AllByRecursion (Suits m) (map parts_of all)
 all_suit m [] [] h k = tt
 all_suit m [] (todo ∷ all) h k = absurd h

@@ -21,16 +21,16 @@ use Rattle.itip_message.specs.declared.frame.Placed.{Placed}
 use Rattle.itip_message.specs.declared.error.MessageCause.TheVariants as causes
 use Rattle.itip_message.specs.declared.error.MessageRefusal.{MessageRefusal}
 
-abbrev GivesPlace : (A : Type 0) → Result A MessageRefusal → Type 0
+abbrev pub GivesPlace : (A : Type 0) → Result A MessageRefusal → Type 0
 GivesPlace A r = (f : MessageRefusal) → r ≡ Err f → NamesPlace f
 
 ok_placed : (A : Type 0) (x : A) → GivesPlace A (Ok x)
 ok_placed A x f e = absurd (cc)
 
-err_placed : (A : Type 0) (g : MessageRefusal) → NamesPlace g → GivesPlace A (Err g)
+pub err_placed : (A : Type 0) (g : MessageRefusal) → NamesPlace g → GivesPlace A (Err g)
 err_placed A g h f e = let same : g ≡ f = cc in subst NamesPlace same h
 
-cond_placed : (A : Type 0) (b : Bool) (r s : Result A MessageRefusal) → (b ≡ true → GivesPlace A r) → (b ≡ false → GivesPlace A s) →
+pub cond_placed : (A : Type 0) (b : Bool) (r s : Result A MessageRefusal) → (b ≡ true → GivesPlace A r) → (b ≡ false → GivesPlace A s) →
     GivesPlace A (cond b r s)
 cond_placed A true r s h k = h refl
 cond_placed A false r s h k = k refl
@@ -60,7 +60,7 @@ inside_placed (name ∷ inside) (line ∷ lines) =
     (λ wrong. nested_placed (Some line.number)))
     (λ no_end. front_placed (property (name ∷ inside) line) (place (name ∷ inside) lines) (inside_placed (name ∷ inside) lines)))
 
-frame_placed : (lines : List NumberedLine) → GivesPlace (List Placed) (frame lines)
+pub frame_placed : (lines : List NumberedLine) → GivesPlace (List Placed) (frame lines)
 frame_placed [] = err_placed (List Placed) (at_line causes.NoCalendar None) (refl, tt)
 frame_placed (line ∷ lines) =
     cond_placed (List Placed) (is_begin line.line && same_text (component_name line.line) (codes "VCALENDAR")) _ _
@@ -75,7 +75,7 @@ begins_beyond zero (component ∷ components) h = refl
 begins_beyond (suc n) [] h = absurd (omega arith)
 begins_beyond (suc n) (component ∷ components) h = begins_beyond n components (omega arith)
 
-counted_placed : (components : List Component) (line : Option ℕ) (m : Option Method) → GivesPlace Method (counted components line m)
+pub counted_placed : (components : List Component) (line : Option ℕ) (m : Option Method) → GivesPlace Method (counted components line m)
 counted_placed components line None = err_placed Method (at_line causes.Method line) (refl, tt)
 counted_placed components line (Some m) =
     cond_placed Method (nat_lt 1000 (length components)) _ _
@@ -105,7 +105,7 @@ component_placed : (m : Method) (n : ℕ) (component : Component) (f : MessageRe
 component_placed m n component f (inl h) = subst NamesPlace (sym h.2) (refl, one_todo.refusal_place component.lines h.0 h.1)
 component_placed m n component f (inr h) = subst NamesPlace (sym h.4) (refl, misfit_placed h.1 component.lines)
 
-first_placed : (m : Method) (n : ℕ) (components : List Component) (f : MessageRefusal) → FirstRefused m n components f → NamesPlace f
+pub first_placed : (m : Method) (n : ℕ) (components : List Component) (f : MessageRefusal) → FirstRefused m n components f → NamesPlace f
 first_placed m n [] f h = absurd h
 first_placed m n (component ∷ components) f (inl h) = component_placed m n component f h
 first_placed m n (component ∷ components) f (inr h) = first_placed m (n + 1) components f h.1

@@ -28,7 +28,7 @@ use Rattle.itip_items.specs.Needs.{method_cause, Suits}
 use Rattle.itip_items.specs.declared.error.MethodCause.{MethodCause}
 use Rattle.itip_message.specs.Message.{ReadsComponent, RefusesComponent, AreComponents, FirstRefused, HasHead, ReadsMessage, RefusesMessage}
 use Rattle.itip_message.specs.Message.{at_lines, at_frame, at_head, at_component, at_canonical_form}
-use Rattle.itip_items.specs.Given.{IsItemOf, AreItemsOf, IsOver, FirstOver, drafts_each}
+use Rattle.itip_items.specs.Given.{IsItemOf, AreItemsOf, GivesItems, IsOver, FirstOver, drafts_each}
 use Rattle.itip_message.specs.declared.sort.Component.{Component}
 use Rattle.itip_message.specs.declared.frame.Placed.{Placed}
 use Rattle.itip_items.specs.declared.item.Item.{Item}
@@ -59,7 +59,7 @@ decide_component m n c =
     fitting todo reads (Some cause) e =
         inr (in_todo n (causes.Misfit cause) (line_of_cause cause c.lines), inr (todo, cause, reads, e, refl))
 
-decide_components : (m : Method) (n : ℕ) (all : List Component) → ((todos : List Todo) × AreComponents m all todos) ⊎
+pub decide_components : (m : Method) (n : ℕ) (all : List Component) → ((todos : List Todo) × AreComponents m all todos) ⊎
     ((f : MessageRefusal) × FirstRefused m n all f)
 decide_components m n [] = inl ([], tt)
 decide_components m n (c ∷ all) =
@@ -183,6 +183,18 @@ items_of [] h within = ([], tt)
 items_of (d ∷ ds) h within =
     let first = item_of d h.0 within.0 in let more = items_of ds h.1 within.1 in (first.0 ∷ more.0, (first.1, more.1))
 
+-- to-dos give items, or a canonical form of some to-do is too large
+pub some_items : (m : Method) (all : List Todo) → AllByRecursion (Suits m) (map parts_of all) →
+    ((items : List Item) × GivesItems (drafts m (map parts_of all)) items)
+    ⊎ ((todo : ℕ) × FirstOver 1 (drafts_each m (map parts_of all) (map parts_of all)) todo)
+some_items m all suit =
+    elim (decide_each 1 m (map parts_of all) (map parts_of all)) [
+      | inr over ↦ inr over
+      | inl within ↦
+          let items = items_of (drafts m (map parts_of all)) (among_sound m all all suit) within in
+          inl (items.0, record { within = within; items_are = items.1 })
+    ]
+
 -- ---- the stages, from the last to the first
 
 abbrev ReadOrRefused : List ℕ → Type 0
@@ -192,27 +204,24 @@ module _ (bytes : List ℕ) (content : List NumberedLine) (reads : lines.Reads b
   with_components : (placed : List Placed) (m : Method) (all : List Todo) → frame content ≡ Ok placed → HasHead bytes m (todos placed) →
       AreComponents m (todos placed) all → ReadOrRefused bytes
   with_components placed m all framed has are =
-      elim (decide_each 1 m (map parts_of all) (map parts_of all)) [
+      elim (some_items m all (framed_suit m content placed all framed are)) [
         | inr over ↦ inr (
           large_form over.0,
           at_canonical_form over.0
               (record { method_is = m; components = todos placed; all = all; begins = has; read = are; over = over.1 }),
         )
-        | inl within ↦
-            let items = items_of (drafts m (map parts_of all)) (among_sound m all all (framed_suit m content placed all framed are)) within
-            in
-            inl (
-              items.0,
-              record {
-                method_is = m;
-                components = todos placed;
-                all = all;
-                begins = has;
-                read = are;
-                within = within;
-                items_are = items.1;
-              },
-            )
+        | inl given ↦ inl (
+          given.0,
+          record {
+            method_is = m;
+            components = todos placed;
+            all = all;
+            begins = has;
+            read = are;
+            within = given.1.within;
+            items_are = given.1.items_are;
+          },
+        )
       ]
 
   with_head : (placed : List Placed) → frame content ≡ Ok placed → (r : Result Method MessageRefusal) → head placed ≡ r →

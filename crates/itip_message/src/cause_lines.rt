@@ -57,7 +57,8 @@ fn first_recurring(lines: &[NumberedLine]) -> Option<usize>
     None
 }
 
-fn is_named(property: PropertyName, line: &NumberedLine) -> bool
+/// Whether a line has the name of the property.
+pub(crate) fn is_named(property: PropertyName, line: &NumberedLine) -> bool
     ensures { result ≡ is_named property line.now }
 {
     PropertyName::named(line.line.name.as_str()) == property

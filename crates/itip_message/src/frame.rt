@@ -19,9 +19,9 @@ use std::vec::IntoIter;
 /// The deepest nesting of components, the VCALENDAR being the first (our own limit).
 const DEPTH_LIMIT: usize = 32;
 
-/// A line that a message is made of, as it stands.
+/// A line that a message is made of, as it stands. No function gives one; contracts of crates above speak of them.
 #[derive(Drop)]
-pub(crate) enum Placed {
+pub enum Placed {
     /// A property directly in the VCALENDAR.
     CalendarLine(NumberedLine),
     /// A VTODO begins directly in the VCALENDAR, in the line of this number.

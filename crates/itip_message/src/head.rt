@@ -1,16 +1,19 @@
 //! The head of a message: VERSION, METHOD, and how many to-dos there are (RFC 5545 3.7, RFC 5546 3.4).
-ghost use Rattle.std.specs.Prelude.{◌≡◌, IfOk, IfErr, Ok, Err};
+ghost use Rattle.std.specs.Prelude.{◌≡◌, ℕ, codes, Option, Some, IfOk, IfErr, OnOk, Ok, Err};
 ghost use Rattle.std.specs.Option.{option_map};
 ghost use Rattle.itip_items.specs.Items.{method_named};
+ghost use Rattle.itip_items.specs.declared.kind.Method.{Method};
+ghost use Rattle.itip_items.specs.declared.kind.Method.TheVariants as methods;
 ghost use Rattle.itip_message.specs.Refusals.{IfRefused, at_line};
 ghost use Rattle.itip_message.specs.declared.error.ReadError.TheVariants as error;
-ghost use Rattle.itip_message.specs.Head.{head_of, only_value, odd_line, named};
+ghost use Rattle.itip_message.specs.Drafts.{draft_head_of};
+ghost use Rattle.itip_message.specs.Head.{head_of, is_version, method_in, counted, only_value, odd_line, named};
 
 use crate::error::{MessageCause, MessageRefusal, ReadError};
 use crate::frame::upper_case;
 use crate::sort::Component;
 use itip_items::{Method, method_named};
-use itip_lines::{NumberedLine, Text};
+use itip_lines::{NoMemory, NumberedLine, Text};
 use std::alloc::Global;
 
 /// The most to-dos of a message (our own limit).
@@ -28,19 +31,60 @@ pub(crate) fn read_head(
     ensures found { IfOk result (λ method. head_of calendar.now components.now ≡ Ok method) }
     ensures fault { IfErr result (λ e. IfRefused e (λ f. head_of calendar.now components.now ≡ Err f)) }
 {
-    let Some(version) = only_value(calendar, "VERSION") else {
-        return Err(wrong(MessageCause::Version, odd_line(calendar, "VERSION")));
-    };
-    if version.as_str() != "2.0" {
+    if !has_version(calendar) {
         return Err(wrong(MessageCause::Version, odd_line(calendar, "VERSION")));
     }
-    let Some(value) = only_value(calendar, "METHOD") else {
+    let found = method_in(alloc, calendar)?;
+    let Some(method) = found else {
         return Err(wrong(MessageCause::Method, odd_line(calendar, "METHOD")));
+    };
+    check_count(components)?;
+    Ok(method)
+}
+
+/// That a draft with these properties in its VCALENDAR and these to-dos has the head of a REQUEST, whatever its METHOD is.
+///
+/// VERSION is looked at first, then the number of to-dos.
+pub(crate) fn read_draft_head(
+    calendar: &[NumberedLine],
+    components: &[Component],
+) -> Result<(), ReadError>
+    ensures found { OnOk result (draft_head_of calendar.now components.now ≡ Ok methods.Request) }
+    ensures fault { IfErr result (λ e. IfRefused e (λ f. draft_head_of calendar.now components.now ≡ Err f)) }
+{
+    if !has_version(calendar) {
+        return Err(wrong(MessageCause::Version, odd_line(calendar, "VERSION")));
+    }
+    check_count(components)?;
+    Ok(())
+}
+
+/// Whether VERSION appears once, with 2.0.
+fn has_version(calendar: &[NumberedLine]) -> bool
+    ensures { result ≡ is_version (only_value (named (codes "VERSION") calendar.now)) }
+{
+    match only_value(calendar, "VERSION") {
+        Some(version) => version.as_str() == "2.0",
+        None => false,
+    }
+}
+
+/// The method that METHOD names, where it appears once, with the name of one that is read.
+fn method_in(alloc: Global, calendar: &[NumberedLine]) -> Result<Option<Method>, NoMemory>
+    ensures { IfOk result (λ found. found ≡ method_in (only_value (named (codes "METHOD") calendar.now))) }
+{
+    let Some(value) = only_value(calendar, "METHOD") else {
+        return Ok(None);
     };
     let name = upper_case(alloc, value)?;
-    let Some(method) = method_named(name.as_str()) else {
-        return Err(wrong(MessageCause::Method, odd_line(calendar, "METHOD")));
-    };
+    Ok(method_named(name.as_str()))
+}
+
+/// That there are to-dos, and not too many.
+fn check_count(components: &[Component]) -> Result<(), ReadError>
+    ensures found { OnOk result ((line : Option ℕ) (m : Method) → counted components.now line (Some m) ≡ Ok m) }
+    ensures fault { IfErr result (λ e. IfRefused e (λ f. (line : Option ℕ) (m : Method) → counted components.now line (Some m) ≡ Err f)) }
+{
     if components.len() > TODO_LIMIT {
         let beyond = components[TODO_LIMIT].begins;
         return Err(wrong(MessageCause::ManyTodos, Some(beyond)));
@@ -48,7 +92,7 @@ pub(crate) fn read_head(
     if components.is_empty() {
         return Err(wrong(MessageCause::NoTodo, None));
     }
-    Ok(method)
+    Ok(())
 }
 
 fn wrong(cause: MessageCause, line: Option<usize>) -> ReadError

@@ -1,10 +1,16 @@
 //! What holds of messages. The functions do nothing: their contracts are the laws.
-ghost use Rattle.std.specs.Prelude.{◌≡◌, ◌⊎◌, ◌∷◌, [], List, ℕ};
+ghost use Rattle.std.specs.Prelude.{◌≡◌, ◌⊎◌, ◌∷◌, [], List, ℕ, map};
+ghost use Rattle.std.specs.List.{AllByRecursion};
 ghost use Rattle.itip_message.specs.Cutting.{IsCutInto};
 ghost use Rattle.itip_message.specs.Message.{ReadsMessage, RefusesMessage};
+ghost use Rattle.itip_message.specs.Drafts.{ReadsDraft, RefusesDraft, IsUndated, HasCanonicalBase};
 ghost use Rattle.itip_message.specs.CauseLines.{NamesPlace};
 ghost use Rattle.itip_message.specs.declared.error.MessageRefusal.{MessageRefusal};
+ghost use Rattle.itip_items.specs.Needs.{Suits};
 ghost use Rattle.itip_items.specs.declared.item.Item.{Item};
+ghost use Rattle.itip_items.specs.declared.kind.Method.TheVariants as method;
+ghost use Rattle.itip_todo.specs.PartsOf.{parts_of};
+ghost use Rattle.itip_todo.specs.declared.todo.Todo.{Todo};
 
 /// Octets are cut into messages in one way, and only in one.
 pub fn message_cutting()
@@ -30,4 +36,20 @@ pub fn one_reading()
     ensures apart { (bytes : List ℕ) (items : List Item) (refusal : MessageRefusal)
         → ReadsMessage bytes items → RefusesMessage bytes refusal → ⊥ }
     ensures place { (bytes : List ℕ) (refusal : MessageRefusal) → RefusesMessage bytes refusal → NamesPlace refusal }
+{}
+
+/// A text is read as the to-dos of one draft, or it is refused for one cause in one place, and not both. None of the to-dos has a
+/// DTSTAMP and a SEQUENCE of its own, each has its X-DESK-BASE in canonical form, and each may be sent in a REQUEST.
+pub fn one_draft()
+    ensures some { (bytes : List ℕ)
+        → ((all : List Todo) × ReadsDraft bytes all) ⊎ ((refusal : MessageRefusal) × RefusesDraft bytes refusal) }
+    ensures todos { (bytes : List ℕ) (all others : List Todo) → ReadsDraft bytes all → ReadsDraft bytes others → all ≡ others }
+    ensures refusal { (bytes : List ℕ) (refusal other : MessageRefusal)
+        → RefusesDraft bytes refusal → RefusesDraft bytes other → refusal ≡ other }
+    ensures apart { (bytes : List ℕ) (all : List Todo) (refusal : MessageRefusal)
+        → ReadsDraft bytes all → RefusesDraft bytes refusal → ⊥ }
+    ensures place { (bytes : List ℕ) (refusal : MessageRefusal) → RefusesDraft bytes refusal → NamesPlace refusal }
+    ensures undated { (bytes : List ℕ) (all : List Todo) → ReadsDraft bytes all → AllByRecursion IsUndated all }
+    ensures base { (bytes : List ℕ) (all : List Todo) → ReadsDraft bytes all → AllByRecursion HasCanonicalBase all }
+    ensures suits { (bytes : List ℕ) (all : List Todo) → ReadsDraft bytes all → AllByRecursion (Suits method.Request) (map parts_of all) }
 {}

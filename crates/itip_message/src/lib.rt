@@ -5,6 +5,7 @@
 mod cause_lines;
 mod components;
 mod cutting;
+mod draft;
 mod error;
 mod frame;
 mod head;
@@ -14,8 +15,11 @@ mod read;
 mod sort;
 
 pub use cutting::{next_message, whole_message};
+pub use draft::read_draft;
 pub use error::{MessageCause, MessageRefusal, ReadError};
-pub use laws::{message_cutting, one_reading, read_again};
+pub use frame::Placed;
+pub use laws::{message_cutting, one_draft, one_reading, read_again};
 pub use parallel::read_all;
 pub use read::read_message;
+pub use sort::Component;
 pub use std::alloc::AllocError as NoMemory;

@@ -8,9 +8,9 @@ use crate::frame::Placed;
 use itip_lines::{ListOf, NoMemory, NumberedLine};
 use std::alloc::Global;
 
-/// A VTODO directly in the VCALENDAR.
+/// A VTODO directly in the VCALENDAR. No function gives one; contracts of crates above speak of them.
 #[derive(Drop)]
-pub(crate) struct Component {
+pub struct Component {
     /// The number of the line that begins it.
     pub begins: usize,
     /// The properties directly in it.

@@ -1,0 +1,137 @@
+//! Reading a draft: a message that is to be sent as a REQUEST.
+ghost use Rattle.std.specs.Prelude.{◌≡◌, ◌++◌, map, IfOk, OnOk, IfErr};
+ghost use Rattle.std.specs.List.{filter};
+ghost use Rattle.itip_message.specs.Refusals.{IfRefused};
+ghost use Rattle.itip_message.specs.Drafts.{ReadsDraft, RefusesDraft, HasDraftTodos, AreDated, IsFirstStamp, dated, is_undated};
+ghost use Rattle.itip_items.specs.declared.item.Item.{Item};
+
+use crate::cause_lines::is_named;
+use crate::components::read_components;
+use crate::error::ReadError;
+use crate::frame::frame;
+use crate::head::read_draft_head;
+use crate::sort::{Component, sort};
+use itip_items::{Item, Method, make_items};
+use itip_lines::{Line, ListOf, NoMemory, NumberedLine, Text, read_lines};
+use itip_todo::{PropertyName, Todo};
+use std::alloc::Global;
+
+/// The to-dos of a draft in their order, as a REQUEST gives them (RFC 5546 3.4.2), or the first cause why there are none.
+///
+/// METHOD is not looked at, and of the to-dos neither DTSTAMP nor SEQUENCE: each comes out with DTSTAMP 19700101T000000Z and
+/// SEQUENCE 0, whatever it has or lacks. X-DESK-BASE is in canonical form: only an instance has it, and above 0. The causes come in
+/// the order of reading: length, lines, frame, head, components, canonical forms. It is `NoMemory` only if an allocation failed.
+pub fn read_draft(alloc: Global, text: &[u8]) -> Result<Vec<Todo>, ReadError>
+    ensures found { IfOk result (λ todos. ReadsDraft text.now todos.items) }
+    ensures fault { IfErr result (λ e. IfRefused e (RefusesDraft text.now)) }
+{
+    let all = read_todos(alloc, text)?;
+    let items = make_items(alloc, Method::Request, all)?;
+    let todos = todos_of(alloc, items)?;
+    Ok(todos)
+}
+
+/// The to-dos of a draft as they stand, but for DTSTAMP and SEQUENCE, where each is what a REQUEST needs.
+fn read_todos(alloc: Global, text: &[u8]) -> Result<Vec<Todo>, ReadError>
+    ensures found { IfOk result (λ all. HasDraftTodos text.now all.items) }
+    ensures fault { IfErr result (λ e. IfRefused e (RefusesDraft text.now)) }
+{
+    let lines = read_lines(alloc, text)?;
+    let placed = frame(alloc, lines)?;
+    let (calendar, components) = sort(alloc, placed)?;
+    read_draft_head(&calendar, &components)?;
+    let dated = date_all(alloc, components)?;
+    let all = read_components(alloc, Method::Request, &dated)?;
+    Ok(all)
+}
+
+/// The to-dos of items.
+fn todos_of(alloc: Global, items: Vec<Item>) -> Result<Vec<Todo>, NoMemory>
+    ensures { IfOk result (λ todos. todos.items ≡ map (λ (item : Item). item.todo) items.items) }
+{
+    items.into_iter().map(todo_of).collect(alloc)
+}
+
+/// The to-do of an item.
+fn todo_of(item: Item) -> Todo
+    ensures { result ≡ item.todo }
+{
+    item.todo
+}
+
+/// The to-dos of a draft, each with DTSTAMP of the first second of 1970 in place of its lines of DTSTAMP and SEQUENCE.
+fn date_all(alloc: Global, components: Vec<Component>) -> Result<Vec<Component>, NoMemory>
+    ensures { IfOk result (λ all. AreDated components.items all.items) }
+{
+    let stamp = first_stamp(alloc)?;
+    let all = date_with(alloc, &stamp, components)?;
+    Ok(all)
+}
+
+/// DTSTAMP of the first second of 1970.
+fn first_stamp(alloc: Global) -> Result<Line, NoMemory>
+    ensures { IfOk result IsFirstStamp }
+{
+    let name = Text::copy(alloc, "DTSTAMP")?;
+    let value = Text::copy(alloc, "19700101T000000Z")?;
+    Ok(Line {
+        name,
+        params: ListOf::new(alloc),
+        value,
+    })
+}
+
+/// The to-dos of a draft, each with this line in place of its lines of DTSTAMP and SEQUENCE.
+fn date_with(
+    alloc: Global,
+    stamp: &Line,
+    components: Vec<Component>,
+) -> Result<Vec<Component>, NoMemory>
+    ensures { IfOk result (λ all. all.items ≡ map (dated stamp.now) components.items) }
+{
+    let mut all = Vec::with_capacity(alloc, components.len())?;
+    for component in components {
+        all.push(date(alloc, stamp, component)?)?;
+    }
+    Ok(all)
+}
+
+/// A to-do of a draft, with this line in place of its lines of DTSTAMP and SEQUENCE. It takes the number of the line in which the
+/// to-do begins, which no refusal names: nothing is wrong with it.
+fn date(alloc: Global, stamp: &Line, component: Component) -> Result<Component, NoMemory>
+    ensures { IfOk result (λ new. new ≡ dated stamp.now component) }
+{
+    let begins = component.begins;
+    let others = component.lines.into_vec();
+    let mut lines = Vec::new(alloc);
+    lines.push(NumberedLine {
+        number: begins,
+        line: stamp.clone()?,
+    })?;
+    add_undated(&mut lines, others)?;
+    Ok(Component {
+        begins,
+        lines: ListOf::from_vec(lines),
+    })
+}
+
+/// Adds those of these lines that are neither of DTSTAMP nor of SEQUENCE.
+fn add_undated(lines: &mut Vec<NumberedLine>, others: Vec<NumberedLine>) -> Result<(), NoMemory>
+    ensures { OnOk result (lines.new.items ≡ lines.old.items ++ filter is_undated others.items) }
+{
+    for line in others {
+        if is_undated(&line) {
+            lines.push(line)?;
+        } else {
+            drop(line);
+        }
+    }
+    Ok(())
+}
+
+/// Whether a line says neither when nor as which revision its to-do was sent.
+fn is_undated(line: &NumberedLine) -> bool
+    ensures { result ≡ is_undated line.now }
+{
+    !is_named(PropertyName::DtStamp, line) && !is_named(PropertyName::Sequence, line)
+}
