@@ -1,0 +1,18 @@
+//! Items, and where they are told.
+use itip_items::Item;
+
+/// Where a message stands.
+#[derive(Clone, Copy, Debug, PartialEq, Eq)]
+pub struct Place {
+    /// The place of its source, from 0.
+    pub source: usize,
+    /// Its number among the messages of this source, from 1.
+    pub message: u64,
+}
+
+/// An item, and the place of a message that tells it.
+#[derive(Debug, Drop)]
+pub struct ToldItem {
+    pub place: Place,
+    pub item: Item,
+}
