@@ -1,0 +1,32 @@
+-- Properties that RFC 5546 3.4 wants in a message and that are not there.
+use Rattle.std.specs.Prelude.{Bool, false, ◌==◌, List, [], ◌∷◌, length, Option, Some, None}
+use Rattle.std.specs.Option.{is_none}
+use Rattle.std.specs.List.{filter, list_any}
+use Rattle.itip_todo.specs.Parts.{Parts}
+use Rattle.itip_todo.specs.PartsOf.{parts_of}
+use Rattle.itip_todo.specs.declared.property.Property.{Property}
+use Rattle.itip_todo.specs.declared.property_name.PropertyName.{PropertyName}
+use Rattle.itip_todo.specs.declared.property_name.PropertyName.TheVariants as name
+use Rattle.itip_todo.specs.declared.todo.Todo.{Todo}
+
+-- ORGANIZER, where there is none: a REPLY, a CANCEL and a REFRESH want it (RFC 5546 3.4.3, 3.4.5 and 3.4.6)
+abbrev pub lacking_organizer : Option Property → List PropertyName
+lacking_organizer None = name.Organizer ∷ []
+lacking_organizer (Some organizer) = []
+
+-- what a REQUEST wants in each to-do beside what is always written (RFC 5546 3.4.2), in canonical order
+abbrev pub wanted_in_request : List PropertyName
+wanted_in_request = name.DtStart ∷ name.Priority ∷ name.Summary ∷ name.Organizer ∷ name.Attendee ∷ []
+
+-- a to-do has none of a property that a REQUEST wants
+abbrev pub lacks : PropertyName → Parts → Bool
+lacks name.DtStart parts = is_none parts.start
+lacks name.Priority parts = is_none parts.priority
+lacks name.Summary parts = is_none parts.summary
+lacks name.Organizer parts = is_none parts.organizer
+lacks name.Attendee parts = length parts.attendees == 0
+lacks p parts = false
+
+-- what a REQUEST wants and some to-do of the draft lacks, each property once, in canonical order
+abbrev pub lacking_in_request : List Todo → List PropertyName
+lacking_in_request draft = filter (λ p. list_any (λ (todo : Todo). lacks p (parts_of todo)) draft) wanted_in_request

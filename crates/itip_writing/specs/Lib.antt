@@ -1,0 +1,11 @@
+pub mod Cancelling
+pub mod Causes
+pub mod Endings
+pub mod Errands
+pub mod Lacking
+pub mod Refreshing
+pub mod Removing
+pub mod Replying
+pub mod Requesting
+pub mod Sent
+pub mod Stamping

@@ -1,0 +1,133 @@
+//! What is asked for, and the message that is written for it.
+ghost use Rattle.std.specs.Prelude.{IfOk, IfErr, None};
+ghost use Rattle.itip_report.specs.Organizing.{IsResend, IsResendOf};
+ghost use Rattle.itip_view.specs.InQuestion.{NoneInQuestion};
+ghost use Rattle.itip_writing.specs.Causes.{IfNothing};
+ghost use Rattle.itip_writing.specs.Errands.{CannotBeWritten, IsWritten, LacksOf};
+ghost use Rattle.itip_writing.specs.Replying.{IsLacking};
+
+use crate::answer::Answer;
+use crate::cancel::{cancellation, governing};
+use crate::error::WritingError;
+use crate::lacking::lacking_organizer;
+use crate::onward::onward_cancellation;
+use crate::refresh::refresh_of;
+use crate::removal::removal;
+use crate::reply::reply_to;
+use crate::request::request_of;
+use itip_moment::{Moment, Stamp};
+use itip_report::resend;
+use itip_state::{ItemsOfUid, State};
+use itip_todo::{PropertyName, Todo, Uid};
+use std::alloc::Global;
+
+/// What an office asks for: a message about a to-do that it has heard of, or of a draft.
+#[derive(Clone, Copy, Debug, Drop)]
+pub enum Errand<'a> {
+    /// The messages of a to-do once more.
+    Resend {
+        uid: &'a Uid,
+    },
+    /// An answer to a to-do as a whole, or to an instance.
+    Reply {
+        uid: &'a Uid,
+        id: Option<&'a Moment>,
+        answer: Answer<'a>,
+    },
+    /// The wish of an attendee, by the address, for the newest revision of a to-do as a whole, or of an instance.
+    Refresh {
+        uid: &'a Uid,
+        id: Option<&'a Moment>,
+        attendee: &'a str,
+    },
+    /// The cancellation of a to-do as a whole, or of an instance.
+    Cancel {
+        uid: &'a Uid,
+        id: Option<&'a Moment>,
+    },
+    /// The cancellation of an instance and all after it.
+    CancelOnward {
+        uid: &'a Uid,
+        id: &'a Moment,
+    },
+    /// The removal of attendees, by their addresses, from a to-do as a whole, or from an instance.
+    Remove {
+        uid: &'a Uid,
+        id: Option<&'a Moment>,
+        attendees: &'a [String],
+    },
+    /// A request of these to-dos.
+    Request {
+        draft: &'a [Todo],
+    },
+}
+
+/// A message to send; of a resend the messages, one after the other.
+#[derive(Debug, Drop)]
+pub struct Message {
+    /// The octets.
+    pub octets: Vec<u8>,
+    /// The properties that RFC 5546 3.4 wants in such a message and that are not there, each once, in canonical order.
+    pub lacking: Vec<PropertyName>,
+}
+
+/// The message that is asked for, where it is written at a moment and the state keeps what was heard so far.
+///
+/// The errors are those of each message: see [`reply_to`], [`refresh_of`], [`cancellation`], [`onward_cancellation`], `removal` and
+/// [`request_of`]; of a resend it is `NothingStands` where no series item of the UID is live.
+pub fn message_for(
+    alloc: Global,
+    state: &State,
+    errand: &Errand<'_>,
+    at: Stamp,
+) -> Result<Message, WritingError>
+    ensures written { IfOk result (λ message. IsWritten errand.now state.now at message.octets.items) }
+    ensures lacking { IfOk result (λ message. LacksOf errand.now state.now message.lacking.items) }
+    ensures fault { IfErr result (CannotBeWritten errand.now state.now at) }
+{
+    match errand {
+        Errand::Resend { uid } => sent_again(alloc, state, uid),
+        Errand::Reply { uid, id, answer } => reply_to(alloc, state, uid, *id, answer, at),
+        Errand::Refresh { uid, id, attendee } => refresh_of(alloc, state, uid, *id, attendee, at),
+        Errand::Cancel { uid, id } => cancellation(alloc, state, uid, *id, at),
+        Errand::CancelOnward { uid, id } => onward_cancellation(alloc, state, uid, id, at),
+        Errand::Remove { uid, id, attendees } => removal(alloc, state, uid, *id, attendees, at),
+        Errand::Request { draft } => request_of(alloc, state, draft, at),
+    }
+}
+
+/// The messages of a to-do once more. They lack ORGANIZER where the series item has none.
+///
+/// `NothingStands` where no series item of the UID is live.
+fn sent_again(alloc: Global, state: &State, uid: &Uid) -> Result<Message, WritingError>
+    ensures written { IfOk result (λ message. IsResend state.now uid.now message.octets.items) }
+    ensures lacking { IfOk result (λ message. IsLacking state.now uid.now None message.lacking.items) }
+    ensures fault { IfErr result (IfNothing (IsResendOf state.now uid.now None)) }
+{
+    let lacking = lacking_of(alloc, state, uid)?;
+    match resend(alloc, state, uid)? {
+        Some(octets) => Ok(Message { octets, lacking }),
+        None => Err(WritingError::NothingStands),
+    }
+}
+
+/// What a message about a to-do as a whole lacks.
+///
+/// `NothingStands` where no series item of the UID is live.
+fn lacking_of(alloc: Global, state: &State, uid: &Uid) -> Result<Vec<PropertyName>, WritingError>
+    ensures lacking { IfOk result (λ lacking. IsLacking state.now uid.now None lacking.items) }
+    ensures fault { IfErr result (IfNothing (IsResendOf state.now uid.now None)) }
+{
+    let items = state.of_uid(uid)?;
+    lacking_in(alloc, &items)
+}
+
+/// The same, where these are the kept items of the UID.
+fn lacking_in(alloc: Global, items: &ItemsOfUid<'_>) -> Result<Vec<PropertyName>, WritingError>
+    ensures lacking { IfOk result (λ lacking. IsLacking items.now.items items.now.uid None lacking.items) }
+    ensures fault { IfErr result (IfNothing (NoneInQuestion items.now.items items.now.uid None)) }
+{
+    let item = governing(alloc, items, None)?;
+    let lacking = lacking_organizer(alloc, &item.todo.organizer)?;
+    Ok(lacking)
+}

@@ -1,0 +1,52 @@
+//! Why nothing is written.
+ghost use Rattle.std.specs.Prelude.{◌≡◌};
+ghost use Rattle.itip_writing.specs.declared.error.WritingError.TheVariants.{NoMemory};
+
+use itip_message::MessageRefusal;
+use std::alloc::{AllocError, AllocFailed};
+use thiserror::Error;
+
+/// Why a message can't be written. Of several causes it is the first in this order.
+#[derive(Clone, Copy, PartialEq, Eq, Debug, Drop, Error)]
+pub enum WritingError {
+    /// There is no row in question: the to-do isn't known or is cancelled, or nothing stands at the instance.
+    #[error("nothing stands there")]
+    NothingStands,
+    /// The row in question shows no attendee of this address.
+    #[error("no such attendee")]
+    NoSuchAttendee,
+    /// The greatest SEQUENCE, 2147483647, was used.
+    #[error("no sequence is left")]
+    NoSequenceLeft,
+    /// An answer of an attendee who is to be removed has a greater SEQUENCE, so that the removal would be overtaken.
+    #[error("an answer of theirs has a greater sequence")]
+    AnswerOvertakes,
+    /// Two to-dos of a draft are of one key.
+    #[error("two to-dos of one key")]
+    TwoOfOneKey,
+    /// DTSTAMP would have to be after 99991231T235959Z.
+    #[error("no time is left")]
+    NoTimeLeft,
+    /// The message would be too long to be read again.
+    #[error("a message as long as this is not read")]
+    Unreadable(MessageRefusal),
+    /// Memory was refused.
+    #[error("no memory to write a message")]
+    NoMemory,
+}
+
+impl From<AllocError> for WritingError {
+    ghost from_gives = { λ _ e. e ≡ NoMemory };
+
+    fn from(_e: AllocError) -> WritingError {
+        WritingError::NoMemory
+    }
+}
+
+impl<T: Drop> From<AllocFailed<T>> for WritingError {
+    ghost from_gives = { λ _ e. e ≡ NoMemory };
+
+    fn from(_e: AllocFailed<T>) -> WritingError {
+        WritingError::NoMemory
+    }
+}

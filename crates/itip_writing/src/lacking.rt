@@ -1,0 +1,68 @@
+//! Properties that RFC 5546 3.4 wants in a message and that are not there.
+ghost use Rattle.std.specs.Prelude.{◌≡◌, IfOk};
+ghost use Rattle.std.specs.List.{list_any};
+ghost use Rattle.itip_todo.specs.PartsOf.{parts_of};
+ghost use Rattle.itip_todo.specs.declared.todo.Todo.{Todo};
+ghost use Rattle.itip_writing.specs.Lacking.{lacking_organizer, lacking_in_request, lacks};
+
+use crate::NoMemory;
+use itip_todo::{Property, PropertyName, Todo};
+use std::alloc::Global;
+
+/// What a REQUEST wants in each to-do beside what is always written (RFC 5546 3.4.2), in canonical order.
+const WANTED_IN_REQUEST: [PropertyName; 5] = [
+    PropertyName::DtStart,
+    PropertyName::Priority,
+    PropertyName::Summary,
+    PropertyName::Organizer,
+    PropertyName::Attendee,
+];
+
+/// ORGANIZER, where there is none: a REPLY, a CANCEL and a REFRESH want it (RFC 5546 3.4.3, 3.4.5 and 3.4.6).
+pub(crate) fn lacking_organizer(
+    alloc: Global,
+    organizer: &Option<Property>,
+) -> Result<Vec<PropertyName>, NoMemory>
+    ensures { IfOk result (λ names. names.items ≡ lacking_organizer organizer.now) }
+{
+    let mut names = Vec::new(alloc);
+    if organizer.is_none() {
+        names.push(PropertyName::Organizer)?;
+    }
+    Ok(names)
+}
+
+/// What a REQUEST wants and some to-do of a draft lacks, each property once, in canonical order.
+pub(crate) fn lacking_in_request(
+    alloc: Global,
+    draft: &[Todo],
+) -> Result<Vec<PropertyName>, NoMemory>
+    ensures { IfOk result (λ names. names.items ≡ lacking_in_request draft.now) }
+{
+    WANTED_IN_REQUEST
+        .iter()
+        .copied()
+        .filter(|property| is_lacking(*property, draft))
+        .collect(alloc)
+}
+
+/// Whether some to-do has none of a property that a REQUEST wants.
+fn is_lacking(property: PropertyName, draft: &[Todo]) -> bool
+    ensures { result ≡ list_any (λ (todo : Todo). lacks property (parts_of todo)) draft.now }
+{
+    draft.iter().any(|todo| lacks(property, todo))
+}
+
+/// Whether a to-do has none of a property that a REQUEST wants.
+fn lacks(property: PropertyName, todo: &Todo) -> bool
+    ensures { result ≡ lacks property (parts_of todo.now) }
+{
+    match property {
+        PropertyName::DtStart => todo.start.is_none(),
+        PropertyName::Priority => todo.priority.is_none(),
+        PropertyName::Summary => todo.summary.is_none(),
+        PropertyName::Organizer => todo.organizer.is_none(),
+        PropertyName::Attendee => todo.attendees.as_slice().is_empty(),
+        _ => false,
+    }
+}

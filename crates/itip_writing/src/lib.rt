@@ -1,0 +1,37 @@
+//! Messages that an office sends (RFC 5546 3.4): an answer, a wish for the newest revision, a cancellation, a removal of attendees,
+//! a request. Their SEQUENCE and DTSTAMP are such that what was heard can't overtake them.
+#![tactic(auto)]
+
+mod answer;
+mod asked;
+mod brief;
+mod cancel;
+mod cancel_laws;
+mod errand;
+mod error;
+mod lacking;
+mod laws;
+mod message;
+mod onward;
+mod refresh;
+mod removal;
+mod reply;
+mod request;
+mod request_laws;
+mod rid;
+mod stamping;
+
+pub use answer::Answer;
+pub use cancel::cancellation;
+pub use cancel_laws::{
+    cancellations_are_read, cancelled_is_gone, cancelling_of_kept, removed_are_gone,
+};
+pub use errand::{Errand, Message, message_for};
+pub use error::WritingError;
+pub use laws::{answers_are_shown, messages_are_read, refreshes_are_wanted, writing_of_kept};
+pub use onward::onward_cancellation;
+pub use refresh::refresh_of;
+pub use reply::reply_to;
+pub use request::request_of;
+pub use request_laws::{one_request, request_stands};
+pub use std::alloc::AllocError as NoMemory;

@@ -1,0 +1,263 @@
+//! Removing attendees from a to-do, or from an instance of it.
+ghost use Rattle.std.specs.Prelude.{◌≡◌, ◌↔◌, ◌∷◌, [], IsTrue, IfOk, OnOk, IfErr, None, false, map};
+ghost use Rattle.std.specs.List.{list_any};
+ghost use Rattle.std.specs.Option.{option_copied};
+ghost use Rattle.std.specs.String.{string_bytes};
+ghost use Rattle.itip_todo.specs.Participation.{same_text};
+ghost use Rattle.itip_todo.specs.Table.{attendee_key};
+ghost use Rattle.itip_items.specs.declared.key.Key.TheVariants as keys;
+ghost use Rattle.itip_report.specs.Organizing.{IsNext};
+ghost use Rattle.itip_view.specs.InQuestion.{NoneInQuestion};
+ghost use Rattle.itip_writing.specs.Cancelling.{IsSent, IsUnread, notice};
+ghost use Rattle.itip_writing.specs.Causes.{IfCause, IfOvertaken, IfUnread};
+ghost use Rattle.itip_writing.specs.Removing.{IsRemoving, CannotRemove, IsRemovable, IsNobody, IsOvertaken, ShowsAll, ShowsEach};
+ghost use Rattle.itip_writing.specs.Removing.{ShowsOne, IsNoGreater, IsGreater, lines_of, removed_keys, with_stamp};
+ghost use Rattle.itip_writing.specs.Replying.{IsLacking};
+ghost use Rattle.itip_writing.specs.Stamping.{IsEqualRevision, IsKeptOf, IsLatestOf, equal_stamp};
+
+use crate::NoMemory;
+use crate::asked::{attendee_shown, row_in_question};
+use crate::brief::BriefTodo;
+use crate::cancel::sent_alone;
+use crate::errand::Message;
+use crate::error::WritingError;
+use crate::lacking::lacking_organizer;
+use crate::reply::Revision;
+use crate::stamping::{later_stamp, stamp_after};
+use itip_items::Item;
+use itip_moment::{Moment, Stamp};
+use itip_report::next_seq;
+use itip_state::{ItemsOfUid, State};
+use itip_todo::{Property, Uid, attendee_key};
+use itip_view::ShownAttendee;
+use std::alloc::Global;
+
+/// The message that removes attendees, by their addresses, from a to-do as a whole, or from an instance of it, where it is written at a
+/// moment (RFC 5546 3.4.5).
+///
+/// It is a CANCEL without STATUS, with UID, the RECURRENCE-ID that is given, the ORGANIZER of the item that governs the row in
+/// question, and its ATTENDEE lines of these attendees, in its order. SEQUENCE is the next of the UID; DTSTAMP is the moment, or one
+/// second after the latest kept answer of theirs to the same, of those that have the same SEQUENCE, where that isn't before the moment.
+/// So it is later than each answer of theirs to the same.
+///
+/// `NothingStands` where there is no row in question, `NoSuchAttendee` where no address is given or one is of nobody whom the row
+/// shows, `NoSequenceLeft` where the greatest SEQUENCE was used, `AnswerOvertakes` where an answer of theirs has a greater one,
+/// `NoTimeLeft` where there is no second after an answer of the same, and `Unreadable` where the message isn't read again, being too
+/// long.
+pub fn removal(
+    alloc: Global,
+    state: &State,
+    uid: &Uid,
+    id: Option<&Moment>,
+    attendees: &[String],
+    at: Stamp,
+) -> Result<Message, WritingError>
+    ensures found { IfOk result (λ message.
+        IsRemoving state.now uid.now (option_copied id.entry) (map string_bytes attendees.now) at message.octets.items) }
+    ensures lacking { IfOk result (λ message. IsLacking state.now uid.now (option_copied id.entry) message.lacking.items) }
+    ensures fault { IfErr result (CannotRemove state.now uid.now (option_copied id.entry) (map string_bytes attendees.now) at) }
+{
+    let items = state.of_uid(uid)?;
+    removal_of(alloc, &items, id, attendees, next_seq(state, uid), at)
+}
+
+/// The same, where these are the kept items of the UID, and this is its next sequence.
+fn removal_of(
+    alloc: Global,
+    items: &ItemsOfUid<'_>,
+    id: Option<&Moment>,
+    attendees: &[String],
+    next: Option<u32>,
+    at: Stamp,
+) -> Result<Message, WritingError>
+    requires { IsNext items.now.items items.now.uid next }
+    ensures found { IfOk result (λ message.
+        IsRemoving items.now.items items.now.uid (option_copied id.entry) (map string_bytes attendees.now) at message.octets.items) }
+    ensures lacking { IfOk result (λ message. IsLacking items.now.items items.now.uid (option_copied id.entry) message.lacking.items) }
+    ensures fault { IfErr result
+        (CannotRemove items.now.items items.now.uid (option_copied id.entry) (map string_bytes attendees.now) at) }
+{
+    let item = removable(alloc, items, id, attendees)?;
+    let Some(sequence) = next else {
+        return Err(WritingError::NoSequenceLeft);
+    };
+    let lines = lines_of(alloc, item.todo.attendees.as_slice(), attendees)?;
+    let latest = latest_answer(alloc, items, id, &lines, sequence)?;
+    let stamp = stamp_after(at, latest)?;
+    let revision = Revision { sequence, stamp };
+    let octets = removal_octets(alloc, items.uid(), item, id, &lines, revision)?;
+    let lacking = lacking_organizer(alloc, &item.todo.organizer)?;
+    Ok(Message { octets, lacking })
+}
+
+/// The item that governs the row in question, where the row shows each of these attendees.
+///
+/// `NothingStands` where there is no such row, and `NoSuchAttendee` where it doesn't show each, or none is given.
+fn removable<'a>(
+    alloc: Global,
+    items: &ItemsOfUid<'a>,
+    id: Option<&Moment>,
+    attendees: &[String],
+) -> Result<&'a Item, WritingError>
+    ensures found { IfOk result (λ item.
+        IsRemovable items.now.items items.now.uid (option_copied id.entry) (map string_bytes attendees.now) item.now) }
+    ensures fault { IfErr result (IfCause (NoneInQuestion items.now.items items.now.uid (option_copied id.entry))
+        (IsNobody items.now.items items.now.uid (option_copied id.entry) (map string_bytes attendees.now)) ⊥ ⊥ ⊥ ⊥ (λ _. ⊥)) }
+{
+    let row = row_in_question(alloc, items, id)?;
+    if shows_each(row.attendees.as_slice(), attendees) {
+        Ok(row.item)
+    } else {
+        Err(WritingError::NoSuchAttendee)
+    }
+}
+
+/// Whether an address is given, and each that is given is of an attendee who is shown.
+fn shows_each(shown: &[ShownAttendee], attendees: &[String]) -> bool
+    ensures { IsTrue result ↔ ShowsEach shown.now (map string_bytes attendees.now) }
+{
+    if attendees.is_empty() {
+        return false;
+    }
+    each_shown(shown, attendees)
+}
+
+/// Whether each address that is given is of an attendee who is shown.
+fn each_shown(shown: &[ShownAttendee], attendees: &[String]) -> bool
+    ensures { IsTrue result ↔ ShowsAll shown.now (map string_bytes attendees.now) }
+{
+    for address in attendees {
+        if !is_shown(shown, address.as_str()) {
+            return false;
+        }
+    }
+    true
+}
+
+/// Whether an address is of an attendee who is shown.
+fn is_shown(shown: &[ShownAttendee], address: &str) -> bool
+    ensures { IsTrue result ↔ ShowsOne shown.now address.now }
+{
+    match attendee_shown(shown, address) {
+        Some(_) => true,
+        None => false,
+    }
+}
+
+/// Copies of the ATTENDEE lines of the attendees of these addresses, in their order.
+fn lines_of(
+    alloc: Global,
+    lines: &[Property],
+    attendees: &[String],
+) -> Result<Vec<Property>, NoMemory>
+    ensures { IfOk result (λ found. found.items ≡ lines_of (map string_bytes attendees.now) lines.now) }
+{
+    let mut found = Vec::new(alloc);
+    for line in lines {
+        if !is_one_of(line, attendees) {
+            continue;
+        }
+        found.push(line.clone()?)?;
+    }
+    Ok(found)
+}
+
+/// Whether the attendee of a line has one of these addresses.
+fn is_one_of(line: &Property, attendees: &[String]) -> bool
+    ensures { result ≡ list_any (λ address. same_text (attendee_key line.now.value) (attendee_key (string_bytes address))) attendees.now }
+{
+    let value = line.value.as_str();
+    attendees
+        .iter()
+        .any(|address| value.eq_ignore_ascii_case(address.as_str()))
+}
+
+/// The latest DTSTAMP of the kept answers of the attendees of these lines, of those that have this sequence; `None` where none has.
+///
+/// `AnswerOvertakes` where one of the answers has a greater sequence.
+fn latest_answer(
+    alloc: Global,
+    items: &ItemsOfUid<'_>,
+    id: Option<&Moment>,
+    lines: &[Property],
+    sequence: u32,
+) -> Result<Option<Stamp>, WritingError>
+    ensures latest { IfOk result (IsLatestOf (IsEqualRevision items.now.items
+        (removed_keys items.now.uid (option_copied id.entry) lines.now) sequence)) }
+    ensures first { OnOk result (¬ IsOvertaken items.now.items
+        (removed_keys items.now.uid (option_copied id.entry) lines.now) sequence) }
+    ensures overtaken { IfErr result (IfOvertaken (IsOvertaken items.now.items
+        (removed_keys items.now.uid (option_copied id.entry) lines.now) sequence)) }
+{
+    let mut latest = None;
+    for line in lines {
+        let key = attendee_key(alloc, line.value.as_str())?;
+        let answer = kept_answer(items, id, key.as_str());
+        latest = with_answer(latest, answer, sequence)?;
+    }
+    Ok(latest)
+}
+
+/// The kept answer of an attendee, by its key; `None` where none is kept. It takes no memory.
+fn kept_answer<'a>(items: &ItemsOfUid<'a>, id: Option<&Moment>, attendee: &str) -> Option<&'a Item>
+    ensures { IsKeptOf items.now.items (keys.Answer items.now.uid (option_copied id.entry) attendee.now) (option_copied result) }
+{
+    // The call tells that each of the items is kept beside the others.
+    let _kept = items.as_slice();
+    items.answer(id, attendee)
+}
+
+/// The later of a stamp and the DTSTAMP of an answer, where that has this sequence.
+///
+/// `AnswerOvertakes` where it has a greater one.
+fn with_answer(
+    latest: Option<Stamp>,
+    answer: Option<&Item>,
+    sequence: u32,
+) -> Result<Option<Stamp>, WritingError>
+    ensures latest { IfOk result (λ later. later ≡ with_stamp latest (equal_stamp sequence (option_copied answer.entry))) }
+    ensures first { OnOk result (IsNoGreater sequence (option_copied answer.entry)) }
+    ensures overtaken { IfErr result (IfOvertaken (IsGreater sequence (option_copied answer.entry))) }
+{
+    let Some(answer) = answer else {
+        return Ok(latest);
+    };
+    if sequence < answer.eff {
+        return Err(WritingError::AnswerOvertakes);
+    }
+    if answer.eff == sequence {
+        Ok(Some(later_stamp(latest, answer.stamp)))
+    } else {
+        Ok(latest)
+    }
+}
+
+/// The octets of a message that removes the attendees of these lines.
+///
+/// `Unreadable` where they aren't read again.
+fn removal_octets(
+    alloc: Global,
+    uid: &Uid,
+    item: &Item,
+    id: Option<&Moment>,
+    lines: &[Property],
+    revision: Revision,
+) -> Result<Vec<u8>, WritingError>
+    ensures sent { IfOk result (λ octets. IsSent (notice uid.now item.now (option_copied id.entry) false None lines.now
+        revision.sequence revision.stamp ∷ []) octets.items) }
+    ensures unread { IfErr result (IfUnread (IsUnread (notice uid.now item.now (option_copied id.entry) false None lines.now
+        revision.sequence revision.stamp ∷ []))) }
+{
+    let brief = BriefTodo {
+        uid,
+        stamp: revision.stamp,
+        seq: revision.sequence,
+        rid: id,
+        range: false,
+        status: None,
+        percent: None,
+        organizer: &item.todo.organizer,
+        attendees: lines,
+    };
+    sent_alone(alloc, brief)
+}

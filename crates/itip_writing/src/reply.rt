@@ -1,0 +1,170 @@
+//! The answer that an attendee sends.
+ghost use Rattle.std.specs.Prelude.{◌≡◌, ◌∷◌, [], IfOk, IfErr};
+ghost use Rattle.std.specs.Option.{option_copied};
+ghost use Rattle.itip_items.specs.declared.key.Key.TheVariants as keys;
+ghost use Rattle.itip_items.specs.declared.kind.Method.TheVariants as methods;
+ghost use Rattle.itip_writing.specs.Causes.{IfLate};
+ghost use Rattle.itip_writing.specs.Replying.{IsReply, IsLacking, CannotReply, IsAnswerRevision, IsAnswerLate};
+ghost use Rattle.itip_writing.specs.Replying.{answer_key, answer_line, no_less, reply_parts};
+ghost use Rattle.itip_writing.specs.Sent.{sent_octets};
+
+use crate::NoMemory;
+use crate::answer::Answer;
+use crate::asked::{AskedAttendee, asked_attendee};
+use crate::brief::BriefTodo;
+use crate::errand::Message;
+use crate::error::WritingError;
+use crate::lacking::lacking_organizer;
+use crate::message::{readable, write_alone};
+use crate::rid::one_parameter;
+use crate::stamping::{kept_item, latest_equal, stamp_after};
+use itip_items::{Item, Key, Method};
+use itip_lines::{ListOf, Text};
+use itip_moment::{Moment, Stamp};
+use itip_state::{ItemsOfUid, State};
+use itip_todo::{PartStat, Property, Uid};
+use std::alloc::Global;
+
+/// SEQUENCE and DTSTAMP.
+#[derive(Clone, Copy, Debug, Drop)]
+pub(crate) struct Revision {
+    pub sequence: u32,
+    pub stamp: Stamp,
+}
+
+/// The answer of an attendee to a to-do as a whole, or to an instance of it, where it is written at a moment (RFC 5546 3.4.3).
+///
+/// It is a REPLY with UID, DTSTAMP, the ORGANIZER of the item that governs the row in question, the RECURRENCE-ID that is given,
+/// PERCENT-COMPLETE where the answer has it, and the ATTENDEE with PARTSTAT, whose address is as the item has it. SEQUENCE is the
+/// greater of that of the item and that of the kept answer of the attendee; DTSTAMP is the moment, or one second after that answer,
+/// where this has the same SEQUENCE and isn't before the moment.
+///
+/// `NothingStands` where there is no row in question, `NoSuchAttendee` where it shows no attendee of this address, `NoTimeLeft` where
+/// there is no second after that answer, and `Unreadable` where the message isn't read again: it is too long, or the percentage is
+/// above 100.
+pub fn reply_to(
+    alloc: Global,
+    state: &State,
+    uid: &Uid,
+    id: Option<&Moment>,
+    answer: &Answer<'_>,
+    at: Stamp,
+) -> Result<Message, WritingError>
+    ensures found { IfOk result (λ message. IsReply state.now uid.now (option_copied id.entry) answer.now at message.octets.items) }
+    ensures lacking { IfOk result (λ message. IsLacking state.now uid.now (option_copied id.entry) message.lacking.items) }
+    ensures fault { IfErr result (CannotReply state.now uid.now (option_copied id.entry) answer.now at) }
+{
+    let items = state.of_uid(uid)?;
+    reply_of(alloc, &items, id, answer, at)
+}
+
+/// The same, where these are the kept items of the UID.
+fn reply_of(
+    alloc: Global,
+    items: &ItemsOfUid<'_>,
+    id: Option<&Moment>,
+    answer: &Answer<'_>,
+    at: Stamp,
+) -> Result<Message, WritingError>
+    ensures found { IfOk result (λ message.
+        IsReply items.now.items items.now.uid (option_copied id.entry) answer.now at message.octets.items) }
+    ensures lacking { IfOk result (λ message. IsLacking items.now.items items.now.uid (option_copied id.entry) message.lacking.items) }
+    ensures fault { IfErr result (CannotReply items.now.items items.now.uid (option_copied id.entry) answer.now at) }
+{
+    let asked = asked_attendee(alloc, items, id, answer.attendee)?;
+    let revision = answer_revision(items, id, &asked, at)?;
+    let text = reply_octets(alloc, items.uid(), id, &asked, revision, answer)?;
+    let octets = readable(alloc, text)?;
+    let lacking = lacking_organizer(alloc, &asked.item.todo.organizer)?;
+    Ok(Message { octets, lacking })
+}
+
+/// SEQUENCE and DTSTAMP of an answer that is written at a moment.
+///
+/// `NoTimeLeft` where an answer of the same sequence has the last DTSTAMP that there is.
+fn answer_revision(
+    items: &ItemsOfUid<'_>,
+    id: Option<&Moment>,
+    asked: &AskedAttendee<'_>,
+    at: Stamp,
+) -> Result<Revision, WritingError>
+    ensures revision { IfOk result (λ revision. IsAnswerRevision items.now.items
+        (answer_key items.now.uid (option_copied id.entry) asked.now.address) asked.now.item.now.own at revision.sequence revision.stamp) }
+    ensures late { IfErr result (IfLate (IsAnswerLate items.now.items
+        (answer_key items.now.uid (option_copied id.entry) asked.now.address) asked.now.item.now.own at)) }
+{
+    let key = answer_key(items.uid(), id, &asked.key)?;
+    let sequence = no_less(asked.item.own, kept_item(items, &key));
+    let stamp = stamp_after(at, latest_equal(items, &key, sequence))?;
+    Ok(Revision { sequence, stamp })
+}
+
+/// The key of what an attendee answers.
+fn answer_key(uid: &Uid, id: Option<&Moment>, attendee: &Text) -> Result<Key, NoMemory>
+    ensures { IfOk result (λ key. key ≡ keys.Answer uid.now (option_copied id.entry) attendee.now) }
+{
+    let uid = uid.clone()?;
+    let id = copied_id(id)?;
+    let attendee = attendee.clone()?;
+    Ok(Key::Answer(uid, id, attendee))
+}
+
+/// A copy of a recurrence id, where there is one.
+pub(crate) fn copied_id(id: Option<&Moment>) -> Result<Option<Moment>, NoMemory>
+    ensures { IfOk result (λ copy. copy ≡ option_copied id.entry) }
+{
+    match id {
+        Some(id) => Ok(Some(id.clone()?)),
+        None => Ok(None),
+    }
+}
+
+/// The greater of a sequence and that of an answer, where there is one.
+fn no_less(own: u32, answer: Option<&Item>) -> u32
+    ensures { result ≡ no_less own (option_copied answer.entry) }
+{
+    match answer {
+        Some(answer) => own.max(answer.own),
+        None => own,
+    }
+}
+
+/// The octets of an answer.
+fn reply_octets(
+    alloc: Global,
+    uid: &Uid,
+    id: Option<&Moment>,
+    asked: &AskedAttendee<'_>,
+    revision: Revision,
+    answer: &Answer<'_>,
+) -> Result<Vec<u8>, NoMemory>
+    ensures { IfOk result (λ octets. octets.items ≡ sent_octets methods.Reply
+        (reply_parts uid.now (option_copied id.entry) revision.stamp revision.sequence answer.now.percent
+        asked.now.item.now.todo.organizer (answer_line asked.now.address answer.now.status) ∷ [])) }
+{
+    let line = answer_line(alloc, &asked.address, answer.status)?;
+    let brief = BriefTodo {
+        uid,
+        stamp: revision.stamp,
+        seq: revision.sequence,
+        rid: id,
+        range: false,
+        status: None,
+        percent: answer.percent,
+        organizer: &asked.item.todo.organizer,
+        attendees: line.as_slice(),
+    };
+    write_alone(alloc, Method::Reply, brief)
+}
+
+/// The ATTENDEE line of an answer, alone: the address, and PARTSTAT.
+fn answer_line(alloc: Global, address: &Text, status: PartStat) -> Result<Vec<Property>, NoMemory>
+    ensures { IfOk result (λ lines. lines.items ≡ answer_line address.now status ∷ []) }
+{
+    let value = address.clone()?;
+    let params = one_parameter(alloc, "PARTSTAT", status.as_str())?;
+    let params = ListOf::from_vec(params);
+    let mut lines = Vec::new(alloc);
+    lines.push(Property { params, value })?;
+    Ok(lines)
+}

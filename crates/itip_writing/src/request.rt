@@ -1,0 +1,174 @@
+//! A request: the to-dos of a draft, each with the next SEQUENCE of its UID.
+ghost use Rattle.std.specs.Prelude.{◌≡◌, ◌≤◌, ℕ, List, cond, Some, None, IfOk, OnOk, IfErr};
+ghost use Rattle.std.specs.BTreeMap.{get, is_at};
+ghost use Rattle.std.specs.Cmp.Lexicographic.{slice_cmp};
+ghost use Rattle.std.specs.List.{list_any};
+ghost use Rattle.std.specs.Ordering.{nat_cmp};
+ghost use Rattle.itip_todo.specs.PartsOf.{parts_of};
+ghost use Rattle.itip_todo.specs.declared.todo.Todo.{Todo};
+ghost use Rattle.itip_report.specs.Organizing.{IsNext};
+ghost use Rattle.itip_writing.specs.Causes.{IfSpent};
+ghost use Rattle.itip_writing.specs.Lacking.{lacking_in_request};
+ghost use Rattle.itip_writing.specs.Requesting.{IsRequest, CannotRequest, AreRequested, AreNext, has_twins, is_twin};
+ghost use Rattle.itip_writing.specs.Requesting.{requested, base_above};
+
+use crate::NoMemory;
+use crate::errand::Message;
+use crate::error::WritingError;
+use crate::lacking::lacking_in_request;
+use crate::message::{readable, write_message};
+use itip_items::Method;
+use itip_moment::Stamp;
+use itip_report::next_seq;
+use itip_state::State;
+use itip_todo::{Todo, Uid};
+use std::alloc::Global;
+use std::collections::BTreeMap;
+
+/// The request of a draft (RFC 5546 3.4.2): one REQUEST with its to-dos in their order, DTSTAMP being the moment of writing, and
+/// SEQUENCE the next of the UID, which is 0 where nothing is kept that its organizer has sent. X-DESK-BASE stays where it is above
+/// that, and all other properties stay.
+///
+/// Each item of the request is later than all of its key that the state was made of: its sequence is greater, so that DTSTAMP need
+/// not be. What RFC 5546 wants and a to-do lacks is told, and the request is written all the same.
+///
+/// `NoSequenceLeft` where a UID has none left, `TwoOfOneKey` where two to-dos have one UID, one RECURRENCE-ID and one RANGE, and
+/// `Unreadable` where the request is not read again: it is too long, or the draft has no to-do.
+pub fn request_of(
+    alloc: Global,
+    state: &State,
+    draft: &[Todo],
+    at: Stamp,
+) -> Result<Message, WritingError>
+    ensures found { IfOk result (λ message. IsRequest state.now draft.now at message.octets.items) }
+    ensures lacking { IfOk result (λ message. message.lacking.items ≡ lacking_in_request draft.now) }
+    ensures fault { IfErr result (CannotRequest state.now draft.now at) }
+{
+    let octets = request_octets(alloc, state, draft, at)?;
+    let lacking = lacking_in_request(alloc, draft)?;
+    Ok(Message { octets, lacking })
+}
+
+/// The octets of the request of a draft.
+fn request_octets(
+    alloc: Global,
+    state: &State,
+    draft: &[Todo],
+    at: Stamp,
+) -> Result<Vec<u8>, WritingError>
+    ensures found { IfOk result (λ octets. IsRequest state.now draft.now at octets.items) }
+    ensures fault { IfErr result (CannotRequest state.now draft.now at) }
+{
+    let all = requested(alloc, state, draft, at)?;
+    if has_twins(draft) {
+        drop(all);
+        return Err(WritingError::TwoOfOneKey);
+    }
+    let text = write_message(alloc, Method::Request, &all)?;
+    drop(all);
+    let octets = readable(alloc, text)?;
+    Ok(octets)
+}
+
+/// The to-dos of a draft as they are written at a moment.
+fn requested(
+    alloc: Global,
+    state: &State,
+    draft: &[Todo],
+    at: Stamp,
+) -> Result<Vec<Todo>, WritingError>
+    ensures found { IfOk result (λ all. AreRequested state.now at draft.now all.items) }
+    ensures fault { IfErr result (CannotRequest state.now draft.now at) }
+{
+    let mut known = BTreeMap::new(alloc);
+    let mut all = Vec::with_capacity(alloc, draft.len())?;
+    for todo in draft {
+        let sequence = sequence_of(state, &mut known, &todo.uid)?;
+        all.push(written(todo, at, sequence)?)?;
+    }
+    Ok(all)
+}
+
+/// The next SEQUENCE of a UID. It is known from then on, so that the items of a UID are gone through once.
+fn sequence_of(
+    state: &State,
+    known: &mut BTreeMap<Uid, u32>,
+    uid: &Uid,
+) -> Result<u32, WritingError>
+    ensures next { IfOk result (λ sequence. AreNext state.now known.old → IsNext state.now uid.now (Some sequence)) }
+    ensures rest { OnOk result (AreNext state.now known.old → AreNext state.now known.new) }
+    ensures fault { IfErr result (IfSpent (IsNext state.now uid.now None)) }
+{
+    if let Some(sequence) = sequence_known(known, uid) {
+        return Ok(sequence);
+    }
+    let Some(sequence) = next_seq(state, uid) else {
+        return Err(WritingError::NoSequenceLeft);
+    };
+    note(known, uid, sequence)?;
+    Ok(sequence)
+}
+
+fn sequence_known(known: &BTreeMap<Uid, u32>, uid: &Uid) -> Option<u32>
+    ensures { result ≡ get (slice_cmp nat_cmp) known.now uid.now }
+{
+    known.get(uid).copied()
+}
+
+fn note(known: &mut BTreeMap<Uid, u32>, uid: &Uid, sequence: u32) -> Result<(), NoMemory>
+    ensures { OnOk result ((other : List ℕ) → get (slice_cmp nat_cmp) known.new other
+        ≡ cond (is_at (slice_cmp nat_cmp uid.now) other) (Some sequence) (get (slice_cmp nat_cmp) known.old other)) }
+{
+    known.insert(uid.clone()?, sequence)?;
+    Ok(())
+}
+
+/// A to-do of a draft as it is written at a moment with this SEQUENCE.
+fn written(todo: &Todo, at: Stamp, sequence: u32) -> Result<Todo, NoMemory>
+    requires { sequence ≤ 2147483647 }
+    ensures { IfOk result (λ written. parts_of written ≡ requested at sequence (parts_of todo.now)) }
+{
+    let mut copy = todo.clone()?;
+    copy.stamp = at;
+    copy.seq = sequence;
+    copy.base = base_above(sequence, todo.base);
+    Ok(copy)
+}
+
+/// X-DESK-BASE where it is above the SEQUENCE.
+fn base_above(sequence: u32, base: Option<u32>) -> Option<u32>
+    ensures { result ≡ base_above sequence base }
+{
+    match base {
+        Some(base) => (sequence < base).then_some(base),
+        None => None,
+    }
+}
+
+/// Whether two to-dos are of one key. Each is compared with those behind it: of more than 1,000 no message is read again.
+fn has_twins(draft: &[Todo]) -> bool
+    ensures { result ≡ has_twins draft.now }
+{
+    let mut rest = draft;
+    while let [todo, others @ ..] = rest {
+        if has_twin(todo, others) {
+            return true;
+        }
+        rest = others;
+    }
+    false
+}
+
+/// Whether one of the others is of the key of a to-do.
+fn has_twin(todo: &Todo, others: &[Todo]) -> bool
+    ensures { result ≡ list_any (is_twin todo.now) others.now }
+{
+    others.iter().any(|other| is_twin(todo, other))
+}
+
+/// Whether two to-dos are of one key. Only one of an instance has a RANGE.
+fn is_twin(todo: &Todo, other: &Todo) -> bool
+    ensures { result ≡ is_twin todo.now other.now }
+{
+    todo.uid == other.uid && todo.rid == other.rid && todo.range == other.range
+}
