@@ -1,4 +1,4 @@
--- The kept items of a list, by canonical octets, each once.
+-- Items of a list, by canonical octets, each once: the kept ones, or others of which it can be told whether they are meant.
 use Rattle.std.proofs.Common.{◌≡◌, ◌∙◌, sym, ap, refl, subst, ℕ, suc, ◌⊎◌, ◌↔◌, List, [], ◌∷◌, inl, inr, arith}
 use Rattle.std.specs.List.{Contains}
 use Rattle.std.specs.Ordering.{ordering_reverse}
@@ -80,54 +80,51 @@ put x (y ∷ ys) up =
           (y ∷ rest.0, put_later x y ys rest.0 up (octets_total.antisymm y x ∙ ap ordering_reverse e) rest.1)
     ] refl
 
--- ---- the kept items
+-- ---- those of which something holds
 
--- those of these items that are kept of what was heard, by octets
-record KeepsOf (heard items kept : List Item) : Type 0 where
-  ascend : AscendOctets kept
-  same : (i : Item) → Contains kept i ↔ (Contains items i × IsKept heard i)
+-- those of these items of which this holds, by octets
+pub record AreThose (P : Item → Type 0) (items those : List Item) : Type 0 where
+  pub ascend : AscendOctets those
+  pub same : (i : Item) → Contains those i ↔ (Contains items i × P i)
 
-keeps_of : (heard items : List Item) → (kept : List Item) × KeepsOf heard items kept
-keeps_of heard [] = ([], record { ascend = no_pairs IsBefore; same = λ i. (λ h. absurd (none_in i h), λ h. absurd (none_in i h.0)) })
-keeps_of heard (x ∷ xs) =
-    let rest = keeps_of heard xs in
-    elim (told_kept heard x) [
-      | inl keeps ↦ one_more rest.0 rest.1 keeps (put x rest.0 rest.1.ascend)
-      | inr not ↦ (
-        rest.0,
-        record {
-          ascend = rest.1.ascend;
-          same = λ i. (
-            λ h. let both = (rest.1.same i).0 h in (cons_later x xs i both.0, both.1),
-            λ h. elim (cons_cases x xs i h.0) [
-              | inl is ↦ absurd (not (subst (IsKept heard) (sym is) h.1))
-              | inr later ↦ (rest.1.same i).1
-                  (later, h.1)
-            ],
-          );
-        },
-      )
-    ]
-  where
-    one_more : (kept : List Item) → KeepsOf heard xs kept → IsKept heard x → (more : List Item) × HasOneMore x kept more →
-        (more : List Item) × KeepsOf heard (x ∷ xs) more
-    one_more kept rest keeps more = (
-      more.0,
-      record {
-        ascend = more.1.ascend;
-        same = λ i. (
-          λ h. elim ((more.1.same i).0 h) [
-            | inl is ↦ (either_in x xs i (inl is), subst (IsKept heard) is keeps)
-            | inr there ↦ let both = (rest.same i).0 there in (cons_later x xs i both.0, both.1)
-          ],
-          λ h. (more.1.same i).1 (elim (cons_cases x xs i h.0) [ inl is ↦ inl is | inr later ↦ inr ((rest.same i).1 (later, h.1)) ]),
-        );
-      },
-    )
+module _ (P : Item → Type 0) (told : (i : Item) → P i ⊎ (¬ P i)) where
+  put_one : (x : Item) (xs those : List Item) → AreThose P xs those → P x → (more : List Item) × HasOneMore x those more →
+      (more : List Item) × AreThose P (x ∷ xs) more
+  put_one x xs those rest holds more = (
+    more.0,
+    record {
+      ascend = more.1.ascend;
+      same = λ i. (
+        λ h. elim ((more.1.same i).0 h) [
+          | inl is ↦ (either_in x xs i (inl is), subst P is holds)
+          | inr there ↦ let both = (rest.same i).0 there in (cons_later x xs i both.0, both.1)
+        ],
+        λ h. (more.1.same i).1 (elim (cons_cases x xs i h.0) [ inl is ↦ inl is | inr later ↦ inr ((rest.same i).1 (later, h.1)) ]),
+      );
+    },
+  )
+
+  leave_one : (x : Item) (xs those : List Item) → AreThose P xs those → (¬ P x) → AreThose P (x ∷ xs) those
+  leave_one x xs those rest not = record {
+    ascend = rest.ascend;
+    same = λ i. (
+      λ h. let both = (rest.same i).0 h in (cons_later x xs i both.0, both.1),
+      λ h. elim (cons_cases x xs i h.0) [ inl is ↦ absurd (not (subst P (sym is) h.1)) | inr later ↦ (rest.same i).1 (later, h.1) ],
+    );
+  }
+
+  pub those_of : (items : List Item) → (those : List Item) × AreThose P items those
+  those_of [] = ([], record { ascend = no_pairs IsBefore; same = λ i. (λ h. absurd (none_in i h), λ h. absurd (none_in i h.0)) })
+  those_of (x ∷ xs) =
+      let rest = those_of xs in
+      elim (told x) [
+        | inl holds ↦ put_one x xs rest.0 rest.1 holds (put x rest.0 rest.1.ascend)
+        | inr not ↦ (rest.0, leave_one x xs rest.0 rest.1 not)
+      ]
 
 pub some_kept_octets : (heard : List Item) → (octets : List ℕ) × AreKeptOctets heard octets
 some_kept_octets heard =
-    let kept = keeps_of heard heard in (
+    let kept = those_of (IsKept heard) (told_kept heard) heard in (
       delta_octets kept.0,
       record {
         batch = kept.0;

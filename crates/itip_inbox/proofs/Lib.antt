@@ -1,4 +1,4 @@
-mod NewsGiven
+mod Answered
 mod Hearing
 mod Keeping
 mod Streams
@@ -10,7 +10,11 @@ mod Octets
 mod Telling
 mod Between
 mod Parts
+mod NewsOf
+mod OfInbox
 mod Outputs
+mod Explaining
+mod Sending
 mod Showing
 mod Recording
 mod Reporting

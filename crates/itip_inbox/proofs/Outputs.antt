@@ -1,5 +1,5 @@
 -- What is written of inputs.
-use Rattle.std.proofs.Common.{◌≡◌, ◌∙◌, sym, ap, refl, subst, ℕ, ◌+◌, ◌<◌, ◌≤◌, ◌||◌, Bool, List, [], ◌∷◌, ◌++◌, length, take, drop, get_or}
+use Rattle.std.proofs.Common.{◌≡◌, ◌∙◌, sym, ap, refl, subst, ℕ, ◌+◌, ◌<◌, ◌≤◌, Bool, List, [], ◌∷◌, ◌++◌, length, take, drop, get_or}
 use Rattle.std.proofs.Common.{inl, inr, append_assoc, take-append-drop, Option, Result, Ok, Err}
 use Rattle.std.specs.Prelude.{OnErr}
 use Rattle.std.specs.Io.KnownBytes.{Appends}
@@ -17,11 +17,10 @@ use Rattle.itip_view.proofs.OfKept.{rows_where_of_kept}
 use Rattle.itip_desk.specs.Delta.{delta_octets}
 use Rattle.itip_desk.proofs.ReadDeltas.{one_order}
 use Rattle.itip_streams.specs.Written.{AppendsFront, MovesOut, WritesOutput}
-use Rattle.itip_streams.proofs.Writing.{front_none}
 use Rattle.itip_inbox.specs.declared.refused.RefusedMessage.{RefusedMessage}
 use Rattle.itip_inbox.specs.Inbox.{AreInputs, Holds, is_some_refused}
 use Rattle.itip_inbox.specs.Compaction.{IsCompaction, WritesSoFar}
-use Rattle.itip_inbox.specs.TaskList.{IsTextWhere, IsListed, IsTaskList}
+use Rattle.itip_inbox.specs.TaskList.{IsTextWhere, IsListed}
 use Rattle.itip_inbox.proofs.Octets.{octets_none, octets_both, octets_push}
 use Rattle.itip_inbox.proofs.OneInbox.{one_inbox}
 
@@ -139,23 +138,6 @@ listed_once P heard window text other refusal more (inr a) (inl b) =
     absurd (few_or_too_many P heard window b.0.rows b.0.are_rows b.0.few a.0)
 listed_once P heard window text other refusal more (inr a) (inr b) = a.1 ∙ sym b.1
 
-pub list_written : (P : Row → Type 0) (old new : Option (List ℕ)) (inputs : List (List ℕ)) (kept : List Item)
-    (refusals : List RefusedMessage) (window : Window) (text : List ℕ) (refusal refused : Bool) → Holds inputs kept refusals →
-    ((heard : List Item) → AreKept kept heard → IsListed P heard window text refusal) → Appends old new text
-    → refused ≡ (is_some_refused refusals || refusal) → WritesOutput (IsTaskList P inputs window) old new refused
-list_written P old new inputs kept refusals window text refusal refused holds listed appended is = record {
-  output = text;
-  is_output = record {
-    heard = holds.heard;
-    refusals = refusals;
-    inbox = holds.inbox;
-    refusal = refusal;
-    listed = listed holds.heard holds.keeps;
-    refused_is = is;
-  };
-  appended = appended;
-}
-
 -- ---- where a fault ends it
 
 module _ {R : Type 0} (remaining : R → Option (List ℕ)) (sources : List R) (old new : Option (List ℕ)) (kept : List Item)
@@ -168,25 +150,3 @@ module _ {R : Type 0} (remaining : R → Option (List ℕ)) (sources : List R) (
       let same : batch ≡ is.kept.batch =
       same_items batch is.kept.batch kept items (its_batch inputs octets kept refusals refused (holds inputs are) is) in
       subst (λ (t : List ℕ). AppendsFront old new t) (ap delta_octets same ∙ sym is.kept.octets_are) front
-
-  pub list_front : (P : Row → Type 0) (window : Window) (text : List ℕ) (refusal : Bool) →
-      ((heard : List Item) → AreKept kept heard → IsListed P heard window text refusal) → AppendsFront old new text →
-      (inputs : List (List ℕ)) → AreInputs remaining sources inputs → (other : List ℕ) (refused : Bool) →
-      IsTaskList P inputs window other refused → AppendsFront old new other
-  list_front P window text refusal listed front inputs are other refused is =
-      let here : Holds inputs kept refusals = holds inputs are in
-      let one : is.heard ≡ here.heard = (one_inbox inputs is.heard here.heard is.refusals refusals is.inbox here.inbox).0 in
-      let same : text ≡ other =
-      listed_once P here.heard window text other refusal is.refusal (listed here.heard here.keeps)
-      (subst (λ (heard : List Item). IsListed P heard window other is.refusal) one is.listed) in
-      subst (λ (t : List ℕ). AppendsFront old new t) same front
-
--- nothing was written yet
-module _ {R : Type 0} (remaining : R → Option (List ℕ)) (sources : List R) (o : Option (List ℕ)) where
-  pub compaction_unread : (inputs : List (List ℕ)) → AreInputs remaining sources inputs → (octets : List ℕ) (refused : Bool) →
-      IsCompaction inputs octets refused → AppendsFront o o octets
-  compaction_unread inputs are octets refused is = front_none o octets
-
-  pub list_unread : (P : Row → Type 0) (window : Window) (inputs : List (List ℕ)) → AreInputs remaining sources inputs →
-      (text : List ℕ) (refused : Bool) → IsTaskList P inputs window text refused → AppendsFront o o text
-  list_unread P window inputs are text refused is = front_none o text

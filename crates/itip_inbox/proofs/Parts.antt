@@ -16,21 +16,21 @@ use Rattle.itip_desk.specs.Delta.{delta_octets}
 use Rattle.itip_desk.proofs.ReadDeltas.{messages_written, one_order}
 use Rattle.itip_inbox.specs.Inbox.{Placed, placed_from, placed_of, AreAnswers, heard_of, refusals_at, IsInbox, is_some_refused}
 use Rattle.itip_inbox.specs.Compaction.{AreKeptOctets, IsCompaction, AreCompactions, TellsItem, TellSameItems, all_inputs}
+use Rattle.itip_inbox.proofs.Answered.{answers_both}
 use Rattle.itip_inbox.proofs.Octets.{octets_none, octets_both}
-use Rattle.itip_inbox.proofs.Hearing.{answers_both}
 use Rattle.itip_inbox.proofs.OneInbox.{one_inbox}
 use Rattle.itip_inbox.proofs.Telling.{flat, heard_told, tells_none, tells_among, tells_either}
 
 -- ---- what was written is heard again
 
 -- what the message of an item gives
-abbrev alone : Item → Result (List Item) MessageRefusal
+abbrev pub alone : Item → Result (List Item) MessageRefusal
 alone item = Ok (item ∷ [])
 
-abbrev bytes_of : List Item → List (List ℕ)
+abbrev pub bytes_of : List Item → List (List ℕ)
 bytes_of items = map (λ (i : Item). i.bytes) items
 
-are_alone : (source n : ℕ) (items : List Item) → AreAnswers (placed_from source n (bytes_of items)) (map alone items)
+pub are_alone : (source n : ℕ) (items : List Item) → AreAnswers (placed_from source n (bytes_of items)) (map alone items)
 are_alone source n [] = tt
 are_alone source n (item ∷ items) = (reads_again item, are_alone source (n + 1) items)
 
@@ -42,21 +42,22 @@ all_alone source (batch ∷ batches) =
     (answers_both (placed_from source 1 (bytes_of batch)) (placed_of (source + 1) (map bytes_of batches)) (map alone batch)
     (map alone (flat batches)) (are_alone source 1 batch) (all_alone (source + 1) batches))
 
-heard_alone : (items : List Item) → items ≡ heard_of (map alone items)
+pub heard_alone : (items : List Item) → items ≡ heard_of (map alone items)
 heard_alone [] = refl
 heard_alone (item ∷ items) = ap (λ (rest : List Item). item ∷ rest) (heard_alone items)
 
-none_refused : (messages : List Placed) (items : List Item) → [] ≡ refusals_at messages (map alone items)
+pub none_refused : (messages : List Placed) (items : List Item) → [] ≡ refusals_at messages (map alone items)
 none_refused [] items = refl
 none_refused (m ∷ ms) [] = refl
 none_refused (m ∷ ms) (item ∷ items) = none_refused ms items
 
+pub cut_written : (batch : List Item) → IsCutInto (delta_octets batch) (bytes_of batch)
+cut_written batch =
+    subst (λ (ts : List (List ℕ)). IsCutInto (delta_octets batch) ts) (messages_written batch) (cut_by_scan (delta_octets batch))
+
 cuts_written : (batches : List (List Item)) → AllZip IsCutInto (map delta_octets batches) (map bytes_of batches)
 cuts_written [] = tt
-cuts_written (batch ∷ batches) = (
-  subst (λ (ts : List (List ℕ)). IsCutInto (delta_octets batch) ts) (messages_written batch) (cut_by_scan (delta_octets batch)),
-  cuts_written batches,
-)
+cuts_written (batch ∷ batches) = (cut_written batch, cuts_written batches)
 
 written_inbox : (batches : List (List Item)) → IsInbox (map delta_octets batches) (flat batches) []
 written_inbox batches = record {
@@ -69,6 +70,11 @@ written_inbox batches = record {
     refusals_are = none_refused (placed_of 0 (map bytes_of batches)) (flat batches);
   };
 }
+
+-- one batch that was written
+pub batch_inbox : (batch : List Item) → IsInbox (delta_octets batch ∷ []) batch []
+batch_inbox batch =
+    subst (λ (items : List Item). IsInbox (delta_octets batch ∷ []) items []) (append-nil batch) (written_inbox (batch ∷ []))
 
 joined_octets : (batches : List (List Item)) → concat (map delta_octets batches) ≡ delta_octets (flat batches)
 joined_octets [] = sym octets_none
@@ -132,7 +138,7 @@ all_parts (p ∷ ps) [] each = absurd each
 all_parts (p ∷ ps) (o ∷ os) each = part_more p o ps os each.0.0 each.0.1 (all_parts ps os each.1)
 
 -- a set and what covers it keep the same
-covers_same : (left heard : List Item) → Covers left heard → (i : Item) → IsKept left i ↔ IsKept heard i
+pub covers_same : (left heard : List Item) → Covers left heard → (i : Item) → IsKept left i ↔ IsKept heard i
 covers_same left heard covers i =
     let iff = kept_of_parts heard [] left [] covers (covers_itself []) i in
     let back = λ (list : List Item). append-nil list in (
@@ -161,8 +167,7 @@ joined_inbox : (parts : List (List (List ℕ))) (compacted : List (List ℕ)) (p
 joined_inbox parts compacted parted =
     let one : List Item = flat parted.batches in
     let octets : concat compacted ≡ delta_octets one = ap concat parted.octets_are ∙ joined_octets parted.batches in
-    subst (λ (t : List ℕ). IsInbox (t ∷ []) one []) (sym octets)
-    (subst (λ (items : List Item). IsInbox (delta_octets one ∷ []) items []) (append-nil one) (written_inbox (one ∷ [])))
+    subst (λ (t : List ℕ). IsInbox (t ∷ []) one []) (sym octets) (batch_inbox one)
 
 module _ (parts : List (List (List ℕ))) (compacted : List (List ℕ)) (parted : Parted parts compacted) (sources : List (List ℕ))
     (inbox : IsInbox sources (flat parted.batches) []) (again : List ℕ) (other : Bool) (of_parts : IsCompaction sources again other) where

@@ -1,5 +1,7 @@
--- Inputs that tell the same items have the same compaction, task lists and reports.
-use Rattle.std.proofs.Common.{◌≡◌, ◌↔◌, sym, ℕ, Bool, List, inl, inr}
+-- Inputs that tell the same items have the same compaction, task lists, reports and news.
+use Rattle.std.proofs.Common.{◌≡◌, ◌↔◌, ◌∙◌, sym, ap, ℕ, Bool, List, ◌++◌, inl, inr}
+use Rattle.std.proofs.lemmas.List.Elements.{Contains-append_cases, Contains-append_left, Contains-append_right}
+use Rattle.std.specs.List.{Contains}
 use Rattle.itip_items.specs.declared.item.Item.{Item}
 use Rattle.itip_state.specs.Kept.{SameItems}
 use Rattle.itip_state.proofs.Keeping.{kept_iff}
@@ -9,13 +11,16 @@ use Rattle.itip_view.specs.declared.window.Window.{Window}
 use Rattle.itip_view.proofs.Alike.{KeepAlike, alike_back}
 use Rattle.itip_view.proofs.OfKept.{row_of_same}
 use Rattle.itip_view.proofs.SameAsked.{rows_same, many_same}
+use Rattle.itip_desk.specs.Delta.{delta_octets}
 use Rattle.itip_report.specs.declared.report_name.ReportName.{ReportName}
 use Rattle.itip_report.proofs.NamedReports.{report_alike}
 use Rattle.itip_inbox.specs.declared.refused.RefusedMessage.{RefusedMessage}
 use Rattle.itip_inbox.specs.Inbox.{IsInbox}
 use Rattle.itip_inbox.specs.Compaction.{IsCompaction, TellSameItems}
+use Rattle.itip_inbox.specs.News.{AreLacking, IsNews}
 use Rattle.itip_inbox.specs.Reports.{IsReported, IsReport}
 use Rattle.itip_inbox.specs.TaskList.{IsListed, IsTaskList}
+use Rattle.itip_inbox.proofs.NewsOf.{lacking_once}
 use Rattle.itip_inbox.proofs.Outputs.{listed_once}
 use Rattle.itip_inbox.proofs.Parts.{octets_of_same}
 use Rattle.itip_inbox.proofs.Reporting.{reported_once}
@@ -81,10 +86,44 @@ module _ (inputs others : List (List ℕ)) (same : TellSameItems inputs others) 
   same_list P a b =
       let are : SameItems a.heard b.heard = same_heard inputs others same a.heard b.heard a.refusals b.refusals a.inbox b.inbox in
       sym (listed_once P b.heard window text again a.refusal b.refusal
-      (listed_alike a.heard b.heard (kept_iff a.heard b.heard are) window P text a.refusal a.listed) b.listed)
+      (listed_alike a.heard b.heard (kept_iff a.heard b.heard are) window P text a.refusal a.is_text) b.is_text)
 
   pub same_report : (name : ReportName) → IsReport name inputs window text refused → IsReport name others window again other → again ≡ text
   same_report name a b =
       let are : SameItems a.heard b.heard = same_heard inputs others same a.heard b.heard a.refusals b.refusals a.inbox b.inbox in
       sym (reported_once name b.heard window text again a.refusal b.refusal
-      (reported_alike a.heard b.heard (kept_iff a.heard b.heard are) window name text a.refusal a.reported) b.reported)
+      (reported_alike a.heard b.heard (kept_iff a.heard b.heard are) window name text a.refusal a.is_text) b.is_text)
+
+-- ---- news
+
+half_of : (xs ys us vs : List Item) → SameItems xs us → SameItems ys vs → (i : Item) → Contains (xs ++ ys) i → Contains (us ++ vs) i
+half_of xs ys us vs first later i h = elim (Contains-append_cases xs ys i h) [
+  | inl there ↦ Contains-append_left us vs i ((first i).0 there)
+  | inr there ↦ Contains-append_right us vs i ((later i).0 there)
+]
+
+module _ (told known heard more : List Item) (same_told : SameItems told known) (same_more : SameItems heard more) where
+  both_same : SameItems (told ++ heard) (known ++ more)
+  both_same i = (
+    half_of told heard known more same_told same_more i,
+    half_of known more told heard (λ j. ((same_told j).1, (same_told j).0)) (λ j. ((same_more j).1, (same_more j).0)) i,
+  )
+
+  lacking_same : (batch : List Item) → AreLacking told heard batch → AreLacking known more batch
+  lacking_same batch lacks = record {
+    ascend = lacks.ascend;
+    same = λ i.
+        let both = kept_iff (told ++ heard) (known ++ more) both_same i in
+        let alone = kept_iff told known same_told i in (
+          λ h. let new = (lacks.same i).0 h in (both.0 new.0, λ kept. new.1 (alone.1 kept)),
+          λ h. (lacks.same i).1 (both.1 h.0, λ kept. h.1 (alone.0 kept)),
+        );
+  }
+
+pub same_news : (than known inputs others : List (List ℕ)) (octets again : List ℕ) (refused other : Bool) → TellSameItems than known →
+    TellSameItems inputs others → IsNews than inputs octets refused → IsNews known others again other → again ≡ octets
+same_news than known inputs others octets again refused other of_than of_inputs a b =
+    let told : SameItems a.told b.told = same_heard than known of_than a.told b.told a.noted b.noted a.known b.known in
+    let heard : SameItems a.heard b.heard = same_heard inputs others of_inputs a.heard b.heard a.refusals b.refusals a.inbox b.inbox in
+    b.octets_are ∙ ap delta_octets (lacking_once b.told b.heard b.batch a.batch b.lacking
+    (lacking_same a.told b.told a.heard b.heard told heard a.batch a.lacking)) ∙ sym a.octets_are

@@ -4,23 +4,23 @@ use Rattle.std.proofs.Common.{refl, Option}
 use Rattle.std.specs.Prelude.{IfSome}
 use Rattle.std.specs.List.{AllZip}
 use Rattle.std.proofs.lemmas.List.{length-append}
-use Rattle.itip_items.specs.declared.item.Item.{Item}
 use Rattle.itip_message.specs.Cutting.{IsCutInto}
 use Rattle.itip_message.specs.Scanned.{messages_of}
 use Rattle.itip_message.proofs.Cuts.{cut_by_scan}
-use Rattle.itip_inbox.specs.declared.refused.RefusedMessage.{RefusedMessage}
+use Rattle.itip_inbox.specs.declared.inbox.Inbox.{Inbox}
+use Rattle.itip_inbox.specs.Following.{TellAbout}
 use Rattle.itip_inbox.specs.Inbox.{AreInputs, Placed, placed_from, placed_of, Holds}
 use Rattle.itip_inbox.specs.Streaming.{KeepsMessages, HearsInTurn}
 
 -- one input more is cut
-cuts_push : (inputs : List (List ℕ)) (all : List (List (List ℕ))) (input : List ℕ) (texts : List (List ℕ)) → AllZip IsCutInto inputs all →
-    IsCutInto input texts → AllZip IsCutInto (inputs ++ input ∷ []) (all ++ texts ∷ [])
+pub cuts_push : (inputs : List (List ℕ)) (all : List (List (List ℕ))) (input : List ℕ) (texts : List (List ℕ)) →
+    AllZip IsCutInto inputs all → IsCutInto input texts → AllZip IsCutInto (inputs ++ input ∷ []) (all ++ texts ∷ [])
 cuts_push [] [] input texts cut one = (one, tt)
 cuts_push [] (x ∷ all) input texts cut one = absurd cut
 cuts_push (i ∷ inputs) [] input texts cut one = absurd cut
 cuts_push (i ∷ inputs) (x ∷ all) input texts cut one = (cut.0, cuts_push inputs all input texts cut.1 one)
 
-placed_push : (source : ℕ) (all : List (List (List ℕ))) (texts : List (List ℕ)) →
+pub placed_push : (source : ℕ) (all : List (List (List ℕ))) (texts : List (List ℕ)) →
     placed_of source (all ++ texts ∷ []) ≡ placed_of source all ++ placed_from (source + length all) 1 texts
 placed_push source [] texts =
     let e : source ≡ source + 0 = omega arith in
@@ -31,12 +31,11 @@ placed_push source (first ∷ all) texts =
     (placed_push (source + 1) all texts ∙ ap (λ (s : ℕ). placed_of (source + 1) all ++ placed_from s 1 texts) e) ∙
     sym (append_assoc (placed_from source 1 first) (placed_of (source + 1) all) (placed_from (source + suc (length all)) 1 texts))
 
-module _ {R : Type 0} (remaining : R → Option (List ℕ)) where
+module _ {R : Type 0} (remaining : R → Option (List ℕ)) (about : Option (List ℕ)) where
   -- no input is heard yet
-  pub turn_begins : (sources left : List R) (inputs : List (List ℕ)) (kept : List Item) (refusals : List RefusedMessage) (source : ℕ) →
-      left ≡ sources → AreInputs remaining sources inputs → KeepsMessages [] kept refusals → source ≡ 0
-      → HearsInTurn remaining inputs left kept refusals source
-  turn_begins sources left inputs kept refusals source same are keeps is = record {
+  pub turn_begins : (sources left : List R) (inputs : List (List ℕ)) (inbox : Inbox) → left ≡ sources → AreInputs remaining sources inputs →
+      KeepsMessages about [] inbox → inbox.source ≡ 0 → HearsInTurn remaining about inputs left inbox
+  turn_begins sources left inputs inbox same are keeps is = record {
     done = [];
     rest = inputs;
     messages = [];
@@ -47,23 +46,25 @@ module _ {R : Type 0} (remaining : R → Option (List ℕ)) where
     source_is = is;
   }
 
-  module _ (inputs : List (List ℕ)) (one : R) (after : List R) (kept now : List Item) (refusals more : List RefusedMessage)
-      (source base : ℕ) (fresh : base ≡ 0) (hears : (before : List Placed) → KeepsMessages before kept refusals →
-      IfSome (remaining one) (λ input. KeepsMessages (before ++ placed_from source (base + 1) (messages_of input)) now more)) where
+  module _ (inputs : List (List ℕ)) (one : R) (after : List R) (inbox now next : Inbox) (fresh : inbox.messages ≡ 0)
+      (place : next.source ≡ inbox.source + 1) (same : (messages : List Placed) → KeepsMessages about messages now →
+      KeepsMessages about messages next) (hears : (before : List Placed) → KeepsMessages about before inbox →
+      IfSome (remaining one) (λ input. KeepsMessages about (before ++ placed_from inbox.source (inbox.messages + 1) (messages_of input))
+      now)) where
     one_more : (done rest : List (List ℕ)) (messages : List (List (List ℕ))) → inputs ≡ done ++ rest →
-        AreInputs remaining (one ∷ after) rest → AllZip IsCutInto done messages → KeepsMessages (placed_of 0 messages) kept refusals →
-        source ≡ length messages → HearsInTurn remaining inputs after now more (source + 1)
+        AreInputs remaining (one ∷ after) rest → AllZip IsCutInto done messages → KeepsMessages about (placed_of 0 messages) inbox →
+        inbox.source ≡ length messages → HearsInTurn remaining about inputs after next
     one_more done [] messages whole are cut keeps is = absurd are
     one_more done (input ∷ rest) messages whole are cut keeps is =
         let texts : List (List ℕ) = messages_of input in
-        let heard : KeepsMessages (placed_of 0 messages ++ placed_from source (base + 1) texts) now more =
+        let heard : KeepsMessages about (placed_of 0 messages ++ placed_from inbox.source (inbox.messages + 1) texts) now =
         subst (λ (o : Option (List ℕ)). IfSome o (λ input.
-        KeepsMessages (placed_of 0 messages ++ placed_from source (base + 1) (messages_of input)) now more)) are.0
+        KeepsMessages about (placed_of 0 messages ++ placed_from inbox.source (inbox.messages + 1) (messages_of input)) now)) are.0
         (hears (placed_of 0 messages) keeps) in
-        let place : source ≡ 0 + length messages = omega (arith, is) in
-        let to : placed_of 0 messages ++ placed_from source (base + 1) texts ≡ placed_of 0 (messages ++ texts ∷ []) =
-        ap (λ (b : ℕ). placed_of 0 messages ++ placed_from source (b + 1) texts) fresh ∙
-        ap (λ (s : ℕ). placed_of 0 messages ++ placed_from s 1 texts) place ∙ sym (placed_push 0 messages texts) in
+        let nth : inbox.source ≡ 0 + length messages = omega (arith, is) in
+        let to : placed_of 0 messages ++ placed_from inbox.source (inbox.messages + 1) texts ≡ placed_of 0 (messages ++ texts ∷ []) =
+        ap (λ (b : ℕ). placed_of 0 messages ++ placed_from inbox.source (b + 1) texts) fresh ∙
+        ap (λ (s : ℕ). placed_of 0 messages ++ placed_from s 1 texts) nth ∙ sym (placed_push 0 messages texts) in
         let longer : length (messages ++ texts ∷ []) ≡ length messages + 1 = length-append messages (texts ∷ []) in
         record {
           done = done ++ input ∷ [];
@@ -72,42 +73,39 @@ module _ {R : Type 0} (remaining : R → Option (List ℕ)) where
           whole = whole ∙ sym (append_assoc done (input ∷ []) rest);
           are_left = are.1;
           cut = cuts_push done messages input texts cut (cut_by_scan input);
-          keeps = subst (λ (ms : List Placed). KeepsMessages ms now more) to heard;
-          source_is = omega (arith, is, longer);
+          keeps = subst (λ (ms : List Placed). KeepsMessages about ms next) to
+              (same (placed_of 0 messages ++ placed_from inbox.source (inbox.messages + 1) texts) heard);
+          source_is = omega (arith, place, is, longer);
         }
 
-  -- the input of the next reader is heard
-  pub turn_more : (inputs : List (List ℕ)) (left after : List R) (one : R) (kept now held : List Item)
-      (refusals more noted : List RefusedMessage) (source next base : ℕ) → HearsInTurn remaining inputs left kept refusals source →
-      left ≡ one ∷ after → base ≡ 0 → next ≡ source + 1 → held ≡ now → noted ≡ more
-      → ((before : List Placed) → KeepsMessages before kept refusals → IfSome (remaining one)
-      (λ input. KeepsMessages (before ++ placed_from source (base + 1) (messages_of input)) now more))
-      → HearsInTurn remaining inputs after held noted next
-  turn_more inputs left after one kept now held refusals more noted source next base so_far step fresh is same_held same_noted hears =
-      let turned : HearsInTurn remaining inputs after now more (source + 1) =
-      one_more inputs one after kept now refusals more source base fresh hears so_far.done so_far.rest so_far.messages so_far.whole
-      (subst (λ (l : List R). AreInputs remaining l so_far.rest) step so_far.are_left) so_far.cut so_far.keeps so_far.source_is in
-      subst (λ (s : ℕ). HearsInTurn remaining inputs after held noted s) (sym is)
-      (subst (λ (k : List Item). HearsInTurn remaining inputs after k noted (source + 1)) (sym same_held)
-      (subst (λ (t : List RefusedMessage). HearsInTurn remaining inputs after now t (source + 1)) (sym same_noted) turned))
+    -- the input of the next reader is heard
+    pub turn_more : (left : List R) → HearsInTurn remaining about inputs left inbox → left ≡ one ∷ after →
+        HearsInTurn remaining about inputs after next
+    turn_more left so_far step =
+        one_more so_far.done so_far.rest so_far.messages so_far.whole
+        (subst (λ (l : List R). AreInputs remaining l so_far.rest) step so_far.are_left) so_far.cut so_far.keeps so_far.source_is
 
   no_more : (rest : List (List ℕ)) → AreInputs remaining [] rest → rest ≡ []
   no_more [] are = refl
   no_more (input ∷ rest) are = absurd are
 
   -- all inputs are heard
-  pub turn_ends : (inputs : List (List ℕ)) (left : List R) (kept : List Item) (refusals : List RefusedMessage) (source : ℕ) →
-      HearsInTurn remaining inputs left kept refusals source → left ≡ [] → Holds inputs kept refusals
-  turn_ends inputs left kept refusals source so_far none =
-      let over : so_far.rest ≡ [] = no_more so_far.rest (subst (λ (l : List R). AreInputs remaining l so_far.rest) none so_far.are_left) in
-      let all : so_far.done ≡ inputs = sym (append-nil so_far.done) ∙ ap (λ (t : List (List ℕ)). so_far.done ++ t) (sym over) ∙
-      sym so_far.whole in
-      record {
-        heard = so_far.keeps.heard;
-        inbox = record {
-          messages = so_far.messages;
-          cut = subst (λ (done : List (List ℕ)). AllZip IsCutInto done so_far.messages) all so_far.cut;
-          hears = so_far.keeps.hears;
-        };
-        keeps = so_far.keeps.keeps;
-      }
+  module _ (inputs : List (List ℕ)) (left : List R) (inbox : Inbox) (so_far : HearsInTurn remaining about inputs left inbox)
+      (none : left ≡ []) where
+    all_cut : AllZip IsCutInto inputs so_far.messages
+    all_cut =
+        let over : so_far.rest ≡ [] =
+        no_more so_far.rest (subst (λ (l : List R). AreInputs remaining l so_far.rest) none so_far.are_left) in
+        let all : so_far.done ≡ inputs = sym (append-nil so_far.done) ∙ ap (λ (t : List (List ℕ)). so_far.done ++ t) (sym over) ∙
+        sym so_far.whole in
+        subst (λ (done : List (List ℕ)). AllZip IsCutInto done so_far.messages) all so_far.cut
+
+    pub turn_ends : Holds inputs inbox.state inbox.refusals.items
+    turn_ends = record {
+      heard = so_far.keeps.heard;
+      inbox = record { messages = so_far.messages; cut = all_cut; hears = so_far.keeps.hears };
+      keeps = so_far.keeps.keeps;
+    }
+
+    pub turn_tells : TellAbout about inputs inbox.told.items
+    turn_tells = record { messages = so_far.messages; cut = all_cut; tell = so_far.keeps.tells }

@@ -4,11 +4,10 @@ use Rattle.std.proofs.Common.{Option, Some, None}
 use Rattle.std.specs.Prelude.{IfSome}
 use Rattle.std.specs.Io.KnownBytes.{Consumes, IsAtEnd}
 use Rattle.std.proofs.lemmas.List.{length-append}
-use Rattle.itip_items.specs.declared.item.Item.{Item}
 use Rattle.itip_message.specs.Scanned.{messages_of, CutsMessage, StaysCut}
-use Rattle.itip_inbox.specs.declared.refused.RefusedMessage.{RefusedMessage}
+use Rattle.itip_inbox.specs.declared.inbox.Inbox.{Inbox}
 use Rattle.itip_inbox.specs.Inbox.{Placed, placed_from}
-use Rattle.itip_inbox.specs.Streaming.{MovesIn, LeavesMessages, StaysCutInto, KeepsMessages, ReadsSoFar}
+use Rattle.itip_inbox.specs.Streaming.{MovesIn, LeavesMessages, StaysCutInto, KeepsMessages, HasHeard, ReadsSoFar, HearsFirst}
 use Rattle.itip_inbox.proofs.Hearing.{placed_on}
 
 pub moves_none : (o : Option (List ℕ)) (held : List ℕ) → MovesIn o o held held
@@ -41,65 +40,75 @@ leaves_cut (Some input) None messages texts held left l cut = absurd l
 leaves_cut (Some input) (Some rest) messages texts held left l cut = l ∙ ap (λ (t : List (List ℕ)). messages ++ t) (cut rest) ∙
     sym (append_assoc messages texts (messages_of (left ++ rest)))
 
-pub reads_none : (before : List Placed) (source count : ℕ) (o : Option (List ℕ)) (held : List ℕ) (kept : List Item)
-    (refusals : List RefusedMessage) → held ≡ [] → KeepsMessages before kept refusals
-    → ReadsSoFar before source count o o held kept refusals count
-reads_none before source count o held kept refusals nothing keeps =
-    let none : count ≡ count + 0 = omega arith in
+pub reads_none : (about : Option (List ℕ)) (before : List Placed) (inbox : Inbox) (o : Option (List ℕ)) (held : List ℕ) → held ≡ [] →
+    KeepsMessages about before inbox → ReadsSoFar about before inbox inbox o o held
+reads_none about before inbox o held nothing keeps =
+    let none : inbox.messages ≡ inbox.messages + 0 = omega arith in
     record {
       messages = [];
-      keeps = subst (λ (ms : List Placed). KeepsMessages ms kept refusals) (sym (append-nil before)) keeps;
+      keeps = subst (λ (ms : List Placed). KeepsMessages about ms inbox) (sym (append-nil before)) keeps;
       leaves = subst (λ (t : List ℕ). LeavesMessages o o [] t) (sym nothing) (leaves_all o);
       count_is = none;
     }
 
-all_kept : (before : List Placed) (source base : ℕ) (old new : Option (List ℕ)) (messages texts : List (List ℕ)) (filled : List ℕ)
-    (now : List Item) (more : List RefusedMessage) → LeavesMessages old new messages filled → IsAtEnd new → texts ≡ messages_of filled
-    → KeepsMessages (before ++ placed_from source (base + 1) (messages ++ texts)) now more
-    → IfSome old (λ input. KeepsMessages (before ++ placed_from source (base + 1) (messages_of input)) now more)
-all_kept before source base None new messages texts filled now more l end is keeps = tt
-all_kept before source base (Some input) None messages texts filled now more l end is keeps = absurd l
-all_kept before source base (Some input) (Some rest) messages texts filled now more l end is keeps =
+all_kept : (about : Option (List ℕ)) (before : List Placed) (source base : ℕ) (old new : Option (List ℕ)) (messages texts : List (List ℕ))
+    (filled : List ℕ) (now : Inbox) → LeavesMessages old new messages filled → IsAtEnd new → texts ≡ messages_of filled
+    → KeepsMessages about (before ++ placed_from source (base + 1) (messages ++ texts)) now
+    → IfSome old (λ input. KeepsMessages about (before ++ placed_from source (base + 1) (messages_of input)) now)
+all_kept about before source base None new messages texts filled now l end is keeps = tt
+all_kept about before source base (Some input) None messages texts filled now l end is keeps = absurd l
+all_kept about before source base (Some input) (Some rest) messages texts filled now l end is keeps =
     let all : messages_of input ≡ messages ++ texts =
     l ∙ ap (λ (t : List ℕ). messages ++ messages_of (filled ++ t)) end ∙
     ap (λ (t : List ℕ). messages ++ messages_of t) (append-nil filled) ∙ ap (λ (t : List (List ℕ)). messages ++ t) (sym is) in
-    subst (λ (ms : List (List ℕ)). KeepsMessages (before ++ placed_from source (base + 1) ms) now more) (sym all) keeps
+    subst (λ (ms : List (List ℕ)). KeepsMessages about (before ++ placed_from source (base + 1) ms) now) (sym all) keeps
 
-module _ (before : List Placed) (source base : ℕ) (old new : Option (List ℕ)) (held : List ℕ) (kept : List Item)
-    (refusals : List RefusedMessage) (count : ℕ) (so_far : ReadsSoFar before source base old new held kept refusals count) where
+module _ (about : Option (List ℕ)) (before : List Placed) (start now : Inbox) (old new : Option (List ℕ)) (held : List ℕ)
+    (so_far : ReadsSoFar about before start now old new held) (same : now.source ≡ start.source) where
   -- more of its messages are heard
-  kept_on : (texts : List (List ℕ)) (at : ℕ) (now : List Item) (more : List RefusedMessage) → at ≡ source
-      → ((before : List Placed) → KeepsMessages before kept refusals → KeepsMessages (before ++ placed_from at (count + 1) texts) now more)
-      → KeepsMessages (before ++ placed_from source (base + 1) (so_far.messages ++ texts)) now more
-  kept_on texts at now more same hears =
-      subst (λ (ms : List Placed). KeepsMessages ms now more)
-      (placed_on before source base at count so_far.messages texts same so_far.count_is)
-      (hears (before ++ placed_from source (base + 1) so_far.messages) so_far.keeps)
+  kept_on : (texts : List (List ℕ)) (next : Inbox)
+      → ((before : List Placed) → KeepsMessages about before now →
+      KeepsMessages about (before ++ placed_from now.source (now.messages + 1) texts) next)
+      → KeepsMessages about (before ++ placed_from start.source (start.messages + 1) (so_far.messages ++ texts)) next
+  kept_on texts next hears =
+      subst (λ (ms : List Placed). KeepsMessages about ms next)
+      (placed_on before start.source start.messages now.source now.messages so_far.messages texts same so_far.count_is)
+      (hears (before ++ placed_from start.source (start.messages + 1) so_far.messages) so_far.keeps)
 
   -- a share is read and cut, and its messages are heard
-  pub reads_share : (newer : Option (List ℕ)) (filled left : List ℕ) (texts : List (List ℕ)) (at : ℕ) (now : List Item)
-      (more : List RefusedMessage) (number : ℕ) → MovesIn new newer held filled → StaysCutInto filled texts left → at ≡ source
-      → ((before : List Placed) → KeepsMessages before kept refusals → KeepsMessages (before ++ placed_from at (count + 1) texts) now more)
-      → number ≡ count + length texts → ReadsSoFar before source base old newer left now more number
-  reads_share newer filled left texts at now more number moved cut same hears counted =
-      let longer : length (so_far.messages ++ texts) ≡ length so_far.messages + length texts = length-append so_far.messages texts in
-      let was : count ≡ base + length so_far.messages = so_far.count_is in
+  pub reads_share : (newer : Option (List ℕ)) (filled left : List ℕ) (next : Inbox) → MovesIn new newer held filled →
+      HearsFirst about filled left now next → ReadsSoFar about before start next old newer left
+  reads_share newer filled left next moved first =
+      let longer : length (so_far.messages ++ first.texts) ≡ length so_far.messages + length first.texts =
+      length-append so_far.messages first.texts in
+      let was : now.messages ≡ start.messages + length so_far.messages = so_far.count_is in
+      let counted : next.messages ≡ now.messages + length first.texts = first.count_is in
       record {
-        messages = so_far.messages ++ texts;
-        keeps = kept_on texts at now more same hears;
-        leaves = leaves_cut old newer so_far.messages texts filled left
-            (leaves_moved old new newer so_far.messages held filled so_far.leaves moved) cut;
+        messages = so_far.messages ++ first.texts;
+        keeps = kept_on first.texts next first.hears;
+        leaves = leaves_cut old newer so_far.messages first.texts filled left
+            (leaves_moved old new newer so_far.messages held filled so_far.leaves moved) first.cut;
         count_is = omega (arith, counted, was, longer);
       }
 
+  -- whatever the input is, its messages so far and these are heard
+  pub heard_on : (texts : List (List ℕ)) (next : Inbox)
+      → ((before : List Placed) → KeepsMessages about before now →
+      KeepsMessages about (before ++ placed_from now.source (now.messages + 1) texts) next) → HasHeard about next
+  heard_on texts next hears = record {
+    messages = before ++ placed_from start.source (start.messages + 1) (so_far.messages ++ texts);
+    keeps = kept_on texts next hears;
+  }
+
   -- the last share is read and heard
-  pub reads_last : (newer : Option (List ℕ)) (filled : List ℕ) (texts : List (List ℕ)) (at : ℕ) (now : List Item)
-      (more : List RefusedMessage) → MovesIn new newer held filled → IsAtEnd newer → texts ≡ messages_of filled → at ≡ source
-      → ((before : List Placed) → KeepsMessages before kept refusals → KeepsMessages (before ++ placed_from at (count + 1) texts) now more)
-      → IfSome old (λ input. KeepsMessages (before ++ placed_from source (base + 1) (messages_of input)) now more)
-  reads_last newer filled texts at now more moved end is same hears =
-      all_kept before source base old newer so_far.messages texts filled now more
-      (leaves_moved old new newer so_far.messages held filled so_far.leaves moved) end is (kept_on texts at now more same hears)
+  pub reads_last : (newer : Option (List ℕ)) (filled : List ℕ) (texts : List (List ℕ)) (next : Inbox) → MovesIn new newer held filled →
+      IsAtEnd newer → texts ≡ messages_of filled
+      → ((before : List Placed) → KeepsMessages about before now →
+      KeepsMessages about (before ++ placed_from now.source (now.messages + 1) texts) next)
+      → IfSome old (λ input. KeepsMessages about (before ++ placed_from start.source (start.messages + 1) (messages_of input)) next)
+  reads_last newer filled texts next moved end is hears =
+      all_kept about before start.source start.messages old newer so_far.messages texts filled next
+      (leaves_moved old new newer so_far.messages held filled so_far.leaves moved) end is (kept_on texts next hears)
 
 -- ---- cutting
 
@@ -129,9 +138,3 @@ all_more octets rest message after texts now so_far cut is =
 pub all_done : (octets rest : List ℕ) (texts : List (List ℕ)) → messages_of octets ≡ texts ++ messages_of rest → messages_of rest ≡ [] →
     texts ≡ messages_of octets
 all_done octets rest texts so_far none = sym (so_far ∙ ap (λ (t : List (List ℕ)). texts ++ t) none ∙ append-nil texts)
-
--- a share as it is held, and its messages as they are heard
-pub shared : (octets held : List ℕ) (texts heard : List (List ℕ)) (left : List ℕ) → octets ≡ held → heard ≡ texts →
-    StaysCutInto octets texts left → StaysCutInto held heard left
-shared octets held texts heard left same are cut =
-    subst (λ (t : List ℕ). StaysCutInto t heard left) same (subst (λ (ts : List (List ℕ)). StaysCutInto octets ts left) (sym are) cut)

@@ -3,8 +3,13 @@ pub use Rattle.itip_desk.specs.Delta
 pub use Rattle.itip_desk.specs.Refusals
 pub mod Inbox
 pub mod Compaction
+pub mod News
+pub mod OfInbox
 pub mod TaskList
 pub mod Records
 pub mod Reports
+pub mod Following
+pub mod Explaining
+pub mod Sending
 pub mod Shown
 pub mod Streaming

@@ -1,15 +1,12 @@
 -- The rows of the task list of some inputs as records for other programs (our own rule). Nothing is said of the text of records.
-use Rattle.std.specs.Prelude.{◌≡◌, ◌≤◌, ◌⊎◌, ℕ, Bool, true, false, ◌||◌, List, [], length, Option}
-use Rattle.std.specs.Io.KnownBytes.{Appends}
+use Rattle.std.specs.Prelude.{◌≡◌, ◌≤◌, ◌⊎◌, ℕ, Bool, true, false, List, length}
 use Rattle.itip_items.specs.declared.item.Item.{Item}
 use Rattle.itip_view.specs.Rows.{row_limit}
 use Rattle.itip_view.specs.Showing.{AreRowsWhere, AreTooManyWhere}
 use Rattle.itip_view.specs.declared.row.Row.{Row}
 use Rattle.itip_view.specs.declared.window.Window.{Window}
 use Rattle.itip_desk.specs.Refusals.{refused_text}
-use Rattle.itip_streams.specs.Written.{AppendsFront}
-use Rattle.itip_inbox.specs.Inbox.{IsInbox, is_some_refused}
-use Rattle.itip_inbox.specs.declared.refused.RefusedMessage.{RefusedMessage}
+use Rattle.itip_inbox.specs.OfInbox.{IsOfInbox}
 
 -- of the rows of a window there are not too many of which this holds
 pub record HasRowsWhere (P : Row → Type 0) (heard : List Item) (window : Window) : Type 0 where
@@ -24,15 +21,5 @@ IsRecorded P heard window text refusal =
     ⊎ (AreTooManyWhere P heard window × (text ≡ refused_text 31) × (refusal ≡ true))
 
 -- The records of all messages of some inputs that are not refused, and whether a message or the list is.
-pub record AreRecords (P : Row → Type 0) (inputs : List (List ℕ)) (window : Window) (text : List ℕ) (refused : Bool) : Type 0 where
-  pub heard : List Item
-  pub refusals : List RefusedMessage
-  pub inbox : IsInbox inputs heard refusals
-  pub refusal : Bool
-  pub recorded : IsRecorded P heard window text refusal
-  pub refused_is : refused ≡ (is_some_refused refusals || refusal)
-
--- Nothing was written, or a front of the records.
-abbrev pub WritesRecordsFront : (Row → Type 0) → List (List ℕ) → Window → Option (List ℕ) → Option (List ℕ) → Type 0
-WritesRecordsFront P inputs window old new =
-    Appends old new [] ⊎ ((text : List ℕ) × (refused : Bool) × AreRecords P inputs window text refused × AppendsFront old new text)
+abbrev pub AreRecords : (Row → Type 0) → List (List ℕ) → Window → List ℕ → Bool → Type 0
+AreRecords P inputs window = IsOfInbox (λ heard. IsRecorded P heard window) inputs

@@ -1,5 +1,5 @@
 -- A report over some inputs (our own format).
-use Rattle.std.specs.Prelude.{◌≡◌, ◌⊎◌, ℕ, Bool, true, false, ◌||◌, List, [], ◌∷◌, ◌++◌}
+use Rattle.std.specs.Prelude.{◌≡◌, ◌⊎◌, ℕ, Bool, true, false, List, [], ◌∷◌, ◌++◌}
 use Rattle.std.specs.List.{flat_map}
 use Rattle.itip_items.specs.declared.item.Item.{Item}
 use Rattle.itip_view.specs.Rows.{AreTooMany}
@@ -7,8 +7,7 @@ use Rattle.itip_view.specs.declared.window.Window.{Window}
 use Rattle.itip_report.specs.Named.{IsReportOf, IsOfRows}
 use Rattle.itip_report.specs.declared.report_name.ReportName.{ReportName}
 use Rattle.itip_desk.specs.Refusals.{refused_text}
-use Rattle.itip_inbox.specs.Inbox.{IsInbox, is_some_refused}
-use Rattle.itip_inbox.specs.declared.refused.RefusedMessage.{RefusedMessage}
+use Rattle.itip_inbox.specs.OfInbox.{IsOfInbox}
 
 -- a line with its end
 abbrev pub ended : List ℕ → List ℕ
@@ -27,10 +26,5 @@ IsReported name heard window text refusal =
     ⊎ (IsOfRows name × AreTooMany heard window × (text ≡ refused_text 31) × (refusal ≡ true))
 
 -- The report over all messages of some inputs that are not refused, and whether a message or the report is.
-pub record IsReport (name : ReportName) (inputs : List (List ℕ)) (window : Window) (text : List ℕ) (refused : Bool) : Type 0 where
-  pub heard : List Item
-  pub refusals : List RefusedMessage
-  pub inbox : IsInbox inputs heard refusals
-  pub refusal : Bool
-  pub reported : IsReported name heard window text refusal
-  pub refused_is : refused ≡ (is_some_refused refusals || refusal)
+abbrev pub IsReport : ReportName → List (List ℕ) → Window → List ℕ → Bool → Type 0
+IsReport name inputs window = IsOfInbox (λ heard. IsReported name heard window) inputs

@@ -1,5 +1,5 @@
 -- The task list of some inputs (our own format).
-use Rattle.std.specs.Prelude.{◌≡◌, ◌≤◌, ◌⊎◌, ℕ, Bool, true, false, ◌||◌, List, length}
+use Rattle.std.specs.Prelude.{◌≡◌, ◌≤◌, ◌⊎◌, ℕ, Bool, true, false, List, length}
 use Rattle.itip_items.specs.declared.item.Item.{Item}
 use Rattle.itip_view.specs.ListText.{list_text}
 use Rattle.itip_view.specs.Rows.{row_limit}
@@ -7,8 +7,7 @@ use Rattle.itip_view.specs.Showing.{AreRowsWhere, AreTooManyWhere}
 use Rattle.itip_view.specs.declared.row.Row.{Row}
 use Rattle.itip_view.specs.declared.window.Window.{Window}
 use Rattle.itip_desk.specs.Refusals.{refused_text}
-use Rattle.itip_inbox.specs.Inbox.{IsInbox, is_some_refused}
-use Rattle.itip_inbox.specs.declared.refused.RefusedMessage.{RefusedMessage}
+use Rattle.itip_inbox.specs.OfInbox.{IsOfInbox}
 
 -- the text of the rows of a window of which this holds, where there are not too many
 pub record IsTextWhere (P : Row → Type 0) (heard : List Item) (window : Window) (text : List ℕ) : Type 0 where
@@ -24,10 +23,5 @@ IsListed P heard window text refusal =
     ⊎ (AreTooManyWhere P heard window × (text ≡ refused_text 31) × (refusal ≡ true))
 
 -- The list over all messages of some inputs that are not refused, and whether a message or the list is.
-pub record IsTaskList (P : Row → Type 0) (inputs : List (List ℕ)) (window : Window) (text : List ℕ) (refused : Bool) : Type 0 where
-  pub heard : List Item
-  pub refusals : List RefusedMessage
-  pub inbox : IsInbox inputs heard refusals
-  pub refusal : Bool
-  pub listed : IsListed P heard window text refusal
-  pub refused_is : refused ≡ (is_some_refused refusals || refusal)
+abbrev pub IsTaskList : (Row → Type 0) → List (List ℕ) → Window → List ℕ → Bool → Type 0
+IsTaskList P inputs window = IsOfInbox (λ heard. IsListed P heard window) inputs

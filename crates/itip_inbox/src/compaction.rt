@@ -1,13 +1,12 @@
 //! The octets of what is kept of some inputs.
-ghost use Rattle.std.specs.Prelude.{◌≡◌, ◌≢◌, ℕ, Bool, List, IfOk, IfErr, OnOk, OnErr, IsErrOf};
+ghost use Rattle.std.specs.Prelude.{◌≢◌, ℕ, Bool, List, IfOk, IfErr, OnOk, OnErr, IsErrOf};
 ghost use Rattle.std.specs.Io.KnownBytes.{Appends, Keeps};
 ghost use Rattle.itip_desk.specs.Delta.{delta_octets};
 ghost use Rattle.itip_streams.specs.Written.{AppendsFront, WritesOutput};
 ghost use Rattle.itip_inbox.specs.Compaction.{IsCompaction};
-ghost use Rattle.itip_inbox.specs.Inbox.{AreInputs, is_some_refused};
+ghost use Rattle.itip_inbox.specs.Inbox.{AreInputs};
 
-use crate::read::read_sources;
-use crate::refused::RefusedMessage;
+use crate::gathering::gather;
 use crate::watch::Watch;
 use itip_state::SharedItem;
 use itip_streams::{StreamFault, write_if_many, write_output};
@@ -35,21 +34,10 @@ pub fn compact<R: Read + Drop, W: Write, S: Watch>(
         AppendsFront (W.contents writer.old) (W.contents writer.new) octets) }
     ensures unread { IsErrOf result StreamFault.Read → Keeps (W.contents writer.old) (W.contents writer.new) }
 {
-    let inbox = read_sources(rt, alloc, sources, threads, watch)?;
-    let is_refused = tell(inbox.refusals.as_slice(), watch);
+    let inbox = gather(rt, alloc, sources, None, threads, watch)?;
     let items = inbox.state.shared_items()?;
     write_items(alloc, items.as_slice(), writer)?;
-    Ok(is_refused)
-}
-
-/// Tells of each refused message, and says whether there is one.
-pub(crate) fn tell<S: Watch>(refusals: &[RefusedMessage], watch: &mut S) -> bool
-    ensures { result ≡ is_some_refused refusals.now }
-{
-    for refusal in refusals {
-        watch.refused(refusal);
-    }
-    !refusals.is_empty()
+    Ok(inbox.has_refusals())
 }
 
 /// Writes the canonical octets of items, in their order. After a fault a front of them was written.

@@ -1,12 +1,14 @@
-//! The laws of compactions, lists and reports. They hold with no code: each function is empty.
-ghost use Rattle.std.specs.Prelude.{◌≡◌, ◌∷◌, [], ℕ, Bool, false, List};
+//! The laws of compactions, lists, reports and news. They hold with no code: each function is empty.
+ghost use Rattle.std.specs.Prelude.{◌≡◌, ◌≢◌, ◌∷◌, ◌++◌, [], ℕ, Bool, false, List};
 ghost use Rattle.std.specs.List.{concat};
+ghost use Rattle.itip_items.specs.declared.item.Item.{Item};
 ghost use Rattle.itip_view.specs.Wanting.{Wants};
 ghost use Rattle.itip_view.specs.declared.wanted.Wanted.{Wanted};
 ghost use Rattle.itip_view.specs.declared.window.Window.{Window};
 ghost use Rattle.itip_report.specs.declared.report_name.ReportName.{ReportName};
 ghost use Rattle.itip_inbox.specs.Compaction.{IsCompaction, AreCompactions, IsPartedInto, all_inputs};
-ghost use Rattle.itip_inbox.specs.Compaction.{HaveSameMessages, TellSameItems};
+ghost use Rattle.itip_inbox.specs.Compaction.{HaveSameMessages, TellsItem, TellSameItems};
+ghost use Rattle.itip_inbox.specs.News.{IsNews};
 ghost use Rattle.itip_inbox.specs.Reports.{IsReport};
 ghost use Rattle.itip_inbox.specs.TaskList.{IsTaskList};
 
@@ -20,7 +22,8 @@ pub fn one_compaction()
 {}
 
 /// Only the items that inputs tell matter: inputs that tell the same ones, in whatever order and number, cut into whatever
-/// messages, have the same compaction, and in each window the same task list, whichever rows are wanted, and the same reports.
+/// messages, have the same compaction, and in each window the same task list, whichever rows are wanted, and the same reports;
+/// and they have the same news beside others that tell the same ones.
 pub fn only_items_matter()
     ensures compaction { (inputs others : List (List ℕ)) (octets again : List ℕ) (refused other : Bool) → TellSameItems inputs others →
         IsCompaction inputs octets refused → IsCompaction others again other → again ≡ octets }
@@ -30,6 +33,9 @@ pub fn only_items_matter()
     ensures report { (inputs others : List (List ℕ)) (name : ReportName) (window : Window) (text again : List ℕ) (refused other : Bool) →
         TellSameItems inputs others → IsReport name inputs window text refused → IsReport name others window again other →
         again ≡ text }
+    ensures news { (than known inputs others : List (List ℕ)) (octets again : List ℕ) (refused other : Bool) →
+        TellSameItems than known → TellSameItems inputs others → IsNews than inputs octets refused →
+        IsNews known others again other → again ≡ octets }
 {}
 
 /// Parts that were compacted apart, and the results once more, give the octets that the whole gives, wherever the parts tell the
@@ -54,4 +60,27 @@ pub fn compaction_of_compactions()
 pub fn items_of_parts()
     ensures messages { (inputs others : List (List ℕ)) → HaveSameMessages inputs others → TellSameItems inputs others }
     ensures parted { (whole : List ℕ) (parts : List (List ℕ)) → IsPartedInto whole parts → HaveSameMessages (whole ∷ []) parts }
+{}
+
+/// Inputs have news beside others, and only one: its octets, and whether a message was refused.
+pub fn one_news()
+    ensures some { (than inputs : List (List ℕ)) → (octets : List ℕ) × (refused : Bool) × IsNews than inputs octets refused }
+    ensures octets { (than inputs : List (List ℕ)) (octets others : List ℕ) (refused other : Bool) →
+        IsNews than inputs octets refused → IsNews than inputs others other → octets ≡ others }
+    ensures refused { (than inputs : List (List ℕ)) (octets others : List ℕ) (refused other : Bool) →
+        IsNews than inputs octets refused → IsNews than inputs others other → refused ≡ other }
+{}
+
+/// The news that inputs have beside others, compacted with these others, give the octets that all of them give, and no message of
+/// the news is refused. And no item of the news can be left out: whatever doesn't tell it gives other octets with these others.
+pub fn compaction_with_news()
+    ensures octets { (than inputs : List (List ℕ)) (news octets again : List ℕ) (lacking refused other : Bool) →
+        IsNews than inputs news lacking → IsCompaction (than ++ inputs) octets refused →
+        IsCompaction (than ++ news ∷ []) again other → again ≡ octets }
+    ensures refused { (than inputs : List (List ℕ)) (news octets again : List ℕ) (lacking refused other : Bool) →
+        IsNews than inputs news lacking → IsCompaction than octets refused →
+        IsCompaction (than ++ news ∷ []) again other → other ≡ refused }
+    ensures least { (than inputs others : List (List ℕ)) (news octets again : List ℕ) (lacking refused other : Bool) (item : Item) →
+        IsNews than inputs news lacking → TellsItem (news ∷ []) item → (¬ TellsItem others item) →
+        IsCompaction (than ++ inputs) octets refused → IsCompaction (than ++ others) again other → again ≢ octets }
 {}

@@ -6,20 +6,26 @@
 //! written as `itip_desk` writes a delta. There a refused message refuses all octets (`read_delta`); here it does not.
 //!
 //! Only which items are told counts, and what is kept of what was kept is what is kept of all. So parts of the sources may be
-//! compacted apart, on any machine and in any order, and the results once more.
+//! compacted apart, on any machine and in any order, and the results once more; and what some sources lack of others is a few
+//! items (`news`). To explain one to-do, the items that messages tell of it are followed while all are heard.
 #![tactic(auto)]
 
 mod compaction;
 mod csv_records;
+mod explained;
+mod gathering;
 mod inbox;
 mod json_records;
+mod lacking;
 mod laws;
+mod listed;
 mod messages;
 mod read;
 mod records;
 mod refused;
 mod reports;
 mod row_texts;
+mod sent;
 mod shown;
 mod tasks;
 mod texts;
@@ -27,13 +33,19 @@ mod watch;
 
 pub use compaction::{compact, write_items};
 pub use csv_records::csv_text;
+pub use explained::{Explained, explain};
 pub use inbox::Inbox;
 pub use json_records::json_text;
-pub use laws::{compaction_of_compactions, items_of_parts, one_compaction, only_items_matter};
+pub use lacking::news;
+pub use laws::{
+    compaction_of_compactions, compaction_with_news, items_of_parts, one_compaction, one_news,
+    only_items_matter,
+};
 pub use read::read_sources;
 pub use records::{Notation, list_records};
 pub use refused::RefusedMessage;
 pub use reports::report;
-pub use shown::check;
+pub use sent::{Sent, send};
+pub use shown::{MAX_OCTETS, TOO_LONG, check};
 pub use tasks::list;
 pub use watch::Watch;

@@ -1,13 +1,16 @@
 //! Reading inputs to their ends, and no more of one at a time than a share.
 ghost use Rattle.std.specs.Prelude.{◌≡◌, ◌≢◌, ◌++◌, ◌+◌, ℕ, List, length, IfOk, IfErr, OnOk, IfSome};
+ghost use Rattle.std.specs.Option.{option_copied};
 ghost use Rattle.itip_message.specs.Scanned.{messages_of};
+ghost use Rattle.itip_inbox.specs.Following.{TellAbout};
 ghost use Rattle.itip_inbox.specs.Inbox.{AreInputs, Holds, Placed, placed_from};
-ghost use Rattle.itip_inbox.specs.Streaming.{Fills, HearsFirst, KeepsMessages};
+ghost use Rattle.itip_inbox.specs.Streaming.{Fills, HasHeard, HearsFirst, KeepsMessages};
 
 use crate::inbox::Inbox;
 use crate::messages::{all_messages, first_messages};
 use crate::watch::Watch;
 use itip_streams::{StreamFault, read_some};
+use itip_todo::Uid;
 use std::alloc::Global;
 use std::io::Read;
 use std::thread::Threads;
@@ -18,17 +21,31 @@ const SHARE: usize = 1_048_576;
 // How much one read may bring.
 const ROOM: usize = 65_536;
 
-// How much was read, as the watch is told.
+/// How much was read, as the watch is told.
 #[derive(Clone, Copy)]
-struct Progress {
-    // Of the sources that were read to their ends.
+pub(crate) struct Progress {
+    // How many sources were read to their ends.
+    sources: usize,
+    // Of these.
     messages: u64,
     // Of all sources.
     octets: u64,
 }
 
+impl Progress {
+    /// Nothing was read.
+    pub(crate) fn none() -> Progress {
+        Progress {
+            sources: 0,
+            messages: 0,
+            octets: 0,
+        }
+    }
+}
+
 /// Reads sources one after another, each to its end, and hears their messages. These are read by at most so many threads, a
-/// share of a source at a time: about a mebibyte, or more where a message is longer.
+/// share of a source at a time: about a mebibyte, or more where a message is longer. Where a UID is named, the items that the
+/// messages tell of it are followed.
 ///
 /// The octets of each source are cut into messages by themselves, as those of a delta are. A refused message is noted and not
 /// heard. A source is dropped at its end; once a read has failed, no other is read. A failed read is [`StreamFault::Read`], and
@@ -37,31 +54,56 @@ pub fn read_sources<R: Read + Drop, W: Watch>(
     rt: &(impl Threads + Sync),
     alloc: Global,
     sources: Vec<R>,
+    about: Option<&Uid>,
     threads: usize,
     watch: &mut W,
 ) -> Result<Inbox, StreamFault>
     ensures holds { IfOk result (λ inbox. (inputs : List (List ℕ)) → AreInputs R.remaining sources.items inputs →
         Holds inputs inbox.state inbox.refusals.items) }
+    ensures told { IfOk result (λ inbox. (inputs : List (List ℕ)) → AreInputs R.remaining sources.items inputs →
+        TellAbout (option_copied about.entry) inputs inbox.told.items) }
+    ensures heard { IfOk result (HasHeard (option_copied about.entry)) }
+    ensures source { IfOk result (λ inbox. inbox.source ≡ length sources.items) }
+    ensures messages { IfOk result (λ inbox. inbox.messages ≡ 0) }
+    ensures fault { IfErr result (λ fault. fault ≢ StreamFault.Write) }
+{
+    let mut progress = Progress::none();
+    read_more(rt, alloc, sources, about, threads, &mut progress, watch)
+}
+
+/// Reads sources as [`read_sources`] does, after others of which so much was read. The watch is told of both as of one list.
+pub(crate) fn read_more<R: Read + Drop, W: Watch>(
+    rt: &(impl Threads + Sync),
+    alloc: Global,
+    sources: Vec<R>,
+    about: Option<&Uid>,
+    threads: usize,
+    progress: &mut Progress,
+    watch: &mut W,
+) -> Result<Inbox, StreamFault>
+    ensures holds { IfOk result (λ inbox. (inputs : List (List ℕ)) → AreInputs R.remaining sources.items inputs →
+        Holds inputs inbox.state inbox.refusals.items) }
+    ensures told { IfOk result (λ inbox. (inputs : List (List ℕ)) → AreInputs R.remaining sources.items inputs →
+        TellAbout (option_copied about.entry) inputs inbox.told.items) }
+    ensures heard { IfOk result (HasHeard (option_copied about.entry)) }
     ensures source { IfOk result (λ inbox. inbox.source ≡ length sources.items) }
     ensures messages { IfOk result (λ inbox. inbox.messages ≡ 0) }
     ensures fault { IfErr result (λ fault. fault ≢ StreamFault.Write) }
 {
     let mut inbox = Inbox::empty(alloc);
-    let mut progress = Progress {
-        messages: 0,
-        octets: 0,
-    };
     for mut source in sources {
-        watch.opens(inbox.source);
+        watch.opens(progress.sources);
         read_source(
             &mut inbox,
             rt,
             alloc,
             &mut source,
+            about,
             threads,
-            &mut progress,
+            progress,
             watch,
         )?;
+        progress.sources = progress.sources.saturating_add(1);
         progress.messages = progress.messages.saturating_add(inbox.messages);
         inbox.next_source()?;
     }
@@ -74,14 +116,15 @@ fn read_source<R: Read, W: Watch>(
     rt: &(impl Threads + Sync),
     alloc: Global,
     reader: &mut R,
+    about: Option<&Uid>,
     threads: usize,
     progress: &mut Progress,
     watch: &mut W,
 ) -> Result<(), StreamFault>
-    ensures keeps { OnOk result ((before : List Placed) → KeepsMessages before inbox.old.state inbox.old.refusals.items →
-        IfSome (R.remaining reader.old) (λ input.
-        KeepsMessages (before ++ placed_from inbox.old.source (inbox.old.messages + 1) (messages_of input))
-        inbox.new.state inbox.new.refusals.items)) }
+    ensures keeps { OnOk result ((before : List Placed) → KeepsMessages (option_copied about.entry) before inbox.old →
+        IfSome (R.remaining reader.old) (λ input. KeepsMessages (option_copied about.entry)
+        (before ++ placed_from inbox.old.source (inbox.old.messages + 1) (messages_of input)) inbox.new)) }
+    ensures heard { OnOk result (HasHeard (option_copied about.entry) inbox.old → HasHeard (option_copied about.entry) inbox.new) }
     ensures source { OnOk result (inbox.new.source ≡ inbox.old.source) }
     ensures fault { IfErr result (λ fault. fault ≢ StreamFault.Write) }
 {
@@ -92,14 +135,14 @@ fn read_source<R: Read, W: Watch>(
         let more = held.len().saturating_sub(before) as u64;
         progress.octets = progress.octets.saturating_add(more);
         if is_end {
-            hear_all(inbox, rt, alloc, held.as_slice(), threads)?;
+            hear_all(inbox, rt, alloc, held.as_slice(), about, threads)?;
             watch.read(
                 progress.messages.saturating_add(inbox.messages),
                 progress.octets,
             );
             return Ok(());
         }
-        held = hear_first(inbox, rt, alloc, held.as_slice(), threads)?;
+        held = hear_first(inbox, rt, alloc, held.as_slice(), about, threads)?;
         watch.read(
             progress.messages.saturating_add(inbox.messages),
             progress.octets,
@@ -114,16 +157,17 @@ fn hear_all(
     rt: &(impl Threads + Sync),
     alloc: Global,
     octets: &[u8],
+    about: Option<&Uid>,
     threads: usize,
 ) -> Result<(), StreamFault>
-    ensures hears { OnOk result ((before : List Placed) → KeepsMessages before inbox.old.state inbox.old.refusals.items →
-        KeepsMessages (before ++ placed_from inbox.old.source (inbox.old.messages + 1) (messages_of octets.now))
-        inbox.new.state inbox.new.refusals.items) }
+    ensures hears { OnOk result ((before : List Placed) → KeepsMessages (option_copied about.entry) before inbox.old →
+        KeepsMessages (option_copied about.entry)
+        (before ++ placed_from inbox.old.source (inbox.old.messages + 1) (messages_of octets.now)) inbox.new) }
     ensures source { OnOk result (inbox.new.source ≡ inbox.old.source) }
     ensures fault { IfErr result (λ fault. fault ≢ StreamFault.Write) }
 {
     let texts = all_messages(alloc, octets)?;
-    inbox.hear(rt, alloc, texts.as_slice(), threads)
+    inbox.hear(rt, alloc, texts.as_slice(), about, threads)
 }
 
 /// Hears the first messages of octets that others may follow, and gives a copy of what is left.
@@ -132,15 +176,15 @@ fn hear_first(
     rt: &(impl Threads + Sync),
     alloc: Global,
     octets: &[u8],
+    about: Option<&Uid>,
     threads: usize,
 ) -> Result<Vec<u8>, StreamFault>
-    ensures hears { IfOk result (λ left. HearsFirst octets.now left.items inbox.old.source inbox.old.messages
-        inbox.old.state inbox.new.state inbox.old.refusals.items inbox.new.refusals.items inbox.new.messages) }
+    ensures hears { IfOk result (λ left. HearsFirst (option_copied about.entry) octets.now left.items inbox.old inbox.new) }
     ensures source { OnOk result (inbox.new.source ≡ inbox.old.source) }
     ensures fault { IfErr result (λ fault. fault ≢ StreamFault.Write) }
 {
     let share = first_messages(alloc, octets)?;
-    inbox.hear(rt, alloc, share.texts.as_slice(), threads)?;
+    inbox.hear(rt, alloc, share.texts.as_slice(), about, threads)?;
     Ok(Vec::from_slice(alloc, share.left)?)
 }
 

@@ -6,18 +6,18 @@ ghost use Rattle.itip_state.specs.Kept.{AreKept};
 ghost use Rattle.itip_view.specs.Wanting.{Wants};
 ghost use Rattle.itip_streams.specs.Written.{WritesOutput};
 ghost use Rattle.itip_inbox.specs.Inbox.{AreInputs};
-ghost use Rattle.itip_inbox.specs.Records.{IsRecorded, AreRecords, WritesRecordsFront};
+ghost use Rattle.itip_inbox.specs.OfInbox.{WritesFront};
+ghost use Rattle.itip_inbox.specs.Records.{IsRecorded, AreRecords};
 
-use crate::compaction::tell;
 use crate::csv_records::csv_text;
+use crate::gathering::gather;
 use crate::json_records::json_text;
-use crate::read::read_sources;
+use crate::listed::{Listed, write_listed};
 use crate::refused::refusal_text;
-use crate::tasks::{Listed, tell_most};
 use crate::watch::Watch;
 use itip_desk::Refusal;
 use itip_state::State;
-use itip_streams::{StreamFault, write_output};
+use itip_streams::StreamFault;
 use itip_view::{Row, ViewError, Wanted, Window, rows_where};
 use std::alloc::{AllocError, Global};
 use std::io::{Read, Write};
@@ -52,15 +52,12 @@ pub fn list_records<R: Read + Drop, W: Write, S: Watch>(
     ensures output { IfOk result (λ refused. (inputs : List (List ℕ)) → AreInputs R.remaining sources.items inputs →
         WritesOutput (AreRecords (Wants wanted.now) inputs window) (W.contents writer.old) (W.contents writer.new) refused) }
     ensures front { OnErr result ((inputs : List (List ℕ)) → AreInputs R.remaining sources.items inputs →
-        WritesRecordsFront (Wants wanted.now) inputs window (W.contents writer.old) (W.contents writer.new)) }
+        WritesFront (AreRecords (Wants wanted.now) inputs window) (W.contents writer.old) (W.contents writer.new)) }
     ensures unread { IsErrOf result StreamFault.Read → Keeps (W.contents writer.old) (W.contents writer.new) }
 {
-    let inbox = read_sources(rt, alloc, sources, threads, watch)?;
-    let is_refused = tell(inbox.refusals.as_slice(), watch);
+    let inbox = gather(rt, alloc, sources, None, threads, watch)?;
     let recorded = records_of(alloc, &inbox.state, window, wanted, notation)?;
-    tell_most(alloc, &inbox, window, wanted, &recorded, watch)?;
-    write_output(writer, recorded.text.as_slice())?;
-    Ok(is_refused || recorded.is_refusal)
+    write_listed(alloc, &inbox, &recorded, window, wanted, writer, watch)
 }
 
 fn records_of(

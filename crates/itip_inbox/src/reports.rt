@@ -11,15 +11,14 @@ ghost use Rattle.itip_streams.specs.Written.{AppendsFront, WritesOutput};
 ghost use Rattle.itip_inbox.specs.Inbox.{AreInputs};
 ghost use Rattle.itip_inbox.specs.Reports.{IsReport, IsReported, ended};
 
-use crate::compaction::tell;
-use crate::read::read_sources;
+use crate::gathering::gather;
+use crate::listed::{Listed, write_listed};
 use crate::refused::refusal_text;
-use crate::tasks::{Listed, tell_most};
 use crate::watch::Watch;
 use itip_desk::Refusal;
 use itip_report::{ReportName, report_lines};
 use itip_state::State;
-use itip_streams::{StreamFault, write_output};
+use itip_streams::StreamFault;
 use itip_view::{Row, ViewError, Wanted, Window, rows};
 use std::alloc::{AllocError, Global};
 use std::io::{Read, Write};
@@ -47,13 +46,10 @@ pub fn report<R: Read + Drop, W: Write, S: Watch>(
         AppendsFront (W.contents writer.old) (W.contents writer.new) text) }
     ensures unread { IsErrOf result StreamFault.Read → Keeps (W.contents writer.old) (W.contents writer.new) }
 {
-    let inbox = read_sources(rt, alloc, sources, threads, watch)?;
-    let is_refused = tell(inbox.refusals.as_slice(), watch);
+    let inbox = gather(rt, alloc, sources, None, threads, watch)?;
     let reported = report_of(alloc, &inbox.state, window, name)?;
     let all = Wanted::all();
-    tell_most(alloc, &inbox, window, &all, &reported, watch)?;
-    write_output(writer, reported.text.as_slice())?;
-    Ok(is_refused || reported.is_refusal)
+    write_listed(alloc, &inbox, &reported, window, &all, writer, watch)
 }
 
 fn report_of(

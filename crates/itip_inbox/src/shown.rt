@@ -15,10 +15,11 @@ use itip_streams::{StreamFault, read_within, write_output};
 use std::alloc::{AllocError, Global};
 use std::io::{Read, Write};
 
-// The most octets of a message. A text of one more is refused for its length.
-const MAX_OCTETS: usize = 1_048_576;
+/// The most octets of a message. A text of one more is refused for its length.
+pub const MAX_OCTETS: usize = 1_048_576;
 
-const TOO_LONG: LineRefusal = LineRefusal {
+/// Why a text of more than [`MAX_OCTETS`] is refused.
+pub const TOO_LONG: LineRefusal = LineRefusal {
     cause: LineCause::TooLong,
     line: None,
 };

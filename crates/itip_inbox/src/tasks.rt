@@ -9,16 +9,15 @@ ghost use Rattle.itip_streams.specs.Written.{AppendsFront, WritesOutput};
 ghost use Rattle.itip_inbox.specs.Inbox.{AreInputs};
 ghost use Rattle.itip_inbox.specs.TaskList.{IsTaskList, IsListed, IsTextWhere};
 
-use crate::compaction::tell;
-use crate::inbox::Inbox;
-use crate::read::read_sources;
+use crate::gathering::gather;
+use crate::listed::{Listed, write_listed};
 use crate::refused::refusal_text;
 use crate::watch::Watch;
 use itip_desk::Refusal;
 use itip_state::State;
-use itip_streams::{StreamFault, write_output};
-use itip_view::{ViewError, Wanted, Window, list_text, most_rows, rows_where};
-use std::alloc::{AllocError, Global};
+use itip_streams::StreamFault;
+use itip_view::{ViewError, Wanted, Window, list_text, rows_where};
+use std::alloc::Global;
 use std::io::{Read, Write};
 use std::thread::Threads;
 
@@ -44,36 +43,9 @@ pub fn list<R: Read + Drop, W: Write, S: Watch>(
         AppendsFront (W.contents writer.old) (W.contents writer.new) text) }
     ensures unread { IsErrOf result StreamFault.Read → Keeps (W.contents writer.old) (W.contents writer.new) }
 {
-    let inbox = read_sources(rt, alloc, sources, threads, watch)?;
-    let is_refused = tell(inbox.refusals.as_slice(), watch);
+    let inbox = gather(rt, alloc, sources, None, threads, watch)?;
     let listed = list_of(alloc, &inbox.state, window, wanted)?;
-    tell_most(alloc, &inbox, window, wanted, &listed, watch)?;
-    write_output(writer, listed.text.as_slice())?;
-    Ok(is_refused || listed.is_refusal)
-}
-
-/// What is written of rows.
-#[derive(Drop)]
-pub(crate) struct Listed {
-    pub(crate) text: Vec<u8>,
-    pub(crate) is_refusal: bool,
-}
-
-/// Where no message was refused and there are too many rows, tells which to-do has the most of them, if that is asked for.
-pub(crate) fn tell_most<S: Watch>(
-    alloc: Global,
-    inbox: &Inbox,
-    window: Window,
-    wanted: &Wanted<'_>,
-    listed: &Listed,
-    watch: &mut S,
-) -> Result<(), AllocError> {
-    if !listed.is_refusal || !inbox.refusals.is_empty() || !watch.asks_most() {
-        return Ok(());
-    }
-    let most = most_rows(alloc, &inbox.state, window, wanted)?;
-    watch.too_many_rows(most.as_ref());
-    Ok(())
+    write_listed(alloc, &inbox, &listed, window, wanted, writer, watch)
 }
 
 fn list_of(

@@ -3,6 +3,8 @@ use crate::refused::RefusedMessage;
 use itip_view::MostRows;
 
 /// What is told of sources beside the output. Nothing that is read or written depends on it.
+///
+/// Where two lists of sources are read, as for [`news`](crate::news), the places of the second go on after those of the first.
 pub trait Watch {
     /// The source of this place, from 0, is read from now on.
     fn opens(&mut self, source: usize);

@@ -1,5 +1,5 @@
 use Rattle.itip_view.specs.Wanting.{Wants}
-use Rattle.itip_inbox.proofs.SameTold.{same_compaction, same_list, same_report}
+use Rattle.itip_inbox.proofs.SameTold.{same_compaction, same_list, same_news, same_report}
 use Rattle.itip_inbox.proofs.laws.only_items_matter.Goals as goal
 
 pub returns-clause-compaction : goal.returns-clause-compaction
@@ -13,3 +13,6 @@ returns-clause-list c = λ inputs others wanted window text again refused other 
 pub returns-clause-report : goal.returns-clause-report
 returns-clause-report c = λ inputs others name window text again refused other same.
     same_report inputs others same window text again refused other name
+
+pub returns-clause-news : goal.returns-clause-news
+returns-clause-news c = same_news

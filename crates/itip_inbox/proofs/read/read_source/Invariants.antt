@@ -1,12 +1,13 @@
 use Rattle.std.proofs.Common.{◌≡◌, List}
+use Rattle.std.specs.Option.{option_copied}
 use Rattle.itip_inbox.specs.Inbox.{Placed}
 use Rattle.itip_inbox.specs.Streaming.{KeepsMessages, ReadsSoFar}
 use Rattle.itip_inbox.proofs.read.read_source.Given as goal
 
 abbrev pub invariant-loop : goal.invariant-loop
 invariant-loop g l = record {
-  reads : (before : List Placed) → KeepsMessages before l.fn.inbox.state l.fn.inbox.refusals.items →
-      ReadsSoFar before l.fn.inbox.source l.fn.inbox.messages (g.R.Read.remaining l.fn.reader) (g.R.Read.remaining l.reader)
-      l.held.items l.inbox.state l.inbox.refusals.items l.inbox.messages;
+  reads : (before : List Placed) → KeepsMessages (option_copied l.about) before l.fn.inbox →
+      ReadsSoFar (option_copied l.about) before l.fn.inbox l.inbox (g.R.Read.remaining l.fn.reader) (g.R.Read.remaining l.reader)
+      l.held.items;
   source : l.inbox.source ≡ l.fn.inbox.source;
 }

@@ -1,50 +1,34 @@
-use Rattle.std.proofs.Common.{◌≡◌, ◌∙◌, sym, ap, subst, Bool, ◌||◌, List, ℕ}
-use Rattle.std.specs.Io.KnownBytes.{Appends}
+use Rattle.std.proofs.lemmas.Result.{on_err_weaker}
 use Rattle.itip_view.specs.Wanting.{Wants}
-use Rattle.itip_streams.specs.Written.{AppendsFront}
-use Rattle.itip_inbox.specs.Inbox.{is_some_refused}
-use Rattle.itip_inbox.proofs.Outputs.{on_err, list_written, list_front, list_unread}
+use Rattle.itip_inbox.specs.TaskList.{IsListed, IsTaskList}
+use Rattle.itip_inbox.proofs.OfInbox.{all_written, its_front, unread_front}
+use Rattle.itip_inbox.proofs.Outputs.{on_err, listed_once}
 use Rattle.itip_inbox.proofs.tasks.list.Goals as goal
-use Rattle.itip_inbox.proofs.tasks.list.Goals.{then-is_refused, else-is_refused}
 
 pub returns-in_err-inbox-clause-front : goal.returns-in_err-inbox-clause-front
 returns-in_err-inbox-clause-front g c =
     on_err c.from_residual.result
-    (list_unread g.R.Read.remaining c.args.sources.items (g.W.Write.contents c.args.writer.now) (Wants c.args.wanted.now) c.args.window)
+    (unread_front g.R.Read.remaining c.args.sources.items (λ inputs. IsTaskList (Wants c.args.wanted.now) inputs c.args.window)
+    (g.W.Write.contents c.args.writer.now))
 
 pub returns-in_err-listed-clause-front : goal.returns-in_err-listed-clause-front
 returns-in_err-listed-clause-front g c =
     on_err c.from_residual-in_err-listed.result
-    (list_unread g.R.Read.remaining c.args.sources.items (g.W.Write.contents c.args.writer.now) (Wants c.args.wanted.now) c.args.window)
-
-pub returns-in_err-tell_most-clause-front : goal.returns-in_err-tell_most-clause-front
-returns-in_err-tell_most-clause-front g c =
-    on_err c.from_residual-in_err-tell_most.result
-    (list_unread g.R.Read.remaining c.args.sources.items (g.W.Write.contents c.args.writer.now) (Wants c.args.wanted.now) c.args.window)
-
-pub returns-in_err-write_output-clause-front : goal.returns-in_err-write_output-clause-front
-returns-in_err-write_output-clause-front g c =
-    on_err c.from_residual-in_err-write_output.result
-    (list_front g.R.Read.remaining c.args.sources.items (g.W.Write.contents c.args.writer.now)
-    (g.W.Write.contents c.write_output.new.writer) c.in_ok-inbox.inbox.state c.in_ok-inbox.inbox.refusals.items
-    c.in_ok-inbox.ensures.holds (Wants c.args.wanted.now) c.args.window c.in_ok-listed.listed.text.items
-    c.in_ok-listed.listed.is_refusal c.in_ok-listed.ensures.text
-    (subst (λ (t : List ℕ). AppendsFront (g.W.Write.contents c.args.writer.now) (g.W.Write.contents c.write_output.new.writer) t)
-    c.as_slice-2.ensures.value c.in_err-write_output.ensures.front))
+    (unread_front g.R.Read.remaining c.args.sources.items (λ inputs. IsTaskList (Wants c.args.wanted.now) inputs c.args.window)
+    (g.W.Write.contents c.args.writer.now))
 
 pub returns-clause-output : goal.returns-clause-output
-returns-clause-output g c = λ inputs are.
-    let refused : c.tell-is_refused.result ≡ is_some_refused c.in_ok-inbox.inbox.refusals.items = c.tell-is_refused.ensures ∙
-    ap is_some_refused c.as_slice.ensures.value in
-    let one : c.if-is_refused.result ≡ (c.tell-is_refused.result || c.in_ok-listed.listed.is_refusal) =
-    elim c.if-is_refused.branch [
-      | then-is_refused w ↦ w.result-is ∙ w.if-is_refused.true ∙
-          ap (λ (b : Bool). b || c.in_ok-listed.listed.is_refusal) (sym w.if-is_refused.true)
-      | else-is_refused w ↦ w.result-is ∙ ap (λ (b : Bool). b || c.in_ok-listed.listed.is_refusal) (sym w.if-is_refused.false)
-    ] in
-    list_written (Wants c.args.wanted.now) (g.W.Write.contents c.args.writer.now) (g.W.Write.contents c.write_output.new.writer) inputs
-    c.in_ok-inbox.inbox.state c.in_ok-inbox.inbox.refusals.items c.args.window c.in_ok-listed.listed.text.items
-    c.in_ok-listed.listed.is_refusal c.if-is_refused.result (c.in_ok-inbox.ensures.holds inputs are) c.in_ok-listed.ensures.text
-    (subst (λ (t : List ℕ). Appends (g.W.Write.contents c.args.writer.now) (g.W.Write.contents c.write_output.new.writer) t)
-    c.as_slice-2.ensures.value c.in_ok-write_output.ensures.all)
-    (one ∙ ap (λ (b : Bool). b || c.in_ok-listed.listed.is_refusal) refused)
+returns-clause-output g c =
+    all_written (λ heard. IsListed (Wants c.args.wanted.now) heard c.args.window) c.in_ok-inbox.inbox.state
+    c.in_ok-inbox.inbox.refusals.items c.in_ok-listed.listed.text.items c.in_ok-listed.listed.is_refusal c.in_ok-listed.ensures.text
+    g.R.Read.remaining c.args.sources.items (g.W.Write.contents c.args.writer.now) (g.W.Write.contents c.write_listed.new.writer)
+    c.in_ok-inbox.ensures.holds c.write_listed.result c.write_listed.ensures.all c.write_listed.ensures.refused
+
+pub returns-clause-front : goal.returns-clause-front
+returns-clause-front g c =
+    on_err_weaker c.write_listed.result (λ front inputs are.
+    its_front (λ heard. IsListed (Wants c.args.wanted.now) heard c.args.window) c.in_ok-inbox.inbox.state
+    c.in_ok-inbox.inbox.refusals.items c.in_ok-listed.listed.text.items c.in_ok-listed.listed.is_refusal c.in_ok-listed.ensures.text
+    g.R.Read.remaining c.args.sources.items (g.W.Write.contents c.args.writer.now) (g.W.Write.contents c.write_listed.new.writer)
+    c.in_ok-inbox.ensures.holds front inputs are (λ heard. listed_once (Wants c.args.wanted.now) heard c.args.window))
+    c.write_listed.ensures.front

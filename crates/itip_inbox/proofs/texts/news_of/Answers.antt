@@ -1,0 +1,23 @@
+use Rattle.std.proofs.Common.{◌≡◌, ◌∙◌, ap, map, List, subst, sym}
+use Rattle.itip_items.specs.declared.item.Item.{Item}
+use Rattle.itip_state.specs.Kept.{IsItemsOf}
+use Rattle.itip_state.specs.Told.{AreNews}
+use Rattle.itip_inbox.proofs.texts.news_of.Goals as goal
+
+-- the news of a batch are those of its items
+news_given : (kept items batch slice news told : List Item) → IsItemsOf batch items → slice ≡ batch → AreNews kept slice news →
+    told ≡ news → AreNews kept items told
+news_given kept items batch slice news told batch_is is are same =
+    let of : AreNews kept batch told = subst (λ (t : List Item). AreNews kept batch t) (sym same)
+    (subst (λ (b : List Item). AreNews kept b news) is are) in
+    record {
+      among = λ item h. (batch_is.same item).0 (of.among item h);
+      new = of.new;
+      rest = λ item h. of.rest item ((batch_is.same item).1 h);
+    }
+
+pub returns : goal.returns
+returns c =
+    news_given c.args.state.now c.args.items.items c.in_ok-batch.batch c.as_slice.result.now _ _ c.in_ok-batch.ensures
+    c.as_slice.ensures.items c.in_ok-news.ensures.news (c.from_vec.ensures ∙ c.in_ok-copies.ensures ∙
+    ap (map (λ item. item.now)) c.as_slice-2.ensures.value)
