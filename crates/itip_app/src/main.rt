@@ -1,10 +1,13 @@
 //! The program `itipdesk`: desks for to-dos under iTIP, driven by a script on standard input, one command after another
-//! or as jobs on threads; messages of files, folders and standard input filtered to what counts of them, to their task
-//! list or to a report; or a message shown as its items.
+//! or as jobs on threads; messages of files, folders and standard input filtered to what counts of them, to what others lack,
+//! to their task list or to a report, explained, or answered by a message; or a message shown as its items.
 //!
-//! Its status is 0, or 1 where something printed was a refusal, 2 for bad words or a bad window, and 3 for a fault.
+//! Its status is 0, or 1 where something was refused, 2 for bad words or a bad window, 3 for a fault, and 4 where what was asked
+//! for can't be done.
 #![tactic(auto)]
 
+mod draft;
+mod filters;
 mod run;
 mod tell;
 

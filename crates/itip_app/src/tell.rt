@@ -2,10 +2,13 @@
 //! has no memory, is left out.
 ghost use Rattle.std.specs.Prelude.{◌≡◌};
 
+use crate::filters::Named;
 use itip_desk::Refusal;
 use itip_inbox::RefusedMessage;
+use itip_message::MessageRefusal;
 use itip_script::Command;
 use itip_streams::{SourceName, refused_line};
+use itip_todo::PropertyName;
 use itip_view::MostRows;
 use itip_words::{Filter, most_line};
 use std::alloc::AllocError;
@@ -15,7 +18,7 @@ use std::fmt::Display;
 #[derive(Drop)]
 pub(crate) struct Teller<'a, R> {
     rt: &'a R,
-    names: &'a [SourceName],
+    named: &'a Named,
     filter: &'a Filter,
     is_shown: bool,
     /// The place of the source that was opened last.
@@ -44,13 +47,13 @@ impl<'a, R: AllocGlobal + Eprint> Teller<'a, R> {
     /// `is_terminal` says whether standard error is one.
     pub(crate) fn new(
         rt: &'a R,
-        names: &'a [SourceName],
+        named: &'a Named,
         filter: &'a Filter,
         is_terminal: bool,
     ) -> Teller<'a, R> {
         Teller {
             rt,
-            names,
+            named,
             filter,
             is_shown: is_terminal || filter.intake.progress,
             opened: 0,
@@ -105,7 +108,7 @@ impl<'a, R: AllocGlobal + Eprint> itip_inbox::Watch for Teller<'a, R> {
 
     fn refused(&mut self, refused: &RefusedMessage) {
         self.show_progress();
-        if let Some(name) = self.names.get(refused.source) {
+        if let Some(name) = self.named.at(refused.source) {
             self.say(self.line_of(name, refused));
         }
     }
@@ -217,6 +220,31 @@ fn name(command: &Command<'_>) -> &'static str {
         Command::Entries { .. } => "entries",
         Command::Malformed => "command",
     }
+}
+
+/// Names what a message should have (RFC 5546 3.4) and lacks.
+pub(crate) fn warn<R: Eprint>(rt: &R, lacking: &[PropertyName]) {
+    for property in lacking {
+        let _ = eprintln!(rt; "warning: {property} is missing");
+    }
+}
+
+/// Says under which number a message is refused that is to be written, and with `why` for what, and gives the status.
+pub(crate) fn complain_refused<R: Eprint>(
+    rt: &R,
+    refusal: MessageRefusal,
+    why: bool,
+    status: u8,
+) -> u8
+    ensures { result ≡ status }
+{
+    let number = refusal.number();
+    if why {
+        let _ = eprintln!(rt; "itipdesk: refused {number}: {refusal}");
+    } else {
+        let _ = eprintln!(rt; "itipdesk: refused {number}");
+    }
+    status
 }
 
 /// Says what failed of something, and gives the status.

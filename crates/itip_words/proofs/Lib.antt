@@ -1,2 +1,3 @@
 pub mod Windows
-pub mod Asked
+pub mod AskedDays
+pub mod MomentNames

@@ -1,5 +1,7 @@
 pub mod Words
 pub mod Values
 pub mod Days
+pub mod AskedValues
+pub mod Asked
 pub mod Calls
 pub mod Told

@@ -1,5 +1,5 @@
 -- What words for addresses and sources stand for (our own rule).
-use Rattle.std.specs.Prelude.{ℕ, Bool, ◌==◌, nat_eq, nat_le, if◌then◌else◌, List, ◌++◌, codes, count_by}
+use Rattle.std.specs.Prelude.{ℕ, Bool, ◌==◌, nat_eq, if◌then◌else◌, List, ◌++◌, codes, count_by}
 use Rattle.std.specs.List.{list_any}
 use Rattle.std.specs.Cmp.Lexicographic.{pointwise}
 
@@ -11,6 +11,6 @@ address_of word = if list_any (λ c. c == 58) word then word else codes "mailto:
 abbrev pub is_input : List ℕ → Bool
 is_input word = pointwise nat_eq word (codes "-")
 
--- standard input is named once at most
-abbrev pub is_input_once : List (List ℕ) → Bool
-is_input_once words = nat_le (count_by is_input words) 1
+-- how often standard input is named
+abbrev pub inputs : List (List ℕ) → ℕ
+inputs words = count_by is_input words

@@ -1,14 +1,17 @@
 //! The words that there are, each with its help.
-use crate::help::{CHECK_HELP, COMPACT_HELP, LIST_HELP, OFFICE_HELP, REPORT_HELP, RUN_HELP};
+use crate::help::{
+    CANCEL_HELP, CHECK_HELP, COMPACT_HELP, EXPLAIN_HELP, LIST_HELP, NEWS_HELP, OFFICE_HELP,
+    REFRESH_HELP, REPLY_HELP, REPORT_HELP, REQUEST_HELP, RESEND_HELP, RUN_HELP,
+};
 use clap::{Arg, ArgAction, Command};
 use std::alloc::{AllocError, Global};
 
 /// The version of the program.
 pub const VERSION: &str = "0.1.0";
 
-/// The program, with its six words.
+/// The program, with its words.
 pub(crate) fn command<'a>(alloc: Global) -> Result<Command<'a>, AllocError> {
-    Command::new(alloc, "itipdesk")
+    let program = Command::new(alloc, "itipdesk")
         .bin_name("itipdesk")?
         .about("A desk for to-dos under iTIP (RFC 5546)")
         .version(VERSION)
@@ -19,7 +22,20 @@ pub(crate) fn command<'a>(alloc: Global) -> Result<Command<'a>, AllocError> {
         .subcommand(check_command(alloc)?)?
         .subcommand(compact_command(alloc)?)?
         .subcommand(list_command(alloc)?)?
-        .subcommand(report_command(alloc)?)
+        .subcommand(report_command(alloc)?)?
+        .subcommand(news_command(alloc)?)?
+        .subcommand(explain_command(alloc)?)?;
+    with_messages(alloc, program)
+}
+
+/// A program with the words that write a message.
+fn with_messages<'a>(alloc: Global, program: Command<'a>) -> Result<Command<'a>, AllocError> {
+    program
+        .subcommand(resend_command(alloc)?)?
+        .subcommand(request_command(alloc)?)?
+        .subcommand(reply_command(alloc)?)?
+        .subcommand(refresh_command(alloc)?)?
+        .subcommand(cancel_command(alloc)?)
 }
 
 fn run_command<'a>(alloc: Global) -> Result<Command<'a>, AllocError> {
@@ -80,6 +96,135 @@ fn report_command<'a>(alloc: Global) -> Result<Command<'a>, AllocError> {
         .after_help(REPORT_HELP)
         .arg(name)?;
     intake_words(alloc, days_around_today(alloc, report)?)
+}
+
+fn news_command<'a>(alloc: Global) -> Result<Command<'a>, AllocError> {
+    let than = Arg::new(alloc, "than")
+        .long("than")
+        .value_name("SOURCE")
+        .action(ArgAction::Append)
+        .required(true)
+        .help("What the others are compared with; it may be given several times");
+    let news = Command::new(alloc, "news")
+        .about("Reads messages and writes what counts of them that others lack")
+        .after_help(NEWS_HELP)
+        .arg(than)?;
+    intake_words(alloc, news)
+}
+
+fn explain_command<'a>(alloc: Global) -> Result<Command<'a>, AllocError> {
+    let explain = Command::new(alloc, "explain")
+        .about("Reads messages and says what they tell of a to-do, and what came of it")
+        .after_help(EXPLAIN_HELP)
+        .arg(uid_word(alloc))?;
+    intake_words(alloc, explain)
+}
+
+fn resend_command<'a>(alloc: Global) -> Result<Command<'a>, AllocError> {
+    let resend = Command::new(alloc, "resend")
+        .about("Reads messages and writes those of a to-do that are to be sent again")
+        .after_help(RESEND_HELP)
+        .arg(uid_word(alloc))?
+        .arg(at_word(alloc))?;
+    intake_words(alloc, resend)
+}
+
+fn request_command<'a>(alloc: Global) -> Result<Command<'a>, AllocError> {
+    let draft = Arg::new(alloc, "draft")
+        .value_name("DRAFT")
+        .required(true)
+        .help("The file with the to-dos, or - for standard input, which is then no source");
+    let request = Command::new(alloc, "request")
+        .about("Reads messages and writes a request of the to-dos in a draft")
+        .after_help(REQUEST_HELP)
+        .arg(draft)?
+        .arg(at_word(alloc))?;
+    intake_words(alloc, request)
+}
+
+fn reply_command<'a>(alloc: Global) -> Result<Command<'a>, AllocError> {
+    let status = Arg::new(alloc, "status")
+        .long("status")
+        .value_name("PARTSTAT")
+        .required(true)
+        .help("NEEDS-ACTION, ACCEPTED, DECLINED, TENTATIVE, COMPLETED or IN-PROCESS");
+    let percent = Arg::new(alloc, "percent")
+        .long("percent")
+        .value_name("N")
+        .help("How far it is: 0 to 100");
+    let reply = Command::new(alloc, "reply")
+        .about("Reads messages and writes an attendee's answer to a to-do")
+        .after_help(REPLY_HELP)
+        .arg(uid_word(alloc))?
+        .arg(answering_word(alloc))?
+        .arg(status)?
+        .arg(percent)?
+        .arg(id_word(alloc))?
+        .arg(at_word(alloc))?;
+    intake_words(alloc, reply)
+}
+
+fn refresh_command<'a>(alloc: Global) -> Result<Command<'a>, AllocError> {
+    let refresh = Command::new(alloc, "refresh")
+        .about("Reads messages and writes an attendee's wish to be sent a to-do again")
+        .after_help(REFRESH_HELP)
+        .arg(uid_word(alloc))?
+        .arg(answering_word(alloc))?
+        .arg(id_word(alloc))?
+        .arg(at_word(alloc))?;
+    intake_words(alloc, refresh)
+}
+
+fn cancel_command<'a>(alloc: Global) -> Result<Command<'a>, AllocError> {
+    let onward = Arg::new(alloc, "onward")
+        .long("onward")
+        .action(ArgAction::SetTrue)
+        .requires_arg("id")?
+        .conflicts_with("attendee")?
+        .help("Cancels the instance and all after it");
+    let attendee = Arg::new(alloc, "attendee")
+        .long("attendee")
+        .value_name("ADDRESS")
+        .action(ArgAction::Append)
+        .help(
+            "Removes the attendee of this address, and cancels nothing; it may be given several times",
+        );
+    let cancel = Command::new(alloc, "cancel")
+        .about("Reads messages and writes a cancellation of a to-do, or removes attendees from it")
+        .after_help(CANCEL_HELP)
+        .arg(uid_word(alloc))?
+        .arg(id_word(alloc))?
+        .arg(onward)?
+        .arg(attendee)?
+        .arg(at_word(alloc))?;
+    intake_words(alloc, cancel)
+}
+
+fn uid_word<'a>(alloc: Global) -> Arg<'a> {
+    Arg::new(alloc, "uid")
+        .value_name("UID")
+        .required(true)
+        .help("The UID of the to-do")
+}
+
+fn answering_word<'a>(alloc: Global) -> Arg<'a> {
+    Arg::new(alloc, "attendee")
+        .long("attendee")
+        .value_name("ADDRESS")
+        .required(true)
+        .help("Who writes: the address of an attendee, as a@example.com")
+}
+
+fn id_word<'a>(alloc: Global) -> Arg<'a> {
+    Arg::new(alloc, "id").long("id").value_name("MOMENT").help(
+        "One instance of the to-do, as lists show it: 20260105 or TZID=Europe/Vienna:20260105T090000",
+    )
+}
+
+fn at_word<'a>(alloc: Global) -> Arg<'a> {
+    Arg::new(alloc, "at").long("at").value_name("STAMP").help(
+        "The moment of writing, as 20260101T090000Z; without it that of the clock, in UTC",
+    )
 }
 
 fn desks_word<'a>(alloc: Global) -> Arg<'a> {

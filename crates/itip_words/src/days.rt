@@ -1,11 +1,11 @@
-//! The days that are asked for: those of the rows, and the day that they are due before.
-ghost use Rattle.std.specs.Prelude.{◌≡◌, ◌≤ℤ◌, ◌<◌, ◌/◌, ℤ, pos, Option, IfSome, IfNone, MatchOption, MatchBool};
+//! The clock, and the days that are asked for: those of the rows, and the day that they are due before.
+ghost use Rattle.std.specs.Prelude.{◌≡◌, ◌≤ℤ◌, ◌<◌, ◌/◌, ◌%◌, ℤ, pos, Option, IfSome, IfNone, MatchOption, MatchBool};
 ghost use Rattle.std.specs.Option.{option_copied};
 ghost use Rattle.itip_moment.specs.Spelling.{IsDateText};
 ghost use Rattle.itip_view.specs.declared.window.Window.{Window};
 ghost use Rattle.itip_words.specs.Days.{numbered, IsGiven, IsAskedWindow, first_day, day_after, days_back, days_long, is_today};
 
-use itip_moment::{Day, read_date};
+use itip_moment::{Day, Stamp, read_date};
 use itip_view::Window;
 use std::rt::Clock;
 use std::time::{SystemTime, UNIX_EPOCH};
@@ -18,24 +18,33 @@ const LAST_DAY: u64 = 2_932_896;
 // How many days before and after today there are rows, where neither end of a window is named.
 const DAYS_AROUND: i32 = 366;
 
-/// The day of a clock, in UTC. `None` where it can't be read, or has a time before 1970 or behind the year 9999.
-pub fn today(clock: &impl Clock) -> Option<Day> {
+/// The moment of a clock, in UTC. `None` where it can't be read, or has a time before 1970 or after the year 9999.
+pub fn now(clock: &impl Clock) -> Option<Stamp> {
     let now = SystemTime::now(clock).ok()?;
-    day_of_seconds(now.duration_since(UNIX_EPOCH).ok()?.as_secs())
+    stamp_of_seconds(now.duration_since(UNIX_EPOCH).ok()?.as_secs())
 }
 
-/// The day of a second, both counted from the beginning of 1970-01-01; `None` behind the year 9999.
-fn day_of_seconds(seconds: u64) -> Option<Day>
-    ensures found { IfSome result (λ day. day.number ≡ pos (seconds / 86_400)) }
+/// The stamp of a second, counted from the beginning of 1970-01-01; `None` after the year 9999.
+fn stamp_of_seconds(seconds: u64) -> Option<Stamp>
+    ensures day { IfSome result (λ stamp. stamp.day ≡ pos (seconds / 86_400)) }
+    ensures second { IfSome result (λ stamp. stamp.second ≡ seconds % 86_400) }
     ensures none { IfNone result (2_932_896 < seconds / 86_400) }
 {
     let number = seconds / SECONDS_OF_DAY;
     if number > LAST_DAY {
         return None;
     }
-    Some(Day {
-        number: number as i32,
+    Some(Stamp {
+        day: number as i32,
+        second: (seconds % SECONDS_OF_DAY) as u32,
     })
+}
+
+/// The day of a stamp.
+pub(crate) fn day_of(stamp: Stamp) -> Day
+    ensures { result.number ≡ stamp.day }
+{
+    Day { number: stamp.day }
 }
 
 /// The day of a word, where the word is given. `None` where it is no date.

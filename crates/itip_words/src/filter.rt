@@ -1,19 +1,21 @@
-//! The words `compact`, `list` and `report`: messages in, what counts out.
-ghost use Rattle.std.specs.Prelude.{◌≡◌, IfOk, IfSome, IsTrue, map};
+//! The words that read messages: `list`, `compact`, `report`, `news`, `explain`, and those that write a message.
+ghost use Rattle.std.specs.Prelude.{◌≡◌, IfOk, IfSome};
 ghost use Rattle.std.specs.Option.{option_copied, option_map};
 ghost use Rattle.std.specs.String.{string_bytes};
 ghost use Rattle.itip_words.specs.Words.{threads_of, AreThreads};
 ghost use Rattle.itip_words.specs.Days.{HasAskedDays};
-ghost use Rattle.itip_words.specs.Values.{address_of, is_input_once};
-ghost use Rattle.itip_words.specs.Calls.{CanFilter, word_of};
+ghost use Rattle.itip_words.specs.Calls.{CanFilter, IfWindow, word_of, inputs_before, reads_input_once};
 
-use crate::days::{asked_window, due_day, given_day, is_today};
+use crate::asked::{Asked, asked_attendee, asked_of, asked_uid};
+use crate::days::{asked_window, day_of, due_day, given_day, is_today};
 use crate::no_call::NoCall;
-use crate::values::{address_of, copies, is_input_once};
+use crate::values::{copies, inputs, is_input};
+use crate::wrong::input_read_twice;
 use clap::ArgMatches;
-use itip_moment::Day;
+use itip_moment::{Day, Stamp, read_stamp};
 use itip_report::ReportName;
 use itip_script::{read_number, read_report_name};
+use itip_todo::Uid;
 use itip_view::{Wanted, Window};
 use std::alloc::{AllocError, Global};
 
@@ -36,12 +38,19 @@ pub enum Written {
     List(Listing),
     /// A report.
     Report(Reported),
+    /// The octets of what the sources of these words lack.
+    News { than: Vec<String> },
+    /// What is told of a to-do, and what came of it.
+    Explanation { uid: Uid },
+    /// A message, with the moment of writing.
+    Message { asked: Asked, at: Stamp },
 }
 
 /// How the messages are read.
 #[derive(Drop)]
 pub struct Intake {
-    /// The words that name the sources, with standard input once at most.
+    /// The words that name the sources. Where no word does, there is `-`, for standard input, or no source beside a draft that is
+    /// read from there.
     pub sources: Vec<String>,
     /// 1 to 8, or as many as there are processors, where it is absent.
     pub threads: Option<u64>,
@@ -92,7 +101,31 @@ impl Written {
             Written::Compaction { .. } => "compact",
             Written::List(_) => "list",
             Written::Report(_) => "report",
+            Written::News { .. } => "news",
+            Written::Explanation { .. } => "explain",
+            Written::Message { asked, .. } => asked.word(),
         }
+    }
+
+    /// How often standard input is read before the sources.
+    fn inputs_before(&self) -> usize
+        ensures { result ≡ inputs_before self.now }
+    {
+        match self {
+            Written::News { than } => inputs(than.as_slice()),
+            Written::Message { asked, .. } => asked.inputs_of_draft(),
+            _ => 0,
+        }
+    }
+}
+
+impl Filter {
+    /// Whether standard input is read once at most.
+    fn reads_input_once(&self) -> bool
+        ensures { result ≡ reads_input_once self.now }
+    {
+        let before = self.written.inputs_before();
+        before <= 1 && inputs(self.intake.sources.as_slice()) <= 1 - before
     }
 }
 
@@ -115,35 +148,62 @@ impl Listing {
     }
 }
 
-/// The filter that the words ask for, on the day of a clock; `None` where they are of another word, or where a value is bad.
+/// The filter that the words ask for, at the moment of a clock; `None` where they are of another word, or where a value is bad.
 pub(crate) fn filter_of(
     alloc: Global,
     matches: &ArgMatches<'_>,
-    clock: Option<Day>,
+    clock: Option<Stamp>,
 ) -> Result<Option<Filter>, NoCall>
     ensures { IfOk result (λ found. IfSome found CanFilter) }
 {
-    if let Some(words) = matches.subcommand_matches("compact") {
-        return Ok(compact_of(alloc, words)?);
-    }
-    if let Some(words) = matches.subcommand_matches("list") {
-        return list_of(alloc, words, clock);
-    }
-    match matches.subcommand_matches("report") {
-        Some(words) => report_of(alloc, words, clock),
-        None => Ok(None),
-    }
-}
-
-fn compact_of(alloc: Global, words: &ArgMatches<'_>) -> Result<Option<Filter>, AllocError>
-    ensures { IfOk result (λ found. IfSome found CanFilter) }
-{
+    let Some((word, words)) = matches.subcommand() else {
+        return Ok(None);
+    };
     let Some(intake) = intake_of(alloc, words)? else {
         return Ok(None);
     };
+    let Some(written) = written_of(alloc, word, words, clock)? else {
+        return Ok(None);
+    };
+    if_input_once(alloc, Filter { intake, written })
+}
+
+/// A filter, where standard input is read once at most.
+fn if_input_once(alloc: Global, filter: Filter) -> Result<Option<Filter>, NoCall>
+    requires few { IfSome filter.intake.threads AreThreads }
+    requires days { IfWindow HasAskedDays filter.written }
+    ensures { IfOk result (λ found. IfSome found CanFilter) }
+{
+    if filter.reads_input_once() {
+        return Ok(Some(filter));
+    }
+    drop(filter);
+    Err(NoCall::BadValue(input_read_twice(alloc)?))
+}
+
+/// What a word asks to be written.
+fn written_of(
+    alloc: Global,
+    word: &str,
+    words: &ArgMatches<'_>,
+    clock: Option<Stamp>,
+) -> Result<Option<Written>, NoCall>
+    ensures { IfOk result (λ found. IfSome found (IfWindow HasAskedDays)) }
+{
+    match word {
+        "compact" => compact_of(alloc, words),
+        "list" | "report" => dated_of(alloc, word, words, clock),
+        "news" => news_of(alloc, words),
+        "explain" => explanation_of(alloc, words),
+        _ => message_of(alloc, word, words, clock),
+    }
+}
+
+fn compact_of(alloc: Global, words: &ArgMatches<'_>) -> Result<Option<Written>, NoCall>
+    ensures { IfOk result (λ found. IfSome found (IfWindow HasAskedDays)) }
+{
     let output = output_of(alloc, words)?;
-    let written = Written::Compaction { output };
-    Ok(Some(Filter { intake, written }))
+    Ok(Some(Written::Compaction { output }))
 }
 
 /// The name of the file that is written; none where it is `-`, for standard output.
@@ -154,24 +214,35 @@ fn output_of(alloc: Global, words: &ArgMatches<'_>) -> Result<Option<String>, Al
     }
 }
 
-fn list_of(
+/// What is asked for by the words that take days.
+fn dated_of(
     alloc: Global,
+    word: &str,
     words: &ArgMatches<'_>,
-    clock: Option<Day>,
-) -> Result<Option<Filter>, NoCall>
-    ensures { IfOk result (λ found. IfSome found CanFilter) }
+    clock: Option<Stamp>,
+) -> Result<Option<Written>, NoCall>
+    ensures { IfOk result (λ found. IfSome found (IfWindow HasAskedDays)) }
 {
     let Some(today) = today_of(words, clock)? else {
         return Ok(None);
     };
-    let Some(intake) = intake_of(alloc, words)? else {
-        return Ok(None);
-    };
-    let Some(listing) = listing_of(alloc, words, today)? else {
-        return Ok(None);
-    };
-    let written = Written::List(listing);
-    Ok(Some(Filter { intake, written }))
+    if word == "list" {
+        return Ok(list_of(alloc, words, today)?);
+    }
+    Ok(report_of(words, today))
+}
+
+fn list_of(
+    alloc: Global,
+    words: &ArgMatches<'_>,
+    today: Option<Day>,
+) -> Result<Option<Written>, AllocError>
+    ensures { IfOk result (λ found. IfSome found (IfWindow HasAskedDays)) }
+{
+    match listing_of(alloc, words, today)? {
+        Some(listing) => Ok(Some(Written::List(listing))),
+        None => Ok(None),
+    }
 }
 
 fn listing_of(
@@ -188,7 +259,7 @@ fn listing_of(
     let (Some(due_before), Some(format)) = (asked_due(words, today), asked_format(words)) else {
         return Ok(None);
     };
-    let attendee = attendee_of(alloc, words)?;
+    let attendee = asked_attendee(alloc, words)?;
     let is_open = words.get_flag("open");
     Ok(Some(Listing {
         window,
@@ -199,24 +270,11 @@ fn listing_of(
     }))
 }
 
-fn report_of(
-    alloc: Global,
-    words: &ArgMatches<'_>,
-    clock: Option<Day>,
-) -> Result<Option<Filter>, NoCall>
-    ensures { IfOk result (λ found. IfSome found CanFilter) }
+fn report_of(words: &ArgMatches<'_>, today: Option<Day>) -> Option<Written>
+    ensures { IfSome result (IfWindow HasAskedDays) }
 {
-    let Some(today) = today_of(words, clock)? else {
-        return Ok(None);
-    };
-    let Some(intake) = intake_of(alloc, words)? else {
-        return Ok(None);
-    };
-    let Some(reported) = reported_of(words, today) else {
-        return Ok(None);
-    };
-    let written = Written::Report(reported);
-    Ok(Some(Filter { intake, written }))
+    let reported = reported_of(words, today)?;
+    Some(Written::Report(reported))
 }
 
 fn reported_of(words: &ArgMatches<'_>, today: Option<Day>) -> Option<Reported>
@@ -242,16 +300,66 @@ fn names_days(words: &ArgMatches<'_>) -> bool {
     words.contains_id("from") || words.contains_id("to") || words.contains_id("today")
 }
 
+fn news_of(alloc: Global, words: &ArgMatches<'_>) -> Result<Option<Written>, NoCall>
+    ensures { IfOk result (λ found. IfSome found (IfWindow HasAskedDays)) }
+{
+    let Some(named) = words.get_strs("than") else {
+        return Ok(None);
+    };
+    let than = copies(alloc, named)?;
+    Ok(Some(Written::News { than }))
+}
+
+fn explanation_of(alloc: Global, words: &ArgMatches<'_>) -> Result<Option<Written>, NoCall>
+    ensures { IfOk result (λ found. IfSome found (IfWindow HasAskedDays)) }
+{
+    match asked_uid(alloc, words)? {
+        Some(uid) => Ok(Some(Written::Explanation { uid })),
+        None => Ok(None),
+    }
+}
+
+fn message_of(
+    alloc: Global,
+    word: &str,
+    words: &ArgMatches<'_>,
+    clock: Option<Stamp>,
+) -> Result<Option<Written>, NoCall>
+    ensures { IfOk result (λ found. IfSome found (IfWindow HasAskedDays)) }
+{
+    let Some(at) = moment_of_writing(words, clock)? else {
+        return Ok(None);
+    };
+    match asked_of(alloc, word, words)? {
+        Some(asked) => Ok(Some(Written::Message { asked, at })),
+        None => Ok(None),
+    }
+}
+
+/// The moment of writing: that of `--at`, else that of the clock. `None` where the word is no date-time in UTC.
+///
+/// [`NoCall::NoClock`] where neither is there.
+fn moment_of_writing(
+    words: &ArgMatches<'_>,
+    clock: Option<Stamp>,
+) -> Result<Option<Stamp>, NoCall> {
+    match (words.get_str("at"), clock) {
+        (Some(text), _) => Ok(read_stamp(text)),
+        (None, Some(now)) => Ok(Some(now)),
+        (None, None) => Err(NoCall::NoClock),
+    }
+}
+
 /// The day that is taken for today: that of `--today`, else that of the clock. `None` where the word is no date.
 ///
-/// [`NoCall::NoToday`] where neither is there, and something depends on it.
-fn today_of(words: &ArgMatches<'_>, clock: Option<Day>) -> Result<Option<Option<Day>>, NoCall> {
+/// [`NoCall::NoClock`] where neither is there, and something depends on it.
+fn today_of(words: &ArgMatches<'_>, clock: Option<Stamp>) -> Result<Option<Option<Day>>, NoCall> {
     let Some(given) = given_day(words.get_str("today")) else {
         return Ok(None);
     };
-    let today = given.or(clock);
+    let today = given.or(clock.map(day_of));
     if today.is_none() && needs_today(words) {
-        return Err(NoCall::NoToday);
+        return Err(NoCall::NoClock);
     }
     Ok(Some(today))
 }
@@ -276,13 +384,6 @@ fn asked_due(words: &ArgMatches<'_>, today: Option<Day>) -> Option<Option<i32>> 
     Some(Some(day.number))
 }
 
-fn attendee_of(alloc: Global, words: &ArgMatches<'_>) -> Result<Option<String>, AllocError> {
-    match words.get_str("attendee") {
-        Some(word) => Ok(Some(address_of(alloc, word)?)),
-        None => Ok(None),
-    }
-}
-
 fn asked_format(words: &ArgMatches<'_>) -> Option<Format> {
     format_of(words.get_str("format")?)
 }
@@ -298,15 +399,12 @@ pub(crate) fn format_of(word: &str) -> Option<Format> {
 }
 
 fn intake_of(alloc: Global, words: &ArgMatches<'_>) -> Result<Option<Intake>, AllocError>
-    ensures few { IfOk result (λ found. IfSome found (λ intake. IfSome intake.threads AreThreads)) }
-    ensures once { IfOk result (λ found. IfSome found (λ intake. IsTrue (is_input_once (map string_bytes intake.sources.items)))) }
+    ensures { IfOk result (λ found. IfSome found (λ intake. IfSome intake.threads AreThreads)) }
 {
     let Some(threads) = asked_threads(words) else {
         return Ok(None);
     };
-    let Some(sources) = asked_sources(alloc, words)? else {
-        return Ok(None);
-    };
+    let sources = asked_sources(alloc, words)?;
     let progress = words.get_flag("progress");
     let why = words.get_flag("why");
     Ok(Some(Intake {
@@ -335,16 +433,11 @@ pub(crate) fn threads_of(text: &str) -> Option<u64>
     read_number(text.as_bytes()).filter(|threads| (1..=MAX_THREADS).contains(threads))
 }
 
-/// The words that name sources. `None` where standard input is named more than once.
-fn asked_sources(alloc: Global, words: &ArgMatches<'_>) -> Result<Option<Vec<String>>, AllocError>
-    ensures { IfOk result (λ found. IfSome found (λ sources. IsTrue (is_input_once (map string_bytes sources.items)))) }
-{
-    let Some(named) = words.get_strs("source") else {
-        return Ok(Some(Vec::new(alloc)));
-    };
-    if !is_input_once(named) {
-        return Ok(None);
+/// The words that name sources. Where there is none, it is standard input, if no draft is read from there.
+fn asked_sources(alloc: Global, words: &ArgMatches<'_>) -> Result<Vec<String>, AllocError> {
+    match words.get_strs("source") {
+        Some(named) => copies(alloc, named),
+        None if words.get_str("draft").is_some_and(is_input) => Ok(Vec::new(alloc)),
+        None => copies(alloc, &["-"]),
     }
-    let sources = copies(alloc, named)?;
-    Ok(Some(sources))
 }

@@ -126,3 +126,138 @@ Exit status:
   1  a message was refused, or the report
   2  the words or the window are bad
   3  a read or a write failed, there was no memory, or the clock can't be read";
+
+/// What is read and written where messages are compared with others.
+pub(crate) const NEWS_HELP: &str =
+    "Sources are files, folders, which stand for the .ics files in them, and - for standard input; without one beside --than
+standard input is read. A message that is refused is not heard; it is named on standard error, as `mail.ics message 3: refused 9`,
+and with --why also where and why.
+
+  itipdesk news --than desk.ics inbox > news.ics
+  itipdesk news --than monday.ics --than tuesday.ics desk.ics
+
+Written is what `compact` keeps of all sources and doesn't keep of those of --than alone. So who has these compacts them with
+the news, and has what `compact` makes of all. Where there is nothing new, nothing is written.
+
+Exit status:
+  0  nothing was refused
+  1  a message was refused
+  2  the words are bad
+  3  a read or a write failed, or there was no memory";
+
+/// What is read and written where a to-do is explained.
+pub(crate) const EXPLAIN_HELP: &str =
+    "Sources are files, folders, which stand for the .ics files in them, and - for standard input; without one standard input
+is read. A message that is refused is not heard; it is named on standard error, as `mail.ics message 3: refused 9`, and with
+--why also where and why.
+
+  itipdesk explain u1 desk.ics inbox
+
+Each line is about an item that a message tells: where it stands, what it is, its instance or -, its attendee, SEQUENCE,
+DTSTAMP, and what came of it:
+
+  inbox/1.ics message 1: request - seq 0 stamp 20260101T090000Z overtaken by inbox/2.ics message 1
+  inbox/2.ics message 1: request - seq 1 stamp 20260102T090000Z stands
+  inbox/3.ics message 1: reply - mailto:ann@example.com seq 1 stamp 20260103T090000Z counts
+
+Exit status:
+  0  nothing was refused
+  1  a message was refused
+  2  the words are bad
+  3  a read or a write failed, or there was no memory
+  4  no message is about this to-do";
+
+/// What is read and written where a to-do is sent again.
+pub(crate) const RESEND_HELP: &str =
+    "Sources are files, folders, which stand for the .ics files in them, and - for standard input; without one standard input
+is read. A message that is refused is not heard; it is named on standard error, as `mail.ics message 3: refused 9`, and with
+--why also where and why.
+
+  itipdesk resend u1 desk.ics > again.ics
+
+Written are the newest revision of the to-do and each of its changed instances, as they were sent: --at changes nothing.
+
+Exit status:
+  0  nothing was refused
+  1  a message was refused, and the messages were written
+  2  the words are bad
+  3  a read or a write failed, there was no memory, or the clock can't be read
+  4  the to-do isn't known, or it is cancelled: nothing is written";
+
+/// What is read and written where to-dos are requested.
+pub(crate) const REQUEST_HELP: &str =
+    "A draft is a file as a REQUEST is, VERSION included. Its METHOD, DTSTAMP and SEQUENCE don't matter and may be absent: written
+are METHOD:REQUEST, the moment of writing, and for each to-do the SEQUENCE after all that its sources tell, or 0 for a new one.
+
+Sources are files, folders, which stand for the .ics files in them, and - for standard input; without one standard input
+is read, unless the draft is. A message that is refused is not heard; it is named on standard error, as
+`mail.ics message 3: refused 9`, and with --why also where and why.
+
+  itipdesk request draft.ics desk.ics > request.ics
+  itipdesk compact --output desk.ics desk.ics request.ics
+
+What a request should have and the draft lacks is named on standard error, as `warning: ORGANIZER is missing`.
+
+Exit status:
+  0  nothing was refused
+  1  a message was refused, and the request was written
+  2  the words are bad
+  3  a read or a write failed, there was no memory, or the clock can't be read
+  4  the draft can't be sent, for the cause on standard error: nothing is written";
+
+/// What is read and written where an attendee answers.
+pub(crate) const REPLY_HELP: &str =
+    "Sources are files, folders, which stand for the .ics files in them, and - for standard input; without one standard input
+is read. A message that is refused is not heard; it is named on standard error, as `mail.ics message 3: refused 9`, and with
+--why also where and why.
+
+  itipdesk reply u1 --attendee ann@example.com --status ACCEPTED desk.ics > reply.ics
+  itipdesk reply u1 --attendee ann@example.com --status IN-PROCESS --percent 60 --id 20260105 desk.ics > reply.ics
+
+The answer is to the to-do as a whole, or with --id to one instance of it. A desk that has heard the sources and then the
+answer shows it. An address without a colon is taken with mailto: before it.
+
+Exit status:
+  0  nothing was refused
+  1  a message was refused, and the answer was written
+  2  the words are bad
+  3  a read or a write failed, there was no memory, or the clock can't be read
+  4  there is nothing to answer, for the cause on standard error: nothing is written";
+
+/// What is read and written where an attendee wants to be sent a to-do again.
+pub(crate) const REFRESH_HELP: &str =
+    "Sources are files, folders, which stand for the .ics files in them, and - for standard input; without one standard input
+is read. A message that is refused is not heard; it is named on standard error, as `mail.ics message 3: refused 9`, and with
+--why also where and why.
+
+  itipdesk refresh u1 --attendee ann@example.com desk.ics > refresh.ics
+
+The organizer's `report refresh` has the wish until a newer revision was sent; `resend` writes what to send. An address
+without a colon is taken with mailto: before it.
+
+Exit status:
+  0  nothing was refused
+  1  a message was refused, and the wish was written
+  2  the words are bad
+  3  a read or a write failed, there was no memory, or the clock can't be read
+  4  there is nothing to ask for, for the cause on standard error: nothing is written";
+
+/// What is read and written where something is cancelled.
+pub(crate) const CANCEL_HELP: &str =
+    "Sources are files, folders, which stand for the .ics files in them, and - for standard input; without one standard input
+is read. A message that is refused is not heard; it is named on standard error, as `mail.ics message 3: refused 9`, and with
+--why also where and why.
+
+  itipdesk cancel u1 desk.ics > cancel.ics                                        the to-do as a whole
+  itipdesk cancel u1 --id 20260105 desk.ics > cancel.ics                          one instance of it
+  itipdesk cancel u1 --id 20260105 --onward desk.ics > cancel.ics                 an instance and all after it
+  itipdesk cancel u1 --attendee ann@example.com desk.ics > cancel.ics             Ann has nothing more to do with it
+
+An address without a colon is taken with mailto: before it.
+
+Exit status:
+  0  nothing was refused
+  1  a message was refused, and the cancellation was written
+  2  the words are bad
+  3  a read or a write failed, there was no memory, or the clock can't be read
+  4  there is nothing to cancel, for the cause on standard error: nothing is written";

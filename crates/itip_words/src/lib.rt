@@ -1,6 +1,8 @@
 //! The words that the program is called with: what they ask for, and the help that each shows.
 #![tactic(auto)]
 
+mod asked;
+mod asked_values;
 mod commands;
 mod days;
 mod filter;
@@ -11,8 +13,9 @@ mod values;
 mod words;
 mod wrong;
 
+pub use asked::Asked;
 pub use commands::VERSION;
-pub use days::today;
+pub use days::now;
 pub use filter::{Filter, Format, Intake, Listing, MAX_THREADS, Reported, Written};
 pub use no_call::NoCall;
 pub use told::most_line;

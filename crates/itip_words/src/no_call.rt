@@ -17,8 +17,8 @@ pub enum NoCall {
     Refused(Error),
     /// A value is none that its word takes; this says which, in lines of its own.
     BadValue(String),
-    /// What is asked for depends on today, which the clock doesn't tell.
-    NoToday,
+    /// What is asked for depends on the time, which the clock doesn't tell.
+    NoClock,
     NoMemory,
 }
 

@@ -2,7 +2,7 @@
 ghost use Rattle.std.specs.Prelude.{◌≡◌, ◌==◌, IfOk, map};
 ghost use Rattle.std.specs.List.{list_any};
 ghost use Rattle.std.specs.String.{string_bytes};
-ghost use Rattle.itip_words.specs.Values.{address_of, is_input, is_input_once};
+ghost use Rattle.itip_words.specs.Values.{address_of, is_input, inputs};
 
 use std::alloc::{AllocError, Global};
 
@@ -23,17 +23,29 @@ fn has_colon(word: &str) -> bool
     word.as_bytes().iter().any(|c| *c == b':')
 }
 
-/// Whether standard input is named once at most.
-pub(crate) fn is_input_once(words: &[&str]) -> bool
-    ensures { result ≡ is_input_once (map (λ word. word.now) words.now) }
+/// How often standard input is named.
+pub(crate) fn inputs(words: &[String]) -> usize
+    ensures { result ≡ inputs (map string_bytes words.now) }
 {
-    words.iter().filter(|word| is_input(word)).count() <= 1
+    words.iter().filter(|word| is_input(word.as_str())).count()
 }
 
-fn is_input(word: &str) -> bool
+/// Whether a word names standard input.
+pub(crate) fn is_input(word: &str) -> bool
     ensures { result ≡ is_input word.now }
 {
     word == "-"
+}
+
+/// The addresses that words stand for.
+pub(crate) fn addresses_of(alloc: Global, words: &[&str]) -> Result<Vec<String>, AllocError>
+    ensures { IfOk result (λ addresses. map string_bytes addresses.items ≡ map (λ word. address_of word.now) words.now) }
+{
+    let mut addresses = Vec::with_capacity(alloc, words.len())?;
+    for word in words {
+        addresses.push(address_of(alloc, word)?)?;
+    }
+    Ok(addresses)
 }
 
 pub(crate) fn copies(alloc: Global, words: &[&str]) -> Result<Vec<String>, AllocError>

@@ -9,7 +9,7 @@ use crate::filter::{Filter, filter_of};
 use crate::no_call::{NoCall, no_call};
 use crate::wrong::what_is_wrong;
 use clap::ArgMatches;
-use itip_moment::{Day, read_date};
+use itip_moment::{Stamp, read_date};
 use itip_script::read_number;
 use itip_view::Window;
 use std::alloc::Global;
@@ -42,8 +42,8 @@ pub struct Scripted {
     pub why: bool,
 }
 
-/// Reads the words, the first of which is the program's name. `clock` is the day of today, where it is known.
-pub fn read_words(alloc: Global, words: &[String], clock: Option<Day>) -> Result<Call, NoCall>
+/// Reads the words, the first of which is the program's name. `clock` is the present moment, where it is known.
+pub fn read_words(alloc: Global, words: &[String], clock: Option<Stamp>) -> Result<Call, NoCall>
     ensures run { IfOk result (IfRun (λ scripted. AreDesks scripted.desks)) }
     ensures office { IfOk result (IfOffice AreOffice) }
     ensures filter { IfOk result (IfFilter CanFilter) }
@@ -62,7 +62,7 @@ pub fn read_words(alloc: Global, words: &[String], clock: Option<Day>) -> Result
 fn call_of(
     alloc: Global,
     matches: &ArgMatches<'_>,
-    clock: Option<Day>,
+    clock: Option<Stamp>,
 ) -> Result<Option<Call>, NoCall>
     ensures run { IfOk result (λ found. IfSome found (IfRun (λ scripted. AreDesks scripted.desks))) }
     ensures office { IfOk result (λ found. IfSome found (IfOffice AreOffice)) }

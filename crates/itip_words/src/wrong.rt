@@ -1,16 +1,16 @@
-//! What is said of a value that its word doesn't take, in the manner of `clap`.
+//! What is said of a value that its word doesn't take, and of standard input that is read twice, in the manner of `clap`.
+use crate::asked_values::{answer_named, named_moment, percent_of};
 use crate::days::is_today;
 use crate::filter::{format_of, threads_of};
-use crate::values::is_input_once;
 use crate::words::{desks_of, workers_of};
 use clap::ArgMatches;
-use itip_moment::read_date;
+use itip_moment::{read_date, read_stamp};
 use itip_script::read_report_name;
 use itip_streams::visible_text;
 use std::alloc::{AllocError, Global};
 
 // Each word whose value is read here, and how its usage shows it.
-const VALUES: [(&str, &str); 9] = [
+const VALUES: [(&str, &str); 13] = [
     ("desks", "--desks <D>"),
     ("workers", "--workers <N>"),
     ("threads", "--threads <N>"),
@@ -20,6 +20,10 @@ const VALUES: [(&str, &str); 9] = [
     ("due-before", "--due-before <DAY>"),
     ("format", "--format <FORMAT>"),
     ("name", "<NAME>"),
+    ("id", "--id <MOMENT>"),
+    ("status", "--status <PARTSTAT>"),
+    ("percent", "--percent <N>"),
+    ("at", "--at <STAMP>"),
 ];
 
 /// What is wrong with words for which there is no call: the first bad value, with its control characters shown as their octets.
@@ -29,21 +33,16 @@ pub(crate) fn what_is_wrong(alloc: Global, matches: &ArgMatches<'_>) -> Result<S
     };
     for (id, usage) in VALUES.iter() {
         if let Some(value) = words.get_str(id) {
-            if let Some(why) = fault_of(id, value) {
+            if let Some(why) = fault_of(alloc, id, value)? {
                 return bad_value(alloc, value, usage, why);
             }
         }
     }
-    match words.get_strs("source") {
-        Some(sources) if !is_input_once(sources) => {
-            told(alloc, "the argument '-' cannot be used multiple times")
-        }
-        _ => wrong_days(alloc, words),
-    }
+    wrong_days(alloc, words)
 }
 
 /// What a value has to be, where it isn't.
-fn fault_of(id: &str, value: &str) -> Option<&'static str> {
+fn fault_of(alloc: Global, id: &str, value: &str) -> Result<Option<&'static str>, AllocError> {
     let (is_good, why) = match id {
         "desks" => (desks_of(value).is_some(), "not a number from 1 to 16"),
         "workers" => (workers_of(value).is_some(), "not a number from 1 to 8"),
@@ -57,9 +56,34 @@ fn fault_of(id: &str, value: &str) -> Option<&'static str> {
             read_report_name(value.as_bytes()).is_some(),
             "not one of load, progress, cancelled, orphans and refresh",
         ),
+        "id" | "status" | "percent" | "at" => return fault_of_message(alloc, id, value),
         _ => (read_date(value).is_some(), "not a date, as 20260131"),
     };
-    if is_good { None } else { Some(why) }
+    Ok(if is_good { None } else { Some(why) })
+}
+
+/// The same of the words for messages.
+fn fault_of_message(
+    alloc: Global,
+    id: &str,
+    value: &str,
+) -> Result<Option<&'static str>, AllocError> {
+    let (is_good, why) = match id {
+        "id" => (
+            named_moment(alloc, value)?.is_some(),
+            "not a moment, as 20260105, 20260105T090000, 20260105T090000Z or TZID=Europe/Vienna:20260105T090000",
+        ),
+        "status" => (
+            answer_named(value).is_some(),
+            "not one of NEEDS-ACTION, ACCEPTED, DECLINED, TENTATIVE, COMPLETED and IN-PROCESS",
+        ),
+        "percent" => (percent_of(value).is_some(), "not a number from 0 to 100"),
+        _ => (
+            read_stamp(value).is_some(),
+            "not a date and a time in UTC, as 20260101T090000Z",
+        ),
+    };
+    Ok(if is_good { None } else { Some(why) })
 }
 
 /// What is wrong with days, each of which is a date.
@@ -80,6 +104,14 @@ fn wrong_days(alloc: Global, words: &ArgMatches<'_>) -> Result<String, AllocErro
             "not 1 to 3660 days after '--from'",
         ),
     }
+}
+
+/// What is said where standard input would be read more than once.
+pub(crate) fn input_read_twice(alloc: Global) -> Result<String, AllocError> {
+    told(
+        alloc,
+        "standard input is read once at most, and it is the source where no other is named",
+    )
 }
 
 fn bad_value(alloc: Global, value: &str, usage: &str, why: &str) -> Result<String, AllocError> {

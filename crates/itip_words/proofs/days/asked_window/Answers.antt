@@ -5,7 +5,7 @@ use mir.Val.{SFits}
 use mir.Syntax.{w32}
 use Rattle.itip_words.specs.Days.{numbered}
 use Rattle.itip_words.proofs.Windows.{none_is}
-use Rattle.itip_words.proofs.Asked.{asked_one, asked_found, asked_none}
+use Rattle.itip_words.proofs.AskedDays.{asked_one, asked_found, asked_none}
 use Rattle.itip_words.proofs.days.asked_window.Goals as goal
 
 pub returns-in_err-from-clause-none : goal.returns-in_err-from-clause-none

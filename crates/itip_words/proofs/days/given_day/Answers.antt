@@ -1,5 +1,5 @@
 use Rattle.itip_words.proofs.Windows.{none_is}
-use Rattle.itip_words.proofs.Asked.{not_given}
+use Rattle.itip_words.proofs.AskedDays.{not_given}
 use Rattle.itip_words.proofs.days.given_day.Goals as goal
 
 pub returns-in_err-day-clause-none : goal.returns-in_err-day-clause-none

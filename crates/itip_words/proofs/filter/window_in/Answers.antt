@@ -1,4 +1,4 @@
-use Rattle.itip_words.proofs.Asked.{some_asked}
+use Rattle.itip_words.proofs.AskedDays.{some_asked}
 use Rattle.itip_words.proofs.filter.window_in.Goals as goal
 
 pub returns : goal.returns

@@ -1,0 +1,371 @@
+//! The words that read messages: their sources, and what comes of them.
+use crate::draft::{Draft, draft_of};
+use crate::run::{FAULT, Terminals};
+use crate::tell::{Teller, complain, complain_of, complain_refused, warn};
+use itip_inbox::{
+    Explained, Notation, Sent, Watch, compact, explain, list, list_records, news, read_sources,
+    report, send,
+};
+use itip_message::MessageRefusal;
+use itip_moment::Stamp;
+use itip_streams::{
+    Replacement, SourceName, StreamFault, TerminalWriter, source_names, sources_of, unread_line,
+    visible_text,
+};
+use itip_todo::{PropertyName, Uid};
+use itip_words::{Asked, Filter, Format, Listing, MAX_THREADS, Reported, Written};
+use itip_writing::WritingError;
+use rayon::current_num_threads;
+use std::alloc::AllocError;
+use std::io;
+use std::rt::Files;
+use std::thread::Threads;
+
+// The status where what was asked for can't be done.
+const NOT_DONE: u8 = 4;
+
+/// What a filter reads, by its names.
+#[derive(Drop)]
+pub(crate) struct Named {
+    /// The draft of a request, where there is one.
+    draft: Vec<SourceName>,
+    /// The sources that others are compared with.
+    than: Vec<SourceName>,
+    /// The sources.
+    heard: Vec<SourceName>,
+}
+
+impl Named {
+    /// The source of a place, from 0: those that others are compared with come first.
+    pub(crate) fn at(&self, place: usize) -> Option<&SourceName> {
+        match place.checked_sub(self.than.len()) {
+            Some(place) => self.heard.get(place),
+            None => self.than.get(place),
+        }
+    }
+}
+
+/// What came of a filter.
+#[derive(Drop)]
+struct Outcome {
+    /// Whether a message was refused, or a list or a report.
+    is_refused: bool,
+    /// The properties that a message which was written should have and lacks.
+    lacking: Vec<PropertyName>,
+    /// Why nothing was written, where that is so.
+    undone: Option<Undone>,
+}
+
+/// Why nothing was written.
+#[derive(Clone, Copy)]
+enum Undone {
+    /// No message is about the to-do.
+    Unknown,
+    /// The message can't be made.
+    Unwritten(WritingError),
+    /// The draft can't be read as a request.
+    Draft(MessageRefusal),
+}
+
+/// Filters messages and gives the status.
+pub(crate) fn filtered<R: AllocGlobal + Input + Print + Eprint + Files + Threads + Copy + Sync>(
+    rt: &R,
+    filter: &Filter,
+    terminals: Terminals,
+) -> u8 {
+    let named = match names_of(rt, filter) {
+        Ok(named) => named,
+        Err(_) => return complain(rt, &"no memory", FAULT),
+    };
+    let draft = match draft_of(rt, named.draft.as_slice()) {
+        Ok(draft) => draft,
+        Err(StreamFault::Read) => return complain_unread(rt, named.draft.first()),
+        Err(fault) => return complain(rt, &fault, FAULT),
+    };
+    let mut teller = Teller::new(rt, &named, filter, terminals.errors);
+    let done = filter_sources(rt, &named, filter, &draft, terminals.output, &mut teller);
+    teller.show_progress();
+    match done {
+        Ok(outcome) => told(rt, &outcome, filter.intake.why),
+        Err(StreamFault::Read) => complain_unread(rt, named.at(teller.opened())),
+        Err(StreamFault::Write) => complain_unwritten(rt, &filter.written),
+        Err(fault) => complain(rt, &fault, FAULT),
+    }
+}
+
+/// The names of what a filter reads.
+fn names_of<R: Files + AllocGlobal + Clone + Drop>(
+    rt: &R,
+    filter: &Filter,
+) -> Result<Named, AllocError> {
+    let than = match &filter.written {
+        Written::News { than } => sources_named(rt, than.as_slice())?,
+        _ => Vec::new(rt.alloc()),
+    };
+    let draft = draft_name(rt, &filter.written)?;
+    let heard = sources_named(rt, filter.intake.sources.as_slice())?;
+    Ok(Named { draft, than, heard })
+}
+
+/// The sources that words name; none where there is no word.
+fn sources_named<R: Files + AllocGlobal + Clone + Drop>(
+    rt: &R,
+    words: &[String],
+) -> Result<Vec<SourceName>, AllocError> {
+    if words.is_empty() {
+        return Ok(Vec::new(rt.alloc()));
+    }
+    source_names(rt, words)
+}
+
+fn draft_name<R: AllocGlobal>(rt: &R, written: &Written) -> Result<Vec<SourceName>, AllocError> {
+    let alloc = rt.alloc();
+    let mut names = Vec::new(alloc);
+    if let Written::Message {
+        asked: Asked::Request { draft },
+        ..
+    } = written
+    {
+        let name = match draft.as_str() {
+            "-" => SourceName::StandardInput,
+            file => SourceName::File(String::from_str(alloc, file)?),
+        };
+        names.push(name)?;
+    }
+    Ok(names)
+}
+
+/// Filters the messages of sources, to a file, a terminal or whatever standard output is.
+fn filter_sources<R: AllocGlobal + Input + Print + Files + Threads + Copy + Sync, S: Watch>(
+    rt: &R,
+    named: &Named,
+    filter: &Filter,
+    draft: &Draft,
+    is_terminal: bool,
+    watch: &mut S,
+) -> Result<Outcome, StreamFault> {
+    if let Written::Compaction { output: Some(name) } = &filter.written {
+        return replace(rt, named, filter, name.as_str(), watch);
+    }
+    if is_terminal {
+        let mut writer = TerminalWriter::new(rt.alloc(), io::writer(rt));
+        return write_filtered(rt, named, filter, draft, &mut writer, watch);
+    }
+    let mut writer = io::writer(rt);
+    write_filtered(rt, named, filter, draft, &mut writer, watch)
+}
+
+/// Replaces a file with what is kept.
+fn replace<R: AllocGlobal + Input + Files + Threads + Copy + Sync, S: Watch>(
+    rt: &R,
+    named: &Named,
+    filter: &Filter,
+    name: &str,
+    watch: &mut S,
+) -> Result<Outcome, StreamFault> {
+    let sources = sources_of(rt, named.heard.as_slice())?;
+    let mut writer = Replacement::of(rt, name)?;
+    let threads = threads(rt, filter.intake.threads);
+    let done = compact(rt, rt.alloc(), sources, &mut writer, threads, watch);
+    done_with(rt, writer.end(done)?)
+}
+
+fn write_filtered<R: AllocGlobal + Input + Files + Threads + Sync, W: io::Write, S: Watch>(
+    rt: &R,
+    named: &Named,
+    filter: &Filter,
+    draft: &Draft,
+    writer: &mut W,
+    watch: &mut S,
+) -> Result<Outcome, StreamFault> {
+    let alloc = rt.alloc();
+    let threads = threads(rt, filter.intake.threads);
+    let sources = sources_of(rt, named.heard.as_slice())?;
+    match &filter.written {
+        Written::Compaction { .. } => {
+            done_with(rt, compact(rt, alloc, sources, writer, threads, watch)?)
+        }
+        Written::List(asked) => write_list(rt, sources, writer, asked, threads, watch),
+        Written::Report(asked) => write_report(rt, sources, writer, asked, threads, watch),
+        Written::News { .. } => {
+            let than = sources_of(rt, named.than.as_slice())?;
+            done_with(rt, news(rt, alloc, than, sources, writer, threads, watch)?)
+        }
+        Written::Explanation { uid } => {
+            write_explanation(rt, named, sources, writer, uid, threads, watch)
+        }
+        Written::Message { asked, at } => {
+            write_message(rt, draft, sources, writer, asked, *at, threads, watch)
+        }
+    }
+}
+
+fn write_list<R: AllocGlobal + Threads + Sync, I: io::Read + Drop, W: io::Write, S: Watch>(
+    rt: &R,
+    sources: Vec<I>,
+    writer: &mut W,
+    asked: &Listing,
+    threads: usize,
+    watch: &mut S,
+) -> Result<Outcome, StreamFault> {
+    let alloc = rt.alloc();
+    let window = asked.window;
+    let wanted = asked.wanted();
+    let notation = match asked.format {
+        Format::Text => {
+            let done = list(rt, alloc, sources, writer, window, &wanted, threads, watch)?;
+            return done_with(rt, done);
+        }
+        Format::Csv => Notation::Csv,
+        Format::Json => Notation::Json,
+    };
+    let done = list_records(
+        rt, alloc, sources, writer, window, &wanted, notation, threads, watch,
+    )?;
+    done_with(rt, done)
+}
+
+fn write_report<R: AllocGlobal + Threads + Sync, I: io::Read + Drop, W: io::Write, S: Watch>(
+    rt: &R,
+    sources: Vec<I>,
+    writer: &mut W,
+    asked: &Reported,
+    threads: usize,
+    watch: &mut S,
+) -> Result<Outcome, StreamFault> {
+    let done = report(
+        rt,
+        rt.alloc(),
+        sources,
+        writer,
+        asked.window,
+        asked.name,
+        threads,
+        watch,
+    )?;
+    done_with(rt, done)
+}
+
+fn write_explanation<R: AllocGlobal + Threads + Sync, I: io::Read + Drop, W: io::Write, S: Watch>(
+    rt: &R,
+    named: &Named,
+    sources: Vec<I>,
+    writer: &mut W,
+    uid: &Uid,
+    threads: usize,
+    watch: &mut S,
+) -> Result<Outcome, StreamFault> {
+    let names = named.heard.as_slice();
+    match explain(rt, rt.alloc(), sources, names, uid, writer, threads, watch)? {
+        Explained::Told { is_refused } => done_with(rt, is_refused),
+        Explained::Unknown => nothing_done(rt, Undone::Unknown),
+    }
+}
+
+/// Writes a message. Where the draft of a request is refused, the messages are read all the same: those that are refused are named.
+fn write_message<R: AllocGlobal + Threads + Sync, I: io::Read + Drop, W: io::Write, S: Watch>(
+    rt: &R,
+    draft: &Draft,
+    sources: Vec<I>,
+    writer: &mut W,
+    asked: &Asked,
+    at: Stamp,
+    threads: usize,
+    watch: &mut S,
+) -> Result<Outcome, StreamFault> {
+    if let Some(refusal) = draft.refusal {
+        hear_only(rt, sources, threads, watch)?;
+        return nothing_done(rt, Undone::Draft(refusal));
+    }
+    let errand = asked.errand(draft.todos.as_slice());
+    match send(rt, rt.alloc(), sources, &errand, at, writer, threads, watch)? {
+        Sent::Done {
+            is_refused,
+            lacking,
+        } => Ok(Outcome {
+            is_refused,
+            lacking,
+            undone: None,
+        }),
+        Sent::Undone(error) => nothing_done(rt, Undone::Unwritten(error)),
+    }
+}
+
+/// Reads sources, and tells which of their messages are refused.
+fn hear_only<R: AllocGlobal + Threads + Sync, I: io::Read + Drop, S: Watch>(
+    rt: &R,
+    sources: Vec<I>,
+    threads: usize,
+    watch: &mut S,
+) -> Result<(), StreamFault> {
+    let inbox = read_sources(rt, rt.alloc(), sources, None, threads, watch)?;
+    for refused in inbox.refusals.as_slice() {
+        watch.refused(refused);
+    }
+    Ok(())
+}
+
+fn done_with<R: AllocGlobal>(rt: &R, is_refused: bool) -> Result<Outcome, StreamFault> {
+    Ok(Outcome {
+        is_refused,
+        lacking: Vec::new(rt.alloc()),
+        undone: None,
+    })
+}
+
+fn nothing_done<R: AllocGlobal>(rt: &R, why: Undone) -> Result<Outcome, StreamFault> {
+    Ok(Outcome {
+        is_refused: false,
+        lacking: Vec::new(rt.alloc()),
+        undone: Some(why),
+    })
+}
+
+fn threads<R: Threads>(rt: &R, asked: Option<u64>) -> usize {
+    match asked {
+        Some(threads) => threads as usize,
+        None => current_num_threads(rt).min(MAX_THREADS as usize),
+    }
+}
+
+/// Says what a message lacks, or why nothing was written, and gives the status.
+fn told<R: Eprint>(rt: &R, outcome: &Outcome, why: bool) -> u8 {
+    if let Some(undone) = outcome.undone {
+        return complain_undone(rt, undone, why);
+    }
+    warn(rt, outcome.lacking.as_slice());
+    u8::from(outcome.is_refused)
+}
+
+fn complain_undone<R: Eprint>(rt: &R, undone: Undone, why: bool) -> u8 {
+    match undone {
+        Undone::Unknown => complain(rt, &"no message about this to-do", NOT_DONE),
+        Undone::Unwritten(WritingError::Unreadable(refusal)) => {
+            complain_refused(rt, refusal, why, NOT_DONE)
+        }
+        Undone::Unwritten(error) => complain(rt, &error, NOT_DONE),
+        Undone::Draft(refusal) => complain_refused(rt, refusal, why, NOT_DONE),
+    }
+}
+
+/// Says that a source can't be read, and gives the status.
+fn complain_unread<R: AllocGlobal + Eprint>(rt: &R, name: Option<&SourceName>) -> u8 {
+    let Some(name) = name else {
+        return complain(rt, &"read failed", FAULT);
+    };
+    match unread_line(rt.alloc(), name) {
+        Ok(line) => complain(rt, &line, FAULT),
+        Err(_) => complain(rt, &"no memory", FAULT),
+    }
+}
+
+/// Says that the output can't be written, by the name of its file where it has one, and gives the status.
+fn complain_unwritten<R: AllocGlobal + Eprint>(rt: &R, written: &Written) -> u8 {
+    let Written::Compaction { output: Some(name) } = written else {
+        return complain(rt, &"write failed", FAULT);
+    };
+    match visible_text(rt.alloc(), name.as_str()) {
+        Ok(name) => complain_of(rt, name.as_str(), "write failed", FAULT),
+        Err(_) => complain(rt, &"no memory", FAULT),
+    }
+}
