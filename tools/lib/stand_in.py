@@ -12,7 +12,7 @@ import sys
 NO_ANSWER = 99
 SAYS = "there is no answer of the quick build\n"
 # The words that write to standard error before they write to standard output. The others do so afterwards.
-ERRORS_FIRST = ("compact", "list", "report")
+ERRORS_FIRST = ("compact", "list", "report", "news", "explain", "resend", "request", "reply", "refresh", "cancel")
 
 
 class NoCase(Exception):
@@ -61,7 +61,7 @@ def write(octets, *path):
 
 def asked(words, given):
     """The name of a case, the text of its words as the quick build gets them, and the octets of its files by their names."""
-    if not all(it.isprintable() and it.partition("=")[0] != "--output" for it in words):
+    if not all(it.isprintable() and it.partition("=")[0] != "--output" and not it.startswith("--than=") for it in words):
         raise NoCase
     named = [files_of(it) for it in words]
     files = {it: read(it) for found in named for it in found}
