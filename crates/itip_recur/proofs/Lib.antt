@@ -14,6 +14,7 @@ pub mod Numbers
 pub mod MonthWeekdays
 pub mod RuleEnds
 pub mod Zips
+pub mod Cuts
 pub mod Rests
 pub mod RuleTexts
 pub mod OneSeries
@@ -23,3 +24,6 @@ pub mod UnitWalks
 pub mod Anniversaries
 pub mod Ascents
 pub mod PeriodWalks
+pub mod NamedDays
+pub mod MovedWalks
+pub mod MonthShapes

@@ -1,9 +1,11 @@
 pub mod Calendar
 pub mod Pattern
+pub mod Sets
 pub mod Members
 pub mod Walk
 pub mod Waits
 pub mod Counting
+pub mod Months
 pub mod Occurrences
 pub mod Adding
 pub mod RuleText

@@ -1,5 +1,5 @@
 //! The values of a rule's parts: numbers, weekdays, places, and lists of these.
-ghost use Rattle.std.specs.Prelude.{◌≡◌, ℕ, List, map, IfOk, MatchOption};
+ghost use Rattle.std.specs.Prelude.{◌≡◌, ℕ, List, [], ◌∷◌, ◌++◌, IfOk, MatchOption};
 ghost use Rattle.std.specs.List.{AllZip};
 ghost use Rattle.jiff_core.specs.declared.civil.weekday.Weekday.{Weekday};
 ghost use Rattle.itip_recur.specs.declared.rule.Place.{Place};
@@ -120,11 +120,12 @@ pub(crate) fn read_month_weekday(text: &[u8]) -> Option<MonthWeekday>
     }
 }
 
-/// The elements of a list, with `,` between each two.
-fn split_elements<'a>(alloc: Global, value: &'a str) -> Result<Vec<&'a str>, NoMemory>
-    ensures { IfOk result (λ list. map (λ e. e.now) list.items ≡ elements value.now) }
+// The first element of a list of more than one, and what stands behind its comma.
+fn first_element<'a>(value: &'a str) -> Option<(&'a str, &'a str)>
+    ensures { MatchOption result (elements value.now ≡ value.now ∷ [])
+        (λ p. (elements value.now ≡ p.0.now ∷ elements p.1.now) × (value.now ≡ p.0.now ++ 44 ∷ p.1.now)) }
 {
-    value.split(',').collect(alloc)
+    value.split_once(',')
 }
 
 /// The values of a list's elements; none where an element spells none.
@@ -135,13 +136,18 @@ pub(crate) fn read_list<T: Element>(
     ensures { IfOk result (λ r. MatchOption r ((list : List T) → AllZip T.spells (elements value.now) list → ⊥)
         (AllZip T.spells (elements value.now))) }
 {
-    let elements = split_elements(alloc, value)?;
     let mut list = Vec::new(alloc);
-    for element in elements.as_slice() {
+    let mut rest = value;
+    while let Some((element, behind)) = first_element(rest) {
         let Some(one) = T::read(element.as_bytes()) else {
             return Ok(None);
         };
         list.push(one)?;
+        rest = behind;
     }
+    let Some(last) = T::read(rest.as_bytes()) else {
+        return Ok(None);
+    };
+    list.push(last)?;
     Ok(Some(ListOf::from_vec(list)))
 }

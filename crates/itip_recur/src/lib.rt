@@ -2,8 +2,10 @@
 //!
 //! [`read_rule`] reads a rule of the profile; any other text is opaque. [`shape`] says whether a to-do is
 //! single, opaque or repeats as a [`Series`]. [`occurrences`] lists the moments of a series in a window of
-//! days, at most 100,000, and [`all_occurrences`] without that limit; [`is_day`] asks for one day. A window
-//! far from the start costs no step for each occurrence before it, unless the rule has COUNT.
+//! days, at most 100,000, and [`all_occurrences`] without that limit; [`is_day`] asks for one day.
+//!
+//! The lists of a rule are read once, as sets, so their repeats cost nothing more. A window far from the start
+//! costs no step for each occurrence before it; with COUNT it costs a step for each month before it at most.
 #![tactic(auto)]
 
 mod ascending;
@@ -12,12 +14,14 @@ mod elements;
 mod error;
 mod listing;
 mod members;
+mod months;
 mod parts;
 mod pattern;
 mod periods;
 mod read;
 mod rule;
 mod series;
+mod sets;
 mod todo_shape;
 mod waits;
 mod walk;

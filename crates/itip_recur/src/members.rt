@@ -10,7 +10,7 @@ ghost use Rattle.itip_recur.specs.Members.{HasTimeOf, IsRepeat, IsCandidate, IsW
 ghost use Rattle.itip_recur.specs.Walk.{IsNextDay, IsNoDay, IsEndOfCount, IsUpTo};
 
 use crate::NoMemory;
-use crate::periods::passed_periods;
+use crate::months::passed_days;
 use crate::rule::{End, Rule};
 use crate::walk::Walk;
 use itip_moment::{Day, Moment, Stamp};
@@ -26,7 +26,7 @@ pub(crate) fn end_of_count(rule: &Rule, start: i32, count: u32, end: i32) -> i32
     let walk = Walk::new(rule, start);
     let mut seen: u32 = 1;
     let mut day = start + 1;
-    let passed = passed_periods(&walk, count, end);
+    let passed = passed_days(&walk, count, end);
     seen += passed.seen;
     day += passed.days as i32;
     while seen < count {

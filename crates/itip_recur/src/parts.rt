@@ -1,11 +1,18 @@
 //! The parts of a rule's text: NAME=VALUE, with `;` between each two.
-ghost use Rattle.std.specs.Prelude.{◌≡◌, nat_le, map, count_by, IfOk};
+ghost use Rattle.std.specs.Prelude.{◌≡◌, ◌↔◌, ◌≤◌, ◌==◌, nat_le, map, count_by, IfOk, IsTrue};
 ghost use Rattle.std.specs.List.{list_any, list_all, find};
 ghost use Rattle.std.specs.Option.{option_copied};
 ghost use Rattle.itip_recur.specs.RuleText.{rule_parts, part_names, has_name, part_value, value_of, are_parts};
 
 use crate::NoMemory;
 use std::alloc::Global;
+
+/// Whether a text has more parts than there are names.
+pub(crate) fn has_many_parts(text: &str) -> bool
+    ensures { IsTrue result ↔ (8 ≤ count_by (λ c. c == 59) text.now) }
+{
+    text.as_bytes().iter().filter(|c| **c == b';').count() >= 8
+}
 
 /// The parts of a text.
 pub(crate) fn split_parts<'a>(alloc: Global, text: &'a str) -> Result<Vec<&'a str>, NoMemory>

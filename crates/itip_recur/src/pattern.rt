@@ -1,16 +1,18 @@
 //! Which days a rule selects.
 ghost use Rattle.std.specs.Prelude.{◌≡◌, ◌↔◌, ◌<◌, ◌≤◌, ◌%◌, ◌+◌, ◌^◌, ◌≢◌, ℕ, ℤ, ◌<ℤ◌, IsTrue};
 ghost use Rattle.itip_moment.specs.Years.{IsDayNumber};
-ghost use Rattle.std.specs.List.{Any};
-ghost use Rattle.itip_recur.specs.Calendar.{IsDayOrEnd, month_of_year};
-ghost use Rattle.itip_recur.specs.Pattern.{unit_number, counted, ordinal, IsAtPlace, IsInSeven, IsMonthWeekday, IsWeekDay, IsMonthDay};
-ghost use Rattle.itip_recur.specs.Pattern.{IsYearDay, IsSelected, InPattern, IsRuleDay};
+ghost use Rattle.itip_recur.specs.declared.rule.Frequency.TheVariants.{Yearly};
+ghost use Rattle.itip_recur.specs.Calendar.{IsDayOrEnd};
+ghost use Rattle.itip_recur.specs.Pattern.{unit_number, IsWeekDay, IsMonthDay, IsYearDay, IsSelected, InPattern, IsRuleDay};
+ghost use Rattle.itip_recur.specs.Sets.{IsSet, names_weekday, names_day, names_month, AreSetsOf, from_last, seven, has_place, has_weekday};
+ghost use Rattle.itip_recur.specs.Months.{NamesMonth};
 
 use crate::calendar::{
     CalendarDay, day_at, days_from_zero, first_of_month, first_of_week, first_of_year, week_number,
     weekday_number,
 };
-use crate::rule::{Frequency, MonthDays, MonthWeekday, Place, Rule, WeekDays, YearDays};
+use crate::rule::{Frequency, MonthDays, Rule, WeekDays, YearDays};
+use crate::sets::{DaySets, has_number, nth_number};
 
 /// Whether a day is the start of a series with this rule, or later and in the rule's pattern.
 ///
@@ -51,101 +53,122 @@ fn is_selected(frequency: &Frequency, start: i32, day: i32) -> bool
     requires day_in { IsDayNumber day }
     ensures { IsTrue result ↔ IsSelected frequency.now start day }
 {
+    let sets = DaySets::of(frequency);
     match frequency {
         Frequency::Daily => true,
-        Frequency::Weekly(days) => is_week_day(days, start, day),
-        Frequency::Monthly(days) => {
-            is_month_day(days, &CalendarDay::new(start), &CalendarDay::new(day))
-        }
-        Frequency::Yearly(days) => {
-            is_year_day(days, &CalendarDay::new(start), &CalendarDay::new(day))
-        }
+        Frequency::Weekly(days) => is_week_day(days, sets.days, start, day),
+        Frequency::Monthly(days) => is_month_day(
+            days,
+            sets.days,
+            &CalendarDay::new(start),
+            &CalendarDay::new(day),
+        ),
+        Frequency::Yearly(days) => is_year_day(
+            days,
+            &sets,
+            &CalendarDay::new(start),
+            &CalendarDay::new(day),
+        ),
     }
 }
 
-pub(crate) fn is_week_day(days: &WeekDays, start: i32, day: i32) -> bool
+pub(crate) fn is_week_day(days: &WeekDays, set: u128, start: i32, day: i32) -> bool
     requires start_in { IsDayNumber start }
     requires day_in { IsDayNumber day }
+    requires set { IsSet (names_weekday days.now) set }
     ensures { IsTrue result ↔ IsWeekDay days.now start day }
 {
     let weekday = weekday_number(day);
     match days {
         WeekDays::OfStart => weekday == weekday_number(start),
-        WeekDays::Listed(listed) => listed.as_slice().iter().any(|one| weekday == one.index()),
+        WeekDays::Listed(_) => has_number(set, weekday as u16),
     }
 }
 
-pub(crate) fn is_month_day(days: &MonthDays, start: &CalendarDay, day: &CalendarDay) -> bool
+pub(crate) fn is_month_day(
+    days: &MonthDays,
+    set: u128,
+    start: &CalendarDay,
+    day: &CalendarDay,
+) -> bool
+    requires { IsSet (names_day days.now) set }
     ensures { IsTrue result ↔ IsMonthDay days.now start.now.number day.now.number }
 {
     match days {
         MonthDays::OfStart => day.day == start.day,
-        MonthDays::Listed(places) => is_at_some_place(places.as_slice(), day),
-        MonthDays::Weekdays(weekdays) => weekdays
-            .as_slice()
-            .iter()
-            .any(|weekday| is_month_weekday(weekday, day)),
+        MonthDays::Listed(_) => has_place(set, day),
+        MonthDays::Weekdays(_) => has_weekday(set, day),
     }
 }
 
-pub(crate) fn is_year_day(days: &YearDays, start: &CalendarDay, day: &CalendarDay) -> bool
+pub(crate) fn is_year_day(
+    days: &YearDays,
+    sets: &DaySets,
+    start: &CalendarDay,
+    day: &CalendarDay,
+) -> bool
+    requires { AreSetsOf (Yearly days.now) sets.now }
     ensures { IsTrue result ↔ IsYearDay days.now start.now.number day.now.number }
 {
+    if !is_in_month(days, sets.months, start, day) {
+        return false;
+    }
     match days {
-        YearDays::OfStart => day.month == start.month && day.day == start.day,
-        YearDays::Listed { months, days } => {
-            is_in_some_month(months.as_slice(), day) && is_at_some_place(days.as_slice(), day)
-        }
+        YearDays::OfStart => day.day == start.day,
+        YearDays::Listed { .. } => has_place(sets.days, day),
     }
 }
 
-pub(crate) fn is_in_some_month(months: &[u8], day: &CalendarDay) -> bool
-    ensures { IsTrue result ↔ Any (λ month. month_of_year day.now.number ≡ month) months.now }
+/// Whether a day's month is one of those in which a year has days.
+pub(crate) fn is_in_month(
+    days: &YearDays,
+    set: u128,
+    start: &CalendarDay,
+    day: &CalendarDay,
+) -> bool
+    requires { IsSet (names_month days.now) set }
+    ensures { IsTrue result ↔ NamesMonth days.now start.now.number day.now.number }
 {
-    months.iter().any(|month| day.month == *month)
-}
-
-fn is_at_some_place(places: &[Place], day: &CalendarDay) -> bool
-    ensures { IsTrue result ↔ Any (λ place. IsAtPlace place day.now.number) places.now }
-{
-    places.iter().any(|place| is_at_place(*place, day))
-}
-
-// The day's place in its month from the side that the place names, and the place.
-fn counted(place: Place, day: &CalendarDay) -> (u16, u16)
-    ensures counted { result.0 ≡ counted place day.now.number }
-    ensures ordinal { result.1 ≡ ordinal place }
-    ensures bounds { (result.0 < 2 ^ 9) × (result.1 < 2 ^ 8) }
-{
-    match place {
-        Place::FromFirst(n) => (day.day as u16, n as u16),
-        Place::FromLast(n) => (day.days_in_month as u16 + 1 - day.day as u16, n as u16),
+    match days {
+        YearDays::OfStart => day.month == start.month,
+        YearDays::Listed { .. } => has_number(set, day.month as u16),
     }
 }
 
-fn is_at_place(place: Place, day: &CalendarDay) -> bool
-    ensures { IsTrue result ↔ IsAtPlace place day.now.number }
+// Whether a set of places has the day's, from the front or from the end.
+fn has_place(set: u128, day: &CalendarDay) -> bool
+    ensures { result ≡ has_place set day.now.number }
 {
-    let (counted, ordinal) = counted(place, day);
-    counted == ordinal
+    has_number(set, 2 * day.day as u16) || has_number(set, 2 * from_last(day) + 1)
 }
 
-fn is_month_weekday(weekday: &MonthWeekday, day: &CalendarDay) -> bool
-    ensures { IsTrue result ↔ IsMonthWeekday weekday.now day.now.number }
+// The day's place in its month, counted from 1 from the end.
+fn from_last(day: &CalendarDay) -> u16
+    ensures value { result ≡ from_last day.now.number }
+    ensures low { 1 ≤ result }
+    ensures high { result ≤ 31 }
 {
-    match weekday {
-        MonthWeekday::Every(weekday) => weekday_number(day.number) == weekday.index(),
-        MonthWeekday::Nth(place, weekday) => {
-            weekday_number(day.number) == weekday.index() && is_in_seven(*place, day)
-        }
-    }
+    day.days_in_month as u16 + 1 - day.day as u16
 }
 
-fn is_in_seven(place: Place, day: &CalendarDay) -> bool
-    ensures { IsTrue result ↔ IsInSeven place day.now.number }
+// Whether a set of weekdays of a month has the day's, with no place or with one of its places.
+fn has_weekday(set: u128, day: &CalendarDay) -> bool
+    ensures { result ≡ has_weekday set day.now.number }
 {
-    let (counted, ordinal) = counted(place, day);
-    7 * ordinal.saturating_sub(1) < counted && counted <= 7 * ordinal
+    let weekday = weekday_number(day.number) as u16;
+    let first = nth_number(2 * seven(day.day as u16), weekday);
+    let last = nth_number(2 * seven(from_last(day)) + 1, weekday);
+    has_number(set, weekday) || has_number(set, first) || has_number(set, last)
+}
+
+// In which seven days of its month a place lies.
+fn seven(place: u16) -> u16
+    requires low { 1 ≤ place }
+    requires high { place ≤ 31 }
+    ensures value { result ≡ seven place }
+    ensures bound { result ≤ 5 }
+{
+    (place - 1) / 7 + 1
 }
 
 /// The first day of a unit, or the end of the calendar.

@@ -66,8 +66,8 @@ fn period(rule: &Rule) -> Option<u32>
     }
 }
 
-// How many days of the pattern lie from `from` on and before `end`.
-fn seen_in(walk: &Walk<'_>, from: i32, end: i32) -> u32
+/// How many days of the pattern lie from `from` on and before `end`.
+pub(crate) fn seen_in(walk: &Walk<'_>, from: i32, end: i32) -> u32
     requires from_in { IsDayOrEnd from }
     requires end_in { IsDayOrEnd end }
     requires before { from ≤ℤ end }

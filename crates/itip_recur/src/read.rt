@@ -12,7 +12,7 @@ ghost use Rattle.itip_recur.specs.RuleText.{IsRuleOfParts};
 ghost use Rattle.itip_recur.specs.Reads.{IsReading};
 
 use crate::elements::{read_list, read_number, read_weekday};
-use crate::parts::{are_parts, split_parts, value_of};
+use crate::parts::{are_parts, has_many_parts, split_parts, value_of};
 use crate::rule::{End, Frequency, MonthDays, Rule, WeekDays, YearDays};
 use crate::{NoMemory, Weekday};
 use itip_moment::read_moment;
@@ -35,6 +35,10 @@ pub enum Reading {
 pub fn read_rule(alloc: Global, text: &str) -> Result<Reading, NoMemory>
     ensures { IfOk result (IsReading text.now) }
 {
+    // There are eight names, and none stands twice in a rule: more parts need no place.
+    if has_many_parts(text) {
+        return Ok(Reading::OutsideProfile);
+    }
     let parts = split_parts(alloc, text)?;
     match read_parts(alloc, parts.as_slice())? {
         Some(rule) => Ok(Reading::Plain(rule)),

@@ -2,16 +2,25 @@
 ghost use Rattle.std.specs.Prelude.{◌≡◌, ◌+◌, ◌-◌, ℤ, pos, ◌+ℤ◌, ◌≤ℤ◌};
 ghost use Rattle.itip_moment.specs.Years.{IsDayNumber};
 ghost use Rattle.itip_recur.specs.Calendar.{day_of_month, month_length};
+ghost use Rattle.itip_recur.specs.declared.rule.Frequency.TheVariants.{Yearly};
 ghost use Rattle.itip_recur.specs.Pattern.{IsSelected, IsMonthDay, IsMonthWeekday, IsOnWeekday, IsYearDay};
+ghost use Rattle.itip_recur.specs.Sets.{IsSet, names_day, AreSetsOf};
 ghost use Rattle.itip_recur.specs.Waits.{IsNone, IsWait};
 
 use crate::Weekday;
 use crate::calendar::{CalendarDay, weekday_number};
-use crate::pattern::{is_in_some_month, is_month_day, is_week_day, is_year_day};
+use crate::pattern::{is_in_month, is_month_day, is_week_day, is_year_day};
 use crate::rule::{Frequency, MonthDays, MonthWeekday, YearDays};
+use crate::sets::DaySets;
 
 /// So many days can be passed over: none of them is selected, and where it is 0 this one is.
-pub(crate) fn wait(frequency: &Frequency, start: &CalendarDay, day: &CalendarDay) -> i32
+pub(crate) fn wait(
+    frequency: &Frequency,
+    sets: &DaySets,
+    start: &CalendarDay,
+    day: &CalendarDay,
+) -> i32
+    requires { AreSetsOf frequency.now sets.now }
     ensures low { pos 0 ≤ℤ result }
     ensures high { result ≤ℤ pos 31 }
     ensures wait { IsWait (IsSelected frequency.now start.now.number) day.now.number result }
@@ -19,18 +28,19 @@ pub(crate) fn wait(frequency: &Frequency, start: &CalendarDay, day: &CalendarDay
     match frequency {
         Frequency::Daily => 0,
         Frequency::Weekly(days) => {
-            if is_week_day(days, start.number, day.number) {
+            if is_week_day(days, sets.days, start.number, day.number) {
                 0
             } else {
                 1
             }
         }
-        Frequency::Monthly(days) => wait_in_month(days, start, day),
-        Frequency::Yearly(days) => wait_in_year(days, start, day),
+        Frequency::Monthly(days) => wait_in_month(days, sets.days, start, day),
+        Frequency::Yearly(days) => wait_in_year(days, sets, start, day),
     }
 }
 
-fn wait_in_month(days: &MonthDays, start: &CalendarDay, day: &CalendarDay) -> i32
+fn wait_in_month(days: &MonthDays, set: u128, start: &CalendarDay, day: &CalendarDay) -> i32
+    requires { IsSet (names_day days.now) set }
     ensures low { pos 0 ≤ℤ result }
     ensures high { result ≤ℤ pos 31 }
     ensures wait { IsWait (IsMonthDay days.now start.now.number) day.now.number result }
@@ -38,7 +48,7 @@ fn wait_in_month(days: &MonthDays, start: &CalendarDay, day: &CalendarDay) -> i3
     match days {
         MonthDays::OfStart => wait_for_day(start.day, day),
         days => {
-            if is_month_day(days, start, day) {
+            if is_month_day(days, set, start, day) {
                 0
             } else {
                 wait_behind(days, day.number)
@@ -82,16 +92,19 @@ fn wait_for_weekday(weekday: Weekday, day: i32) -> i32
 }
 
 // A month that a rule doesn't name is passed over whole.
-fn wait_in_year(days: &YearDays, start: &CalendarDay, day: &CalendarDay) -> i32
+fn wait_in_year(days: &YearDays, sets: &DaySets, start: &CalendarDay, day: &CalendarDay) -> i32
+    requires { AreSetsOf (Yearly days.now) sets.now }
     ensures low { pos 0 ≤ℤ result }
     ensures high { result ≤ℤ pos 31 }
     ensures wait { IsWait (IsYearDay days.now start.now.number) day.now.number result }
 {
-    match days {
-        YearDays::Listed { months, .. } if !is_in_some_month(months.as_slice(), day) => {
-            rest_of_month(day)
-        }
-        days => { if is_year_day(days, start, day) { 0 } else { 1 } }
+    if !is_in_month(days, sets.months, start, day) {
+        return rest_of_month(day);
+    }
+    if is_year_day(days, sets, start, day) {
+        0
+    } else {
+        1
     }
 }
 
@@ -108,8 +121,8 @@ fn wait_for_day(wanted: u8, day: &CalendarDay) -> i32
     }
 }
 
-// To the first of the next month.
-fn rest_of_month(day: &CalendarDay) -> i32
+/// To the first of the next month.
+pub(crate) fn rest_of_month(day: &CalendarDay) -> i32
     ensures low { pos 1 ≤ℤ result }
     ensures high { result ≤ℤ pos 31 }
     ensures value { result ≡ pos (month_length day.now.number + 1 - day_of_month day.now.number) }

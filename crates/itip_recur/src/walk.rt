@@ -3,6 +3,7 @@ ghost use Rattle.std.specs.Prelude.{◌≡◌, ◌≢◌, ◌↔◌, ◌+◌, �
 ghost use Rattle.itip_moment.specs.Years.{IsDayNumber};
 ghost use Rattle.itip_recur.specs.Calendar.{IsDayOrEnd, year_number};
 ghost use Rattle.itip_recur.specs.Pattern.{unit_number, InPattern, IsSelected, IsWeekDay, IsYearDay};
+ghost use Rattle.itip_recur.specs.Sets.{IsSet, names_weekday, AreSetsOf};
 ghost use Rattle.itip_recur.specs.Walk.{IsNextDay, IsNoDay, IsUnitFrom, IsFirstDay, IsInUnit};
 ghost use Rattle.itip_recur.specs.Waits.{IsNone, IsFirst};
 ghost use Rattle.itip_recur.specs.declared.rule.YearDays.TheVariants.{OfStart};
@@ -10,15 +11,18 @@ ghost use Rattle.itip_recur.specs.declared.rule.YearDays.TheVariants.{OfStart};
 use crate::calendar::{CalendarDay, day_of_date};
 use crate::pattern::{first_day, is_week_day, next_congruent, unit_number};
 use crate::rule::{Frequency, Rule, WeekDays, YearDays};
+use crate::sets::DaySets;
 use crate::waits::wait;
 
-/// A rule, the date of its start, and which units are its own.
+/// A rule, the date of its start, its lists as sets, and which units are its own.
 #[derive(Drop)]
 pub(crate) struct Walk<'a> {
     pub(crate) rule: &'a Rule,
     pub(crate) start: CalendarDay,
-    residue: u32,
-    ghost residue_is: { residue ≡ unit_number rule.now.frequency rule.now.week_start start.number % rule.now.interval },
+    pub(crate) sets: DaySets,
+    pub(crate) residue: u32,
+    pub(crate) ghost sets_are: { AreSetsOf rule.now.frequency sets },
+    pub(crate) ghost residue_is: { residue ≡ unit_number rule.now.frequency rule.now.week_start start.number % rule.now.interval },
 }
 
 /// A unit from a day on.
@@ -38,6 +42,7 @@ impl<'a> Walk<'a> {
         Walk {
             rule,
             start: CalendarDay::new(start),
+            sets: DaySets::of(&rule.frequency),
             residue,
         }
     }
@@ -57,7 +62,7 @@ impl<'a> Walk<'a> {
         while unit.day < end {
             let next = first_day(self.rule, unit.number + 1);
             let stop = earlier(next, end);
-            if let Some(found) = first_selected(self.rule, &self.start, unit, stop) {
+            if let Some(found) = first_selected(self, unit, stop) {
                 return Some(found);
             }
             if next >= end {
@@ -116,22 +121,24 @@ fn earlier(day: i32, other: i32) -> i32
 }
 
 // The first day of a unit, from its day on and before `stop`, that the rule selects in it.
-fn first_selected(rule: &Rule, start: &CalendarDay, unit: UnitFrom, stop: i32) -> Option<i32>
+fn first_selected(walk: &Walk<'_>, unit: UnitFrom, stop: i32) -> Option<i32>
     requires from_in { IsDayNumber unit.day }
     requires stop_in { IsDayOrEnd stop }
     requires before { unit.day <ℤ stop }
-    requires in_unit { IsInUnit rule.now unit.number unit.day stop }
+    requires in_unit { IsInUnit walk.now.rule.now unit.number unit.day stop }
     ensures { MatchOption result
-        (IsNone (IsSelected rule.now.frequency start.now.number) unit.day stop)
-        (IsFirst (IsSelected rule.now.frequency start.now.number) unit.day stop) }
+        (IsNone (IsSelected walk.now.rule.now.frequency walk.now.start.number) unit.day stop)
+        (IsFirst (IsSelected walk.now.rule.now.frequency walk.now.start.number) unit.day stop) }
 {
-    match &rule.frequency {
+    match &walk.rule.frequency {
         Frequency::Daily => Some(unit.day),
-        Frequency::Weekly(days) => first_week_day(days, start.number, unit.day, stop),
-        Frequency::Yearly(YearDays::OfStart) => {
-            first_anniversary(start, unit.number, unit.day, stop)
+        Frequency::Weekly(days) => {
+            first_week_day(days, walk.sets.days, walk.start.number, unit.day, stop)
         }
-        frequency => first_date(frequency, start, unit.day, stop),
+        Frequency::Yearly(YearDays::OfStart) => {
+            first_anniversary(&walk.start, unit.number, unit.day, stop)
+        }
+        frequency => first_date(frequency, &walk.sets, &walk.start, unit.day, stop),
     }
 }
 
@@ -153,7 +160,8 @@ fn first_anniversary(start: &CalendarDay, year: u32, from: i32, stop: i32) -> Op
     }
 }
 
-fn first_week_day(days: &WeekDays, start: i32, from: i32, stop: i32) -> Option<i32>
+fn first_week_day(days: &WeekDays, set: u128, start: i32, from: i32, stop: i32) -> Option<i32>
+    requires set { IsSet (names_weekday days.now) set }
     requires start_in { IsDayNumber start }
     requires from_in { IsDayOrEnd from }
     requires stop_in { IsDayOrEnd stop }
@@ -161,7 +169,7 @@ fn first_week_day(days: &WeekDays, start: i32, from: i32, stop: i32) -> Option<i
 {
     let mut day = from;
     while day < stop {
-        if is_week_day(days, start, day) {
+        if is_week_day(days, set, start, day) {
             return Some(day);
         }
         day += 1;
@@ -169,7 +177,14 @@ fn first_week_day(days: &WeekDays, start: i32, from: i32, stop: i32) -> Option<i
     None
 }
 
-fn first_date(frequency: &Frequency, start: &CalendarDay, from: i32, stop: i32) -> Option<i32>
+fn first_date(
+    frequency: &Frequency,
+    sets: &DaySets,
+    start: &CalendarDay,
+    from: i32,
+    stop: i32,
+) -> Option<i32>
+    requires sets { AreSetsOf frequency.now sets.now }
     requires from_in { IsDayNumber from }
     requires stop_in { IsDayOrEnd stop }
     requires before { from <ℤ stop }
@@ -180,7 +195,7 @@ fn first_date(frequency: &Frequency, start: &CalendarDay, from: i32, stop: i32) 
     let mut day = CalendarDay::new(from);
     let mut left = stop - from;
     while left > 0 {
-        let days = wait(frequency, start, &day);
+        let days = wait(frequency, sets, start, &day);
         if days <= 0 {
             return Some(day.number);
         }

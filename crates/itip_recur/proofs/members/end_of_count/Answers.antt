@@ -13,9 +13,9 @@ loop-seen-init c =
     let end : FitsSigned w32 c.args.end = c.ranges.end in
     let next : FitsSigned w32 (c.args.start +ℤ pos 1) = omega (arith, signed_arith) in
     let start_is : c.new-walk.result.start.number ≡ c.args.start = simp to_z-of_z at c.new-walk.ensures.start in
-    let passed = c.passed_periods-passed.result in
-    let bounds = rw start_is at c.passed_periods-passed.ensures.bounds in
-    let counted = rw (c.new-walk.ensures.rule, start_is) at c.passed_periods-passed.ensures.counted in
+    let passed = c.passed_days-passed.result in
+    let bounds = rw start_is at c.passed_days-passed.ensures.bounds in
+    let counted = rw (c.new-walk.ensures.rule, start_is) at c.passed_days-passed.ensures.counted in
     let unsigned : to_z w32 passed.days ≡ pos passed.days = omega (arith, signed_arith, ints, bounds.1) in
     let day : FitsSigned w32 (c.args.start +ℤ pos 1 +ℤ pos passed.days) = omega (arith, signed_arith, bounds.0, bounds.1) in
     simp (to_z-of_z, unsigned) (record { in_years = bounds; counted = counted })
