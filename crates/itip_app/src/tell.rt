@@ -11,7 +11,8 @@ use itip_streams::{SourceName, refused_line};
 use itip_todo::PropertyName;
 use itip_view::MostRows;
 use itip_words::{Filter, most_line};
-use std::alloc::AllocError;
+use itip_world::Refused;
+use std::alloc::{AllocError, Global};
 use std::fmt::Display;
 
 /// Names the refused messages of sources, and the to-do with the most rows where there are too many; and shows the progress.
@@ -113,15 +114,9 @@ impl<'a, R: AllocGlobal + Eprint> itip_inbox::Watch for Teller<'a, R> {
         }
     }
 
-    fn asks_most(&self) -> bool {
-        self.filter.intake.why
-    }
-
-    fn too_many_rows(&mut self, most: Option<&MostRows>) {
-        if let Some(most) = most {
-            let word = self.filter.written.word();
-            let number = Refusal::TooManyRows.number();
-            self.say(most_line(self.rt.alloc(), word, number, most.uid.as_str(), most.rows));
+    fn too_many_rows(&mut self, most: &MostRows) {
+        if self.filter.intake.why {
+            self.say(line_of_most(self.rt.alloc(), self.filter.written.word(), most));
         }
     }
 }
@@ -135,7 +130,7 @@ pub(crate) struct Explainer<'a, R> {
     answered: u64,
 }
 
-impl<'a, R: Eprint> Explainer<'a, R> {
+impl<'a, R: AllocGlobal + Eprint> Explainer<'a, R> {
     pub(crate) fn new(rt: &'a R, is_asked: bool) -> Explainer<'a, R> {
         Explainer {
             rt,
@@ -151,6 +146,21 @@ impl<'a, R: Eprint> Explainer<'a, R> {
         }
     }
 
+    /// Says which to-do has the most of too many rows.
+    fn say_most(&self, name: &str, number: u64, most: &MostRows) {
+        if self.is_asked {
+            if let Ok(line) = self.line_of_most(name, number, most) {
+                let _ = eprintln!(self.rt; "{line}");
+            }
+        }
+    }
+
+    fn line_of_most(&self, name: &str, number: u64, most: &MostRows) -> Result<String, AllocError> {
+        let alloc = self.rt.alloc();
+        let asked = format!(in alloc; "{name} {number}")?;
+        line_of_most(alloc, asked.as_str(), most)
+    }
+
     fn say_of_script(&self, refusal: Refusal) {
         if self.is_asked {
             let shown = refusal.number();
@@ -159,7 +169,7 @@ impl<'a, R: Eprint> Explainer<'a, R> {
     }
 }
 
-impl<'a, R: Eprint> itip_inbox::Watch for Explainer<'a, R> {
+impl<'a, R: AllocGlobal + Eprint> itip_inbox::Watch for Explainer<'a, R> {
     fn opens(&mut self, _source: usize) {}
 
     fn read(&mut self, _messages: u64, _octets: u64) {}
@@ -172,17 +182,16 @@ impl<'a, R: Eprint> itip_inbox::Watch for Explainer<'a, R> {
         );
     }
 
-    fn asks_most(&self) -> bool {
-        false
-    }
-
-    fn too_many_rows(&mut self, _most: Option<&MostRows>) {}
+    fn too_many_rows(&mut self, _most: &MostRows) {}
 }
 
-impl<'a, R: Eprint> itip_world::Watch for Explainer<'a, R> {
-    fn answered(&mut self, command: &Command<'_>, refusal: Option<Refusal>) {
-        if let Some(refusal) = refusal {
-            self.say(name(command), self.answered, refusal);
+impl<'a, R: AllocGlobal + Eprint> itip_world::Watch for Explainer<'a, R> {
+    fn answered(&mut self, command: &Command<'_>, refused: Option<&Refused>) {
+        if let Some(refused) = refused {
+            match &refused.most {
+                Some(most) => self.say_most(name(command), self.answered, most),
+                None => self.say(name(command), self.answered, refused.refusal),
+            }
         }
         self.answered = self.answered.saturating_add(1);
     }
@@ -192,18 +201,24 @@ impl<'a, R: Eprint> itip_world::Watch for Explainer<'a, R> {
     }
 }
 
-impl<'a, R: Eprint> itip_office::Watch for Explainer<'a, R> {
+impl<'a, R: AllocGlobal + Eprint> itip_office::Watch for Explainer<'a, R> {
     fn refused_job(&mut self, number: u64, refusal: Refusal) {
         self.say("job", number, refusal);
     }
 
-    fn refused_list(&mut self, desk: u64, refusal: Refusal) {
-        self.say("desk", desk, refusal);
+    fn too_many_rows(&mut self, desk: u64, most: &MostRows) {
+        self.say_most("desk", desk, most);
     }
 
     fn refused_script(&mut self, refusal: Refusal) {
         self.say_of_script(refusal);
     }
+}
+
+/// What is said of a list or a report that is refused for its rows: which to-do has the most.
+fn line_of_most(alloc: Global, asked: &str, most: &MostRows) -> Result<String, AllocError> {
+    let number = Refusal::TooManyRows.number();
+    most_line(alloc, asked, number, most.uid.as_str(), most.rows)
 }
 
 /// What a command is called.

@@ -1,38 +1,47 @@
--- The UIDs that moved, the last moved first, and the ticks that they carry.
-use Rattle.std.proofs.Common.{◌≡◌, ℕ, ◌<◌, ◌≤◌, ◌-◌, List, [], ◌∷◌, ◌++◌, ◌↔◌, ◌⊎◌, ◌||◌, inl, inr, refl, sym, ap, subst, ◌∙◌, Bool, true}
-use Rattle.std.proofs.Common.{false, Option, Some, None, arith, length, take}
-use Rattle.std.specs.Prelude.{cond, is_some, nat_eq}
-use Rattle.std.specs.Option.{option_map_or}
-use Rattle.std.specs.List.{Contains, AllByRecursion}
-use Rattle.std.specs.Map.{keys_of, lookup, lookup_entry, remove_entry, set_value}
-use Rattle.std.specs.Ordering.{nat_cmp, is_eq}
-use Rattle.std.specs.Cmp.Lexicographic.{slice_cmp, pointwise, texts_ties}
+-- The UIDs that moved, and the ticks that they carry.
+use Rattle.std.proofs.Common.{◌≡◌, ◌≢◌, ℕ, ◌<◌, ◌≤◌, List, [], ◌∷◌, ◌++◌, ◌↔◌, ◌⊎◌, ◌||◌, ◌&&◌, inl, inr, refl, sym, ap, subst, ◌∙◌, Bool, true, false}
+use Rattle.std.proofs.Common.{Some, None, arith, ◌+◌, length, take, get_or}
+use Rattle.std.specs.Prelude.{cond, is_some}
+use Rattle.std.specs.List.{Contains}
+use Rattle.std.specs.List.Sorted.{IsStrictlySortedBy}
+use Rattle.std.specs.Map.{keys_of}
+use Rattle.std.specs.Ordering.{nat_cmp, is_eq, is_le, ordering_then}
+use Rattle.std.specs.Cmp.{IsTotalOrder}
+use Rattle.std.specs.Cmp.Lexicographic.{slice_cmp}
+use Rattle.std.specs.BTreeMap.Range.{range_contains}
+use Rattle.std.specs.BTreeSet.{BTreeSet, Updates, keys_between}
+use Rattle.std.specs.declared.ops.Bound.TheVariants.{Included, Unbounded}
 use Rattle.std.specs.declared.cmp.Ordering.{Ordering}
-use Rattle.std.proofs.lemmas.Cmp.{nat_list_cmp_total}
-use Rattle.std.proofs.lemmas.List.{take_all}
+use Rattle.std.specs.declared.cmp.Ordering.TheVariants.{Less, Equal, Greater}
+use Rattle.std.proofs.lemmas.Cmp.{ranked, nat_list_cmp_total, nat_cmp_total, then_total, on_total}
+use Rattle.std.proofs.lemmas.List.{take_more}
 use Rattle.std.proofs.lemmas.List.Folds.{list_any-append}
-use Rattle.std.proofs.lemmas.Map.Lookups.{exact_bytes}
-use Rattle.lru.specs.LruCache.{LruCache, promoted, demoted, put_entries}
-use Rattle.itip_join.specs.KeyByKey.{value_at}
+use Rattle.std.proofs.lemmas.Map.Lookups.{CmpEqualImpliesEq, exact_bytes, exact_unsigned, exact_pairs}
+use Rattle.std.proofs.lemmas.Map.Views.{Contains-from_any}
+use Rattle.itip_join.specs.KeyByKey.{entries_from_values}
 use Rattle.itip_items.specs.declared.item.Item.{Item}
 use Rattle.itip_items.specs.KeyParts.{uid_of}
 use Rattle.itip_state.specs.Kept.{AreMoved, KeepSame, Moves, ArePartOf, IsItemsOf}
-use Rattle.itip_state.proofs.Members.{by_bool, none_in, cons_cases, cons_first, cons_later}
+use Rattle.std.proofs.lemmas.List.Elements.{Contains-append_left, Contains-push, Contains-push_cases}
+use Rattle.itip_state.proofs.Members.{by_bool, none_in, cons_cases}
 use Rattle.itip_state.proofs.Lookups.{one_key, itself}
 use Rattle.itip_state.proofs.Parting.{listed_in, in_listed}
+use Rattle.itip_view.proofs.Showing.{into_filter}
 use Rattle.itip_desk.specs.Desk.{Shown, CarriesAfter, IsCarriedOn, IsDeltaOf}
-use Rattle.itip_desk.specs.Moves.{is_listed, FallFrom, ArePlaces}
+use Rattle.itip_desk.specs.Moves.{is_listed, tick_at, move_cmp, has_move, AreInOrder, AreTicks, HavePlaces}
 use Rattle.itip_desk.proofs.Steps.{CarryStep}
 
 abbrev pub uid_cmp : List ℕ → List ℕ → Ordering
 uid_cmp = slice_cmp nat_cmp
 
--- the tick at a UID
-abbrev pub at_uid : List (List ℕ × ℕ) → List ℕ → Option ℕ
-at_uid = value_at uid_cmp
+abbrev pub Carried : Type 0
+Carried = List (List ℕ × ℕ)
 
 some_same : (t u : ℕ) → Some t ≡ Some u → t ≡ u
 some_same t u e = cc
+
+none_some : (t : ℕ) → None ≡ Some t → ⊥
+none_some t e = cc
 
 one_uid : (q u : List ℕ) → is_eq (uid_cmp q u) ≡ true → q ≡ u
 one_uid q u = one_key nat_list_cmp_total exact_bytes q u
@@ -40,332 +49,318 @@ one_uid q u = one_key nat_list_cmp_total exact_bytes q u
 own_uid : (u : List ℕ) → is_eq (uid_cmp u u) ≡ true
 own_uid u = itself nat_list_cmp_total exact_bytes u
 
-at_first : (e : List ℕ × ℕ) (es : List (List ℕ × ℕ)) (q : List ℕ) → is_eq (uid_cmp q e.0) ≡ true → at_uid (e ∷ es) q ≡ Some e.1
-at_first e es q k = ap (λ b. cond b (Some e.1) (at_uid es q)) k
-
-at_later : (e : List ℕ × ℕ) (es : List (List ℕ × ℕ)) (q : List ℕ) → is_eq (uid_cmp q e.0) ≡ false → at_uid (e ∷ es) q ≡ at_uid es q
-at_later e es q k = ap (λ b. cond b (Some e.1) (at_uid es q)) k
-
--- ---- falling ticks
-pub fall_more : (top higher : ℕ) (es : List (List ℕ × ℕ)) → top ≤ higher → FallFrom top es → FallFrom higher es
-fall_more top higher [] h f = tt
-fall_more top higher (e ∷ es) h (low, rest) = (let under : e.1 ≤ top = low in omega (arith, h, under), rest)
-
-fall_without : (test : List ℕ → Bool) (top : ℕ) (es : List (List ℕ × ℕ)) → FallFrom top es → FallFrom top (remove_entry test es)
-fall_without test top [] f = tt
-fall_without test top (e ∷ es) (low, rest) = by_bool (test e.0) (FallFrom top (remove_entry test (e ∷ es)))
-    (λ k. subst (FallFrom top) (sym (ap (λ b. cond b es (e ∷ remove_entry test es)) k)) (fall_more e.1 top es low rest))
-    (λ k. subst (FallFrom top) (sym (ap (λ b. cond b es (e ∷ remove_entry test es)) k)) (low, fall_without test e.1 es rest))
-
-fall_rest : (top : ℕ) (done rest : List (List ℕ × ℕ)) → FallFrom top (done ++ rest) → (t : ℕ) × FallFrom t rest
-fall_rest top [] rest f = (top, f)
-fall_rest top (e ∷ done) rest (low, f) = fall_rest e.1 done rest f
-
-at_most : (top : ℕ) (es : List (List ℕ × ℕ)) → FallFrom top es → (uid : List ℕ) (t : ℕ) → at_uid es uid ≡ Some t → t ≤ top
-at_most top [] f uid t h = let x : None ≡ Some t = h in absurd (cc)
-at_most top (e ∷ es) (low, rest) uid t h = by_bool (is_eq (uid_cmp uid e.0)) (t ≤ top)
-    (λ k. let same : e.1 ≡ t = some_same e.1 t (sym (at_first e es uid k) ∙ h) in let under : e.1 ≤ top = low in omega (arith, same, under))
-    (λ k. let after : t ≤ e.1 = at_most e.1 es rest uid t (sym (at_later e es uid k) ∙ h) in let under : e.1 ≤ top = low in
-    omega (arith, after, under))
-
--- ---- the UIDs in front, with ticks above another
-abbrev pub EndsAt : ℕ → List (List ℕ × ℕ) → Type 0
-EndsAt since [] = Unit {0}
-EndsAt since (e ∷ es) = e.1 ≤ since
-
--- of a list of UIDs with falling ticks, those gone over so far, each with a tick above another
-pub record AreInFront (since : ℕ) (all : List (List ℕ × ℕ)) (uids : List (List ℕ)) (rest : List (List ℕ × ℕ)) : Type 0 where
-  pub done : List (List ℕ × ℕ)
-  pub whole : all ≡ done ++ rest
-  pub uids_are : uids ≡ keys_of done
-  pub above : AllByRecursion (λ e. since < e.1) done
-
-rest_low : (since top : ℕ) (rest : List (List ℕ × ℕ)) → FallFrom top rest → EndsAt since rest → FallFrom since rest
-rest_low since top [] f e = tt
-rest_low since top (e ∷ es) (low, f) h = (h, f)
-
-in_front : (since : ℕ) (done rest : List (List ℕ × ℕ)) → AllByRecursion (λ e. since < e.1) done → (uid : List ℕ) →
-    Contains (keys_of done) uid → CarriesAfter (done ++ rest) since uid
-in_front since [] rest a uid h = absurd (none_in uid h)
-in_front since (e ∷ done) rest a uid h = by_bool (is_eq (uid_cmp uid e.0)) (CarriesAfter (e ∷ (done ++ rest)) since uid)
-    (λ k. (e.1, at_first e (done ++ rest) uid k, a.0))
-    (λ k. let c = in_front since done rest a.1 uid (later k (cons_cases e.0 (keys_of done) uid h)) in
-    (c.0, at_later e (done ++ rest) uid k ∙ c.1, c.2))
-  where
-    later : is_eq (uid_cmp uid e.0) ≡ false → (e.0 ≡ uid) ⊎ Contains (keys_of done) uid → Contains (keys_of done) uid
-    later k (inl same) = let x : true ≡ false = sym (own_uid uid) ∙ ap (λ u. is_eq (uid_cmp uid u)) (sym same) ∙ k in absurd (cc)
-    later k (inr there) = there
-
-of_front : (since : ℕ) (done rest : List (List ℕ × ℕ)) → FallFrom since rest → (uid : List ℕ) → CarriesAfter (done ++ rest) since uid →
-    Contains (keys_of done) uid
-of_front since [] rest low uid c =
-    let under : c.0 ≤ since = at_most since rest low uid c.0 c.1 in
-    let over : since < c.0 = c.2 in absurd (omega (arith, under, over))
-of_front since (e ∷ done) rest low uid c = by_bool (is_eq (uid_cmp uid e.0)) (Contains (e.0 ∷ keys_of done) uid)
-    (λ k. subst (Contains (e.0 ∷ keys_of done)) (sym (one_uid uid e.0 k)) (cons_first e.0 (keys_of done)))
-    (λ k. cons_later e.0 (keys_of done) uid (of_front since done rest low uid (c.0, sym (at_later e (done ++ rest) uid k) ∙ c.1, c.2)))
-
-pub front_carries : (since : ℕ) (all : List (List ℕ × ℕ)) (uids : List (List ℕ)) (rest : List (List ℕ × ℕ)) →
-    AreInFront since all uids rest → EndsAt since rest
-    → (top : ℕ) → FallFrom top all → (uid : List ℕ) → Contains uids uid ↔ CarriesAfter all since uid
-front_carries since all uids rest front ends top f uid =
-    let r = fall_rest top front.done rest (subst (FallFrom top) front.whole f) in (
-      λ h. subst (λ (es : List (List ℕ × ℕ)). CarriesAfter es since uid) (sym front.whole)
-          (in_front since front.done rest front.above uid (subst (λ (us : List (List ℕ)). Contains us uid) front.uids_are h)),
-      λ c. subst (λ (us : List (List ℕ)). Contains us uid) (sym front.uids_are)
-          (of_front since front.done rest (rest_low since r.0 rest r.1 ends) uid
-          (subst (λ (es : List (List ℕ × ℕ)). CarriesAfter es since uid) front.whole c)),
-    )
-
-keys_more : (done : List (List ℕ × ℕ)) (e : List ℕ × ℕ) → keys_of (done ++ e ∷ []) ≡ keys_of done ++ e.0 ∷ []
-keys_more [] e = refl
-keys_more (f ∷ done) e = ap (λ ks. f.0 ∷ ks) (keys_more done e)
-
-above_more : (since : ℕ) (done : List (List ℕ × ℕ)) (e : List ℕ × ℕ) → AllByRecursion (λ e. since < e.1) done → since < e.1 →
-    AllByRecursion (λ e. since < e.1) (done ++ e ∷ [])
-above_more since [] e a h = (h, tt)
-above_more since (f ∷ done) e a h = (a.0, above_more since done e a.1 h)
-
-one_further : (done : List (List ℕ × ℕ)) (e : List ℕ × ℕ) (rest : List (List ℕ × ℕ)) → done ++ e ∷ rest ≡ (done ++ e ∷ []) ++ rest
-one_further [] e rest = refl
-one_further (f ∷ done) e rest = ap (λ es. f ∷ es) (one_further done e rest)
-
-pub one_in_front : (since : ℕ) (all : List (List ℕ × ℕ)) (uids : List (List ℕ)) (e : List ℕ × ℕ) (rest before : List (List ℕ × ℕ)) →
-    before ≡ e ∷ rest → AreInFront since all uids before → since < e.1
-    → (more : List (List ℕ)) → more ≡ uids ++ e.0 ∷ [] → AreInFront since all more rest
-one_in_front since all uids e rest before cut front h more are = record {
-  done = front.done ++ e ∷ [];
-  whole = front.whole ∙ ap (λ es. front.done ++ es) cut ∙ one_further front.done e rest;
-  uids_are = are ∙ ap (λ us. us ++ e.0 ∷ []) front.uids_are ∙ sym (keys_more front.done e);
-  above = above_more since front.done e front.above h;
-}
-
--- ---- places
-pub fall_places : (top : ℕ) (es places : List (List ℕ × ℕ)) → ArePlaces places → FallFrom top es → FallFrom top (es ++ places)
-fall_places top [] [] p f = tt
-fall_places top [] (e ∷ places) (zero, rest) f = (let nought : e.1 ≡ 0 = zero in omega (arith, nought), fall_places e.1 [] places rest tt)
-fall_places top (e ∷ es) places p (low, f) = (low, fall_places e.1 es places p f)
-
-carries_before : (es places : List (List ℕ × ℕ)) → ArePlaces places → (since : ℕ) (uid : List ℕ) → CarriesAfter (es ++ places) since uid →
-    CarriesAfter es since uid
-carries_before [] places p since uid c =
-    let under : c.0 ≤ 0 = at_most 0 places (fall_places 0 [] places p tt) uid c.0 c.1 in
-    let over : since < c.0 = c.2 in absurd (omega (arith, under, over))
-carries_before (e ∷ es) places p since uid c = by_bool (is_eq (uid_cmp uid e.0)) (CarriesAfter (e ∷ es) since uid)
-    (λ k. (c.0, at_first e es uid k ∙ sym (at_first e (es ++ places) uid k) ∙ c.1, c.2))
-    (λ k. let d = carries_before es places p since uid (c.0, sym (at_later e (es ++ places) uid k) ∙ c.1, c.2) in
-    (d.0, at_later e es uid k ∙ d.1, d.2))
-
-carries_still : (es places : List (List ℕ × ℕ)) (since : ℕ) (uid : List ℕ) → CarriesAfter es since uid →
-    CarriesAfter (es ++ places) since uid
-carries_still [] places since uid c = let x : None ≡ Some c.0 = c.1 in absurd (cc)
-carries_still (e ∷ es) places since uid c = by_bool (is_eq (uid_cmp uid e.0)) (CarriesAfter (e ∷ (es ++ places)) since uid)
-    (λ k. (c.0, at_first e (es ++ places) uid k ∙ sym (at_first e es uid k) ∙ c.1, c.2))
-    (λ k. let d = carries_still es places since uid (c.0, sym (at_later e es uid k) ∙ c.1, c.2) in
-    (d.0, at_later e (es ++ places) uid k ∙ d.1, d.2))
-
-there_still : (es more : List (List ℕ × ℕ)) (q : List ℕ) → is_some (at_uid es q) ≡ true → is_some (at_uid (es ++ more) q) ≡ true
-there_still [] more q h = let x : false ≡ true = h in absurd (cc)
-there_still (e ∷ es) more q h = by_bool (is_eq (uid_cmp q e.0)) (is_some (at_uid (e ∷ (es ++ more)) q) ≡ true)
-    (λ k. ap is_some (at_first e (es ++ more) q k))
-    (λ k. ap is_some (at_later e (es ++ more) q k) ∙ there_still es more q (sym (ap is_some (at_later e es q k)) ∙ h))
-
-there_last : (es : List (List ℕ × ℕ)) (u : List ℕ) → is_some (at_uid (es ++ (u, 0) ∷ []) u) ≡ true
-there_last [] u = ap is_some (at_first (u, 0) [] u (own_uid u))
-there_last (e ∷ es) u = by_bool (is_eq (uid_cmp u e.0)) (is_some (at_uid (e ∷ (es ++ (u, 0) ∷ [])) u) ≡ true)
-    (λ k. ap is_some (at_first e (es ++ (u, 0) ∷ []) u k))
-    (λ k. ap is_some (at_later e (es ++ (u, 0) ∷ []) u k) ∙ there_last es u)
-
 or_false : (b : Bool) → (b || (false || false)) ≡ b
 or_false true = refl
 or_false false = refl
 
--- the UIDs gone over so far have places
-pub record HavePlaces (uids : List (List ℕ)) (old new : List (List ℕ × ℕ)) : Type 0 where
-  pub places : List (List ℕ × ℕ)
-  pub behind : new ≡ old ++ places
-  pub are : ArePlaces places
-  pub all : (q : List ℕ) → is_listed uids q ≡ true → is_some (at_uid new q) ≡ true
+or_true : (b : Bool) → (b || (true || false)) ≡ true
+or_true true = refl
+or_true false = refl
 
-pub no_places : (old : List (List ℕ × ℕ)) → old ≡ old ++ [] → HavePlaces [] old old
-no_places old same = record { places = []; behind = same; are = tt; all = λ q h. let x : false ≡ true = h in absurd (cc) }
+listed_push : (us : List (List ℕ)) (u q : List ℕ) → is_listed (us ++ u ∷ []) q ≡ (is_listed us q || (is_eq (uid_cmp u q) || false))
+listed_push us u q = list_any-append (λ x. is_eq (uid_cmp x q)) us (u ∷ [])
 
-listed_more : (us : List (List ℕ)) (u q : List ℕ) → is_eq (uid_cmp u q) ≡ false → is_listed (us ++ u ∷ []) q ≡ true → is_listed us q ≡ true
-listed_more us u q k h =
-    sym (list_any-append (λ x. is_eq (uid_cmp x q)) us (u ∷ []) ∙ ap (λ b. is_listed us q || (b || false)) k ∙ or_false (is_listed us q)) ∙
-    h
+-- with one UID more, another is listed if it was before
+pub listed_before : (us now : List (List ℕ)) (u q : List ℕ) → now ≡ us ++ u ∷ [] → is_eq (uid_cmp u q) ≡ false → is_listed now q ≡ is_listed us q
+listed_before us now u q more apart = ap (λ xs. is_listed xs q) more ∙ listed_push us u q ∙ ap (λ b. is_listed us q || (b || false)) apart ∙
+    or_false (is_listed us q)
 
-pub place_there : (us now : List (List ℕ)) (u : List ℕ) (old new : List (List ℕ × ℕ)) → now ≡ us ++ u ∷ [] → HavePlaces us old new →
-    is_some (at_uid new u) ≡ true → HavePlaces now old new
-place_there us now u old new more have there = record {
-  places = have.places;
-  behind = have.behind;
-  are = have.are;
-  all = λ q h. by_bool (is_eq (uid_cmp u q)) (is_some (at_uid new q) ≡ true)
-      (λ k. subst (λ (x : List ℕ). is_some (at_uid new x) ≡ true) (one_uid u q k) there)
-      (λ k. have.all q (listed_more us u q k (sym (ap (λ xs. is_listed xs q) more) ∙ h)));
-}
+pub listed_here : (us now : List (List ℕ)) (u q : List ℕ) → now ≡ us ++ u ∷ [] → is_eq (uid_cmp u q) ≡ true → is_listed now q ≡ true
+listed_here us now u q more same = ap (λ xs. is_listed xs q) more ∙ listed_push us u q ∙ ap (λ b. is_listed us q || (b || false)) same ∙
+    or_true (is_listed us q)
 
-places_more : (places : List (List ℕ × ℕ)) (u : List ℕ) → ArePlaces places → ArePlaces (places ++ (u, 0) ∷ [])
-places_more [] u p = (refl, tt)
-places_more (e ∷ places) u p = (p.0, places_more places u p.1)
+-- with one UID more, what holds of the others and of it holds of all
+pub listed_all : (P : List ℕ → Type 0) (us now : List (List ℕ)) (u : List ℕ) → now ≡ us ++ u ∷ [] → P u →
+    ((q : List ℕ) → is_listed us q ≡ true → P q) → (q : List ℕ) → is_listed now q ≡ true → P q
+listed_all P us now u more here each q h = by_bool (is_eq (uid_cmp u q)) (P q)
+    (λ same. subst P (one_uid u q same) here)
+    (λ apart. each q (sym (listed_before us now u q more apart) ∙ h))
 
-append_thrice : (xs ys zs : List (List ℕ × ℕ)) → (xs ++ ys) ++ zs ≡ xs ++ (ys ++ zs)
-append_thrice [] ys zs = refl
-append_thrice (x ∷ xs) ys zs = ap (λ es. x ∷ es) (append_thrice xs ys zs)
+pub taken_more : (us : List (List ℕ)) (i : ℕ) (u : List ℕ) → i < length us → u ≡ get_or us i u → take (i + 1) us ≡ take i us ++ u ∷ []
+taken_more us i u below is = take_more us i u below ∙ ap (λ x. take i us ++ x ∷ []) (sym is)
 
-pub place_made : (us now : List (List ℕ)) (u : List ℕ) (old new newer : List (List ℕ × ℕ)) → now ≡ us ++ u ∷ [] → HavePlaces us old new →
-    newer ≡ new ++ (u, 0) ∷ [] → HavePlaces now old newer
-place_made us now u old new newer more have put = record {
-  places = have.places ++ (u, 0) ∷ [];
-  behind = put ∙ ap (λ es. es ++ (u, 0) ∷ []) have.behind ∙ append_thrice old have.places ((u, 0) ∷ []);
-  are = places_more have.places u have.are;
-  all = λ q h. subst (λ (es : List (List ℕ × ℕ)). is_some (at_uid es q) ≡ true) (sym put)
-      (by_bool (is_eq (uid_cmp u q)) (is_some (at_uid (new ++ (u, 0) ∷ []) q) ≡ true)
-      (λ k. subst (λ (x : List ℕ). is_some (at_uid (new ++ (u, 0) ∷ []) x) ≡ true) (one_uid u q k) (there_last new u))
-      (λ k. there_still new ((u, 0) ∷ []) q (have.all q (listed_more us u q k (sym (ap (λ xs. is_listed xs q) more) ∙ h)))));
-}
+-- ---- the moves in order
+pub move_total : IsTotalOrder move_cmp
+move_total = then_total (on_total (λ (m : ℕ × List ℕ). m.0) nat_cmp_total) (on_total (λ (m : ℕ × List ℕ). m.1) nat_list_cmp_total)
 
--- ---- a cache finds UIDs by their octets
-pub same_test : (u : List ℕ) → pointwise nat_eq u ≡ (λ k. is_eq (uid_cmp u k))
-same_test u = λ i k. texts_ties u k i
+pub move_exact : CmpEqualImpliesEq move_cmp
+move_exact = exact_pairs nat_cmp uid_cmp exact_unsigned exact_bytes
 
-pub found_at : (es : List (List ℕ × ℕ)) (u : List ℕ) → lookup (pointwise nat_eq u) es ≡ at_uid es u
-found_at es u = ap (λ test. lookup test es) (same_test u)
+true_either : (b : Bool) → cond b true true ≡ true
+true_either true = refl
+true_either false = refl
 
-none_entry : (test : List ℕ → Bool) (es : List (List ℕ × ℕ)) → lookup test es ≡ None → lookup_entry test es ≡ None
-none_entry test [] h = refl
-none_entry test (e ∷ es) h = by_bool (test e.0) (lookup_entry test (e ∷ es) ≡ None)
-    (λ k. let x : Some e.1 ≡ None = sym (ap (λ b. cond b (Some e.1) (lookup test es)) k) ∙ h in absurd (cc))
-    (λ k. ap (λ b. cond b (Some e) (lookup_entry test es)) k ∙
-    none_entry test es (sym (ap (λ b. cond b (Some e.1) (lookup test es)) k) ∙ h))
+pub move_put : (s n : BTreeSet (ℕ × List ℕ)) (k : ℕ × List ℕ) → Updates move_cmp s n k true → (e : ℕ × List ℕ) →
+    has_move s.keys e ≡ true → has_move n.keys e ≡ true
+move_put s n k updates e h = updates.0 e ∙ ap (cond (is_eq (move_cmp k e)) true) h ∙ true_either (is_eq (move_cmp k e))
 
-some_entry : (test : List ℕ → Bool) (es : List (List ℕ × ℕ)) → is_some (lookup test es) ≡ true → (e : List ℕ × ℕ) ×
-    (lookup_entry test es ≡ Some e) × (test e.0 ≡ true)
-some_entry test [] h = let x : false ≡ true = h in absurd (cc)
-some_entry test (e ∷ es) h = by_bool (test e.0) ((f : List ℕ × ℕ) × (lookup_entry test (e ∷ es) ≡ Some f) × (test f.0 ≡ true))
-    (λ k. (e, ap (λ b. cond b (Some e) (lookup_entry test es)) k, k))
-    (λ k. let r = some_entry test es (sym (ap (λ b. is_some (cond b (Some e.1) (lookup test es))) k) ∙ h) in
-    (r.0, ap (λ b. cond b (Some e) (lookup_entry test es)) k ∙ r.1, r.2))
+pub move_kept : (s n : BTreeSet (ℕ × List ℕ)) (k : ℕ × List ℕ) → Updates move_cmp s n k false → (e : ℕ × List ℕ) → (k ≡ e → ⊥) →
+    has_move s.keys e ≡ true → has_move n.keys e ≡ true
+move_kept s n k updates e apart h = by_bool (is_eq (move_cmp k e)) (has_move n.keys e ≡ true)
+    (λ same. absurd (apart (one_key move_total move_exact k e same)))
+    (λ other. updates.0 e ∙ ap (λ b. cond b false (has_move s.keys e)) other ∙ h)
 
--- a place that is put and then demoted stands last
-pub put_last : (cache : LruCache (List ℕ) ℕ) (u : List ℕ) (new : List (List ℕ × ℕ)) → at_uid cache.entries u ≡ None →
-    length cache.entries ≤ cache.cap - 1
-    → new ≡ demoted (pointwise nat_eq u) (put_entries (pointwise nat_eq) cache u 0) → new ≡ cache.entries ++ (u, 0) ∷ []
-put_last cache u new none room are =
-    let put : put_entries (pointwise nat_eq) cache u 0 ≡ (u, 0) ∷ cache.entries =
-    ap (λ o. option_map_or (λ (e : List ℕ × ℕ). (e.0, 0) ∷ remove_entry (pointwise nat_eq u) cache.entries) o ((u, 0) ∷
-    take (cache.cap - 1) cache.entries))
-    (none_entry (pointwise nat_eq u) cache.entries (found_at cache.entries u ∙ none))
-    ∙ ap (λ es. (u, 0) ∷ es) (take_all (cache.cap - 1) cache.entries room) in
-    let own : pointwise nat_eq u u ≡ true = ap (λ test. test u) (same_test u) ∙ own_uid u in
-    are ∙ ap (demoted (pointwise nat_eq u)) put
-    ∙ ap (λ o. option_map_or (λ e. remove_entry (pointwise nat_eq u) ((u, 0) ∷ cache.entries) ++ e ∷ []) o ((u, 0) ∷ cache.entries))
-    (ap (λ b. cond b (Some (u, 0)) (lookup_entry (pointwise nat_eq u) cache.entries)) own)
-    ∙ ap (λ es. es ++ (u, 0) ∷ []) (ap (λ b. cond b cache.entries ((u, 0) ∷ remove_entry (pointwise nat_eq u) cache.entries)) own)
+-- ---- places
+-- a place is made
+module _ (all : List (List ℕ)) (u : List ℕ) (was now next : Carried) (listed : is_listed all u ≡ true) (have : HavePlaces all was now)
+    (none : tick_at now u ≡ None)
+    (put : (q : List ℕ) → tick_at next q ≡ cond (is_eq (uid_cmp u q)) (Some 0) (tick_at now q)) where
+  -- nothing was carried before
+  none_before : tick_at was u ≡ None
+  none_before = elim (have u) [
+    | inl same ↦ sym same ∙ none
+    | inr place ↦ place.1
+  ]
+
+  pub place_made : HavePlaces all was next
+  place_made q = by_bool (is_eq (uid_cmp u q)) ((tick_at next q ≡ tick_at was q) ⊎
+      ((is_listed all q ≡ true) × (tick_at was q ≡ None) × (tick_at next q ≡ Some 0)))
+      (λ same. inr (
+        subst (λ (v : List ℕ). is_listed all v ≡ true) (one_uid u q same) listed,
+        ap (tick_at was) (sym (one_uid u q same)) ∙ none_before,
+        put q ∙ ap (λ b. cond b (Some 0) (tick_at now q)) same,
+      ))
+      (λ apart.
+      let stays : tick_at next q ≡ tick_at now q = put q ∙ ap (λ b. cond b (Some 0) (tick_at now q)) apart in
+      elim (have q) [
+        | inl same ↦ inl (stays ∙ same)
+        | inr place ↦ inr (place.0, place.1, stays ∙ place.2)
+      ])
+
+  pub places_stay : (q : List ℕ) → is_some (tick_at now q) ≡ true → is_some (tick_at next q) ≡ true
+  places_stay q h = by_bool (is_eq (uid_cmp u q)) (is_some (tick_at next q) ≡ true)
+      (λ same. ap is_some (put q ∙ ap (λ b. cond b (Some 0) (tick_at now q)) same))
+      (λ apart. ap is_some (put q ∙ ap (λ b. cond b (Some 0) (tick_at now q)) apart) ∙ h)
+
+-- one is taken out
+pub fewer_one : (u : List ℕ) (was now next : Carried) →
+    ((q : List ℕ) → tick_at next q ≡ cond (is_eq (uid_cmp u q)) None (tick_at now q)) →
+    ((q : List ℕ) → (tick_at now q ≡ tick_at was q) ⊎ (tick_at now q ≡ None)) →
+    (q : List ℕ) → (tick_at next q ≡ tick_at was q) ⊎ (tick_at next q ≡ None)
+fewer_one u was now next out fewer q = by_bool (is_eq (uid_cmp u q)) ((tick_at next q ≡ tick_at was q) ⊎ (tick_at next q ≡ None))
+    (λ same. inr (out q ∙ ap (λ b. cond b None (tick_at now q)) same))
+    (λ apart.
+    let stays : tick_at next q ≡ tick_at now q = out q ∙ ap (λ b. cond b None (tick_at now q)) apart in
+    elim (fewer q) [
+      | inl same ↦ inl (stays ∙ same)
+      | inr none ↦ inr (stays ∙ none)
+    ])
+
+-- places are taken out: those of the UIDs that are still to come may be there
+pub record PlacesLeft (all done : List (List ℕ)) (was now : Carried) : Type 0 where
+  pub places : HavePlaces all was now
+  pub out : (uid : List ℕ) → is_listed done uid ≡ true → tick_at now uid ≡ tick_at was uid
+
+zero_not : (was : Carried) (u : List ℕ) → AreTicks was → tick_at was u ≡ Some 0 → ⊥
+zero_not was u ticks e = let x : 0 < 0 = ticks u 0 e in absurd (omega (arith, x))
+
+module _ (all us now_us : List (List ℕ)) (u : List ℕ) (was now : Carried) (more : now_us ≡ us ++ u ∷ []) (ticks : AreTicks was)
+    (left : PlacesLeft all us was now) where
+  -- it has no place
+  pub place_none : (tick_at now u ≡ Some 0 → ⊥) → PlacesLeft all now_us was now
+  place_none none = record {
+    places = left.places;
+    out = λ q h. by_bool (is_eq (uid_cmp u q)) (tick_at now q ≡ tick_at was q)
+        (λ same. elim (left.places q) [
+          | inl is ↦ is
+          | inr place ↦ absurd (none (ap (tick_at now) (one_uid u q same) ∙ place.2))
+        ])
+        (λ apart. left.out q (sym (listed_before us now_us u q more apart) ∙ h));
+  }
+
+  -- it had one
+  pub place_out : (next : Carried) → tick_at now u ≡ Some 0 →
+      ((q : List ℕ) → tick_at next q ≡ cond (is_eq (uid_cmp u q)) None (tick_at now q)) → PlacesLeft all now_us was next
+  place_out next zero out = record { places = places; out = λ q h. gone q h }
+    where
+      was_none : tick_at was u ≡ None
+      was_none = elim (left.places u) [ inl is ↦ absurd (zero_not was u ticks (sym is ∙ zero)) | inr place ↦ place.1 ]
+
+      here : (q : List ℕ) → is_eq (uid_cmp u q) ≡ true → tick_at next q ≡ tick_at was q
+      here q same = out q ∙ ap (λ b. cond b None (tick_at now q)) same ∙ sym (ap (tick_at was) (sym (one_uid u q same)) ∙ was_none)
+
+      other : (q : List ℕ) → is_eq (uid_cmp u q) ≡ false → tick_at next q ≡ tick_at now q
+      other q apart = out q ∙ ap (λ b. cond b None (tick_at now q)) apart
+
+      places : HavePlaces all was next
+      places q = by_bool (is_eq (uid_cmp u q)) ((tick_at next q ≡ tick_at was q) ⊎
+          ((is_listed all q ≡ true) × (tick_at was q ≡ None) × (tick_at next q ≡ Some 0)))
+          (λ same. inl (here q same))
+          (λ apart. elim (left.places q) [
+            | inl is ↦ inl (other q apart ∙ is)
+            | inr place ↦ inr (place.0, place.1, other q apart ∙ place.2)
+          ])
+
+      gone : (q : List ℕ) → is_listed now_us q ≡ true → tick_at next q ≡ tick_at was q
+      gone q h = by_bool (is_eq (uid_cmp u q)) (tick_at next q ≡ tick_at was q)
+          (λ same. here q same)
+          (λ apart. other q apart ∙ left.out q (sym (listed_before us now_us u q more apart) ∙ h))
+
+pub places_out : (all : List (List ℕ)) (was now : Carried) → IsStrictlySortedBy uid_cmp (keys_of was) → IsStrictlySortedBy uid_cmp (keys_of now) →
+    PlacesLeft all all was now → now ≡ was
+places_out all was now sorted sorted_now left = entries_from_values nat_list_cmp_total exact_bytes now was sorted_now sorted
+    (λ q. elim (left.places q) [ inl is ↦ is | inr place ↦ left.out q place.0 ])
 
 -- ---- marks
-apart_flips : (a b : List ℕ) → is_eq (uid_cmp a b) ≡ false → is_eq (uid_cmp b a) ≡ false
-apart_flips a b n = by_bool (is_eq (uid_cmp b a)) (is_eq (uid_cmp b a) ≡ false)
-    (λ k. let x : true ≡ false = sym (own_uid a) ∙ ap (λ q. is_eq (uid_cmp a q)) (sym (one_uid b a k)) ∙ n in absurd (cc))
-    (λ k. k)
+-- the UIDs gone over so far carry the tick, and each stands in order
+pub record AreMarked (tick : ℕ) (all uids : List (List ℕ)) (was now : Carried) (order : List (ℕ × List ℕ)) : Type 0 where
+  pub at : (q : List ℕ) → tick_at now q ≡ cond (is_listed uids q) (Some tick) (tick_at was q)
+  pub in_order : AreInOrder now order
+  pub ready : (q : List ℕ) → is_listed all q ≡ true → has_move order (tick, q) ≡ true
 
-without_other : (u q : List ℕ) → is_eq (uid_cmp u q) ≡ false → (es : List (List ℕ × ℕ)) →
-    at_uid (remove_entry (λ k. is_eq (uid_cmp u k)) es) q ≡ at_uid es q
-without_other u q n [] = refl
-without_other u q n (e ∷ es) =
-    by_bool (is_eq (uid_cmp u e.0)) (at_uid (remove_entry (λ k. is_eq (uid_cmp u k)) (e ∷ es)) q ≡ at_uid (e ∷ es) q)
-    (λ k. ap (λ b. at_uid (cond b es (e ∷ remove_entry (λ k. is_eq (uid_cmp u k)) es)) q) k
-    ∙ sym (at_later e es q (apart_flips e.0 q (ap (λ x. is_eq (uid_cmp x q)) (sym (one_uid u e.0 k)) ∙ n))))
-    (λ k. ap (λ b. at_uid (cond b es (e ∷ remove_entry (λ k. is_eq (uid_cmp u k)) es)) q) k
-    ∙ ap (λ o. cond (is_eq (uid_cmp q e.0)) (Some e.1) o) (without_other u q n es))
+pub none_marked : (tick : ℕ) (all : List (List ℕ)) (was now : Carried) (order : List (ℕ × List ℕ)) → now ≡ was → AreInOrder now order →
+    ((q : List ℕ) → is_listed all q ≡ true → has_move order (tick, q) ≡ true) → AreMarked tick all [] was now order
+none_marked tick all was now order same in_order ready =
+    record { at = λ q. ap (λ es. tick_at es q) same; in_order = in_order; ready = ready }
 
--- the entries after the value at a UID that is there was read, which puts it first, and written
-module _ (es new : List (List ℕ × ℕ)) (u : List ℕ) (w : ℕ) (there : is_some (at_uid es u) ≡ true)
-    (is_new : new ≡ set_value (pointwise nat_eq u) (promoted (pointwise nat_eq u) es) w) where
-  put_first : (e : List ℕ × ℕ) × (new ≡ (e.0, w) ∷ remove_entry (λ k. is_eq (uid_cmp u k)) es) × (u ≡ e.0)
-  put_first =
-      let test : List ℕ → Bool = λ k. is_eq (uid_cmp u k) in
-      let r = some_entry test es there in
-      let front : promoted test es ≡ r.0 ∷ remove_entry test es = ap (λ o. option_map_or (λ e. e ∷ remove_entry test es) o es) r.1 in (
-        r.0,
-        is_new ∙ ap (λ t. set_value t (promoted t es) w) (same_test u) ∙ ap (λ xs. set_value test xs w) front
-            ∙ ap (λ b. cond b ((r.0.0, w) ∷ remove_entry test es) (r.0 ∷ set_value test (remove_entry test es) w)) r.2,
-        one_uid u r.0.0 r.2,
-      )
+pub marked_there : (tick : ℕ) (all us : List (List ℕ)) (was now : Carried) (order : List (ℕ × List ℕ)) → AreMarked tick all us was now order →
+    (q : List ℕ) → is_some (tick_at was q) ≡ true → is_some (tick_at now q) ≡ true
+marked_there tick all us was now order marked q h = by_bool (is_listed us q) (is_some (tick_at now q) ≡ true)
+    (λ k. ap is_some (marked.at q ∙ ap (λ b. cond b (Some tick) (tick_at was q)) k))
+    (λ k. ap is_some (marked.at q ∙ ap (λ b. cond b (Some tick) (tick_at was q)) k) ∙ h)
 
-  pub marked_at : (q : List ℕ) → at_uid new q ≡ cond (is_eq (uid_cmp u q)) (Some w) (at_uid es q)
-  marked_at q =
-      let p = put_first in
-      ap (λ xs. at_uid xs q) p.1 ∙ by_bool (is_eq (uid_cmp u q))
-      (at_uid ((p.0.0, w) ∷ remove_entry (λ k. is_eq (uid_cmp u k)) es) q ≡ cond (is_eq (uid_cmp u q)) (Some w) (at_uid es q))
-      (λ k. at_first (p.0.0, w) (remove_entry (λ k. is_eq (uid_cmp u k)) es) q (ap (λ x. is_eq (uid_cmp q x)) (sym p.2 ∙ one_uid u q k) ∙
-      own_uid q) ∙ sym (ap (λ b. cond b (Some w) (at_uid es q)) k))
-      (λ k. at_later (p.0.0, w) (remove_entry (λ k. is_eq (uid_cmp u k)) es) q
-      (apart_flips p.0.0 q (ap (λ x. is_eq (uid_cmp x q)) (sym p.2) ∙ k))
-      ∙ without_other u q k es ∙ sym (ap (λ b. cond b (Some w) (at_uid es q)) k))
+module _ (tick : ℕ) (all us now_us : List (List ℕ)) (u : List ℕ) (was now next : Carried) (order order' : List (ℕ × List ℕ))
+    (more : now_us ≡ us ++ u ∷ []) (listed : is_listed all u ≡ true) (marked : AreMarked tick all us was now order)
+    (put : (q : List ℕ) → tick_at next q ≡ cond (is_eq (uid_cmp u q)) (Some tick) (tick_at now q))
+    (kept : (move : ℕ × List ℕ) → has_move order move ≡ true → (move.1 ≢ u) ⊎ (move.0 ≡ tick) → has_move order' move ≡ true) where
+  pub one_marked : AreMarked tick all now_us was next order'
+  one_marked = record {
+    at = λ q. by_bool (is_eq (uid_cmp u q)) (tick_at next q ≡ cond (is_listed now_us q) (Some tick) (tick_at was q))
+        (λ same. put q ∙ ap (λ b. cond b (Some tick) (tick_at now q)) same ∙
+        sym (ap (λ b. cond b (Some tick) (tick_at was q)) (listed_here us now_us u q more same)))
+        (λ apart. put q ∙ ap (λ b. cond b (Some tick) (tick_at now q)) apart ∙ marked.at q ∙
+        sym (ap (λ b. cond b (Some tick) (tick_at was q)) (listed_before us now_us u q more apart)));
+    in_order = λ q t there above. by_bool (is_eq (uid_cmp u q)) (has_move order' (t, q) ≡ true)
+        (λ same.
+        let t_is : tick ≡ t = some_same tick t (sym (put q ∙ ap (λ b. cond b (Some tick) (tick_at now q)) same) ∙ there) in
+        kept (t, q) (subst (λ (n : ℕ). has_move order (n, q) ≡ true) t_is
+        (subst (λ (v : List ℕ). has_move order (tick, v) ≡ true) (one_uid u q same) (marked.ready u listed))) (inr (sym t_is)))
+        (λ apart.
+        let before : tick_at now q ≡ Some t = sym (put q ∙ ap (λ b. cond b (Some tick) (tick_at now q)) apart) ∙ there in
+        kept (t, q) (marked.in_order q t before above) (inl (λ same. differ (sym (own_uid u) ∙ ap (λ v. is_eq (uid_cmp u v)) (sym same) ∙ apart))));
+    ready = λ q h. kept (tick, q) (marked.ready q h) (inr refl);
+  }
+    where
+      differ : true ≡ false → ⊥
+      differ e = cc
 
-  pub marked_falls : FallFrom w es → FallFrom w new
-  marked_falls f = let p = put_first in subst (FallFrom w) (sym p.1) (omega arith, fall_without (λ k. is_eq (uid_cmp u k)) w es f)
+-- ---- what moved after a tick
+-- of the moves in order those gone over were found, if a UID carries them; the others are to come
+pub record FoundSoFar (carried : Carried) (since : ℕ) (uids : List (List ℕ)) (rest : List (ℕ × List ℕ)) : Type 0 where
+  pub among : (uid : List ℕ) → Contains uids uid → CarriesAfter carried since uid
+  pub coming : (uid : List ℕ) (tick : ℕ) → tick_at carried uid ≡ Some tick → since < tick → Contains uids uid ⊎ Contains rest (tick, uid)
 
--- the UIDs gone over so far carry the tick
-pub record AreMarked (tick : ℕ) (uids : List (List ℕ)) (old new : List (List ℕ × ℕ)) : Type 0 where
-  pub at : (q : List ℕ) → at_uid new q ≡ cond (is_listed uids q) (Some tick) (at_uid old q)
-  pub falls : FallFrom tick old → FallFrom tick new
+from_tick : (r : Ordering) (next tick : ℕ) (uid : List ℕ) → r ≡ nat_cmp next tick → next ≤ tick →
+    (is_le (ordering_then r (uid_cmp [] uid)) && true) ≡ true
+from_tick Less next tick uid is below = refl
+from_tick Equal next tick [] is below = refl
+from_tick Equal next tick (x ∷ xs) is below = refl
+from_tick Greater next tick uid is below = absurd (let over : tick < next = ranked next tick Greater is in omega (arith, over, below))
 
-pub none_marked : (tick : ℕ) (es : List (List ℕ × ℕ)) → AreMarked tick [] es es
-none_marked tick es = record { at = λ q. refl; falls = λ f. f }
-
-pub there_marked : (tick : ℕ) (us : List (List ℕ)) (old new : List (List ℕ × ℕ)) → AreMarked tick us old new → (q : List ℕ) →
-    is_some (at_uid old q) ≡ true → is_some (at_uid new q) ≡ true
-there_marked tick us old new marked q h = by_bool (is_listed us q) (is_some (at_uid new q) ≡ true)
-    (λ k. ap is_some (marked.at q ∙ ap (λ b. cond b (Some tick) (at_uid old q)) k))
-    (λ k. ap is_some (marked.at q ∙ ap (λ b. cond b (Some tick) (at_uid old q)) k) ∙ h)
-
-pub one_marked : (tick : ℕ) (us now : List (List ℕ)) (u : List ℕ) (old new newer : List (List ℕ × ℕ)) → now ≡ us ++ u ∷ [] →
-    AreMarked tick us old new
-    → ((q : List ℕ) → at_uid newer q ≡ cond (is_eq (uid_cmp u q)) (Some tick) (at_uid new q)) → (FallFrom tick new → FallFrom tick newer) →
-    AreMarked tick now old newer
-one_marked tick us now u old new newer more marked put falls = record {
-  at = λ q. put q ∙ by_bool (is_eq (uid_cmp u q))
-      (cond (is_eq (uid_cmp u q)) (Some tick) (at_uid new q) ≡ cond (is_listed now q) (Some tick) (at_uid old q))
-      (λ k. ap (λ b. cond b (Some tick) (at_uid new q)) k ∙
-      sym (ap (λ b. cond b (Some tick) (at_uid old q)) (listed_is q ∙ ap (λ b. is_listed us q || (b || false)) k ∙
-      or_true (is_listed us q))))
-      (λ k. ap (λ b. cond b (Some tick) (at_uid new q)) k ∙ marked.at q ∙
-      sym (ap (λ b. cond b (Some tick) (at_uid old q)) (listed_is q ∙ ap (λ b. is_listed us q || (b || false)) k ∙
-      or_false (is_listed us q))));
-  falls = λ f. falls (marked.falls f);
+-- all that is above the tick is to come
+pub found_first : (carried : Carried) (order : BTreeSet (ℕ × List ℕ)) (since next : ℕ) (start : List ℕ) (uids : List (List ℕ))
+    (rest : List (ℕ × List ℕ)) → AreInOrder carried order.keys → start ≡ [] → next ≤ since + 1 → uids ≡ [] →
+    rest ≡ keys_between move_cmp (Included (next, start)) Unbounded order → FoundSoFar carried since uids rest
+found_first carried order since next start uids rest in_order none low empty is = record {
+  among = λ uid h. absurd (none_in uid (subst (λ (us : List (List ℕ)). Contains us uid) empty h));
+  coming = λ uid tick at above. inr (subst (λ (ms : List (ℕ × List ℕ)). Contains ms (tick, uid)) (sym is)
+      (into_filter (range_contains move_cmp (Included (next, start)) Unbounded) order.keys (tick, uid)
+      (Contains-from_any {eq = λ a b. is_eq (move_cmp a b)} (one_key move_total move_exact) (tick, uid) order.keys
+      (in_order uid tick at (omega (arith, above))))
+      (subst (λ (u : List ℕ). range_contains move_cmp (Included (next, u)) Unbounded (tick, uid) ≡ true) (sym none)
+      (from_tick (nat_cmp next tick) next tick uid refl (omega (arith, low, above))))));
 }
-  where
-    listed_is : (q : List ℕ) → is_listed now q ≡ (is_listed us q || (is_eq (uid_cmp u q) || false))
-    listed_is q = ap (λ xs. is_listed xs q) more ∙ list_any-append (λ x. is_eq (uid_cmp x q)) us (u ∷ [])
 
-    or_true : (b : Bool) → (b || (true || false)) ≡ true
-    or_true true = refl
-    or_true false = refl
+module _ (carried : Carried) (since : ℕ) (uids : List (List ℕ)) (before rest : List (ℕ × List ℕ)) (move : ℕ × List ℕ)
+    (cut : before ≡ move ∷ rest) (so : FoundSoFar carried since uids before) where
+  pub found_more : (tick_at carried move.1 ≡ Some move.0) × (since < move.0) → (more : List (List ℕ)) → more ≡ uids ++ move.1 ∷ [] →
+      FoundSoFar carried since more rest
+  found_more there more is = record {
+    among = λ u h. elim (Contains-push_cases uids move.1 u (subst (λ (us : List (List ℕ)). Contains us u) is h)) [
+      | inl earlier ↦ so.among u earlier
+      | inr one ↦ subst (CarriesAfter carried since) one (move.0, there.0, there.1)
+    ];
+    coming = λ u t at above. elim (so.coming u t at above) [
+      | inl done ↦ inl (subst (λ (us : List (List ℕ)). Contains us u) (sym is) (Contains-append_left uids (move.1 ∷ []) u done))
+      | inr comes ↦ elim (cons_cases move rest (t, u) (subst (λ (ms : List (ℕ × List ℕ)). Contains ms (t, u)) cut comes)) [
+        | inl here ↦ inl (subst (λ (us : List (List ℕ)). Contains us u) (sym is)
+            (subst (Contains (uids ++ move.1 ∷ [])) (ap (λ (m : ℕ × List ℕ). m.1) here) (Contains-push uids move.1)))
+        | inr next ↦ inr next
+      ]
+    ];
+  }
 
-same_carry : (es gs : List (List ℕ × ℕ)) → es ≡ gs → (since : ℕ) (uid : List ℕ) → CarriesAfter es since uid ↔ CarriesAfter gs since uid
+  pub found_past : ((tick_at carried move.1 ≡ Some move.0) × (since < move.0) → ⊥) → FoundSoFar carried since uids rest
+  found_past none = record {
+    among = so.among;
+    coming = λ u t at above. elim (so.coming u t at above) [
+      | inl done ↦ inl done
+      | inr comes ↦ elim (cons_cases move rest (t, u) (subst (λ (ms : List (ℕ × List ℕ)). Contains ms (t, u)) cut comes)) [
+        | inl here ↦ absurd (none (
+          ap (λ (m : ℕ × List ℕ). tick_at carried m.1) here ∙ at ∙ sym (ap (λ (m : ℕ × List ℕ). Some m.0) here),
+          subst (λ (m : ℕ × List ℕ). since < m.0) (sym here) above,
+        ))
+        | inr next ↦ inr next
+      ]
+    ];
+  }
+
+same_carry : (es gs : Carried) → es ≡ gs → (since : ℕ) (uid : List ℕ) → CarriesAfter es since uid ↔ CarriesAfter gs since uid
 same_carry es gs same since uid = (
-  subst (λ (ch : List (List ℕ × ℕ)). CarriesAfter ch since uid) same,
-  subst (λ (ch : List (List ℕ × ℕ)). CarriesAfter ch since uid) (sym same),
+  subst (λ (ch : Carried). CarriesAfter ch since uid) same,
+  subst (λ (ch : Carried). CarriesAfter ch since uid) (sym same),
 )
 
+-- a place carries nothing
+carries_before : (uids : List (List ℕ)) (es placed : Carried) → HavePlaces uids es placed → (since : ℕ) (uid : List ℕ) →
+    CarriesAfter placed since uid → CarriesAfter es since uid
+carries_before uids es placed have since uid c = elim (have uid) [
+  | inl same ↦ (c.0, sym same ∙ c.1, c.2)
+  | inr place ↦
+      let zero : 0 ≡ c.0 = some_same 0 c.0 (sym place.2 ∙ c.1) in
+      let over : since < c.0 = c.2 in
+      absurd (omega (arith, zero, over))
+]
+
+carries_still : (uids : List (List ℕ)) (es placed : Carried) → HavePlaces uids es placed → (since : ℕ) (uid : List ℕ) →
+    CarriesAfter es since uid → CarriesAfter placed since uid
+carries_still uids es placed have since uid c = elim (have uid) [
+  | inl same ↦ (c.0, same ∙ c.1, c.2)
+  | inr place ↦ absurd (none_some c.0 (sym place.1 ∙ c.1))
+]
+
+-- with marks above 0 there are no places
+pub marked_ticks : (uids : List (List ℕ)) (es placed gs : Carried) (next : ℕ) → 0 < next → AreTicks es → HavePlaces uids es placed →
+    ((uid : List ℕ) → tick_at gs uid ≡ cond (is_listed uids uid) (Some next) (tick_at placed uid)) → AreTicks gs
+marked_ticks uids es placed gs next above ticks have marked uid t there = by_bool (is_listed uids uid) (0 < t)
+    (λ k.
+    let t_is : next ≡ t = some_same next t (sym (marked uid ∙ ap (λ b. cond b (Some next) (tick_at placed uid)) k) ∙ there) in
+    omega (arith, t_is, above))
+    (λ k.
+    let before : tick_at placed uid ≡ Some t = sym (marked uid ∙ ap (λ b. cond b (Some next) (tick_at placed uid)) k) ∙ there in
+    elim (have uid) [
+      | inl same ↦ ticks uid t (sym same ∙ before)
+      | inr place ↦ absurd (differ (sym place.0 ∙ k))
+    ])
+  where
+    differ : true ≡ false → ⊥
+    differ e = cc
+
 -- the UIDs that moved carry the new tick
-module _ (es places gs : List (List ℕ × ℕ)) (are : ArePlaces places) (uids : List (List ℕ)) (next : ℕ) (marked : (uid : List ℕ) →
-    at_uid gs uid ≡ cond (is_listed uids uid) (Some next) (at_uid (es ++ places) uid)) where
+module _ (uids : List (List ℕ)) (es placed gs : Carried) (have : HavePlaces uids es placed) (next : ℕ) (marked : (uid : List ℕ) →
+    tick_at gs uid ≡ cond (is_listed uids uid) (Some next) (tick_at placed uid)) where
   listed_carries : (since : ℕ) (uid : List ℕ) → is_listed uids uid ≡ true → CarriesAfter gs since uid ↔ (since < next)
   listed_carries since uid k =
-      let there : at_uid gs uid ≡ Some next = marked uid ∙ ap (λ b. cond b (Some next) (at_uid (es ++ places) uid)) k in (
+      let there : tick_at gs uid ≡ Some next = marked uid ∙ ap (λ b. cond b (Some next) (tick_at placed uid)) k in (
         λ c. subst (λ (n : ℕ). since < n) (some_same c.0 next (sym c.1 ∙ there)) c.2,
         λ above. (next, there, above),
       )
 
   unlisted_carries : (since : ℕ) (uid : List ℕ) → is_listed uids uid ≡ false → CarriesAfter gs since uid ↔ CarriesAfter es since uid
   unlisted_carries since uid k =
-      let there : at_uid gs uid ≡ at_uid (es ++ places) uid = marked uid ∙ ap (λ b. cond b (Some next) (at_uid (es ++ places) uid)) k in (
-        λ c. carries_before es places are since uid (c.0, sym there ∙ c.1, c.2),
-        λ c. let d = carries_still es places since uid c in (d.0, there ∙ d.1, d.2),
+      let there : tick_at gs uid ≡ tick_at placed uid = marked uid ∙ ap (λ b. cond b (Some next) (tick_at placed uid)) k in (
+        λ c. carries_before uids es placed have since uid (c.0, sym there ∙ c.1, c.2),
+        λ c. let d = carries_still uids es placed have since uid c in (d.0, there ∙ d.1, d.2),
       )
 
   module _ (old new : Shown) (step : List Item) (is_old : old.changed ≡ es) (is_new : new.changed ≡ gs) (is_next : new.tick ≡ next)

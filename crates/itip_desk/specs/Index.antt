@@ -1,12 +1,11 @@
 -- An index of kept items (our own form).
-use Rattle.std.specs.Prelude.{◌≡◌, ◌↔◌, Bool, true, ℕ, List, IsTrue}
+use Rattle.std.specs.Prelude.{◌≡◌, ◌↔◌, ◌⊎◌, ◌||◌, Bool, true, false, List, IsTrue}
 use Rattle.std.specs.List.{Contains, list_any}
 use Rattle.std.specs.BTreeMap.{is_at}
 use Rattle.std.specs.BTreeSet.{BTreeSet, contains}
-use Rattle.itip_items.specs.KeyParts.{uid_of}
 use Rattle.itip_items.specs.declared.item.Item.{Item}
 use Rattle.itip_view.specs.RowDays.{is_of_rows}
-use Rattle.itip_desk.specs.Entries.{entry_cmp, IsNoted}
+use Rattle.itip_desk.specs.Entries.{entry_cmp, entries_of, IsNoted}
 use Rattle.itip_desk.specs.declared.entry.IndexEntry.{IndexEntry}
 
 -- whether a set has an entry
@@ -25,21 +24,20 @@ IsIndexOf kept set = (entry : IndexEntry) → IsTrue (has set entry) ↔ IsNoted
 abbrev pub AreOfRows : List Item → List Item → Type 0
 AreOfRows found news = (item : Item) → Contains found item ↔ (Contains news item × (is_of_rows item.key ≡ true))
 
--- one of these items is of the UID
-pub record IsTouched (items : List Item) (uid : List ℕ) : Type 0 where
-  pub item : Item
-  pub there : Contains items item
-  pub about : uid_of item.key ≡ uid
+-- a set keeps what it had, and gains no entry but some of these
+abbrev pub Widens : (IndexEntry → Bool) → BTreeSet IndexEntry → BTreeSet IndexEntry → Type 0
+Widens more old new = (entry : IndexEntry) → (has old entry ≡ true → has new entry ≡ true) ×
+    (has new entry ≡ true → (has old entry || more entry) ≡ true)
 
--- the entries of these items that are of UIDs of others
-abbrev pub AreEntriesOf : List Item → List Item → BTreeSet IndexEntry → Type 0
-AreEntriesOf set touching entries = (entry : IndexEntry) → IsTrue (has entries entry) ↔ (IsNoted set entry × IsTouched touching entry.uid)
+-- a set has what it had, and beside that only entries of these items
+pub record HasGrown (items : List Item) (old new : BTreeSet IndexEntry) : Type 0 where
+  pub keeps : (entry : IndexEntry) → has old entry ≡ true → has new entry ≡ true
+  pub among : (entry : IndexEntry) → has new entry ≡ true → (has old entry ≡ true) ⊎ IsNoted items entry
 
--- an item of the set that is of one of these UIDs gives this entry
-pub record IsNotedOf (set : List Item) (uids : List (List ℕ)) (entry : IndexEntry) : Type 0 where
-  pub noted : IsNoted set entry
-  pub about : Contains uids entry.uid
-
--- the entries of the items of these UIDs
-abbrev pub HaveEntries : List Item → List (List ℕ) → BTreeSet IndexEntry → Type 0
-HaveEntries set uids entries = (entry : IndexEntry) → IsTrue (has entries entry) ↔ IsNotedOf set uids entry
+-- Of these items all that are not in the state have lost their entries, and no other entry is gone.
+pub record HasSettled (state items : List Item) (old new : BTreeSet IndexEntry) : Type 0 where
+  pub none_new : (entry : IndexEntry) → has new entry ≡ true → has old entry ≡ true
+  pub stays : (entry : IndexEntry) → has old entry ≡ true → ((item : Item) → Contains (entries_of item) entry → Contains state item) →
+      has new entry ≡ true
+  pub gone : (item : Item) → Contains items item → Contains state item ⊎
+      ((entry : IndexEntry) → Contains (entries_of item) entry → has new entry ≡ false)

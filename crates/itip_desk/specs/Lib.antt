@@ -1,11 +1,14 @@
 pub use Rattle.itip_state.specs.Kept
 pub use Rattle.itip_state.specs.Order
 pub mod Octets
+pub mod Numbers
 pub mod Entries
 pub mod Index
+pub mod Found
 pub mod Heard
 pub mod Desk
 pub mod Moves
 pub mod Delta
 pub mod Refusals
 pub mod Listed
+pub mod WrittenRows

@@ -1,8 +1,12 @@
 -- The list of a desk with its head (our own format). Each line ends with LF.
-use Rattle.std.specs.Prelude.{ℕ, List, ◌∷◌, ◌++◌, length, codes}
+use Rattle.std.specs.Prelude.{ℕ, List, [], ◌∷◌, ◌++◌, length, codes}
 use Rattle.std.specs.Fmt.{decimal}
 use Rattle.itip_view.specs.ListText.{list_text}
 use Rattle.itip_view.specs.declared.row.Row.{Row}
+
+-- a line with a word, the number of the desk and how many rows there are
+abbrev pub head_text : List ℕ → ℕ → ℕ → List ℕ
+head_text word desk number = word ++ codes " " ++ decimal desk ++ codes " rows " ++ decimal number ++ 10 ∷ []
 
 -- the text of rows, after a line with a word, the number of the desk and how many rows there are
 abbrev pub headed_text : List ℕ → ℕ → List Row → List ℕ

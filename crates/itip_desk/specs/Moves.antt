@@ -1,25 +1,59 @@
--- The UIDs that moved, the last moved first (our own form).
-use Rattle.std.specs.Prelude.{◌≡◌, ℕ, ◌≤◌, List, [], ◌∷◌, Bool, Option, Some, None}
+-- The UIDs that moved, each with the tick that it carries (our own form).
+use Rattle.std.specs.Prelude.{◌≡◌, ◌<◌, ◌⊎◌, ℕ, List, Bool, true, Option, Some, None, is_some, refl}
+use Rattle.std.specs.Coded.{Coded, code_by, coded×, coded_ℕ, coded_list}
 use Rattle.std.specs.List.{list_any}
-use Rattle.std.specs.Ordering.{nat_cmp, is_eq}
+use Rattle.std.specs.List.Sorted.{IsStrictlySortedBy}
+use Rattle.std.specs.Map.{keys_of}
+use Rattle.std.specs.Ordering.{nat_cmp, ordering_then, is_eq}
 use Rattle.std.specs.Cmp.Lexicographic.{slice_cmp}
-use Rattle.lru.specs.LruCache.{LruCache}
+use Rattle.std.specs.BTreeMap.{is_at}
+use Rattle.std.specs.declared.cmp.Ordering.{Ordering}
+use Rattle.itip_join.specs.KeyByKey.{value_at}
 
--- what a cache holds, where there is one
-abbrev pub entries_of : Option (LruCache (List ℕ) ℕ) → List (List ℕ × ℕ)
-entries_of None = []
-entries_of (Some cache) = cache.entries
+pub record Moved : Type 0 where
+  -- what each UID carries, by UID; 0 stands for a place that carries nothing yet
+  pub carried : List (List ℕ × ℕ)
+  -- the same by tick; others may stand beside them
+  pub order : List (ℕ × List ℕ)
+
+abbrev pub moved_code : Coded Moved
+moved_code = code_by (List (List ℕ × ℕ) × List (ℕ × List ℕ)) (coded×
+    (coded_list (coded× (coded_list coded_ℕ) coded_ℕ)) (coded_list (coded× coded_ℕ (coded_list coded_ℕ))))
+    (λ m. (m.carried, m.order)) (λ p. record { carried = p.0; order = p.1 }) (λ _. refl)
 
 -- whether a UID is among these
 abbrev pub is_listed : List (List ℕ) → List ℕ → Bool
 is_listed uids uid = list_any (λ u. is_eq (slice_cmp nat_cmp u uid)) uids
 
--- no tick is above `top` or above one that stands before it
-abbrev pub FallFrom : ℕ → List (List ℕ × ℕ) → Type 0
-FallFrom top [] = Unit {0}
-FallFrom top (e ∷ es) = (e.1 ≤ top) × FallFrom e.1 es
+-- what a UID carries, where it carries anything
+abbrev pub tick_at : List (List ℕ × ℕ) → List ℕ → Option ℕ
+tick_at carried uid = value_at (slice_cmp nat_cmp) carried uid
 
--- places, which carry no tick yet
-abbrev pub ArePlaces : List (List ℕ × ℕ) → Type 0
-ArePlaces [] = Unit {0}
-ArePlaces (e ∷ es) = (e.1 ≡ 0) × ArePlaces es
+-- by tick, then by UID
+abbrev pub move_cmp : ℕ × List ℕ → ℕ × List ℕ → Ordering
+move_cmp = λ a b. ordering_then (nat_cmp a.0 b.0) (slice_cmp nat_cmp a.1 b.1)
+
+abbrev pub has_move : List (ℕ × List ℕ) → ℕ × List ℕ → Bool
+has_move order move = list_any (is_at (move_cmp move)) order
+
+-- each UID that carries a tick is there under it
+abbrev pub AreInOrder : List (List ℕ × ℕ) → List (ℕ × List ℕ) → Type 0
+AreInOrder carried order = (uid : List ℕ) (tick : ℕ) → tick_at carried uid ≡ Some tick → 0 < tick → has_move order (tick, uid) ≡ true
+
+pub record AreMoves (carried : List (List ℕ × ℕ)) (order : List (ℕ × List ℕ)) : Type 0 where
+  pub sorted : IsStrictlySortedBy (slice_cmp nat_cmp) (keys_of carried)
+  pub in_order : AreInOrder carried order
+
+-- there are no places that carry nothing
+abbrev pub AreTicks : List (List ℕ × ℕ) → Type 0
+AreTicks carried = (uid : List ℕ) (tick : ℕ) → tick_at carried uid ≡ Some tick → 0 < tick
+
+-- each UID carries what it did; of these UIDs some that carried nothing may have places
+abbrev pub HavePlaces : List (List ℕ) → List (List ℕ × ℕ) → List (List ℕ × ℕ) → Type 0
+HavePlaces uids was now = (uid : List ℕ) → (tick_at now uid ≡ tick_at was uid) ⊎
+    ((is_listed uids uid ≡ true) × (tick_at was uid ≡ None) × (tick_at now uid ≡ Some 0))
+
+-- each of these UIDs has a place, and stands in order under a tick that it is to carry
+pub record AreReady (uids : List (List ℕ)) (tick : ℕ) (moved : Moved) : Type 0 where
+  pub placed : (uid : List ℕ) → is_listed uids uid ≡ true → is_some (tick_at moved.carried uid) ≡ true
+  pub in_order : (uid : List ℕ) → is_listed uids uid ≡ true → has_move moved.order (tick, uid) ≡ true

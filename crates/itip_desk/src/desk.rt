@@ -11,7 +11,7 @@ use crate::indexed::IndexedState;
 use crate::moves::MovedUids;
 use itip_state::{SharedItem, State, uids};
 use itip_todo::Uid;
-use itip_view::{Row, ViewError, Window, list_text, rows_among, sorted_uids};
+use itip_view::{RowsByUid, ViewError, Wanted, Window, sorted_uids};
 use std::alloc::{AllocError, Global};
 use std::marker::Model;
 
@@ -51,24 +51,24 @@ pub struct Desk {
 
 impl Model for Desk {
     ghost use Rattle.itip_desk.specs.Desk.{Shown, shown_code};
-    ghost use Rattle.itip_desk.specs.Moves.{FallFrom};
+    ghost use Rattle.itip_desk.specs.Moves.{AreTicks};
 
     ghost Value = { Shown };
 
     ghost coded = { shown_code };
 
-    ghost view = { λ d. record { kept = d.kept; tick = d.tick; changed = d.moves } };
+    ghost view = { λ d. record { kept = d.kept; tick = d.tick; changed = d.moves.carried } };
 
-    ghost invariant = { λ d. FallFrom d.tick d.moves };
+    ghost invariant = { λ d. AreTicks d.moves.carried };
 }
 
 impl Desk {
     ghost use Rattle.itip_state.specs.Kept.{AreKept, AreMoved, ArePartOf, Moves, HasEachOnce};
     ghost use Rattle.itip_desk.specs.Desk.{IsDeskOf, IsDeltaOf, IsCarriedOn};
     ghost use Rattle.itip_desk.specs.Heard.{TickStep};
-    ghost use Rattle.std.specs.Prelude.{◌≤◌};
     ghost use Rattle.std.specs.List.{Contains};
-    ghost use Rattle.itip_view.specs.Rows.{IsRow, AreRows, AreTooMany, row_limit};
+    ghost use Rattle.itip_view.specs.ByUid.{AreAsked, AreLeft};
+    ghost use Rattle.itip_view.specs.Rows.{IsRow, AreRows, AreTooMany};
     ghost use Rattle.itip_view.specs.Showing.{Shows, AreRowsWhere, AreTooManyWhere, IsListTextFor};
     ghost use Rattle.itip_view.specs.ListText.{IsListText};
 
@@ -132,18 +132,16 @@ impl Desk {
         if self.tick == u64::MAX {
             return Err(DeskError::TicksSpent);
         }
-        let places = self.moves.len();
-        self.moves.add_places(&uids)?;
+        let tick = self.tick + 1;
+        self.moves.lawful();
+        self.moves.prepare(&uids, tick)?;
         if let Err(refused) = self.kept.hear(&news) {
-            self.moves.truncate(places);
+            self.moves.take_places_back(&uids);
             return Err(refused.into());
         }
-        self.tick += 1;
-        self.moves.mark(&uids, self.tick);
-        Ok(Changed {
-            tick: self.tick,
-            uids,
-        })
+        self.tick = tick;
+        self.moves.mark(&uids, tick);
+        Ok(Changed { tick, uids })
     }
 
     /// The kept items of the UIDs that carry a tick above this one: what a desk that was at this tick lacks. At most
@@ -200,29 +198,38 @@ impl Desk {
         self.kept.state().part(&naming)
     }
 
-    /// The rows of the task list in a window, in their order, at most 100,000. No UID is looked at whose rows can't stand in it.
+    /// The rows of the task list in a window, a UID at a time. No UID is looked at whose rows can't stand in it.
     ///
-    /// Refused where more rows stand there (31), or when out of memory (32).
-    pub fn rows(&self, window: Window) -> Result<Vec<Row>, ViewError>
-        ensures rows { IfOk result (λ rows. AreRows self.now.kept window rows.items) }
-        ensures few { IfOk result (λ rows. length rows.items ≤ row_limit) }
-        ensures many { IsErrOf result ViewError.TooManyRows → AreTooMany self.now.kept window }
+    /// Refused when out of memory.
+    pub fn rows(&self, window: Window) -> Result<RowsByUid<'_, '_>, AllocError>
+        ensures rows { IfOk result (λ asked. (rows : List Row) → AreLeft asked rows ↔ AreRows self.now.kept window rows) }
+        ensures asked { IfOk result (AreAsked (λ row. Unit {0}) self.now.kept window) }
     {
         let uids = self.kept.uids_in(window)?;
-        rows_among(self.alloc, self.kept.state(), uids, window, None)
+        RowsByUid::among(self.alloc, self.kept.state(), uids, window, &Wanted::all())
     }
 
-    /// The rows in a window that show the attendee of an address, in their order, at most 100,000. No UID is looked at
-    /// whose items don't name the attendee.
+    /// The rows in a window that show the attendee of an address, a UID at a time. No UID is looked at whose items don't name
+    /// the attendee.
     ///
-    /// Refused where more rows there show the attendee (31), or when out of memory (32).
-    pub fn rows_for(&self, window: Window, address: &str) -> Result<Vec<Row>, ViewError>
-        ensures rows { IfOk result (λ rows. AreRowsWhere (Shows address.now) self.now.kept window rows.items) }
-        ensures few { IfOk result (λ rows. length rows.items ≤ row_limit) }
-        ensures many { IsErrOf result ViewError.TooManyRows → AreTooManyWhere (Shows address.now) self.now.kept window }
+    /// Refused when out of memory.
+    pub fn rows_for<'a>(
+        &'a self,
+        window: Window,
+        address: &'a str,
+    ) -> Result<RowsByUid<'a, 'a>, AllocError>
+        ensures rows { IfOk result (λ asked. (rows : List Row)
+            → AreLeft asked rows ↔ AreRowsWhere (Shows address.now) self.now.kept window rows) }
+        ensures asked { IfOk result (AreAsked (Shows address.now) self.now.kept window) }
     {
         let uids = self.kept.uids_naming(address)?;
-        rows_among(self.alloc, self.kept.state(), uids, window, Some(address))
+        RowsByUid::among(
+            self.alloc,
+            self.kept.state(),
+            uids,
+            window,
+            &Wanted::showing(Some(address)),
+        )
     }
 
     /// The text of the task list in a window. No UID is looked at whose rows can't stand in it.
@@ -233,7 +240,7 @@ impl Desk {
         ensures many { IsErrOf result ViewError.TooManyRows → (heard : List Item) → AreKept self.now.kept heard → AreTooMany heard window }
     {
         let rows = self.rows(window)?;
-        Ok(list_text(self.alloc, &rows)?)
+        rows.text()
     }
 
     /// The text of the rows in a window that show the attendee of an address. No UID is looked at whose items don't name the attendee.
@@ -246,6 +253,6 @@ impl Desk {
             → (heard : List Item) → AreKept self.now.kept heard → AreTooManyWhere (Shows address.now) heard window }
     {
         let shown = self.rows_for(window, address)?;
-        Ok(list_text(self.alloc, &shown)?)
+        shown.text()
     }
 }

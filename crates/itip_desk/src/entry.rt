@@ -1,31 +1,43 @@
 //! The entries of an index of kept items.
 ghost use Rattle.std.specs.Prelude.{◌≡◌, refl};
+ghost use Rattle.std.specs.Option.{option_copied};
 ghost use Rattle.std.specs.Cmp.{partial_order_from_total, partial_equiv_from_equiv, eq_by_cmp_equiv};
 ghost use Rattle.std.specs.Ordering.{as_partial_cmp, eq_by_cmp};
-ghost use Rattle.itip_desk.specs.Entries.{rank_of, day_of, key_of, mark_cmp, mark_of, entry_cmp, entry_total};
+ghost use Rattle.itip_desk.specs.Entries.{sort_of, day_of, number_of, mark_cmp, mark_of, place_of, uid_number_of, item_of};
+ghost use Rattle.itip_desk.specs.Entries.{kind_of, instance_at, item_cmp, owner_cmp, entry_cmp, entry_total};
 
-use itip_lines::Text;
-use itip_todo::Uid;
+use itip_moment::Moment;
+use itip_state::Revision;
 use itip_view::RowDays;
-use std::alloc::AllocError;
 use std::cmp::Ordering;
 
-/// What a UID is found by.
-#[derive(Debug, Drop)]
+/// What an item is found by.
+#[derive(Clone, Copy, Debug)]
 pub(crate) enum Mark {
-    /// A day on which a row of it can stand.
+    /// A day on which a row can stand that needs it.
     Day(i32),
-    /// Each window: it has rows that can stand on any day.
+    /// Each window: its rows can stand on any day.
     Always,
-    /// The key of an attendee that its rows can show.
-    Attendee(Text),
+    /// The number of an attendee that its rows can show.
+    Attendee(u32),
 }
 
-/// A UID, and what it is found by.
+/// Whose an entry is. Beside items there are two bounds.
+#[derive(Debug, Drop)]
+pub(crate) enum Owner {
+    /// Before all items.
+    Before,
+    /// An item, and the number of its UID.
+    Of(u32, Revision),
+    /// Behind all items.
+    After,
+}
+
+/// An item, and what it is found by.
 #[derive(Debug, Drop)]
 pub(crate) struct IndexEntry {
     pub(crate) mark: Mark,
-    pub(crate) uid: Uid,
+    pub(crate) owner: Owner,
 }
 
 impl Mark {
@@ -39,8 +51,8 @@ impl Mark {
         }
     }
 
-    fn rank(&self) -> u8
-        ensures { result ≡ rank_of self.now }
+    fn sort(&self) -> u8
+        ensures { result ≡ sort_of self.now }
     {
         match self {
             Mark::Day(_) => 0,
@@ -58,45 +70,89 @@ impl Mark {
         }
     }
 
-    fn key(&self) -> &str
-        ensures { result.now ≡ key_of self.now }
+    fn number(&self) -> u32
+        ensures { result ≡ number_of self.now }
     {
         match self {
-            Mark::Attendee(key) => key.as_str(),
-            Mark::Day(_) | Mark::Always => "",
+            Mark::Attendee(number) => *number,
+            Mark::Day(_) | Mark::Always => 0,
         }
     }
 
     fn compare(&self, other: &Mark) -> Ordering
         ensures { result ≡ mark_cmp self.now other.now }
     {
-        self.rank()
-            .cmp(&other.rank())
+        self.sort()
+            .cmp(&other.sort())
             .then(self.day().cmp(&other.day()))
-            .then_with(|| self.key().cmp(other.key()))
+            .then(self.number().cmp(&other.number()))
     }
 }
 
-impl Clone for Mark {
-    ghost is_clone = { λ mark copy. copy ≡ mark };
-
-    fn clone(&self) -> Result<Mark, AllocError> {
+impl Owner {
+    /// The item, unless it is a bound.
+    pub(crate) fn revision(&self) -> Option<&Revision>
+        ensures { option_copied result ≡ item_of self.now }
+    {
         match self {
-            Mark::Day(day) => Ok(Mark::Day(*day)),
-            Mark::Always => Ok(Mark::Always),
-            Mark::Attendee(key) => Ok(Mark::Attendee(key.clone()?)),
+            Owner::Of(_, revision) => Some(revision),
+            Owner::Before | Owner::After => None,
         }
     }
-}
 
-impl Clone for IndexEntry {
-    ghost is_clone = { λ entry copy. copy ≡ entry };
+    fn place(&self) -> u8
+        ensures { result ≡ place_of self.now }
+    {
+        match self {
+            Owner::Before => 0,
+            Owner::Of(_, _) => 1,
+            Owner::After => 2,
+        }
+    }
 
-    fn clone(&self) -> Result<IndexEntry, AllocError> {
-        Ok(IndexEntry {
-            mark: self.mark.clone()?,
-            uid: self.uid.clone()?,
-        })
+    fn uid_number(&self) -> u32
+        ensures { result ≡ uid_number_of self.now }
+    {
+        match self {
+            Owner::Of(number, _) => *number,
+            Owner::Before | Owner::After => 0,
+        }
+    }
+
+    fn kind(&self) -> u8
+        ensures { result ≡ kind_of self.now }
+    {
+        match self {
+            Owner::Of(_, revision) => revision.item().key.rank(),
+            Owner::Before | Owner::After => 0,
+        }
+    }
+
+    fn instance(&self) -> Option<&Moment>
+        ensures { option_copied result ≡ instance_at self.now }
+    {
+        match self {
+            Owner::Of(_, revision) => revision.item().key.instance(),
+            Owner::Before | Owner::After => None,
+        }
+    }
+
+    fn compare_items(&self, other: &Owner) -> Ordering
+        ensures { result ≡ item_cmp self.now other.now }
+    {
+        self.kind()
+            .cmp(&other.kind())
+            .then_with(|| self.instance().cmp(&other.instance()))
+            .then_with(|| self.revision().cmp(&other.revision()))
+    }
+
+    fn compare(&self, other: &Owner) -> Ordering
+        ensures { result ≡ owner_cmp self.now other.now }
+    {
+        self.place()
+            .cmp(&other.place())
+            .then(self.uid_number().cmp(&other.uid_number()))
+            .then_with(|| self.compare_items(other))
     }
 }
 
@@ -124,7 +180,7 @@ impl PartialOrd for IndexEntry {
     }
 }
 
-/// By mark, then by UID.
+/// By mark, then by owner.
 impl Ord for IndexEntry {
     ghost cmp = { entry_cmp };
 
@@ -137,6 +193,6 @@ impl Ord for IndexEntry {
     fn cmp(&self, other: &IndexEntry) -> Ordering {
         self.mark
             .compare(&other.mark)
-            .then_with(|| self.uid.cmp(&other.uid))
+            .then_with(|| self.owner.compare(&other.owner))
     }
 }

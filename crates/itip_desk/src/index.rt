@@ -1,112 +1,137 @@
-//! Sets of entries: those of items, how they change, and the UIDs that are found in them.
-ghost use Rattle.std.specs.Prelude.{◌≡◌, ◌↔◌, ◌⊎◌, ◌||◌, ◌&&◌, not, cond, true, false, List, ℕ, ◌++◌, map, IsTrue, IfOk, OnOk, OnErr};
-ghost use Rattle.std.specs.List.{Contains};
+//! Sets of entries: how those of items come and go.
+ghost use Rattle.std.specs.Prelude.{◌≡◌, ◌||◌, ◌&&◌, not, map as each, OnOk, OnErr, IfOk};
 ghost use Rattle.std.specs.Ordering.{is_eq};
 ghost use Rattle.itip_items.specs.KeyParts.{uid_of};
 ghost use Rattle.itip_items.specs.declared.item.Item.{Item};
 ghost use Rattle.itip_desk.specs.declared.entry.IndexEntry.{IndexEntry};
-ghost use Rattle.itip_desk.specs.Entries.{entry_cmp, day_entries, attendee_entries, entries_of, IsNoted};
-ghost use Rattle.itip_desk.specs.Index.{has, is_in, AreEntriesOf};
+ghost use Rattle.itip_desk.specs.Entries.{entry_cmp, entry_of, owner_of, day_marks, line_marks, entries_of};
+ghost use Rattle.itip_desk.specs.Index.{has, is_in, Widens};
+ghost use Rattle.itip_desk.specs.Numbers.{text_number};
 
-use crate::entry::{IndexEntry, Mark};
+use crate::entry::{IndexEntry, Mark, Owner};
+use crate::number::{attendee_number, uid_number};
 use itip_items::Item;
-use itip_todo::{Property, Uid, attendee_key};
+use itip_join::Exact;
+use itip_state::SharedItem;
 use itip_view::{has_rows, row_days};
-use std::alloc::{AllocError, Global};
+use std::alloc::AllocError;
 use std::collections::BTreeSet;
 
-/// Adds the entries of an item.
-pub(crate) fn note(
-    entries: &mut BTreeSet<IndexEntry>,
-    alloc: Global,
-    item: &Item,
-) -> Result<(), AllocError>
-    ensures { OnOk result ((e : IndexEntry) → has entries.new e ≡ (has entries.old e || is_in (entries_of item.now) e)) }
+/// An item as the owner of entries.
+pub(crate) fn owner_of(item: &SharedItem) -> Result<Owner, AllocError>
+    ensures { IfOk result (λ owner. owner ≡ owner_of item.now) }
 {
-    if !has_rows(item) {
+    let number = uid_number(item.item().key.uid().as_str());
+    Ok(Owner::Of(number, item.revision().copy()?))
+}
+
+/// Puts in the entries of an item. After a refusal some may be there.
+pub(crate) fn put_in(index: &mut BTreeSet<IndexEntry>, item: &SharedItem) -> Result<(), AllocError>
+    ensures ok { OnOk result ((e : IndexEntry) → has index.new e ≡ (has index.old e || is_in (entries_of item.now) e)) }
+    ensures widens { Widens (is_in (entries_of item.now)) index.old index.new }
+{
+    if !has_rows(item.item()) {
         return Ok(());
     }
-    note_days(entries, item)?;
-    note_attendees(
-        entries,
-        alloc,
-        item.key.uid(),
-        item.todo.attendees.as_slice(),
-    )
+    let number = uid_number(item.item().key.uid().as_str());
+    put_day(index, item, number)?;
+    put_lines(index, item, number)
 }
 
-fn note_days(entries: &mut BTreeSet<IndexEntry>, item: &Item) -> Result<(), AllocError>
-    ensures { OnOk result ((e : IndexEntry) → has entries.new e ≡ (has entries.old e || is_in (day_entries item.now) e)) }
-{
-    if let Some(days) = row_days(item) {
-        put(entries, item.key.uid(), Mark::of(days))?;
-    }
-    Ok(())
-}
-
-fn note_attendees(
-    entries: &mut BTreeSet<IndexEntry>,
-    alloc: Global,
-    uid: &Uid,
-    lines: &[Property],
-) -> Result<(), AllocError>
-    ensures { OnOk result ((e : IndexEntry) → has entries.new e ≡ (has entries.old e || is_in (attendee_entries uid.now lines.now) e)) }
-{
-    for line in lines {
-        let key = attendee_key(alloc, line.value.as_str())?;
-        put(entries, uid, Mark::Attendee(key))?;
-    }
-    Ok(())
-}
-
-fn put(entries: &mut BTreeSet<IndexEntry>, uid: &Uid, mark: Mark) -> Result<(), AllocError>
-    ensures { OnOk result ((e : IndexEntry)
-        → has entries.new e ≡ (has entries.old e || is_eq (entry_cmp e (record { mark = mark; uid = uid.now })))) }
-{
-    entries.insert(IndexEntry {
-        mark,
-        uid: uid.clone()?,
-    })?;
-    Ok(())
-}
-
-/// Puts in the entries of `new` that `old` lacks. A refusal changes nothing.
-pub(crate) fn grow(
+/// Puts in the entry of the day on which the rows of an item can stand, or of any day.
+fn put_day(
     index: &mut BTreeSet<IndexEntry>,
-    new: &BTreeSet<IndexEntry>,
-    old: &BTreeSet<IndexEntry>,
+    item: &SharedItem,
+    number: u32,
 ) -> Result<(), AllocError>
-    requires { (e : IndexEntry) → has new.now e ≡ true → has old.now e ≡ false → has index.old e ≡ false }
-    ensures ok { OnOk result ((e : IndexEntry) → has index.new e ≡ (has index.old e || (has new.now e && not (has old.now e)))) }
-    ensures err { OnErr result ((e : IndexEntry) → has index.new e ≡ has index.old e) }
-{
-    for entry in new.difference(old) {
-        if let Err(refused) = add(index, entry) {
-            shrink(index, new, old);
-            return Err(refused);
-        }
-    }
-    Ok(())
-}
-
-fn add(index: &mut BTreeSet<IndexEntry>, entry: &IndexEntry) -> Result<(), AllocError>
-    ensures ok { OnOk result ((e : IndexEntry) → has index.new e ≡ (has index.old e || is_eq (entry_cmp e entry.now))) }
+    requires { number ≡ text_number (uid_of item.now.key) }
+    ensures ok { OnOk result ((e : IndexEntry)
+        → has index.new e ≡ (has index.old e || is_in (each (entry_of item.now) (day_marks item.now)) e)) }
     ensures err { OnErr result (index.new.keys ≡ index.old.keys) }
 {
-    index.insert(entry.clone()?)?;
+    match row_days(item.item()) {
+        None => Ok(()),
+        Some(days) => put(index, item, number, Mark::of(days)),
+    }
+}
+
+/// Puts in those of the lines of attendees of an item.
+fn put_lines(
+    index: &mut BTreeSet<IndexEntry>,
+    item: &SharedItem,
+    number: u32,
+) -> Result<(), AllocError>
+    requires { number ≡ text_number (uid_of item.now.key) }
+    ensures ok { OnOk result ((e : IndexEntry)
+        → has index.new e ≡ (has index.old e || is_in (each (entry_of item.now) (line_marks item.now.todo.attendees)) e)) }
+    ensures widens { Widens (is_in (each (entry_of item.now) (line_marks item.now.todo.attendees))) index.old index.new }
+{
+    for line in item.item().todo.attendees.as_slice() {
+        let mark = Mark::Attendee(attendee_number(line.value.as_str()));
+        put(index, item, number, mark)?;
+    }
     Ok(())
 }
 
-/// Takes out the entries of `these` that `others` lacks. It takes no memory.
-pub(crate) fn shrink(
+fn put(
     index: &mut BTreeSet<IndexEntry>,
-    these: &BTreeSet<IndexEntry>,
-    others: &BTreeSet<IndexEntry>,
-)
-    ensures { (e : IndexEntry) → has index.new e ≡ (has index.old e && not (has these.now e && not (has others.now e))) }
+    item: &SharedItem,
+    number: u32,
+    mark: Mark,
+) -> Result<(), AllocError>
+    requires { number ≡ text_number (uid_of item.now.key) }
+    ensures ok { OnOk result ((e : IndexEntry) → has index.new e ≡ (has index.old e || is_eq (entry_cmp e (entry_of item.now mark)))) }
+    ensures err { OnErr result (index.new.keys ≡ index.old.keys) }
 {
-    for entry in these.difference(others) {
-        drop_one(index, entry);
+    let owner = Owner::Of(number, item.revision().copy()?);
+    index.insert(IndexEntry { mark, owner })?;
+    Ok(())
+}
+
+/// Takes out the entries of an item, whose owner is given for this. It takes no memory.
+pub(crate) fn take_out(index: &mut BTreeSet<IndexEntry>, item: &Item, owner: Owner)
+    requires { owner ≡ owner_of item.now }
+    ensures { (e : IndexEntry) → has index.new e ≡ (has index.old e && not (is_in (entries_of item.now) e)) }
+{
+    if !has_rows(item) {
+        drop(owner);
+        return;
+    }
+    let owner = take_day_out(index, item, owner);
+    take_lines_out(index, item, owner);
+}
+
+/// Takes out the entry of the day of an item, and gives the owner back.
+fn take_day_out(index: &mut BTreeSet<IndexEntry>, item: &Item, owner: Owner) -> Owner
+    requires { owner ≡ owner_of item.now }
+    ensures owner { result ≡ owner }
+    ensures out { (e : IndexEntry) → has index.new e ≡ (has index.old e && not (is_in (each (entry_of item.now) (day_marks item.now)) e)) }
+{
+    let Some(days) = row_days(item) else {
+        return owner;
+    };
+    let entry = IndexEntry {
+        mark: Mark::of(days),
+        owner,
+    };
+    drop_one(index, &entry);
+    let IndexEntry { mark: _, owner } = entry;
+    owner
+}
+
+/// Takes out those of the lines of attendees of an item.
+fn take_lines_out(index: &mut BTreeSet<IndexEntry>, item: &Item, owner: Owner)
+    requires { owner ≡ owner_of item.now }
+    ensures { (e : IndexEntry)
+        → has index.new e ≡ (has index.old e && not (is_in (each (entry_of item.now) (line_marks item.now.todo.attendees)) e)) }
+{
+    let mut entry = IndexEntry {
+        mark: Mark::Always,
+        owner,
+    };
+    for line in item.todo.attendees.as_slice() {
+        entry.mark = Mark::Attendee(attendee_number(line.value.as_str()));
+        drop_one(index, &entry);
     }
 }
 

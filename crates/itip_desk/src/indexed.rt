@@ -1,21 +1,20 @@
 //! A state with an index of its kept items.
-ghost use Rattle.std.specs.Prelude.{◌≡◌, ◌++◌, ◌↔◌, ◌⊎◌, [], false, ℕ, List, map, IsTrue, IfOk, OnOk, OnErr};
+ghost use Rattle.std.specs.Prelude.{◌≡◌, ◌⊎◌, ◌&&◌, not, ◌++◌, ◌∷◌, [], true, ℕ, List, map, IsTrue, IfOk, OnOk, OnErr};
 ghost use Rattle.itip_items.specs.declared.item.Item.{Item};
 ghost use Rattle.itip_state.specs.Kept.{AreKept};
-ghost use Rattle.itip_state.specs.Order.{IsState};
 ghost use Rattle.std.specs.List.{Contains};
 ghost use Rattle.itip_todo.specs.Table.{attendee_key};
 ghost use Rattle.itip_view.specs.RowDays.{is_of_rows, HasRowsIn, NamesIn};
 ghost use Rattle.itip_desk.specs.declared.entry.IndexEntry.{IndexEntry};
-ghost use Rattle.itip_desk.specs.Entries.{entries_of, IsNoted};
-ghost use Rattle.itip_desk.specs.Index.{has, is_in, IsTouched, AreOfRows, AreEntriesOf, HaveEntries};
+ghost use Rattle.itip_desk.specs.Entries.{owner_of as owner_is, entries_of, IsNoted};
+ghost use Rattle.itip_desk.specs.Index.{has, is_in, AreOfRows, HasGrown, HasSettled};
 
-use crate::entry::IndexEntry;
+use crate::entry::{IndexEntry, Owner};
 use crate::found::{find_in, find_named};
-use crate::index::{grow, note, shrink};
-use itip_items::{Item, Key};
-use itip_state::{SharedItem, State, uids};
-use itip_todo::{Uid, attendee_key};
+use crate::index::{owner_of, put_in, take_out};
+use itip_items::Key;
+use itip_state::{SharedItem, State};
+use itip_todo::Uid;
 use itip_view::Window;
 use std::alloc::{AllocError, Global};
 use std::collections::BTreeSet;
@@ -47,11 +46,12 @@ impl Model for IndexedState {
     ghost invariant = { λ s. IsIndexOf s.state s.index };
 }
 
-/// The entries of some UIDs before a hearing and after it.
-#[derive(Debug, Drop)]
-struct IndexChange {
-    old: BTreeSet<IndexEntry>,
-    new: BTreeSet<IndexEntry>,
+/// An item that can come or go, and what takes its entries out.
+#[derive(Drop)]
+struct Change {
+    item: SharedItem,
+    owner: Owner,
+    ghost owned: { owner ≡ owner_is item },
 }
 
 impl IndexedState {
@@ -85,8 +85,7 @@ impl IndexedState {
         ensures { IfOk result (λ uids. (uid : List ℕ)
             → NamesIn self.now (attendee_key address.now) uid → Contains (map (λ u. u.now) uids.items) uid) }
     {
-        let key = attendee_key(self.alloc, address)?;
-        find_named(self.alloc, &self.index, &key)
+        find_named(self.alloc, &self.index, address)
     }
 
     /// Hears these items. A refusal (out of memory) changes nothing.
@@ -114,20 +113,19 @@ impl IndexedState {
 
     /// Hears these items, of which those that are found can govern rows.
     ///
-    /// The index grows before anything is heard. What is asked for is in proportion to the items of the UIDs that the found ones are about.
+    /// The index grows before anything is heard, and loses the entries of what is not kept after that. What is asked for is in
+    /// proportion to these items and to those that can give way to them.
     fn hear_rows(&mut self, news: &[&SharedItem], found: &[&SharedItem]) -> Result<(), AllocError>
         requires { AreOfRows (map (λ item. item.now) found.now) (map (λ item. item.now) news.now) }
         ensures ok { OnOk result (AreKept self.new (self.old ++ map (λ item. item.now) news.now)) }
         ensures err { OnErr result (self.new ≡ self.old) }
     {
-        let change = changes_of(self.alloc, &self.state, found)?;
-        grow(&mut self.index, &change.new, &change.old)?;
-        if let Err(refused) = self.state.hear(news) {
-            shrink(&mut self.index, &change.new, &change.old);
-            return Err(refused);
-        }
-        shrink(&mut self.index, &change.old, &change.new);
-        Ok(())
+        self.state.lawful();
+        let giving = self.state.giving_way(found)?;
+        let changes = changes_of(self.alloc, giving, found)?;
+        let heard = grow_and_hear(&mut self.index, &mut self.state, news, found);
+        settle(&mut self.index, &self.state, changes);
+        heard
     }
 }
 
@@ -153,90 +151,69 @@ fn is_of_rows(key: &Key) -> bool
     }
 }
 
-/// What hearing these items changes in the entries of the UIDs that they are about.
+/// The items that can give way, and those that can come.
 fn changes_of(
     alloc: Global,
-    state: &State,
+    giving: Vec<SharedItem>,
     found: &[&SharedItem],
-) -> Result<IndexChange, AllocError>
-    ensures old { IfOk result (λ change. AreEntriesOf state.now (map (λ item. item.now) found.now) change.old) }
-    ensures new { IfOk result (λ change. (news after : List Item)
-        → AreOfRows (map (λ item. item.now) found.now) news → AreKept after (state.now ++ news) →
-        AreEntriesOf after (map (λ item. item.now) found.now) change.new) }
-    ensures about { IfOk result (λ change. (e : IndexEntry)
-        → IsTrue (has change.new e) → IsTouched (map (λ item. item.now) found.now) e.uid) }
-    ensures state { OnOk result (IsState state.now) }
+) -> Result<Vec<Change>, AllocError>
+    ensures giving { IfOk result (λ changes. (item : Item) → Contains giving.items item → Contains (map (λ c. c.item) changes.items) item) }
+    ensures found { IfOk result (λ changes. (item : Item)
+        → Contains (map (λ item. item.now) found.now) item → Contains (map (λ c. c.item) changes.items) item) }
 {
-    match found {
-        [item] if !state.keeps(item.item().key.uid()) => {
-            state.lawful();
-            first_of_uid(alloc, item.item())
-        }
-        _ => changes_in_part(alloc, state, found),
+    let mut changes = Vec::new(alloc);
+    for item in giving {
+        push_change(&mut changes, item)?;
     }
-}
-
-/// What hearing the first item of its UID changes: its entries come.
-fn first_of_uid(alloc: Global, item: &Item) -> Result<IndexChange, AllocError>
-    ensures old { IfOk result (λ change. (e : IndexEntry) → has change.old e ≡ false) }
-    ensures new { IfOk result (λ change. (e : IndexEntry) → has change.new e ≡ is_in (entries_of item.now) e) }
-{
-    let old = BTreeSet::new(alloc);
-    let mut new = BTreeSet::new(alloc);
-    note(&mut new, alloc, item)?;
-    Ok(IndexChange { old, new })
-}
-
-/// What hearing these items changes, worked out from all that is kept of the UIDs that they are about before and after.
-fn changes_in_part(
-    alloc: Global,
-    state: &State,
-    found: &[&SharedItem],
-) -> Result<IndexChange, AllocError>
-    ensures old { IfOk result (λ change. AreEntriesOf state.now (map (λ item. item.now) found.now) change.old) }
-    ensures new { IfOk result (λ change. (news after : List Item)
-        → AreOfRows (map (λ item. item.now) found.now) news → AreKept after (state.now ++ news) →
-        AreEntriesOf after (map (λ item. item.now) found.now) change.new) }
-    ensures about { IfOk result (λ change. (e : IndexEntry)
-        → IsTrue (has change.new e) → IsTouched (map (λ item. item.now) found.now) e.uid) }
-    ensures state { OnOk result (IsState state.now) }
-{
-    let uids = uids(alloc, found)?;
-    let mut part = state.part(&uids)?;
-    let old = entries_of(alloc, &part, &uids)?;
-    part.hear(found)?;
-    let new = entries_of(alloc, &part, &uids)?;
-    state.lawful();
-    Ok(IndexChange { old, new })
-}
-
-/// The entries of the items of these UIDs.
-fn entries_of(
-    alloc: Global,
-    part: &State,
-    uids: &[&Uid],
-) -> Result<BTreeSet<IndexEntry>, AllocError>
-    ensures { IfOk result (λ entries. HaveEntries part.now (map (λ uid. uid.now) uids.now) entries) }
-{
-    let mut entries = BTreeSet::new(alloc);
-    for uid in uids {
-        let items = part.of_uid(uid)?;
-        note_all(&mut entries, alloc, items.as_slice())?;
+    for item in found {
+        push_change(&mut changes, (*item).clone()?)?;
     }
-    Ok(entries)
+    Ok(changes)
 }
 
-/// Adds the entries of these items.
-fn note_all(
-    entries: &mut BTreeSet<IndexEntry>,
-    alloc: Global,
-    items: &[&Item],
-) -> Result<(), AllocError>
-    ensures { OnOk result ((e : IndexEntry)
-        → IsTrue (has entries.new e) ↔ (IsTrue (has entries.old e) ⊎ IsNoted (map (λ item. item.now) items.now) e)) }
+fn push_change(changes: &mut Vec<Change>, item: SharedItem) -> Result<(), AllocError>
+    ensures { OnOk result (map (λ c. c.item) changes.new.items ≡ map (λ c. c.item) changes.old.items ++ item ∷ []) }
 {
-    for item in items {
-        note(entries, alloc, item)?;
-    }
+    let owner = owner_of(&item)?;
+    changes.push(Change { item, owner })?;
     Ok(())
+}
+
+/// Puts in the entries of the items that are found, and hears the news. After a refusal, for which nothing is heard, entries may be there.
+fn grow_and_hear(
+    index: &mut BTreeSet<IndexEntry>,
+    state: &mut State,
+    news: &[&SharedItem],
+    found: &[&SharedItem],
+) -> Result<(), AllocError>
+    ensures kept { OnOk result (AreKept state.new (state.old ++ map (λ item. item.now) news.now)) }
+    ensures err { OnErr result (state.new ≡ state.old) }
+    ensures grown { HasGrown (map (λ item. item.now) found.now) index.old index.new }
+    ensures all { OnOk result ((e : IndexEntry) → IsNoted (map (λ item. item.now) found.now) e → has index.new e ≡ true) }
+{
+    for item in found {
+        put_in(index, item)?;
+    }
+    state.hear(news)
+}
+
+/// Takes out the entries of those items that are not kept. It takes no memory.
+fn settle(index: &mut BTreeSet<IndexEntry>, state: &State, changes: Vec<Change>)
+    ensures { HasSettled state.now (map (λ c. c.item) changes.items) index.old index.new }
+{
+    for change in changes {
+        settle_one(index, state, change);
+    }
+}
+
+fn settle_one(index: &mut BTreeSet<IndexEntry>, state: &State, change: Change)
+    ensures { (Contains state.now change.item × (index.new ≡ index.old)) ⊎ ((Contains state.now change.item → ⊥) ×
+        ((e : IndexEntry) → has index.new e ≡ (has index.old e && not (is_in (entries_of change.item) e)))) }
+{
+    if state.has(&change.item) {
+        drop(change);
+        return;
+    }
+    let Change { item: gone, owner } = change;
+    take_out(index, gone.item(), owner);
 }

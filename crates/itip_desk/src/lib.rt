@@ -13,13 +13,16 @@ mod indexed;
 mod laws;
 mod listed;
 mod moves;
+mod number;
 mod refusal;
+mod row_writing;
 
 pub use batch::Batch;
 pub use delta::{read_batch, read_delta, write_delta};
 pub use desk::{Changed, Desk};
 pub use error::DeskError;
 pub use laws::{delta_brings_up_to_date, delta_read_again, desks_converge, one_delta};
-pub use listed::{write_headed, write_listed};
+pub use listed::write_head;
 pub use refusal::Refusal;
+pub use row_writing::{write_listed, write_rows};
 pub use std::alloc::AllocError as NoMemory;

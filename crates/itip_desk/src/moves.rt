@@ -1,179 +1,194 @@
-//! The UIDs that moved, the last moved first.
-ghost use Rattle.std.specs.Prelude.{◌≡◌, ◌↔◌, ℕ, List, [], ◌∷◌, ◌++◌, Some, None, cond, true, is_some, length, map, take, IfOk, OnOk};
-ghost use Rattle.std.specs.Prelude.{OnErr};
+//! The UIDs that moved, by UID and by tick.
+ghost use Rattle.std.specs.Prelude.{◌≡◌, ◌≢◌, ◌↔◌, ◌⊎◌, ◌<◌, ℕ, List, [], Some, None, cond, true, is_some, map, IfOk, OnOk, OnErr, IfSome, IsTrue};
 ghost use Rattle.std.specs.List.{Contains};
+ghost use Rattle.std.specs.List.Sorted.{IsStrictlySortedBy};
+ghost use Rattle.std.specs.Map.{keys_of};
 ghost use Rattle.std.specs.Ordering.{nat_cmp, is_eq};
 ghost use Rattle.std.specs.Cmp.Lexicographic.{slice_cmp};
-ghost use Rattle.itip_join.specs.KeyByKey.{value_at};
-ghost use Rattle.itip_desk.specs.Moves.{entries_of, is_listed, FallFrom, ArePlaces};
+ghost use Rattle.std.specs.BTreeMap.{IsOrdered};
+ghost use Rattle.itip_desk.specs.Moves.{is_listed, tick_at, has_move, AreInOrder, AreTicks, HavePlaces, AreReady};
 ghost use Rattle.itip_desk.specs.Desk.{CarriesAfter};
 
+use itip_lines::Text;
 use itip_todo::Uid;
-use lru::LruCache;
 use std::alloc::{AllocError, Global};
+use std::collections::{BTreeMap, BTreeSet};
 use std::marker::Model;
+use std::mem;
 
-/// The UIDs that moved, each with the tick of its last move, the last moved first. Contracts see it as this list.
+/// The UIDs that moved, each with the tick of its last move.
 #[derive(Debug, Drop)]
 pub(crate) struct MovedUids {
     alloc: Global,
-    cache: Option<LruCache<Uid, u64>>,
+    /// The tick that each carries; 0 where it has but a place.
+    ticks: BTreeMap<Uid, u64>,
+    /// The same by tick. What a UID carried before may stand here too, until it is found to be past.
+    order: BTreeSet<(u64, Uid)>,
 }
 
 impl Model for MovedUids {
-    ghost use Rattle.std.specs.Prelude.{List, ℕ};
-    ghost use Rattle.itip_desk.specs.Moves.{entries_of};
+    ghost use Rattle.itip_desk.specs.Moves.{Moved, moved_code, AreMoves};
 
-    ghost Value = { List (List ℕ × ℕ) };
+    ghost Value = { Moved };
 
-    ghost view = { λ m. entries_of m.cache };
+    ghost coded = { moved_code };
+
+    ghost view = { λ m. record { carried = m.ticks.entries; order = m.order.keys } };
+
+    ghost invariant = { λ m. AreMoves m.ticks.entries m.order.keys };
 }
 
 impl MovedUids {
     /// No UID. It takes no memory.
     pub(crate) fn new(alloc: Global) -> MovedUids
-        ensures { result ≡ [] }
+        ensures { result.carried ≡ [] }
     {
-        MovedUids { alloc, cache: None }
-    }
-
-    /// How many there are.
-    pub(crate) fn len(&self) -> usize
-        ensures { result ≡ length self.now }
-    {
-        match &self.cache {
-            None => 0,
-            Some(cache) => cache.len(),
+        MovedUids {
+            alloc,
+            ticks: BTreeMap::new(alloc),
+            order: BTreeSet::new(alloc),
         }
     }
 
-    /// Makes a place with tick 0, behind all others, for each of these UIDs that has none. A refusal changes nothing.
-    pub(crate) fn add_places(&mut self, uids: &[Uid]) -> Result<(), AllocError>
-        ensures places { OnOk result ((places : List (List ℕ × ℕ)) × (self.new ≡ self.old ++ places) × ArePlaces places) }
-        ensures all { OnOk result ((uid : List ℕ)
-            → is_listed uids.now uid ≡ true → is_some (value_at (slice_cmp nat_cmp) self.new uid) ≡ true) }
-        ensures err { OnErr result (self.new ≡ self.old) }
+    /// Makes what is needed for these UIDs to carry a tick. After a refusal each carries what it did.
+    pub(crate) fn prepare(&mut self, uids: &[Uid], tick: u64) -> Result<(), AllocError>
+        requires { AreTicks self.old.carried }
+        ensures places { HavePlaces uids.now self.old.carried self.new.carried }
+        ensures ready { OnOk result (AreReady uids.now tick self.new) }
+        ensures err { OnErr result (self.new.carried ≡ self.old.carried) }
     {
-        let mut cache = opened(self.alloc, self.cache.take())?;
-        let added = add_all(&mut cache, uids);
-        self.cache = Some(cache);
-        added
-    }
-
-    /// Takes out all but the first so many.
-    pub(crate) fn truncate(&mut self, len: usize)
-        ensures { self.new ≡ take len self.old }
-    {
-        if let Some(cache) = &mut self.cache {
-            truncate_to(cache, len);
+        put_moves(&mut self.order, uids, tick)?;
+        if let Err(refused) = put_places(&mut self.ticks, uids) {
+            drop_places(&mut self.ticks, uids);
+            return Err(refused);
         }
+        Ok(())
     }
 
-    /// Has these UIDs, which have places, carry the tick. They then stand first.
+    /// Takes out those of these UIDs that have but a place.
+    pub(crate) fn take_places_back(&mut self, uids: &[Uid])
+        ensures { (was : List (List ℕ × ℕ)) → IsStrictlySortedBy (slice_cmp nat_cmp) (keys_of was) → AreTicks was
+            → HavePlaces uids.now was self.old.carried → self.new.carried ≡ was }
+    {
+        drop_places(&mut self.ticks, uids);
+    }
+
+    /// Has these UIDs carry the tick that they were prepared for. It takes no memory.
     pub(crate) fn mark(&mut self, uids: &[Uid], tick: u64)
-        requires { (uid : List ℕ) → is_listed uids.now uid ≡ true → is_some (value_at (slice_cmp nat_cmp) self.old uid) ≡ true }
-        ensures marked { (uid : List ℕ) → value_at (slice_cmp nat_cmp) self.new uid
-            ≡ cond (is_listed uids.now uid) (Some tick) (value_at (slice_cmp nat_cmp) self.old uid) }
-        ensures falls { FallFrom tick self.old → FallFrom tick self.new }
+        requires { AreReady uids.now tick self.old }
+        ensures { (uid : List ℕ) → tick_at self.new.carried uid ≡ cond (is_listed uids.now uid) (Some tick) (tick_at self.old.carried uid) }
     {
-        if let Some(cache) = &mut self.cache {
-            for uid in uids {
-                mark_one(cache, uid, tick);
+        for uid in uids {
+            if let Some(before) = set(&mut self.ticks, uid, tick) {
+                forget(&mut self.order, before, uid, tick);
             }
         }
     }
 
-    /// The UIDs that carry a tick above `since`, the last moved first. No other is looked at but the one behind them.
+    /// The UIDs that carry a tick above `since`. What is behind the ticks above it is not looked at.
     pub(crate) fn after(&self, since: u64) -> Result<Vec<&Uid>, AllocError>
-        ensures { IfOk result (λ uids. (top : ℕ)
-            → FallFrom top self.now → (uid : List ℕ) → Contains (map (λ u. u.now) uids.items) uid ↔ CarriesAfter self.now since uid) }
+        ensures { IfOk result (λ uids. (uid : List ℕ) → Contains (map (λ u. u.now) uids.items) uid ↔ CarriesAfter self.now.carried since uid) }
     {
         let mut uids = Vec::new(self.alloc);
-        let Some(cache) = &self.cache else {
-            return Ok(uids);
-        };
-        for (uid, tick) in cache.iter() {
-            if *tick <= since {
-                return Ok(uids);
+        let next = since.saturating_add(1);
+        let from = (next, Uid::new(self.alloc, Text::new(self.alloc))?);
+        for (tick, uid) in self.order.range(from..) {
+            if carries_after(&self.ticks, uid, *tick, since) {
+                uids.push(uid)?;
             }
-            uids.push(uid)?;
         }
         Ok(uids)
     }
-}
 
-/// The cache that there is, or a new one.
-fn opened(
-    alloc: Global,
-    cache: Option<LruCache<Uid, u64>>,
-) -> Result<LruCache<Uid, u64>, AllocError>
-    ensures ok { IfOk result (λ opened. opened.entries ≡ entries_of cache) }
-    ensures err { OnErr result (entries_of cache ≡ []) }
-{
-    match cache {
-        Some(cache) => Ok(cache),
-        None => LruCache::unbounded(alloc),
+    /// What is true of it always: what each UID carries stands in the order of UIDs. The call does nothing; a prover who makes it
+    /// learns this.
+    pub(crate) fn lawful(&self)
+        ensures { IsStrictlySortedBy (slice_cmp nat_cmp) (keys_of self.now.carried) }
+    {
+        let _ = &self.ticks;
     }
 }
 
-/// Makes a place for a UID that has none. It is refused where the cache is full, which would forget another.
-fn add(cache: &mut LruCache<Uid, u64>, uid: &Uid) -> Result<(), AllocError>
-    requires { value_at (slice_cmp nat_cmp) cache.old.entries uid.now ≡ None }
-    ensures ok { OnOk result (cache.new.entries ≡ cache.old.entries ++ (uid.now, 0) ∷ []) }
-    ensures err { OnErr result (cache.new.entries ≡ cache.old.entries) }
+/// Puts in these UIDs under a tick.
+fn put_moves(order: &mut BTreeSet<(u64, Uid)>, uids: &[Uid], tick: u64) -> Result<(), AllocError>
+    ensures all { OnOk result ((uid : List ℕ) → is_listed uids.now uid ≡ true → has_move order.new.keys (tick, uid) ≡ true) }
+    ensures keeps { (move : ℕ × List ℕ) → has_move order.old.keys move ≡ true → has_move order.new.keys move ≡ true }
 {
-    if cache.len() == cache.cap().get() {
-        return Err(AllocError);
-    }
-    cache.put(uid.clone()?, 0)?;
-    cache.demote(uid);
-    Ok(())
-}
-
-/// Whether a UID has a place.
-fn has(cache: &LruCache<Uid, u64>, uid: &Uid) -> bool
-    ensures { result ≡ is_some (value_at (slice_cmp nat_cmp) cache.now.entries uid.now) }
-{
-    cache.contains(uid)
-}
-
-/// Makes a place for each of these UIDs that has none, or where memory is refused for none of them.
-fn add_all(cache: &mut LruCache<Uid, u64>, uids: &[Uid]) -> Result<(), AllocError>
-    ensures places { OnOk result ((places : List (List ℕ × ℕ)) × (cache.new.entries ≡ cache.old.entries ++ places) × ArePlaces places) }
-    ensures all { OnOk result ((uid : List ℕ)
-        → is_listed uids.now uid ≡ true → is_some (value_at (slice_cmp nat_cmp) cache.new.entries uid) ≡ true) }
-    ensures err { OnErr result (cache.new.entries ≡ cache.old.entries) }
-{
-    let len = cache.len();
     for uid in uids {
-        if has(cache, uid) {
-            continue;
-        }
-        if let Err(refused) = add(cache, uid) {
-            truncate_to(cache, len);
-            return Err(refused);
+        order.insert((tick, uid.clone()?))?;
+    }
+    Ok(())
+}
+
+/// Makes a place for each of these UIDs that has none.
+fn put_places(ticks: &mut BTreeMap<Uid, u64>, uids: &[Uid]) -> Result<(), AllocError>
+    requires { IsOrdered (slice_cmp nat_cmp) ticks.old }
+    ensures ordered { IsOrdered (slice_cmp nat_cmp) ticks.new }
+    ensures places { HavePlaces uids.now ticks.old.entries ticks.new.entries }
+    ensures all { OnOk result ((uid : List ℕ) → is_listed uids.now uid ≡ true → is_some (tick_at ticks.new.entries uid) ≡ true) }
+{
+    for uid in uids {
+        if !ticks.contains_key(uid) {
+            ticks.insert(uid.clone()?, 0)?;
         }
     }
     Ok(())
 }
 
-/// Takes out all but the first so many.
-fn truncate_to(cache: &mut LruCache<Uid, u64>, len: usize)
-    ensures { cache.new.entries ≡ take len cache.old.entries }
+/// Takes out those of these UIDs that have but a place.
+fn drop_places(ticks: &mut BTreeMap<Uid, u64>, uids: &[Uid])
+    requires { IsOrdered (slice_cmp nat_cmp) ticks.old }
+    ensures ordered { IsOrdered (slice_cmp nat_cmp) ticks.new }
+    ensures fewer { (uid : List ℕ) → (tick_at ticks.new.entries uid ≡ tick_at ticks.old.entries uid) ⊎ (tick_at ticks.new.entries uid ≡ None) }
+    ensures without { (was : List (List ℕ × ℕ)) → IsStrictlySortedBy (slice_cmp nat_cmp) (keys_of was) → AreTicks was
+        → HavePlaces uids.now was ticks.old.entries → ticks.new.entries ≡ was }
 {
-    while cache.len() > len {
-        cache.pop_lru();
+    for uid in uids {
+        if carries(ticks, uid, 0) {
+            ticks.remove(uid);
+        }
     }
 }
 
-/// Has a UID that has a place carry the tick, and puts it first.
-fn mark_one(cache: &mut LruCache<Uid, u64>, uid: &Uid, tick: u64)
-    requires { is_some (value_at (slice_cmp nat_cmp) cache.old.entries uid.now) ≡ true }
-    ensures marked { (q : List ℕ) → value_at (slice_cmp nat_cmp) cache.new.entries q
-        ≡ cond (is_eq (slice_cmp nat_cmp uid.now q)) (Some tick) (value_at (slice_cmp nat_cmp) cache.old.entries q) }
-    ensures falls { FallFrom tick cache.old.entries → FallFrom tick cache.new.entries }
+/// Whether a UID carries this tick.
+fn carries(ticks: &BTreeMap<Uid, u64>, uid: &Uid, tick: u64) -> bool
+    ensures { IsTrue result ↔ (tick_at ticks.now.entries uid.now ≡ Some tick) }
 {
-    if let Some(carried) = cache.get_mut(uid) {
-        *carried = tick;
+    match ticks.get(uid) {
+        None => false,
+        Some(carried) => *carried == tick,
+    }
+}
+
+/// Whether a UID carries this tick, which is above `since`.
+fn carries_after(ticks: &BTreeMap<Uid, u64>, uid: &Uid, tick: u64, since: u64) -> bool
+    ensures { IsTrue result ↔ ((tick_at ticks.now.entries uid.now ≡ Some tick) × (since < tick)) }
+{
+    tick > since && carries(ticks, uid, tick)
+}
+
+/// Has a UID that has a place carry a tick; gives the one that it carried.
+fn set(ticks: &mut BTreeMap<Uid, u64>, uid: &Uid, tick: u64) -> Option<u64>
+    requires { IsOrdered (slice_cmp nat_cmp) ticks.old }
+    ensures ordered { IsOrdered (slice_cmp nat_cmp) ticks.new }
+    ensures before { result ≡ tick_at ticks.old.entries uid.now }
+    ensures with { (q : List ℕ) → is_some (tick_at ticks.old.entries uid.now) ≡ true
+        → tick_at ticks.new.entries q ≡ cond (is_eq (slice_cmp nat_cmp uid.now q)) (Some tick) (tick_at ticks.old.entries q) }
+    ensures absent { tick_at ticks.old.entries uid.now ≡ None → ticks.new.entries ≡ ticks.old.entries }
+{
+    let place = ticks.get_mut(uid)?;
+    Some(mem::replace(place, tick))
+}
+
+/// Takes a UID out where it stood under another tick than that which it carries now, if the memory for that is there.
+fn forget(order: &mut BTreeSet<(u64, Uid)>, before: u64, uid: &Uid, tick: u64)
+    ensures { (move : ℕ × List ℕ) → has_move order.old.keys move ≡ true
+        → (move.1 ≢ uid.now) ⊎ (move.0 ≡ tick) → has_move order.new.keys move ≡ true }
+{
+    if before == tick {
+        return;
+    }
+    if let Ok(uid) = uid.clone() {
+        order.remove(&(before, uid));
     }
 }

@@ -5,6 +5,7 @@ use Rattle.std.specs.List.{AllZip}
 use Rattle.std.proofs.lemmas.List.{length-append}
 use Rattle.itip_explain.specs.declared.told.ToldItem.{ToldItem}
 use Rattle.itip_items.specs.declared.item.Item.{Item}
+use Rattle.itip_message.specs.Message.{RefusesMessage}
 use Rattle.itip_message.specs.declared.error.MessageRefusal.{MessageRefusal}
 use Rattle.itip_message.specs.declared.error.ReadError.{ReadError}
 use Rattle.itip_message.specs.declared.error.ReadError.TheVariants as error
@@ -81,6 +82,24 @@ keeps_same about messages old new state refusals told keeps = record {
   tells = subst (λ (more : List ToldItem). AreTold about messages more) (sym told) keeps.tells;
   keeps = subst (λ (kept : List Item). AreKept kept keeps.heard) (sym state) keeps.keeps;
 }
+
+-- a message is noted as refused
+pub keeps_refusal : (about : Option (List ℕ)) (before : List Placed) (old new : Inbox) (text : List ℕ) (cause : MessageRefusal)
+    (next : ℕ) → RefusesMessage text cause → new.state ≡ old.state → new.told.items ≡ old.told.items → next ≡ old.messages + 1 →
+    new.refusals.items ≡ old.refusals.items ++ (record { source = old.source; message = next; refusal = cause }) ∷ []
+    → KeepsMessages about before old → KeepsMessages about (before ++ placed_from old.source (old.messages + 1) (text ∷ [])) new
+keeps_refusal about before old new text cause next refuses state told is noted keeps =
+    let one : Placed = record { source = old.source; message = old.messages + 1; text = text } in
+    record {
+      heard = keeps.heard;
+      hears = subst (λ (refusals : List RefusedMessage). Hears (before ++ one ∷ []) keeps.heard refusals)
+          (sym (noted ∙ ap (λ (n : ℕ). old.refusals.items ++
+          (record { source = old.source; message = n; refusal = cause }) ∷ []) is))
+          (hears_refusal before keeps.heard old.refusals.items keeps.hears one cause refuses);
+      tells = subst (λ (more : List ToldItem). AreTold about (before ++ one ∷ []) more) (sym told)
+          (tells_refusal about before old.told.items keeps.tells one cause refuses);
+      keeps = subst (λ (kept : List Item). AreKept kept keeps.heard) (sym state) keeps.keeps;
+    }
 
 -- ---- going through answers
 

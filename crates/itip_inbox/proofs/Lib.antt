@@ -1,5 +1,6 @@
 mod Answered
 mod Hearing
+mod HeldParts
 mod Keeping
 mod Streams
 mod Sources

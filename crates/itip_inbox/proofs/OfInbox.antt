@@ -1,5 +1,5 @@
 -- What is written of inputs: one text that is made of what is kept.
-use Rattle.std.proofs.Common.{◌≡◌, subst, refl, ℕ, Bool, ◌||◌, List, inl, inr, Option, Result, Ok, Err}
+use Rattle.std.proofs.Common.{◌≡◌, subst, refl, ℕ, Bool, ◌||◌, List, [], inl, inr, Option, Result, Ok, Err}
 use Rattle.std.specs.Prelude.{OnOk, IfOk}
 use Rattle.std.specs.Io.KnownBytes.{Appends}
 use Rattle.std.proofs.KnownBytes.{Appends-nil}
@@ -9,7 +9,7 @@ use Rattle.itip_streams.specs.Written.{AppendsFront, WritesOutput}
 use Rattle.itip_streams.proofs.Writing.{front_none}
 use Rattle.itip_inbox.specs.declared.refused.RefusedMessage.{RefusedMessage}
 use Rattle.itip_inbox.specs.Inbox.{AreInputs, Holds, is_some_refused}
-use Rattle.itip_inbox.specs.OfInbox.{IsOfInbox, WritesFront}
+use Rattle.itip_inbox.specs.OfInbox.{IsOfInbox, WritesFront, WritesKept, WritesKeptFront}
 use Rattle.itip_inbox.proofs.OneInbox.{one_inbox}
 
 module _ (Is : List Item → List ℕ → Bool → Type 0) (kept : List Item) (refusals : List RefusedMessage) (text : List ℕ) (refusal : Bool)
@@ -56,6 +56,34 @@ module _ (Is : List Item → List ℕ → Bool → Type 0) (kept : List Item) (r
           subst (λ (t : List ℕ). AppendsFront old new t)
           (once here.heard text other refusal is.refusal (made here.heard here.keeps)
           (subst (λ (heard : List Item). Is heard other is.refusal) same is.is_text)) front
+
+-- ---- what is written while it is made
+
+module _ {R : Type 0} (Is : List Item → List ℕ → Bool → Type 0) (kept : List Item) (refusals : List RefusedMessage)
+    (remaining : R → Option (List ℕ)) (sources : List R) (old new : Option (List ℕ))
+    (holds : (inputs : List (List ℕ)) → AreInputs remaining sources inputs → Holds inputs kept refusals)
+    (inputs : List (List ℕ)) (are : AreInputs remaining sources inputs) where
+  pub kept_written : (refusal refused : Bool) → WritesKept Is kept old new refusal → refused ≡ (is_some_refused refusals || refusal) →
+      WritesOutput (IsOfInbox Is inputs) old new refused
+  kept_written refusal refused writes same = record {
+    output = writes.text;
+    is_output = is_of_inbox Is kept refusals writes.text refusal writes.is_text inputs refused (holds inputs are) same;
+    appended = writes.appended;
+  }
+
+  pub kept_front : WritesKeptFront Is kept old new → WritesFront (IsOfInbox Is inputs) old new
+  kept_front (inl none) = inl none
+  kept_front (inr some) =
+      some_front Is kept refusals some.text some.refusal some.is_text remaining sources old new holds some.appended inputs are
+
+  -- where there is one such text
+  pub one_kept_front : ((heard : List Item) (one other : List ℕ) (refusal more : Bool) → Is heard one refusal → Is heard other more →
+      one ≡ other) → WritesKeptFront Is kept old new → (other : List ℕ) (refused : Bool) → IsOfInbox Is inputs other refused →
+      AppendsFront old new other
+  one_kept_front once (inl none) other refused is = record { front = []; rest = other; whole = refl; appended = none }
+  one_kept_front once (inr some) other refused is =
+      its_front Is kept refusals some.text some.refusal some.is_text remaining sources old new holds some.appended inputs are once other
+      refused is
 
 -- ---- nothing was written yet
 

@@ -1,5 +1,5 @@
 -- What is written of inputs.
-use Rattle.std.proofs.Common.{◌≡◌, ◌∙◌, sym, ap, refl, subst, ℕ, ◌+◌, ◌<◌, ◌≤◌, Bool, List, [], ◌∷◌, ◌++◌, length, take, drop, get_or}
+use Rattle.std.proofs.Common.{◌≡◌, ◌∙◌, sym, ap, refl, subst, true, false, ℕ, ◌+◌, ◌<◌, ◌≤◌, Bool, List, [], ◌∷◌, ◌++◌, length, take, drop, get_or}
 use Rattle.std.proofs.Common.{inl, inr, append_assoc, take-append-drop, Option, Result, Ok, Err}
 use Rattle.std.specs.Prelude.{OnErr}
 use Rattle.std.specs.Io.KnownBytes.{Appends}
@@ -7,19 +7,24 @@ use Rattle.std.proofs.KnownBytes.{Appends-nil, Appends-trans}
 use Rattle.std.proofs.lemmas.List.{take_more, take_all}
 use Rattle.itip_items.specs.declared.item.Item.{Item}
 use Rattle.itip_state.specs.Kept.{AreKept, IsItemsOf}
+use Rattle.itip_view.specs.ByUid.{AreLeft, AreAsked, AreFewLeft, AreTooManyLeft}
 use Rattle.itip_view.specs.ListText.{list_text}
 use Rattle.itip_view.specs.Rows.{row_limit}
 use Rattle.itip_view.specs.Showing.{AreRowsWhere}
+use Rattle.itip_view.specs.declared.by_uid.RowsByUid.{RowsByUid}
 use Rattle.itip_view.specs.declared.row.Row.{Row}
 use Rattle.itip_view.specs.declared.window.Window.{Window}
 use Rattle.itip_view.proofs.OneList.{one_where, few_or_too_many}
-use Rattle.itip_view.proofs.OfKept.{rows_where_of_kept}
+use Rattle.itip_view.proofs.Left.{left_where, too_many_where}
+use Rattle.itip_view.proofs.OfKept.{rows_where_of_kept, many_where_of_kept}
 use Rattle.itip_desk.specs.Delta.{delta_octets}
+use Rattle.itip_desk.specs.Refusals.{refused_text}
 use Rattle.itip_desk.proofs.ReadDeltas.{one_order}
 use Rattle.itip_streams.specs.Written.{AppendsFront, MovesOut, WritesOutput}
 use Rattle.itip_inbox.specs.declared.refused.RefusedMessage.{RefusedMessage}
 use Rattle.itip_inbox.specs.Inbox.{AreInputs, Holds, is_some_refused}
 use Rattle.itip_inbox.specs.Compaction.{IsCompaction, WritesSoFar}
+use Rattle.itip_inbox.specs.OfInbox.{WritesKept, WritesKeptFront}
 use Rattle.itip_inbox.specs.TaskList.{IsTextWhere, IsListed}
 use Rattle.itip_inbox.proofs.Octets.{octets_none, octets_both, octets_push}
 use Rattle.itip_inbox.proofs.OneInbox.{one_inbox}
@@ -137,6 +142,50 @@ listed_once P heard window text other refusal more (inl a) (inr b) =
 listed_once P heard window text other refusal more (inr a) (inl b) =
     absurd (few_or_too_many P heard window b.0.rows b.0.are_rows b.0.few a.0)
 listed_once P heard window text other refusal more (inr a) (inr b) = a.1 ∙ sym b.1
+
+module _ (P : Row → Type 0) (kept : List Item) (window : Window) (asked : RowsByUid) (are_asked : AreAsked P kept window asked) where
+  few_listed : (number : ℕ) (few : AreFewLeft asked number) (heard : List Item) → AreKept kept heard →
+      IsListed P heard window (list_text few.rows) false
+  few_listed number few heard are =
+      inl (
+        text_of_rows P kept heard window few.rows (list_text few.rows) are
+            ((left_where P kept window asked are_asked few.rows).0 few.are_left)
+            (subst (λ (n : ℕ). n ≤ row_limit) (sym few.number_is) few.few) refl,
+        refl,
+      )
+
+  many_listed : AreTooManyLeft asked → (heard : List Item) → AreKept kept heard → IsListed P heard window (refused_text 31) true
+  many_listed many heard are =
+      inr (
+        many_where_of_kept P kept heard are window (too_many_where P kept window asked are_asked many),
+        refl,
+        refl,
+      )
+
+  module _ (old new : Option (List ℕ)) where
+    pub writes_list : (number : ℕ) → AreFewLeft asked number → ((all : List Row) → AreLeft asked all → Appends old new (list_text all)) →
+        WritesKept (λ heard. IsListed P heard window) kept old new false
+    writes_list number few appends =
+        record { text = list_text few.rows; is_text = few_listed number few; appended = appends few.rows few.are_left }
+
+    pub list_front : (number : ℕ) → AreFewLeft asked number → ((all : List Row) → AreLeft asked all → AppendsFront old new (list_text all)) →
+        WritesKeptFront (λ heard. IsListed P heard window) kept old new
+    list_front number few front =
+        inr (record {
+          text = list_text few.rows;
+          refusal = false;
+          is_text = few_listed number few;
+          appended = front few.rows few.are_left;
+        })
+
+    pub refuses_list : AreTooManyLeft asked → Appends old new (refused_text 31) →
+        WritesKept (λ heard. IsListed P heard window) kept old new true
+    refuses_list many appended = record { text = refused_text 31; is_text = many_listed many; appended = appended }
+
+    pub refusal_front : AreTooManyLeft asked → AppendsFront old new (refused_text 31) →
+        WritesKeptFront (λ heard. IsListed P heard window) kept old new
+    refusal_front many front =
+        inr (record { text = refused_text 31; refusal = true; is_text = many_listed many; appended = front })
 
 -- ---- where a fault ends it
 

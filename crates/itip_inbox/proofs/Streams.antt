@@ -1,69 +1,91 @@
 -- An input that is read by and by.
 use Rattle.std.proofs.Common.{◌≡◌, ◌∙◌, sym, ap, refl, ℕ, ◌+◌, ◌<◌, List, [], ◌∷◌, ◌++◌, length, subst, arith, append_assoc, append-nil}
-use Rattle.std.proofs.Common.{Option, Some, None}
+use Rattle.std.proofs.Common.{Bool, false, Option, Some, None}
 use Rattle.std.specs.Prelude.{IfSome}
 use Rattle.std.specs.Io.KnownBytes.{Consumes, IsAtEnd}
+use Rattle.std.proofs.KnownBytes.{Consumes-nil, Consumes-trans}
 use Rattle.std.proofs.lemmas.List.{length-append}
 use Rattle.itip_message.specs.Scanned.{messages_of, CutsMessage, StaysCut}
 use Rattle.itip_inbox.specs.declared.inbox.Inbox.{Inbox}
+use Rattle.itip_inbox.specs.declared.messages.Held.{Held}
 use Rattle.itip_inbox.specs.Inbox.{Placed, placed_from}
-use Rattle.itip_inbox.specs.Streaming.{MovesIn, LeavesMessages, StaysCutInto, KeepsMessages, HasHeard, ReadsSoFar, HearsFirst}
+use Rattle.itip_inbox.specs.Streaming.{Brings, LeavesMessages, AreReadFor, IsHeld, StaysCutInto, KeepsMessages, HasHeard, ReadsSoFar}
+use Rattle.itip_inbox.specs.Streaming.{HearsFirst}
 use Rattle.itip_inbox.proofs.Hearing.{placed_on}
 
-pub moves_none : (o : Option (List ℕ)) (held : List ℕ) → MovesIn o o held held
-moves_none None held = tt
-moves_none (Some input) held = refl
+pub brings_none : (o : Option (List ℕ)) (held : List ℕ) → Brings o o held held
+brings_none o held = record { brought = []; reads = Consumes-nil o; grows = sym (append-nil held) }
 
-pub moves_more : (old mid new : Option (List ℕ)) (before held more : List ℕ) → MovesIn old mid before held → Consumes mid new more →
-    MovesIn old new before (held ++ more)
-moves_more None mid new before held more m c = tt
-moves_more (Some input) None new before held more m c = absurd m
-moves_more (Some input) (Some left) None before held more m c = absurd c
-moves_more (Some input) (Some left) (Some rest) before held more m c = m ∙ ap (λ (t : List ℕ). held ++ t) c ∙
-    sym (append_assoc held more rest)
+pub brings_more : (old mid new : Option (List ℕ)) (before held after more : List ℕ) → Brings old mid before held → Consumes mid new more →
+    after ≡ held ++ more → Brings old new before after
+brings_more old mid new before held after more so_far reads grows = record {
+  brought = so_far.brought ++ more;
+  reads = Consumes-trans old mid new so_far.brought more so_far.reads reads;
+  grows = grows ∙ ap (λ (t : List ℕ). t ++ more) so_far.grows ∙ append_assoc before so_far.brought more;
+}
 
 leaves_all : (o : Option (List ℕ)) → LeavesMessages o o [] []
 leaves_all None = tt
 leaves_all (Some input) = refl
 
-leaves_moved : (old mid new : Option (List ℕ)) (messages : List (List ℕ)) (before after : List ℕ) →
-    LeavesMessages old mid messages before → MovesIn mid new before after → LeavesMessages old new messages after
-leaves_moved None mid new messages before after l m = tt
-leaves_moved (Some input) None new messages before after l m = absurd l
-leaves_moved (Some input) (Some left) None messages before after l m = absurd m
-leaves_moved (Some input) (Some left) (Some rest) messages before after l m = l ∙ ap (λ (t : List ℕ). messages ++ messages_of t) m
+leaves_moved : (old mid new : Option (List ℕ)) (messages : List (List ℕ)) (came more : List ℕ) →
+    LeavesMessages old mid messages came → Consumes mid new more → LeavesMessages old new messages (came ++ more)
+leaves_moved None mid new messages came more l m = tt
+leaves_moved (Some input) None new messages came more l m = absurd l
+leaves_moved (Some input) (Some left) None messages came more l m = absurd m
+leaves_moved (Some input) (Some left) (Some rest) messages came more l m =
+    l ∙ ap (λ (t : List ℕ). messages ++ messages_of (came ++ t)) m ∙
+    ap (λ (t : List ℕ). messages ++ messages_of t) (sym (append_assoc came more rest))
 
-leaves_cut : (old new : Option (List ℕ)) (messages texts : List (List ℕ)) (held left : List ℕ) → LeavesMessages old new messages held →
-    StaysCutInto held texts left → LeavesMessages old new (messages ++ texts) left
-leaves_cut None new messages texts held left l cut = tt
-leaves_cut (Some input) None messages texts held left l cut = absurd l
-leaves_cut (Some input) (Some rest) messages texts held left l cut = l ∙ ap (λ (t : List (List ℕ)). messages ++ t) (cut rest) ∙
+-- what is not read, as far as that is known
+rest_of : Option (List ℕ) → List ℕ
+rest_of None = []
+rest_of (Some rest) = rest
+
+leaves_cut : (old new : Option (List ℕ)) (messages texts : List (List ℕ)) (came left : List ℕ) → LeavesMessages old new messages came →
+    messages_of (came ++ rest_of new) ≡ texts ++ messages_of (left ++ rest_of new) → LeavesMessages old new (messages ++ texts) left
+unfolding rest_of
+leaves_cut None new messages texts came left l cut = tt
+leaves_cut (Some input) None messages texts came left l cut = absurd l
+leaves_cut (Some input) (Some rest) messages texts came left l cut = l ∙ ap (λ (t : List (List ℕ)). messages ++ t) cut ∙
     sym (append_assoc messages texts (messages_of (left ++ rest)))
 
-pub reads_none : (about : Option (List ℕ)) (before : List Placed) (inbox : Inbox) (o : Option (List ℕ)) (held : List ℕ) → held ≡ [] →
-    KeepsMessages about before inbox → ReadsSoFar about before inbox inbox o o held
-reads_none about before inbox o held nothing keeps =
+-- what is held stays so with what is read behind it
+held_more : (is_long : Bool) (held filled came more : List ℕ) → filled ≡ held ++ more → IsHeld is_long held came →
+    IsHeld is_long filled (came ++ more)
+held_more is_long held filled came more grows is = λ others.
+    subst (λ (t : List ℕ). AreReadFor is_long (messages_of ((came ++ more) ++ others)) (messages_of (t ++ others))) (sym grows)
+    (subst (λ (t : List ℕ). AreReadFor is_long (messages_of t) (messages_of ((held ++ more) ++ others)))
+    (sym (append_assoc came more others))
+    (subst (λ (t : List ℕ). AreReadFor is_long (messages_of (came ++ (more ++ others))) (messages_of t))
+    (sym (append_assoc held more others)) (is (more ++ others))))
+
+pub reads_none : (about : Option (List ℕ)) (before : List Placed) (inbox : Inbox) (o : Option (List ℕ)) (held : Held) →
+    held.octets.items ≡ [] → held.is_long ≡ false → KeepsMessages about before inbox → ReadsSoFar about before inbox inbox o o held
+reads_none about before inbox o held nothing short keeps =
     let none : inbox.messages ≡ inbox.messages + 0 = omega arith in
     record {
       messages = [];
+      came = [];
       keeps = subst (λ (ms : List Placed). KeepsMessages about ms inbox) (sym (append-nil before)) keeps;
-      leaves = subst (λ (t : List ℕ). LeavesMessages o o [] t) (sym nothing) (leaves_all o);
+      leaves = leaves_all o;
+      is_held = subst (λ (b : Bool). IsHeld b held.octets.items []) (sym short)
+          (subst (λ (t : List ℕ). IsHeld false t []) (sym nothing) (λ more. refl));
       count_is = none;
     }
 
-all_kept : (about : Option (List ℕ)) (before : List Placed) (source base : ℕ) (old new : Option (List ℕ)) (messages texts : List (List ℕ))
-    (filled : List ℕ) (now : Inbox) → LeavesMessages old new messages filled → IsAtEnd new → texts ≡ messages_of filled
-    → KeepsMessages about (before ++ placed_from source (base + 1) (messages ++ texts)) now
+all_kept : (about : Option (List ℕ)) (before : List Placed) (source base : ℕ) (old new : Option (List ℕ)) (messages : List (List ℕ))
+    (came : List ℕ) (now : Inbox) → LeavesMessages old new messages came → IsAtEnd new
+    → KeepsMessages about (before ++ placed_from source (base + 1) (messages ++ messages_of came)) now
     → IfSome old (λ input. KeepsMessages about (before ++ placed_from source (base + 1) (messages_of input)) now)
-all_kept about before source base None new messages texts filled now l end is keeps = tt
-all_kept about before source base (Some input) None messages texts filled now l end is keeps = absurd l
-all_kept about before source base (Some input) (Some rest) messages texts filled now l end is keeps =
-    let all : messages_of input ≡ messages ++ texts =
-    l ∙ ap (λ (t : List ℕ). messages ++ messages_of (filled ++ t)) end ∙
-    ap (λ (t : List ℕ). messages ++ messages_of t) (append-nil filled) ∙ ap (λ (t : List (List ℕ)). messages ++ t) (sym is) in
+all_kept about before source base None new messages came now l end keeps = tt
+all_kept about before source base (Some input) None messages came now l end keeps = absurd l
+all_kept about before source base (Some input) (Some rest) messages came now l end keeps =
+    let all : messages_of input ≡ messages ++ messages_of came =
+    l ∙ ap (λ (t : List ℕ). messages ++ messages_of (came ++ t)) end ∙ ap (λ (t : List ℕ). messages ++ messages_of t) (append-nil came) in
     subst (λ (ms : List (List ℕ)). KeepsMessages about (before ++ placed_from source (base + 1) ms) now) (sym all) keeps
 
-module _ (about : Option (List ℕ)) (before : List Placed) (start now : Inbox) (old new : Option (List ℕ)) (held : List ℕ)
+module _ (about : Option (List ℕ)) (before : List Placed) (start now : Inbox) (old new : Option (List ℕ)) (held : Held)
     (so_far : ReadsSoFar about before start now old new held) (same : now.source ≡ start.source) where
   -- more of its messages are heard
   kept_on : (texts : List (List ℕ)) (next : Inbox)
@@ -75,40 +97,55 @@ module _ (about : Option (List ℕ)) (before : List Placed) (start now : Inbox) 
       (placed_on before start.source start.messages now.source now.messages so_far.messages texts same so_far.count_is)
       (hears (before ++ placed_from start.source (start.messages + 1) so_far.messages) so_far.keeps)
 
-  -- a share is read and cut, and its messages are heard
-  pub reads_share : (newer : Option (List ℕ)) (filled left : List ℕ) (next : Inbox) → MovesIn new newer held filled →
-      HearsFirst about filled left now next → ReadsSoFar about before start next old newer left
-  reads_share newer filled left next moved first =
-      let longer : length (so_far.messages ++ first.texts) ≡ length so_far.messages + length first.texts =
-      length-append so_far.messages first.texts in
-      let was : now.messages ≡ start.messages + length so_far.messages = so_far.count_is in
-      let counted : next.messages ≡ now.messages + length first.texts = first.count_is in
-      record {
-        messages = so_far.messages ++ first.texts;
-        keeps = kept_on first.texts next first.hears;
-        leaves = leaves_cut old newer so_far.messages first.texts filled left
-            (leaves_moved old new newer so_far.messages held filled so_far.leaves moved) first.cut;
-        count_is = omega (arith, counted, was, longer);
+  module _ (newer : Option (List ℕ)) (filled : List ℕ) (brings : Brings new newer held.octets.items filled) where
+    abbrev came_now : List ℕ
+    came_now = so_far.came ++ brings.brought
+
+    held_now : IsHeld held.is_long filled came_now
+    held_now = held_more held.is_long held.octets.items filled so_far.came brings.brought brings.grows so_far.is_held
+
+    left_now : LeavesMessages old newer so_far.messages came_now
+    left_now = leaves_moved old new newer so_far.messages so_far.came brings.brought so_far.leaves brings.reads
+
+    share_of : (more : List ℕ) (after : Held) (next : Inbox) → more ≡ rest_of newer → HearsFirst about came_now more after now next →
+        ReadsSoFar about before start next old newer after
+    share_of more after next is first =
+        let longer : length (so_far.messages ++ first.texts) ≡ length so_far.messages + length first.texts =
+        length-append so_far.messages first.texts in
+        let was : now.messages ≡ start.messages + length so_far.messages = so_far.count_is in
+        let counted : next.messages ≡ now.messages + length first.texts = first.count_is in
+        record {
+          messages = so_far.messages ++ first.texts;
+          came = first.left;
+          keeps = kept_on first.texts next first.hears;
+          leaves = leaves_cut old newer so_far.messages first.texts came_now first.left left_now
+              (subst (λ (t : List ℕ). messages_of (came_now ++ t) ≡ first.texts ++ messages_of (first.left ++ t)) is first.cut);
+          is_held = first.is_held;
+          count_is = omega (arith, counted, was, longer);
+        }
+
+    -- a share is read and cut, and its messages are heard
+    pub reads_share : (after : Held) (next : Inbox) →
+        ((came more : List ℕ) → IsHeld held.is_long filled came → HearsFirst about came more after now next) →
+        ReadsSoFar about before start next old newer after
+    reads_share after next hears = share_of (rest_of newer) after next refl (hears came_now (rest_of newer) held_now)
+
+    module _ (next : Inbox) (hears : (came : List ℕ) → IsHeld held.is_long filled came → (before : List Placed) →
+        KeepsMessages about before now →
+        KeepsMessages about (before ++ placed_from now.source (now.messages + 1) (messages_of came)) next) where
+      -- whatever the input is, its messages so far and these are heard
+      pub heard_on : HasHeard about next
+      heard_on = record {
+        messages = before ++ placed_from start.source (start.messages + 1) (so_far.messages ++ messages_of came_now);
+        keeps = kept_on (messages_of came_now) next (hears came_now held_now);
       }
 
-  -- whatever the input is, its messages so far and these are heard
-  pub heard_on : (texts : List (List ℕ)) (next : Inbox)
-      → ((before : List Placed) → KeepsMessages about before now →
-      KeepsMessages about (before ++ placed_from now.source (now.messages + 1) texts) next) → HasHeard about next
-  heard_on texts next hears = record {
-    messages = before ++ placed_from start.source (start.messages + 1) (so_far.messages ++ texts);
-    keeps = kept_on texts next hears;
-  }
-
-  -- the last share is read and heard
-  pub reads_last : (newer : Option (List ℕ)) (filled : List ℕ) (texts : List (List ℕ)) (next : Inbox) → MovesIn new newer held filled →
-      IsAtEnd newer → texts ≡ messages_of filled
-      → ((before : List Placed) → KeepsMessages about before now →
-      KeepsMessages about (before ++ placed_from now.source (now.messages + 1) texts) next)
-      → IfSome old (λ input. KeepsMessages about (before ++ placed_from start.source (start.messages + 1) (messages_of input)) next)
-  reads_last newer filled texts next moved end is hears =
-      all_kept about before start.source start.messages old newer so_far.messages texts filled next
-      (leaves_moved old new newer so_far.messages held filled so_far.leaves moved) end is (kept_on texts next hears)
+      -- the last share is read and heard
+      pub reads_last : IsAtEnd newer →
+          IfSome old (λ input. KeepsMessages about (before ++ placed_from start.source (start.messages + 1) (messages_of input)) next)
+      reads_last end =
+          all_kept about before start.source start.messages old newer so_far.messages came_now next left_now end
+          (kept_on (messages_of came_now) next (hears came_now held_now))
 
 -- ---- cutting
 

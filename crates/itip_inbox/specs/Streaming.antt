@@ -1,7 +1,10 @@
 -- What is known while inputs are read by and by (our own form).
-use Rattle.std.specs.Prelude.{◌≡◌, ℕ, ◌+◌, List, ◌++◌, length, Option, Some, None, ⊤, Result, IfOk, IfErr, Bool, IsTrue}
-use Rattle.std.specs.Io.KnownBytes.{IsAtEnd}
+use Rattle.std.specs.Prelude.{◌≡◌, ℕ, ◌+◌, List, [], ◌∷◌, ◌++◌, length, Option, Some, None, ⊤, Result, IfOk, IfErr, Bool, true, false}
+use Rattle.std.specs.Prelude.{◌||◌, ltb, IsTrue}
+use Rattle.std.specs.Io.KnownBytes.{Consumes, IsAtEnd}
 use Rattle.std.specs.List.{AllZip, Contains}
+use Rattle.itip_lines.specs.Reading.{text_limit}
+use Rattle.itip_message.specs.Begun.{DifferInFirst}
 use Rattle.itip_message.specs.Refusals.{IfRefused}
 use Rattle.itip_message.specs.Message.{ReadsMessage, RefusesMessage}
 use Rattle.itip_message.specs.declared.error.ReadError.{ReadError}
@@ -14,6 +17,7 @@ use Rattle.itip_message.specs.Scanned.{messages_of}
 use Rattle.itip_inbox.specs.Following.{AreTold, items_about}
 use Rattle.itip_inbox.specs.Inbox.{AreInputs, Placed, placed_from, placed_of, Hears}
 use Rattle.itip_inbox.specs.declared.inbox.Inbox.{Inbox}
+use Rattle.itip_inbox.specs.declared.messages.Held.{Held}
 use Rattle.itip_inbox.specs.declared.refused.RefusedMessage.{RefusedMessage}
 use Rattle.itip_inbox.specs.declared.texts.HeardText.{HeardText}
 
@@ -29,17 +33,31 @@ abbrev pub MayTell : Option (List ℕ) → List Item → List ℕ → Result Hea
 MayTell about kept text answer =
     IfOk answer (TellsText about kept text) × IfErr answer (λ e. IfRefused e (RefusesMessage text))
 
--- The octets that are held, and those that are not read, are together the same as before.
-abbrev pub MovesIn : Option (List ℕ) → Option (List ℕ) → List ℕ → List ℕ → Type 0
-MovesIn None new before after = ⊤
-MovesIn (Some input) None before after = ⊥
-MovesIn (Some input) (Some rest) before after = before ++ input ≡ after ++ rest
+-- Octets were read, and stand behind those that were held before.
+pub record Brings (old new : Option (List ℕ)) (before after : List ℕ) : Type 0 where
+  pub brought : List ℕ
+  pub reads : Consumes old new brought
+  pub grows : after ≡ before ++ brought
 
--- The messages of an input are these, and those of what is held and what is not read.
+-- The messages of an input are these, and those of the octets that came behind these and are not heard yet, with what is not read.
 abbrev pub LeavesMessages : Option (List ℕ) → Option (List ℕ) → List (List ℕ) → List ℕ → Type 0
-LeavesMessages None new messages held = ⊤
-LeavesMessages (Some input) None messages held = ⊥
-LeavesMessages (Some input) (Some rest) messages held = messages_of input ≡ messages ++ messages_of (held ++ rest)
+LeavesMessages None new messages came = ⊤
+LeavesMessages (Some input) None messages came = ⊥
+LeavesMessages (Some input) (Some rest) messages came = messages_of input ≡ messages ++ messages_of (came ++ rest)
+
+-- Messages are these texts. Where the first is too long to be read, another text may stand for it.
+abbrev pub AreReadFor : Bool → List (List ℕ) → List (List ℕ) → Type 0
+AreReadFor false messages texts = messages ≡ texts
+AreReadFor true messages texts = DifferInFirst (text_limit + 1) messages texts
+
+-- Octets are held in place of those that came: whatever follows, they are cut into the same messages, but for one that is too long.
+abbrev pub IsHeld : Bool → List ℕ → List ℕ → Type 0
+IsHeld is_long held came = (more : List ℕ) → AreReadFor is_long (messages_of (came ++ more)) (messages_of (held ++ more))
+
+-- Behind these texts a message is left that is too long: no text was cut off of it and it was before, or it has come to be.
+abbrev pub is_left_long : Bool → List (List ℕ) → List ℕ → Bool
+is_left_long was_long [] left = was_long || ltb text_limit (length left)
+is_left_long was_long (text ∷ texts) left = ltb text_limit (length left)
 
 -- The first messages of some octets, and what is left, whatever octets come behind these.
 abbrev pub StaysCutInto : List ℕ → List (List ℕ) → List ℕ → Type 0
@@ -59,10 +77,12 @@ pub record HasHeard (about : Option (List ℕ)) (inbox : Inbox) : Type 0 where
 
 -- After some messages those of an input came so far, which began with the one inbox and led to the other; and what is left of it.
 pub record ReadsSoFar (about : Option (List ℕ)) (before : List Placed) (start now : Inbox) (old new : Option (List ℕ))
-    (held : List ℕ) : Type 0 where
+    (held : Held) : Type 0 where
   pub messages : List (List ℕ)
+  pub came : List ℕ
   pub keeps : KeepsMessages about (before ++ placed_from start.source (start.messages + 1) messages) now
-  pub leaves : LeavesMessages old new messages held
+  pub leaves : LeavesMessages old new messages came
+  pub is_held : IsHeld held.is_long held.octets.items came
   pub count_is : now.messages ≡ start.messages + length messages
 
 -- Some of these answers were gone through, of texts of the input at this place that stand behind messages that came before; they
@@ -81,17 +101,20 @@ pub record TakesSoFar (about : Option (List ℕ)) (before : List Placed) (source
   pub keeps : AreKept kept heard
   pub count_is : count ≡ base + length done
 
--- The first messages of some octets were heard, which led from the one inbox to the other, and these octets are left.
-pub record HearsFirst (about : Option (List ℕ)) (octets left : List ℕ) (old new : Inbox) : Type 0 where
+-- Octets came, and others follow. Their first messages were heard, which led from the one inbox to the other, and this is held of
+-- what is left.
+pub record HearsFirst (about : Option (List ℕ)) (came more : List ℕ) (next : Held) (old new : Inbox) : Type 0 where
   pub texts : List (List ℕ)
-  pub cut : StaysCutInto octets texts left
+  pub left : List ℕ
+  pub cut : messages_of (came ++ more) ≡ texts ++ messages_of (left ++ more)
+  pub is_held : IsHeld next.is_long next.octets.items left
   pub hears : (before : List Placed) → KeepsMessages about before old →
       KeepsMessages about (before ++ placed_from old.source (old.messages + 1) texts) new
   pub count_is : new.messages ≡ old.messages + length texts
 
 -- Octets were read behind those that were held, up to the end where that is said.
 abbrev pub Fills : Option (List ℕ) → Option (List ℕ) → List ℕ → List ℕ → Bool → Type 0
-Fills old new before after ended = MovesIn old new before after × (IsTrue ended → IsAtEnd new)
+Fills old new before after ended = Brings old new before after × (IsTrue ended → IsAtEnd new)
 
 -- Between two inputs: those before this place were heard to their ends, and these readers are left for the others.
 pub record HearsInTurn {R : Type 0} (remaining : R → Option (List ℕ)) (about : Option (List ℕ)) (inputs : List (List ℕ)) (left : List R)

@@ -6,6 +6,7 @@ use itip_todo::Status;
 use itip_view::{Row, ShownAttendee};
 use serde::Serialize;
 use std::alloc::{AllocError, Global};
+use std::mem;
 
 // What the first record says of the fields, in their order.
 const HEADS: [&[u8]; 13] = [
@@ -42,22 +43,45 @@ struct Fields<'a> {
     attendee_percent: Option<u8>,
 }
 
-/// The text of rows as comma-separated fields, each record on a line: one that names the fields, and then for each row one
-/// for each of its attendees, or one where it shows none.
-///
-/// The one error is that memory was refused.
-pub fn csv_text(alloc: Global, rows: &[Row]) -> Result<Vec<u8>, AllocError> {
-    let mut sheet = WriterBuilder::new()
+/// The text of records of comma-separated fields that is held: first one that names the fields, and then for each row one for each of
+/// its attendees, or one where it shows none.
+#[derive(Drop)]
+pub(crate) struct CsvText {
+    sheet: Writer<Vec<u8>>,
+}
+
+impl CsvText {
+    /// The record that names the fields.
+    pub(crate) fn start(alloc: Global) -> Result<CsvText, AllocError> {
+        let mut sheet = new_sheet(alloc);
+        written(sheet.write_fields(&HEADS))?;
+        Ok(CsvText { sheet })
+    }
+
+    /// Adds the records of a row.
+    pub(crate) fn put(&mut self, alloc: Global, row: &Row) -> Result<(), AllocError> {
+        put_row(alloc, &mut self.sheet, row)
+    }
+
+    /// How many octets are held, but for those in the buffer of the sheet.
+    pub(crate) fn held(&self) -> usize {
+        self.sheet.get_ref().len()
+    }
+
+    /// The text that is held; then none is.
+    pub(crate) fn take(&mut self, alloc: Global) -> Result<Vec<u8>, AllocError> {
+        let sheet = mem::replace(&mut self.sheet, new_sheet(alloc));
+        match sheet.into_inner() {
+            Ok(text) => Ok(text),
+            Err(_) => Err(AllocError),
+        }
+    }
+}
+
+fn new_sheet(alloc: Global) -> Writer<Vec<u8>> {
+    WriterBuilder::new()
         .has_headers(false)
-        .from_writer(Vec::new(alloc));
-    written(sheet.write_fields(&HEADS))?;
-    for row in rows {
-        put_row(alloc, &mut sheet, row)?;
-    }
-    match sheet.into_inner() {
-        Ok(text) => Ok(text),
-        Err(_) => Err(AllocError),
-    }
+        .from_writer(Vec::new(alloc))
 }
 
 fn put_row(alloc: Global, sheet: &mut Writer<Vec<u8>>, row: &Row) -> Result<(), AllocError> {

@@ -1,17 +1,19 @@
 //! What hears inputs.
-ghost use Rattle.std.specs.Prelude.{◌≡◌, ◌≢◌, ◌++◌, ◌+◌, ℕ, List, [], length, map, Option, IfOk, IfErr, OnOk, OnErr};
+ghost use Rattle.std.specs.Prelude.{◌≡◌, ◌≢◌, ◌++◌, ◌+◌, ◌<◌, ℕ, List, [], ◌∷◌, length, map, Option, IfOk, IfErr, OnOk, OnErr};
 ghost use Rattle.std.specs.Option.{option_copied};
 ghost use Rattle.itip_items.specs.declared.item.Item.{Item};
+ghost use Rattle.itip_lines.specs.Reading.{text_limit};
 ghost use Rattle.itip_state.specs.Kept.{AreKept};
 ghost use Rattle.itip_inbox.specs.Following.{told_in};
 ghost use Rattle.itip_inbox.specs.Inbox.{Placed, placed_from, is_some_refused};
 ghost use Rattle.itip_inbox.specs.Streaming.{KeepsMessages, TakesSoFar};
 
 use crate::refused::RefusedMessage;
+use crate::shown::TOO_LONG;
 use crate::texts::{HeardText, read_texts};
 use itip_explain::{Place, ToldItem};
 use itip_items::Item;
-use itip_message::ReadError;
+use itip_message::{MessageRefusal, ReadError};
 use itip_state::{SharedItem, State};
 use itip_streams::StreamFault;
 use itip_todo::Uid;
@@ -96,6 +98,25 @@ impl Inbox {
     {
         let answers = read_texts(rt, alloc, &self.state, texts, about, threads)?;
         self.take(answers)
+    }
+
+    /// Notes a message that has more octets than a message may have. After a fault its number may be counted.
+    pub(crate) fn refuse_long(&mut self) -> Result<(), StreamFault>
+        ensures keeps { OnOk result ((about : Option (List ℕ)) (before : List Placed) (text : List ℕ) → text_limit < length text →
+            KeepsMessages about before self.old →
+            KeepsMessages about (before ++ placed_from self.old.source (self.old.messages + 1) (text ∷ [])) self.new) }
+        ensures count { OnOk result (self.new.messages ≡ self.old.messages + 1) }
+        ensures source { OnOk result (self.new.source ≡ self.old.source) }
+        ensures fault { IfErr result (λ fault. fault ≢ StreamFault.Write) }
+    {
+        let message = one_more(self.messages)?;
+        self.messages = message;
+        self.refusals.push(RefusedMessage {
+            source: self.source,
+            message,
+            refusal: MessageRefusal::from(TOO_LONG),
+        })?;
+        Ok(())
     }
 
     /// Hears the news of messages, and notes the refused ones and what is followed. After a fault a part of them is heard or noted.

@@ -6,6 +6,7 @@ use itip_view::{Row, ShownAttendee};
 use serde::Serialize;
 use serde_json::Error;
 use std::alloc::{AllocError, Global};
+use std::mem;
 
 /// The members of the object of a row; an absent value is null.
 #[derive(Drop, Serialize)]
@@ -30,20 +31,45 @@ struct AttendeeObject<'a> {
     percent: Option<u8>,
 }
 
-/// The text of rows as one JSON array, with the object of each row on a line of its own.
-///
-/// The one error is that memory was refused.
-pub fn json_text(alloc: Global, rows: &[Row]) -> Result<Vec<u8>, AllocError> {
-    let mut text = Vec::new(alloc);
-    let mut before: &[u8] = b"[\n";
-    for row in rows {
-        text.extend_from_slice(before)?;
-        put_row(alloc, &mut text, row)?;
-        before = b",\n";
+/// The text of one JSON array that is held, with the object of each row on a line of its own.
+#[derive(Drop)]
+pub(crate) struct JsonText {
+    text: Vec<u8>,
+    is_empty: bool,
+}
+
+impl JsonText {
+    /// No text yet.
+    pub(crate) fn start(alloc: Global) -> JsonText {
+        JsonText {
+            text: Vec::new(alloc),
+            is_empty: true,
+        }
     }
-    let end: &[u8] = if rows.is_empty() { b"[]\n" } else { b"\n]\n" };
-    text.extend_from_slice(end)?;
-    Ok(text)
+
+    /// Adds the object of a row.
+    pub(crate) fn put(&mut self, alloc: Global, row: &Row) -> Result<(), AllocError> {
+        let before: &[u8] = if self.is_empty { b"[\n" } else { b",\n" };
+        self.is_empty = false;
+        self.text.extend_from_slice(before)?;
+        put_row(alloc, &mut self.text, row)
+    }
+
+    /// Ends the array.
+    pub(crate) fn end(&mut self) -> Result<(), AllocError> {
+        let end: &[u8] = if self.is_empty { b"[]\n" } else { b"\n]\n" };
+        self.text.extend_from_slice(end)
+    }
+
+    /// How many octets are held.
+    pub(crate) fn held(&self) -> usize {
+        self.text.len()
+    }
+
+    /// The text that is held; then none is.
+    pub(crate) fn take(&mut self, alloc: Global) -> Vec<u8> {
+        mem::replace(&mut self.text, Vec::new(alloc))
+    }
 }
 
 fn put_row(alloc: Global, text: &mut Vec<u8>, row: &Row) -> Result<(), AllocError> {

@@ -18,9 +18,9 @@ mod inbox;
 mod json_records;
 mod lacking;
 mod laws;
-mod listed;
 mod messages;
 mod read;
+mod record_text;
 mod records;
 mod refused;
 mod reports;
@@ -29,13 +29,12 @@ mod sent;
 mod shown;
 mod tasks;
 mod texts;
+mod too_many;
 mod watch;
 
 pub use compaction::{compact, write_items};
-pub use csv_records::csv_text;
 pub use explained::{Explained, explain};
 pub use inbox::Inbox;
-pub use json_records::json_text;
 pub use lacking::news;
 pub use laws::{
     compaction_of_compactions, compaction_with_news, items_of_parts, one_compaction, one_news,

@@ -1,29 +1,56 @@
 //! Cutting what was read of an input into messages. Nothing is copied but what is left.
-ghost use Rattle.std.specs.Prelude.{◌≡◌, map, IfOk};
+ghost use Rattle.std.specs.Prelude.{◌≡◌, [], false, map, IfOk};
+ghost use Rattle.itip_message.specs.Begun.{IsBegun};
 ghost use Rattle.itip_message.specs.Scanned.{messages_of};
 ghost use Rattle.itip_inbox.specs.Streaming.{StaysCutInto};
 
-use itip_message::{next_message, whole_message};
+use itip_message::{BegunMessage, cut_message, next_message};
 use std::alloc::{AllocError, Global};
+
+/// Octets of an input that were read and are not heard yet.
+#[derive(Drop)]
+pub(crate) struct Held {
+    pub(crate) octets: Vec<u8>,
+    /// Whether the first message is too long to be read. Then a few octets stand for those of it that came.
+    pub(crate) is_long: bool,
+}
+
+impl Held {
+    /// Nothing was read.
+    pub(crate) fn nothing(alloc: Global) -> Held
+        ensures octets { result.octets.items ≡ [] }
+        ensures short { result.is_long ≡ false }
+    {
+        Held {
+            octets: Vec::new(alloc),
+            is_long: false,
+        }
+    }
+}
 
 /// Messages, and the octets behind them, which are not known to be whole messages.
 #[derive(Drop)]
 pub(crate) struct Share<'a> {
     pub(crate) texts: Vec<&'a [u8]>,
-    pub(crate) left: &'a [u8],
+    pub(crate) left: BegunMessage<'a>,
 }
 
 /// The first messages of octets that others may follow.
 pub(crate) fn first_messages(alloc: Global, octets: &[u8]) -> Result<Share<'_>, AllocError>
-    ensures { IfOk result (λ share. StaysCutInto octets.now (map (λ text. text.now) share.texts.items) share.left.now) }
+    ensures cut { IfOk result (λ share. StaysCutInto octets.now (map (λ text. text.now) share.texts.items) share.left.octets.now) }
+    ensures begun { IfOk result (λ share. IsBegun share.left) }
 {
     let mut texts = Vec::new(alloc);
     let mut rest = octets;
-    while let Some((message, after)) = whole_message(rest) {
-        texts.push(message)?;
-        rest = after;
+    loop {
+        match cut_message(rest) {
+            Ok((message, after)) => {
+                texts.push(message)?;
+                rest = after;
+            }
+            Err(left) => return Ok(Share { texts, left }),
+        }
     }
-    Ok(Share { texts, left: rest })
 }
 
 /// All messages of octets that none follow.

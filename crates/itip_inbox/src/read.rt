@@ -1,14 +1,16 @@
 //! Reading inputs to their ends, and no more of one at a time than a share.
-ghost use Rattle.std.specs.Prelude.{◌≡◌, ◌≢◌, ◌++◌, ◌+◌, ℕ, List, length, IfOk, IfErr, OnOk, IfSome};
+ghost use Rattle.std.specs.Prelude.{◌≡◌, ◌≢◌, ◌++◌, ◌+◌, ℕ, List, length, map, IfOk, IfErr, OnOk, IfSome};
 ghost use Rattle.std.specs.Option.{option_copied};
 ghost use Rattle.itip_message.specs.Scanned.{messages_of};
 ghost use Rattle.itip_inbox.specs.Following.{TellAbout};
 ghost use Rattle.itip_inbox.specs.Inbox.{AreInputs, Holds, Placed, placed_from};
-ghost use Rattle.itip_inbox.specs.Streaming.{Fills, HasHeard, HearsFirst, KeepsMessages};
+ghost use Rattle.itip_inbox.specs.Streaming.{AreReadFor, Fills, HasHeard, HearsFirst, IsHeld, KeepsMessages, is_left_long};
 
 use crate::inbox::Inbox;
-use crate::messages::{all_messages, first_messages};
+use crate::messages::{Held, all_messages, first_messages};
+use crate::shown::MAX_OCTETS;
 use crate::watch::Watch;
+use itip_message::stand_in;
 use itip_streams::{StreamFault, read_some};
 use itip_todo::Uid;
 use std::alloc::Global;
@@ -44,8 +46,8 @@ impl Progress {
 }
 
 /// Reads sources one after another, each to its end, and hears their messages. These are read by at most so many threads, a
-/// share of a source at a time: about a mebibyte, or more where a message is longer. Where a UID is named, the items that the
-/// messages tell of it are followed.
+/// share of a source at a time: about a mebibyte, or two where a message is as long as one may be. Of a longer message nothing is held but
+/// where its line is. Where a UID is named, the items that the messages tell of it are followed.
 ///
 /// The octets of each source are cut into messages by themselves, as those of a delta are. A refused message is noted and not
 /// heard. A source is dropped at its end; once a read has failed, no other is read. A failed read is [`StreamFault::Read`], and
@@ -128,21 +130,21 @@ fn read_source<R: Read, W: Watch>(
     ensures source { OnOk result (inbox.new.source ≡ inbox.old.source) }
     ensures fault { IfErr result (λ fault. fault ≢ StreamFault.Write) }
 {
-    let mut held = Vec::new(alloc);
+    let mut held = Held::nothing(alloc);
     for _ in 0..u64::MAX {
-        let before = held.len();
-        let is_end = fill(reader, &mut held)?;
-        let more = held.len().saturating_sub(before) as u64;
+        let before = held.octets.len();
+        let is_end = fill(reader, &mut held.octets)?;
+        let more = held.octets.len().saturating_sub(before) as u64;
         progress.octets = progress.octets.saturating_add(more);
         if is_end {
-            hear_all(inbox, rt, alloc, held.as_slice(), about, threads)?;
+            hear_all(inbox, rt, alloc, &held, about, threads)?;
             watch.read(
                 progress.messages.saturating_add(inbox.messages),
                 progress.octets,
             );
             return Ok(());
         }
-        held = hear_first(inbox, rt, alloc, held.as_slice(), about, threads)?;
+        held = hear_first(inbox, rt, alloc, &held, about, threads)?;
         watch.read(
             progress.messages.saturating_add(inbox.messages),
             progress.octets,
@@ -151,41 +153,96 @@ fn read_source<R: Read, W: Watch>(
     Err(StreamFault::Read)
 }
 
-/// Hears all messages of octets that none follow.
+/// Hears all messages of what is held, where nothing follows.
 fn hear_all(
     inbox: &mut Inbox,
     rt: &(impl Threads + Sync),
     alloc: Global,
-    octets: &[u8],
+    held: &Held,
     about: Option<&Uid>,
     threads: usize,
 ) -> Result<(), StreamFault>
-    ensures hears { OnOk result ((before : List Placed) → KeepsMessages (option_copied about.entry) before inbox.old →
+    ensures hears { OnOk result ((came : List ℕ) → IsHeld held.now.is_long held.now.octets.items came →
+        (before : List Placed) → KeepsMessages (option_copied about.entry) before inbox.old →
         KeepsMessages (option_copied about.entry)
-        (before ++ placed_from inbox.old.source (inbox.old.messages + 1) (messages_of octets.now)) inbox.new) }
+        (before ++ placed_from inbox.old.source (inbox.old.messages + 1) (messages_of came)) inbox.new) }
     ensures source { OnOk result (inbox.new.source ≡ inbox.old.source) }
     ensures fault { IfErr result (λ fault. fault ≢ StreamFault.Write) }
 {
-    let texts = all_messages(alloc, octets)?;
-    inbox.hear(rt, alloc, texts.as_slice(), about, threads)
+    let texts = all_messages(alloc, held.octets.as_slice())?;
+    hear_texts(
+        inbox,
+        rt,
+        alloc,
+        held.is_long,
+        texts.as_slice(),
+        about,
+        threads,
+    )
 }
 
-/// Hears the first messages of octets that others may follow, and gives a copy of what is left.
+/// Hears the first messages of what is held, where more may follow, and holds what is left.
 fn hear_first(
     inbox: &mut Inbox,
     rt: &(impl Threads + Sync),
     alloc: Global,
-    octets: &[u8],
+    held: &Held,
     about: Option<&Uid>,
     threads: usize,
-) -> Result<Vec<u8>, StreamFault>
-    ensures hears { IfOk result (λ left. HearsFirst (option_copied about.entry) octets.now left.items inbox.old inbox.new) }
+) -> Result<Held, StreamFault>
+    ensures hears { IfOk result (λ next. (came more : List ℕ) → IsHeld held.now.is_long held.now.octets.items came →
+        HearsFirst (option_copied about.entry) came more next inbox.old inbox.new) }
     ensures source { OnOk result (inbox.new.source ≡ inbox.old.source) }
     ensures fault { IfErr result (λ fault. fault ≢ StreamFault.Write) }
 {
-    let share = first_messages(alloc, octets)?;
-    inbox.hear(rt, alloc, share.texts.as_slice(), about, threads)?;
-    Ok(Vec::from_slice(alloc, share.left)?)
+    let share = first_messages(alloc, held.octets.as_slice())?;
+    let texts = share.texts.as_slice();
+    hear_texts(inbox, rt, alloc, held.is_long, texts, about, threads)?;
+    if is_left_long(held.is_long, texts, share.left.octets) {
+        return Ok(Held {
+            octets: stand_in(alloc, &share.left)?,
+            is_long: true,
+        });
+    }
+    Ok(Held {
+        octets: Vec::from_slice(alloc, share.left.octets)?,
+        is_long: false,
+    })
+}
+
+/// Whether the message that is left is too long, behind these texts: it was before and goes on, or it has come to be.
+fn is_left_long(was_long: bool, texts: &[&[u8]], left: &[u8]) -> bool
+    ensures { result ≡ is_left_long was_long (map (λ text. text.now) texts.now) left.now }
+{
+    (was_long && texts.is_empty()) || left.len() > MAX_OCTETS
+}
+
+/// Hears messages. Where the first is too long to be read, it is noted as refused, whatever stands for it.
+fn hear_texts(
+    inbox: &mut Inbox,
+    rt: &(impl Threads + Sync),
+    alloc: Global,
+    is_long: bool,
+    texts: &[&[u8]],
+    about: Option<&Uid>,
+    threads: usize,
+) -> Result<(), StreamFault>
+    ensures hears { OnOk result ((messages : List (List ℕ)) → AreReadFor is_long messages (map (λ text. text.now) texts.now) →
+        (before : List Placed) → KeepsMessages (option_copied about.entry) before inbox.old →
+        KeepsMessages (option_copied about.entry)
+        (before ++ placed_from inbox.old.source (inbox.old.messages + 1) messages) inbox.new) }
+    ensures count { OnOk result (inbox.new.messages ≡ inbox.old.messages + length texts.now) }
+    ensures source { OnOk result (inbox.new.source ≡ inbox.old.source) }
+    ensures fault { IfErr result (λ fault. fault ≢ StreamFault.Write) }
+{
+    if !is_long {
+        return inbox.hear(rt, alloc, texts, about, threads);
+    }
+    let [_, others @ ..] = texts else {
+        return Ok(());
+    };
+    inbox.refuse_long()?;
+    inbox.hear(rt, alloc, others, about, threads)
 }
 
 /// Reads until a share is held, or twice what was: so a long message is gone through few times. Says whether the input

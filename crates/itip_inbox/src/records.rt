@@ -1,34 +1,33 @@
 //! The task list of some inputs, as records for other programs.
-ghost use Rattle.std.specs.Prelude.{◌≡◌, ℕ, List, IfOk, IfErr, OnErr, IsErrOf};
-ghost use Rattle.std.specs.Io.KnownBytes.{Keeps};
-ghost use Rattle.itip_items.specs.declared.item.Item.{Item};
-ghost use Rattle.itip_state.specs.Kept.{AreKept};
+ghost use Rattle.std.specs.Prelude.{◌≢◌, ℕ, List, IfOk, IfErr, OnErr, IsErrOf};
+ghost use Rattle.std.specs.Io.KnownBytes.{Appends, Keeps};
 ghost use Rattle.itip_view.specs.Wanting.{Wants};
 ghost use Rattle.itip_streams.specs.Written.{WritesOutput};
 ghost use Rattle.itip_inbox.specs.Inbox.{AreInputs};
-ghost use Rattle.itip_inbox.specs.OfInbox.{WritesFront};
+ghost use Rattle.itip_inbox.specs.OfInbox.{WritesFront, WritesKept, WritesKeptFront};
 ghost use Rattle.itip_inbox.specs.Records.{IsRecorded, AreRecords};
 
-use crate::csv_records::csv_text;
 use crate::gathering::gather;
-use crate::json_records::json_text;
-use crate::listed::{Listed, write_listed};
-use crate::refused::refusal_text;
+use crate::inbox::Inbox;
+use crate::record_text::RecordText;
+use crate::too_many::refuse_rows;
 use crate::watch::Watch;
-use itip_desk::Refusal;
-use itip_state::State;
-use itip_streams::StreamFault;
-use itip_view::{Row, ViewError, Wanted, Window, rows_where};
-use std::alloc::{AllocError, Global};
+use itip_streams::{StreamFault, write_output};
+use itip_view::{Row, RowCount, RowsByUid, Wanted, Window};
+use std::alloc::Global;
 use std::io::{Read, Write};
 use std::thread::Threads;
+
+// How many octets are held before they are written.
+const MANY: usize = 65_536;
 
 /// How rows are written for other programs.
 #[derive(Clone, Copy, Debug, PartialEq, Eq)]
 pub enum Notation {
-    /// As [`csv_text`] writes them.
+    /// Comma-separated fields, each record on a line: one that names the fields, and then for each row one for each of its
+    /// attendees, or one where it shows none.
     Csv,
-    /// As [`json_text`] writes them.
+    /// One JSON array, with the object of each row on a line of its own.
     Json,
 }
 
@@ -36,8 +35,8 @@ pub enum Notation {
 /// are wanted; or `refused 31` where more than 100,000 of these stand there. Says whether a message was refused, or the list.
 ///
 /// Refused messages are told to `watch`, in the order of the sources, before anything is written; and all sources are read
-/// before that. After a fault of reading nothing was written; after another fault, where there are too many rows, a front of
-/// `refused 31`, else of a text of the records.
+/// before that, and the rows counted. They are made and written a UID at a time. After a fault of reading nothing was written; after
+/// another fault, where there are too many rows, a front of `refused 31`, else of a text of the records.
 pub fn list_records<R: Read + Drop, W: Write, S: Watch>(
     rt: &(impl Threads + Sync),
     alloc: Global,
@@ -56,37 +55,101 @@ pub fn list_records<R: Read + Drop, W: Write, S: Watch>(
     ensures unread { IsErrOf result StreamFault.Read → Keeps (W.contents writer.old) (W.contents writer.new) }
 {
     let inbox = gather(rt, alloc, sources, None, threads, watch)?;
-    let recorded = records_of(alloc, &inbox.state, window, wanted, notation)?;
-    write_listed(alloc, &inbox, &recorded, window, wanted, writer, watch)
+    let is_over = write_records(alloc, &inbox, window, wanted, notation, writer, watch)?;
+    let is_refused = inbox.has_refusals();
+    Ok(is_refused | is_over)
 }
 
-fn records_of(
+/// Writes the records of an inbox, or that there are too many rows, and says whether that was it.
+fn write_records<W: Write, S: Watch>(
     alloc: Global,
-    state: &State,
+    inbox: &Inbox,
     window: Window,
     wanted: &Wanted<'_>,
     notation: Notation,
-) -> Result<Listed, StreamFault>
-    ensures recorded { IfOk result (λ recorded. (heard : List Item) → AreKept state.now heard →
-        IsRecorded (Wants wanted.now) heard window recorded.text.items recorded.is_refusal) }
-    ensures fault { IfErr result (λ fault. fault ≡ StreamFault.Memory) }
+    writer: &mut W,
+    watch: &mut S,
+) -> Result<bool, StreamFault>
+    ensures written { IfOk result (WritesKept (λ heard. IsRecorded (Wants wanted.now) heard window) inbox.now.state
+        (W.contents writer.old) (W.contents writer.new)) }
+    ensures front { OnErr result (WritesKeptFront (λ heard. IsRecorded (Wants wanted.now) heard window) inbox.now.state
+        (W.contents writer.old) (W.contents writer.new)) }
+    ensures fault { IfErr result (λ fault. fault ≢ StreamFault.Read) }
 {
-    match rows_where(alloc, state, window, wanted) {
-        Ok(rows) => Ok(Listed {
-            text: records_text(alloc, notation, rows.as_slice())?,
-            is_refusal: false,
-        }),
-        Err(ViewError::TooManyRows) => Ok(Listed {
-            text: refusal_text(alloc, Refusal::TooManyRows)?,
-            is_refusal: true,
-        }),
-        Err(ViewError::NoMemory) => Err(StreamFault::Memory),
+    let rows = RowsByUid::of(alloc, &inbox.state, window, wanted)?;
+    match rows.count()? {
+        RowCount::Few(_) => {
+            write_each(alloc, rows, notation, writer)?;
+            Ok(false)
+        }
+        RowCount::TooMany(most) => {
+            refuse_rows(alloc, inbox, most, writer, watch)?;
+            Ok(true)
+        }
     }
 }
 
-fn records_text(alloc: Global, notation: Notation, rows: &[Row]) -> Result<Vec<u8>, AllocError> {
-    match notation {
-        Notation::Csv => csv_text(alloc, rows),
-        Notation::Json => json_text(alloc, rows),
+/// Writes the records of the rows that are left.
+fn write_each<W: Write>(
+    alloc: Global,
+    rows: RowsByUid<'_, '_>,
+    notation: Notation,
+    writer: &mut W,
+) -> Result<(), StreamFault>
+    ensures some { (text : List ℕ) × Appends (W.contents writer.old) (W.contents writer.new) text }
+    ensures fault { IfErr result (λ fault. fault ≢ StreamFault.Read) }
+{
+    let mut rows = rows;
+    let mut records = RecordText::start(alloc, notation)?;
+    while let Some(some) = rows.next()? {
+        let done = write_some(alloc, some.as_slice(), &mut records, writer);
+        drop(some);
+        done?;
     }
+    records.end()?;
+    write_held(alloc, &mut records, writer)
+}
+
+/// Writes the records of some rows; of their text less than [`MANY`] octets are held on.
+fn write_some<W: Write>(
+    alloc: Global,
+    rows: &[Row],
+    records: &mut RecordText,
+    writer: &mut W,
+) -> Result<(), StreamFault>
+    ensures some { (text : List ℕ) × Appends (W.contents writer.old) (W.contents writer.new) text }
+    ensures fault { IfErr result (λ fault. fault ≢ StreamFault.Read) }
+{
+    for row in rows {
+        records.put(alloc, row)?;
+        write_if_many(alloc, records, writer)?;
+    }
+    Ok(())
+}
+
+fn write_if_many<W: Write>(
+    alloc: Global,
+    records: &mut RecordText,
+    writer: &mut W,
+) -> Result<(), StreamFault>
+    ensures some { (text : List ℕ) × Appends (W.contents writer.old) (W.contents writer.new) text }
+    ensures fault { IfErr result (λ fault. fault ≢ StreamFault.Read) }
+{
+    if records.held() < MANY {
+        return Ok(());
+    }
+    write_held(alloc, records, writer)
+}
+
+/// Writes the text that is held.
+fn write_held<W: Write>(
+    alloc: Global,
+    records: &mut RecordText,
+    writer: &mut W,
+) -> Result<(), StreamFault>
+    ensures some { (text : List ℕ) × Appends (W.contents writer.old) (W.contents writer.new) text }
+    ensures fault { IfErr result (λ fault. fault ≢ StreamFault.Read) }
+{
+    let text = records.take(alloc)?;
+    write_output(writer, text.as_slice())
 }

@@ -1,25 +1,25 @@
 //! The reports over some inputs.
-ghost use Rattle.std.specs.Prelude.{◌≡◌, ℕ, Bool, List, map, IfOk, IfErr, OnErr, IsErrOf};
+ghost use Rattle.std.specs.Prelude.{◌≡◌, ◌≢◌, ℕ, Bool, List, map, IfOk, IfErr, OnErr, IsErrOf};
 ghost use Rattle.std.specs.Io.KnownBytes.{Keeps};
 ghost use Rattle.std.specs.List.{flat_map};
 ghost use Rattle.std.specs.String.{string_bytes};
-ghost use Rattle.itip_items.specs.declared.item.Item.{Item};
-ghost use Rattle.itip_state.specs.Kept.{AreKept};
-ghost use Rattle.itip_view.specs.Rows.{AreTooMany};
-ghost use Rattle.itip_report.specs.Named.{HasRowsFor, IsReportOf, IsOfRows};
+ghost use Rattle.itip_view.specs.ByUid.{AreLeft};
+ghost use Rattle.itip_view.specs.declared.row.Row.{Row};
+ghost use Rattle.itip_view.specs.declared.window.Window.{Window};
+ghost use Rattle.itip_report.specs.Named.{AreRowsFor, HasRowsFor};
 ghost use Rattle.itip_streams.specs.Written.{AppendsFront, WritesOutput};
 ghost use Rattle.itip_inbox.specs.Inbox.{AreInputs};
-ghost use Rattle.itip_inbox.specs.Reports.{IsReport, IsReported, ended};
+ghost use Rattle.itip_inbox.specs.OfInbox.{WritesKept, WritesKeptFront};
+ghost use Rattle.itip_inbox.specs.Reports.{IsReport, IsReportText, IsReported, ended};
 
 use crate::gathering::gather;
-use crate::listed::{Listed, write_listed};
-use crate::refused::refusal_text;
+use crate::inbox::Inbox;
+use crate::too_many::refuse_rows;
 use crate::watch::Watch;
-use itip_desk::Refusal;
-use itip_report::{ReportName, report_lines};
+use itip_report::{ReportName, no_rows, report_lines};
 use itip_state::State;
-use itip_streams::StreamFault;
-use itip_view::{Row, ViewError, Wanted, Window, rows};
+use itip_streams::{StreamFault, write_output};
+use itip_view::{RowCount, RowsByUid, Wanted, Window};
 use std::alloc::{AllocError, Global};
 use std::io::{Read, Write};
 use std::thread::Threads;
@@ -47,46 +47,38 @@ pub fn report<R: Read + Drop, W: Write, S: Watch>(
     ensures unread { IsErrOf result StreamFault.Read → Keeps (W.contents writer.old) (W.contents writer.new) }
 {
     let inbox = gather(rt, alloc, sources, None, threads, watch)?;
-    let reported = report_of(alloc, &inbox.state, window, name)?;
-    let all = Wanted::all();
-    write_listed(alloc, &inbox, &reported, window, &all, writer, watch)
+    let is_over = write_report(alloc, &inbox, window, name, writer, watch)?;
+    let is_refused = inbox.has_refusals();
+    Ok(is_refused | is_over)
 }
 
-fn report_of(
+/// Writes a report over an inbox, or that there are too many rows, and says whether that was it. The rows are made a UID at a time.
+fn write_report<W: Write, S: Watch>(
     alloc: Global,
-    state: &State,
+    inbox: &Inbox,
     window: Window,
     name: ReportName,
-) -> Result<Listed, StreamFault>
-    ensures reported { IfOk result (λ reported. (heard : List Item) → AreKept state.now heard →
-        IsReported name heard window reported.text.items reported.is_refusal) }
-    ensures fault { IfErr result (λ fault. fault ≡ StreamFault.Memory) }
+    writer: &mut W,
+    watch: &mut S,
+) -> Result<bool, StreamFault>
+    ensures written { IfOk result (WritesKept (λ heard. IsReported name heard window) inbox.now.state
+        (W.contents writer.old) (W.contents writer.new)) }
+    ensures front { OnErr result (WritesKeptFront (λ heard. IsReported name heard window) inbox.now.state
+        (W.contents writer.old) (W.contents writer.new)) }
+    ensures fault { IfErr result (λ fault. fault ≢ StreamFault.Read) }
 {
-    match lines_of(alloc, state, window, name) {
-        Ok(lines) => Ok(Listed {
-            text: ended_lines(alloc, lines.as_slice())?,
-            is_refusal: false,
-        }),
-        Err(ViewError::TooManyRows) => Ok(Listed {
-            text: refusal_text(alloc, Refusal::TooManyRows)?,
-            is_refusal: true,
-        }),
-        Err(ViewError::NoMemory) => Err(StreamFault::Memory),
+    let rows = report_rows(alloc, &inbox.state, window, name)?;
+    match rows.count()? {
+        RowCount::Few(_) => {
+            let text = report_text(alloc, &inbox.state, name, rows)?;
+            write_output(writer, text.as_slice())?;
+            Ok(false)
+        }
+        RowCount::TooMany(most) => {
+            refuse_rows(alloc, inbox, most, writer, watch)?;
+            Ok(true)
+        }
     }
-}
-
-fn lines_of(
-    alloc: Global,
-    state: &State,
-    window: Window,
-    name: ReportName,
-) -> Result<Vec<String>, ViewError>
-    ensures lines { IfOk result (λ lines. IsReportOf name state.now window (map string_bytes lines.items)) }
-    ensures of_rows { IsErrOf result ViewError.TooManyRows → IsOfRows name }
-    ensures many { IsErrOf result ViewError.TooManyRows → AreTooMany state.now window }
-{
-    let shown = report_rows(alloc, state, window, name)?;
-    Ok(report_lines(alloc, state, name, shown.as_slice())?)
 }
 
 /// The rows that a report tells of: none where it tells of no rows.
@@ -95,16 +87,28 @@ fn report_rows(
     state: &State,
     window: Window,
     name: ReportName,
-) -> Result<Vec<Row>, ViewError>
-    ensures rows { IfOk result (λ rows. HasRowsFor name state.now window rows.items) }
-    ensures of_rows { IsErrOf result ViewError.TooManyRows → IsOfRows name }
-    ensures many { IsErrOf result ViewError.TooManyRows → AreTooMany state.now window }
+) -> Result<RowsByUid<'_, '_>, AllocError>
+    ensures { IfOk result (AreRowsFor name state.now window) }
 {
     if name.is_of_rows() {
-        rows(alloc, state, window)
+        RowsByUid::of(alloc, state, window, &Wanted::all())
     } else {
-        Ok(Vec::new(alloc))
+        no_rows(alloc, state, window)
     }
+}
+
+/// The text of a report over the rows that are left.
+fn report_text(
+    alloc: Global,
+    state: &State,
+    name: ReportName,
+    rows: RowsByUid<'_, '_>,
+) -> Result<Vec<u8>, AllocError>
+    ensures { IfOk result (λ text. (window : Window) (all : List Row) → AreLeft rows.entry all → HasRowsFor name state.now window all →
+        IsReportText name state.now window text.items) }
+{
+    let lines = report_lines(alloc, state, name, rows)?;
+    ended_lines(alloc, lines.as_slice())
 }
 
 /// The text of lines, each with its end.

@@ -1,22 +1,22 @@
 //! The task list of some inputs.
-ghost use Rattle.std.specs.Prelude.{◌≡◌, ℕ, Bool, List, IfOk, IfErr, OnErr, IsErrOf};
-ghost use Rattle.std.specs.Io.KnownBytes.{Keeps};
-ghost use Rattle.itip_items.specs.declared.item.Item.{Item};
-ghost use Rattle.itip_state.specs.Kept.{AreKept};
-ghost use Rattle.itip_view.specs.Showing.{AreTooManyWhere};
+ghost use Rattle.std.specs.Prelude.{◌≢◌, ℕ, Bool, List, IfOk, IfErr, OnOk, OnErr, IsErrOf};
+ghost use Rattle.std.specs.Io.KnownBytes.{Appends, Keeps};
+ghost use Rattle.itip_view.specs.ByUid.{AreLeft};
+ghost use Rattle.itip_view.specs.ListText.{list_text};
 ghost use Rattle.itip_view.specs.Wanting.{Wants};
+ghost use Rattle.itip_view.specs.declared.row.Row.{Row};
 ghost use Rattle.itip_streams.specs.Written.{AppendsFront, WritesOutput};
 ghost use Rattle.itip_inbox.specs.Inbox.{AreInputs};
-ghost use Rattle.itip_inbox.specs.TaskList.{IsTaskList, IsListed, IsTextWhere};
+ghost use Rattle.itip_inbox.specs.OfInbox.{WritesKept, WritesKeptFront};
+ghost use Rattle.itip_inbox.specs.TaskList.{IsTaskList, IsListed};
 
 use crate::gathering::gather;
-use crate::listed::{Listed, write_listed};
-use crate::refused::refusal_text;
+use crate::inbox::Inbox;
+use crate::too_many::refuse_rows;
 use crate::watch::Watch;
-use itip_desk::Refusal;
-use itip_state::State;
-use itip_streams::StreamFault;
-use itip_view::{ViewError, Wanted, Window, list_text, rows_where};
+use itip_desk::write_rows;
+use itip_streams::{StreamFault, write_output};
+use itip_view::{RowCount, RowsByUid, Wanted, Window};
 use std::alloc::Global;
 use std::io::{Read, Write};
 use std::thread::Threads;
@@ -25,7 +25,8 @@ use std::thread::Threads;
 /// `refused 31` where more than 100,000 of these stand there. Says whether a message was refused, or the list.
 ///
 /// Refused messages are told to `watch`, in the order of the sources, before anything is written; and all sources are read
-/// before that. After a fault of reading nothing was written, after another fault a front of the output.
+/// before that, and the rows counted. They are made and written a UID at a time. After a fault of reading nothing was written, after
+/// another fault a front of the output.
 pub fn list<R: Read + Drop, W: Write, S: Watch>(
     rt: &(impl Threads + Sync),
     alloc: Global,
@@ -44,44 +45,52 @@ pub fn list<R: Read + Drop, W: Write, S: Watch>(
     ensures unread { IsErrOf result StreamFault.Read → Keeps (W.contents writer.old) (W.contents writer.new) }
 {
     let inbox = gather(rt, alloc, sources, None, threads, watch)?;
-    let listed = list_of(alloc, &inbox.state, window, wanted)?;
-    write_listed(alloc, &inbox, &listed, window, wanted, writer, watch)
+    let is_over = write_list(alloc, &inbox, window, wanted, writer, watch)?;
+    let is_refused = inbox.has_refusals();
+    Ok(is_refused | is_over)
 }
 
-fn list_of(
+/// Writes the list of an inbox, or that there are too many rows, and says whether that was it.
+fn write_list<W: Write, S: Watch>(
     alloc: Global,
-    state: &State,
+    inbox: &Inbox,
     window: Window,
     wanted: &Wanted<'_>,
-) -> Result<Listed, StreamFault>
-    ensures text { IfOk result (λ listed. (heard : List Item) → AreKept state.now heard →
-        IsListed (Wants wanted.now) heard window listed.text.items listed.is_refusal) }
-    ensures fault { IfErr result (λ fault. fault ≡ StreamFault.Memory) }
+    writer: &mut W,
+    watch: &mut S,
+) -> Result<bool, StreamFault>
+    ensures written { IfOk result (WritesKept (λ heard. IsListed (Wants wanted.now) heard window) inbox.now.state
+        (W.contents writer.old) (W.contents writer.new)) }
+    ensures front { OnErr result (WritesKeptFront (λ heard. IsListed (Wants wanted.now) heard window) inbox.now.state
+        (W.contents writer.old) (W.contents writer.new)) }
+    ensures fault { IfErr result (λ fault. fault ≢ StreamFault.Read) }
 {
-    match text_of(alloc, state, window, wanted) {
-        Ok(text) => Ok(Listed {
-            text,
-            is_refusal: false,
-        }),
-        Err(ViewError::TooManyRows) => Ok(Listed {
-            text: refusal_text(alloc, Refusal::TooManyRows)?,
-            is_refusal: true,
-        }),
-        Err(ViewError::NoMemory) => Err(StreamFault::Memory),
+    let rows = RowsByUid::of(alloc, &inbox.state, window, wanted)?;
+    match rows.count()? {
+        RowCount::Few(_) => {
+            write_texts(alloc, rows, writer)?;
+            Ok(false)
+        }
+        RowCount::TooMany(most) => {
+            refuse_rows(alloc, inbox, most, writer, watch)?;
+            Ok(true)
+        }
     }
 }
 
-fn text_of(
+/// Writes the text of the rows that are left. After a fault a front was written.
+fn write_texts<W: Write>(
     alloc: Global,
-    state: &State,
-    window: Window,
-    wanted: &Wanted<'_>,
-) -> Result<Vec<u8>, ViewError>
-    ensures text { IfOk result (λ text. (heard : List Item) → AreKept state.now heard →
-        IsTextWhere (Wants wanted.now) heard window text.items) }
-    ensures many { IsErrOf result ViewError.TooManyRows → (heard : List Item) → AreKept state.now heard →
-        AreTooManyWhere (Wants wanted.now) heard window }
+    rows: RowsByUid<'_, '_>,
+    writer: &mut W,
+) -> Result<(), StreamFault>
+    ensures all { OnOk result ((all : List Row) → AreLeft rows.entry all →
+        Appends (W.contents writer.old) (W.contents writer.new) (list_text all)) }
+    ensures front { OnErr result ((all : List Row) → AreLeft rows.entry all →
+        AppendsFront (W.contents writer.old) (W.contents writer.new) (list_text all)) }
+    ensures fault { IfErr result (λ fault. fault ≢ StreamFault.Read) }
 {
-    let shown = rows_where(alloc, state, window, wanted)?;
-    Ok(list_text(alloc, shown.as_slice())?)
+    let mut kept = Vec::new(alloc);
+    write_rows(rows, writer, &mut kept)?;
+    write_output(writer, kept.as_slice())
 }

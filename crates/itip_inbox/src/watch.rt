@@ -15,12 +15,8 @@ pub trait Watch {
     /// This message was refused.
     fn refused(&mut self, refused: &RefusedMessage);
 
-    /// Whether it is to be told which to-do has the most rows, where there are too many: all rows are gone through once more
-    /// for that.
-    fn asks_most(&self) -> bool;
-
     /// No message was refused, but there were too many rows; this to-do has the most of them.
-    fn too_many_rows(&mut self, most: Option<&MostRows>);
+    fn too_many_rows(&mut self, most: &MostRows);
 }
 
 impl Watch for () {
@@ -30,9 +26,5 @@ impl Watch for () {
 
     fn refused(&mut self, _refused: &RefusedMessage) {}
 
-    fn asks_most(&self) -> bool {
-        false
-    }
-
-    fn too_many_rows(&mut self, _most: Option<&MostRows>) {}
+    fn too_many_rows(&mut self, _most: &MostRows) {}
 }

@@ -1,9 +1,12 @@
 -- The canonical octets of a to-do, put together of their parts.
-use Rattle.std.proofs.Common.{◌≡◌, ◌∙◌, sym, ap, refl, ℕ, List, [], ◌∷◌, ◌++◌, append_assoc}
-use Rattle.std.specs.Prelude.{codes}
+use Rattle.std.proofs.Common.{◌≡◌, ◌∙◌, sym, ap, refl, subst, ℕ, ◌+◌, ◌<◌, ◌≤◌, List, [], ◌∷◌, ◌++◌, length, length-append, append_assoc}
+use Rattle.std.proofs.Common.{arith, inl, inr}
+use Rattle.std.proofs.lemmas.Bool.{cases_lt}
+use Rattle.std.specs.Prelude.{◌⊎◌, codes}
 use Rattle.itip_todo.specs.Parts.{Parts}
+use Rattle.itip_todo.specs.UpTo.{AppendsUpTo}
 use Rattle.itip_todo.specs.Written.{Content, contents_octets, content_octets, parts_contents, todo_contents}
-use Rattle.itip_items.specs.Items.{bare, canonical_octets, method_of, method_text}
+use Rattle.itip_items.specs.Items.{bare, canonical_contents, canonical_octets, method_of, method_text}
 use Rattle.itip_items.specs.declared.kind.Kind.{Kind}
 
 octets_both : (cs ds : List Content) → contents_octets (cs ++ ds) ≡ contents_octets cs ++ contents_octets ds
@@ -55,3 +58,30 @@ canonical_is k parts first method todo all p q r s =
     let grouped : ((f ++ m) ++ t) ++ e ≡ f ++ ((m ++ t) ++ e) = ap (λ (bytes : List ℕ). bytes ++ e) (append_assoc f m t) ∙
     append_assoc f (m ++ t) e in
     spelt ∙ grouped ∙ sym (ap (λ (bytes : List ℕ). f ++ bytes) (canonical_rest k parts))
+
+-- the same, where the to-do is written as far as a limit allows
+pub canonical_up_to : (limit : ℕ) (k : Kind) (parts : Parts) (first method todo all : List ℕ)
+    → first ≡ contents_octets (bare (codes "BEGIN") (codes "VCALENDAR") ∷ bare (codes "PRODID") (codes "-//itipdesk//1//EN") ∷
+    bare (codes "VERSION") (codes "2.0") ∷ [])
+    → method ≡ first ++ content_octets (bare (codes "METHOD") (method_text (method_of k)))
+    → AppendsUpTo limit (todo_contents parts) method todo
+    → all ≡ todo ++ content_octets end_calendar
+    → AppendsUpTo limit (canonical_contents k parts) [] all
+canonical_up_to limit k parts first method todo all p q r s = record {
+  grows = omega arith;
+  whole = λ short. canonical_is k parts first method todo all p q (r.whole (omega (arith, longer, short))) s;
+  over = λ long. each long (cases_lt limit (length todo));
+}
+  where
+    longer : length all ≡ length todo + length (content_octets end_calendar)
+    longer = ap length s ∙ length-append todo (content_octets end_calendar)
+
+    each : limit < length all → (limit < length todo) ⊎ (length todo ≤ limit) → limit < length (canonical_octets k parts)
+    each long (inl many) =
+        let written : List ℕ = method ++ contents_octets (todo_contents parts) in
+        let over : limit < length written = r.over many in
+        let both = length-append written (content_octets end_calendar) in
+        let same = ap length (canonical_is k parts first method written (written ++ content_octets end_calendar) p q refl refl) in
+        omega (arith, over, both, same)
+    each long (inr few) =
+        subst (λ (octets : List ℕ). limit < length octets) (canonical_is k parts first method todo all p q (r.whole few) s) long

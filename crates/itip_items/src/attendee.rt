@@ -8,16 +8,18 @@ use crate::key::Key;
 use crate::kind::Kind;
 use itip_lines::{ListOf, NoMemory};
 use itip_moment::Moment;
-use itip_todo::{Property, Todo, Uid, attendee_key};
+use itip_todo::{Property, SharedProperty, Todo, Uid, attendee_key};
 use std::alloc::Global;
 
 /// The one attendee that it is of, and few properties (our own rule).
+///
+/// UID, the zone of RECURRENCE-ID and ORGANIZER are shared with the to-do, and so with all answers that it gives.
 pub(crate) fn only_of(alloc: Global, attendee: &Property, todo: &Todo) -> Result<Todo, NoMemory>
     requires { IsLawful (only_of attendee.now (parts_of todo.now)) }
     ensures { IfOk result (λ only. parts_of only ≡ only_of attendee.now (parts_of todo.now)) }
 {
     let attendees = alone(alloc, attendee)?;
-    let (uid, rid, organizer) = copies(todo)?;
+    let (uid, rid, organizer) = shared(todo)?;
     Ok(Todo {
         uid,
         stamp: todo.stamp,
@@ -49,8 +51,8 @@ fn alone(alloc: Global, attendee: &Property) -> Result<ListOf<Property>, NoMemor
     Ok(ListOf::from_vec(attendees))
 }
 
-/// Copies of UID, RECURRENCE-ID and ORGANIZER.
-fn copies(todo: &Todo) -> Result<(Uid, Option<Moment>, Option<Property>), NoMemory>
+/// UID, RECURRENCE-ID and ORGANIZER, which take no memory again.
+fn shared(todo: &Todo) -> Result<(Uid, Option<Moment>, Option<SharedProperty>), NoMemory>
     ensures { IfOk result (λ copy. (copy.0 ≡ todo.now.uid) × (copy.1 ≡ todo.now.rid) × (copy.2 ≡ todo.now.organizer)) }
 {
     let uid = todo.uid.clone()?;

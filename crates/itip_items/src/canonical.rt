@@ -2,9 +2,10 @@
 ghost use Rattle.std.specs.Prelude.{◌≡◌, ◌≤◌, ◌+◌, ◌^◌, ◌-◌, ◌∷◌, [], ℕ, cond, codes, length, min, IfOk, IfErr};
 ghost use Rattle.std.specs.Option.{is_some};
 ghost use Rattle.itip_todo.specs.PartsOf.{parts_of};
+ghost use Rattle.itip_todo.specs.UpTo.{AppendsUpTo};
 ghost use Rattle.itip_todo.specs.Written.{content_octets};
 ghost use Rattle.itip_items.specs.Items.{ItemDraft, draft_of, canonical_octets, canonical_contents, bare, method_of, method_text};
-ghost use Rattle.itip_items.specs.Items.{IsCanonical, IsItem, IsWithinLimits, one_if};
+ghost use Rattle.itip_items.specs.Items.{IsCanonical, IsItem, IsWithinLimits, canonical_octets_limit, one_if};
 ghost use Rattle.itip_items.specs.Given.{IsItemOf, IsOver, IfLarge, Gives};
 ghost use Rattle.itip_items.specs.declared.key.Key.{Key};
 ghost use Rattle.itip_items.specs.declared.kind.Kind.{Kind};
@@ -14,7 +15,7 @@ use crate::item::Item;
 use crate::key::Key;
 use crate::kind::Kind;
 use itip_lines::{Bytes, NoMemory};
-use itip_todo::{Todo, write_todo};
+use itip_todo::{Todo, write_todo_up_to};
 use std::alloc::Global;
 
 /// The most octets of an item's canonical form (our own limit).
@@ -68,14 +69,18 @@ fn item_of(kind: Kind, key: Key, eff: u32, todo: Todo, bytes: Bytes) -> Item
     }
 }
 
-/// The canonical bytes of a to-do, where the form is within the limits.
+/// The canonical bytes of a to-do, where the form is within the limits. Nothing is written of too many lines, and few octets above
+/// the limit.
 fn bytes_within(alloc: Global, kind: Kind, todo: &Todo) -> Result<Bytes, ItemError>
     ensures bytes { IfOk result (λ bytes. bytes ≡ canonical_octets kind (parts_of todo.now)) }
     ensures within { IfOk result (λ _. (key : Key) (eff : ℕ) → IsWithinLimits (draft_of key eff todo.now kind)) }
     ensures large { IfErr result (λ e. (key : Key) (eff : ℕ) → IfLarge e (IsOver (draft_of key eff todo.now kind ∷ []))) }
 {
+    if line_count(todo) > LINES_LIMIT {
+        return Err(ItemError::TooLarge);
+    }
     let octets = write_canonical(alloc, kind, todo)?;
-    if octets.len() > OCTETS_LIMIT || line_count(todo) > LINES_LIMIT {
+    if octets.len() > OCTETS_LIMIT {
         return Err(ItemError::TooLarge);
     }
     Ok(Bytes::new(octets))
@@ -125,14 +130,16 @@ pub fn write_item(alloc: Global, item: &Item) -> Result<Vec<u8>, NoMemory>
     Vec::from_slice(alloc, item.bytes.as_slice())
 }
 
-/// The canonical octets of a to-do under the method of a kind.
+/// The canonical octets of a to-do under the method of a kind, as far as the limit allows: where they are more, what is written is
+/// more too, and maybe not all of them.
 fn write_canonical(alloc: Global, kind: Kind, todo: &Todo) -> Result<Vec<u8>, NoMemory>
-    ensures { IfOk result (λ octets. octets.items ≡ canonical_octets kind (parts_of todo.now)) }
+    ensures { IfOk result (λ octets.
+        AppendsUpTo canonical_octets_limit (canonical_contents kind (parts_of todo.now)) [] octets.items) }
 {
     let mut octets = Vec::with_capacity(alloc, USUAL)?;
     octets.extend_from_slice(b"BEGIN:VCALENDAR\r\nPRODID:-//itipdesk//1//EN\r\nVERSION:2.0\r\n")?;
     octets.extend_from_slice(method_line(kind))?;
-    write_todo(todo, &mut octets)?;
+    write_todo_up_to(todo, OCTETS_LIMIT, &mut octets)?;
     octets.extend_from_slice(b"END:VCALENDAR\r\n")?;
     octets.shrink_to_fit();
     Ok(octets)

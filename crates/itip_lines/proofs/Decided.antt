@@ -1,6 +1,6 @@
 -- Each text is read, or refused.
 use Rattle.std.proofs.Common.{◌≡◌, ◌∙◌, sym, ap, refl, zero, suc, ℕ, ◌+◌, ◌<◌, true, false, List, [], ◌∷◌, ◌++◌, length, take, drop, arith}
-use Rattle.std.proofs.Common.{subst, inl, inr, ◌⊎◌, length-append}
+use Rattle.std.proofs.Common.{subst, inl, inr, ◌⊎◌}
 use Rattle.std.specs.Prelude.{◌==◌, Some}
 use Rattle.std.specs.Str.{IsUtf8, is_utf8, str_to_ascii_uppercase}
 use Rattle.std.specs.List.{list_all, prefix_len}
@@ -24,8 +24,8 @@ use Rattle.itip_lines.specs.declared.error.LineRefusal.{LineRefusal}
 use Rattle.itip_lines.proofs.Runs.{run_of_prefix}
 use Rattle.itip_lines.proofs.Values.{lacks_quote}
 use Rattle.itip_lines.proofs.ValueLists.{HasValues, no_values, more_values, all_values, lacks_next, lacks_end, cut_shorter}
-use Rattle.itip_lines.proofs.Params.{HasParams, no_params, more_params, all_params, lacks_equals, lacks_name, lacks_values}
-use Rattle.itip_lines.proofs.Params.{lacks_next_param, lacks_colon, lacks_value}
+use Rattle.itip_lines.proofs.ParamLists.{HasParams, no_params, more_params, all_params, lacks_equals, lacks_name, lacks_values}
+use Rattle.itip_lines.proofs.ParamLists.{lacks_next_param, lacks_colon, lacks_value, param_read}
 use Rattle.itip_lines.proofs.Lines.{lacks_line_name, lacks_tail, spelled_line, lawful_line}
 use Rattle.itip_lines.proofs.Utf8Parts.{utf8_behind, utf8_past_name}
 use Rattle.itip_lines.proofs.Cuttings.{cutting_of}
@@ -114,24 +114,7 @@ decide_param text u =
               | inl values ↦ inl (
                 record { name = str_to_ascii_uppercase (name_of text); values = values.0 },
                 values.1,
-                record {
-                  is = record {
-                    spelled = name_of text;
-                    after = equals.0;
-                    whole = run.whole ∙ ap (λ t. name_of text ++ t) equals.1;
-                    named = record { some = some; octets = run.passes; name_is = refl };
-                    values = values.2.are;
-                  };
-                  ends = values.2.ends;
-                  utf8 = values.2.utf8;
-                  shorter = omega (
-                    arith,
-                    values.2.shorter,
-                    ap length run.whole,
-                    length-append (name_of text) (behind_name text),
-                    ap length equals.1,
-                  );
-                },
+                param_read text (name_of text) (behind_name text) equals.0 values.0 values.1 run equals.1 some values.2,
               )
             ]
       ]

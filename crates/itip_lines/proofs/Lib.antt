@@ -6,13 +6,15 @@ pub mod OctetLemmas
 pub mod Values
 pub mod Utf8Parts
 pub mod ValueLists
-pub mod Params
+pub mod ParamLists
 pub mod Lines
 pub mod Scans
 pub mod Cuttings
 pub mod Written
 pub mod Unfolding
 pub mod Roundtrip
+pub mod ParamTexts
+pub mod Found
 pub mod OneReading
 pub mod Decided
 pub mod Folds

@@ -27,6 +27,15 @@ separator_not_quote b h = grind (arith, nat_tests)
 pub plain_quotable : (b : ℕ) → is_plain_octet b ≡ true → is_quotable_octet b ≡ true
 plain_quotable b h = (and_parts _ _ h).0
 
+pub quotable_not_quote : (b : ℕ) → is_quotable_octet b ≡ true → (b == 34) ≡ false
+quotable_not_quote b h = grind (arith, nat_tests)
+
+pub plain_no_mark : (b : ℕ) → is_plain_octet b ≡ true → ((b == 59) ≡ false) × ((b == 44) ≡ false)
+plain_no_mark b h = (grind (arith, nat_tests), grind (arith, nat_tests))
+
+pub name_no_equals : (b : ℕ) → is_upper_name_octet b ≡ true → (b == 61) ≡ false
+name_no_equals b h = grind (arith, nat_tests)
+
 pub quotable_value : (b : ℕ) → is_quotable_octet b ≡ true → is_value_octet b ≡ true
 quotable_value b h = (and_parts _ _ h).0
 

@@ -40,7 +40,7 @@ upper_name_same (b ∷ bs) h =
     let p = and_parts _ _ h in
     ap (λ x. x ∷ map to_ascii_uppercase bs) (upper_same b p.0) ∙ ap (λ xs. b ∷ xs) (upper_name_same bs p.1)
 
-name_spells : (name : List ℕ) → IsName name → SpellsName name name
+pub name_spells : (name : List ℕ) → IsName name → SpellsName name name
 name_spells name h =
     record {
       some = h.some;
@@ -52,7 +52,7 @@ name_spells name h =
 plain_from : (b : ℕ) → is_quotable_octet b ≡ true → is_separator b ≡ false → is_plain_octet b ≡ true
 plain_from b h k = and_from _ _ h (ap not k)
 
-plain_without : (value : List ℕ) → list_all is_quotable_octet value ≡ true → list_any is_separator value ≡ false →
+pub plain_without : (value : List ℕ) → list_all is_quotable_octet value ≡ true → list_any is_separator value ≡ false →
     list_all is_plain_octet value ≡ true
 plain_without [] h k = refl
 plain_without (b ∷ bs) h k =
@@ -89,7 +89,7 @@ param_spells p rest h = record {
   values = values_spell p.values rest h.some h.values;
 }
 
-param_then : (p : Param) (rest : List ℕ) → param_text p ++ rest ≡ 59 ∷ (p.name ++ 61 ∷ (values_text p.values ++ rest))
+pub param_then : (p : Param) (rest : List ℕ) → param_text p ++ rest ≡ 59 ∷ (p.name ++ 61 ∷ (values_text p.values ++ rest))
 param_then p rest = ap (λ t. 59 ∷ t) (append_assoc p.name (61 ∷ values_text p.values) rest)
 
 tail_spells : (ps : List Param) (value : List ℕ) → AllByRecursion IsLawfulParam ps → IsTrue (list_all is_value_octet value) →
@@ -158,6 +158,9 @@ clean_param p h =
 clean_params : (ps : List Param) → AllByRecursion IsLawfulParam ps → IsClean (params_text ps)
 clean_params [] h = clean_nil
 clean_params (p ∷ ps) h = both (param_text p) (params_text ps) (clean_param p h.0) (clean_params ps h.1)
+
+pub utf8_params : (ps : List Param) → AllByRecursion IsLawfulParam ps → IsUtf8 (params_text ps)
+utf8_params ps h = (clean_params ps h).utf8
 
 clean_line : (l : Line) → IsClean (unfolded_text l)
 unfolding unfolded_text

@@ -1,7 +1,5 @@
 -- Two lines with equal fields are one line.
-use Rattle.std.proofs.Common.{◌≡◌, ℕ, List, map, [], ◌∷◌, ◌∙◌, refl, ap, sym, subst}
-use Rattle.std.specs.List.{AllZip}
-use Rattle.std.proofs.lemmas.Slice.Zip.{AllZip-map}
+use Rattle.std.proofs.Common.{◌≡◌, ℕ, List, sym, subst}
 use mathlib.Core.HLevel.{is_prop→PathP}
 use Rattle.itip_lines.specs.Lawful.{IsLawful, IsLawful-prop}
 use Rattle.itip_lines.specs.declared.line.Line.{Line}
@@ -26,11 +24,3 @@ pub lawful_copy : (l : Line) (name : List ℕ) (params : List Param) (value : Li
 lawful_copy l name params value p q r =
     subst (λ (v : List ℕ). IsLawful name params v) (sym r)
     (subst (λ (ps : List Param). IsLawful name ps l.value) (sym q) (subst (λ (n : List ℕ). IsLawful n l.params l.value) (sym p) l.lawful))
-
-map_same : {X : Type 0} (xs : List X) → map (λ x. x) xs ≡ xs
-map_same [] = refl
-map_same (x ∷ xs) = ap (λ ys. x ∷ ys) (map_same xs)
-
--- a copy of equal values is equal
-pub same_copy : {X : Type 0} (xs ys : List X) → AllZip (λ x y. y ≡ x) xs ys → ys ≡ xs
-same_copy xs ys h = AllZip-map (λ x. x) xs ys h ∙ map_same xs

@@ -1,9 +1,11 @@
 -- The values of a parameter, read one after another.
 use Rattle.std.proofs.Common.{◌≡◌, ◌∙◌, sym, ap, refl, ℕ, ◌≤◌, true, false, List, [], ◌∷◌, ◌++◌, length, arith, subst, append_assoc}
-use Rattle.std.proofs.Common.{length-append}
+use Rattle.std.proofs.Common.{length-append, append-nil}
 use Rattle.std.specs.Str.{IsUtf8}
+use Rattle.itip_lines.specs.Lawful.{value_text, values_text}
 use Rattle.itip_lines.specs.Spelling.{ValueThen, ValuesThen}
 use Rattle.itip_lines.specs.Parts.{begins, ends_param, EndsValue, EndsParam, CutsValue, LacksValue, LacksValues, ReadsValues}
+use Rattle.itip_lines.specs.Parts.{WritesValues}
 use Rattle.itip_lines.specs.Parts.CutsValue.{quoted, plain}
 use Rattle.itip_lines.proofs.Values.{one_value, one_cut, cuts_from_then, then_from_cuts}
 use Rattle.itip_lines.proofs.Utf8Parts.{utf8_value, utf8_behind}
@@ -86,6 +88,55 @@ lacks_end text done rest value behind has cut no_comma no_end = λ vs out h ends
         let one = one_value rest value behind u out cut h (param_ends_value out ends) in
         let f : false ≡ true = sym (subst (λ (b : List ℕ). begins ends_param b ≡ false) one.1 no_end) ∙ ends in cc
     none out (u ∷ (w ∷ us), e, h) ends = no_comma h.0 (one_value rest value behind u (44 ∷ h.0) cut h.1 refl).1
+
+-- ---- the same where the values are written on the way
+
+-- values with a comma behind each
+abbrev pub closed_text : List (List ℕ) → List ℕ
+closed_text [] = []
+closed_text (v ∷ vs) = value_text v ++ 44 ∷ closed_text vs
+
+closed_more : (vs : List (List ℕ)) (v : List ℕ) → closed_text (vs ++ v ∷ []) ≡ closed_text vs ++ (value_text v ++ 44 ∷ [])
+closed_more [] v = refl
+closed_more (w ∷ vs) v =
+    ap (λ t. value_text w ++ 44 ∷ t) (closed_more vs v) ∙
+    sym (append_assoc (value_text w) (44 ∷ closed_text vs) (value_text v ++ 44 ∷ []))
+
+closed_last : (vs : List (List ℕ)) (v : List ℕ) → values_text (vs ++ v ∷ []) ≡ closed_text vs ++ value_text v
+closed_last [] v = refl
+closed_last (w ∷ []) v = sym (append_assoc (value_text w) (44 ∷ []) (value_text v))
+closed_last (w ∷ (x ∷ vs)) v =
+    ap (λ t. value_text w ++ 44 ∷ t) (closed_last (x ∷ vs) v) ∙
+    sym (append_assoc (value_text w) (44 ∷ closed_text (x ∷ vs)) (value_text v))
+
+-- the first values of the text are read, and stand with a comma behind each behind what stood there
+pub record HasWritten (text rest old new : List ℕ) : Type 0 where
+  pub done : List (List ℕ)
+  pub has : HasValues text done rest
+  pub wrote : new ≡ old ++ closed_text done
+
+pub wrote_none : (text old : List ℕ) → IsUtf8 text → HasWritten text text old old
+wrote_none text old u = record { done = []; has = no_values text u; wrote = sym (append-nil old) }
+
+pub wrote_more : (text rest value behind more old at with_value new : List ℕ) → HasWritten text rest old at → CutsValue rest value behind →
+    behind ≡ 44 ∷ more → with_value ≡ at ++ value_text value → new ≡ with_value ++ 44 ∷ [] → HasWritten text more old new
+wrote_more text rest value behind more old at with_value new h cut comma first second = record {
+  done = h.done ++ value ∷ [];
+  has = more_values text h.done rest value behind more h.has cut comma;
+  wrote = second ∙ ap (λ t. t ++ 44 ∷ []) (first ∙ ap (λ t. t ++ value_text value) h.wrote)
+      ∙ append_assoc (old ++ closed_text h.done) (value_text value) (44 ∷ [])
+      ∙ append_assoc old (closed_text h.done) (value_text value ++ 44 ∷ [])
+      ∙ ap (λ t. old ++ t) (sym (closed_more h.done value));
+}
+
+pub wrote_all : (text rest value behind old at new : List ℕ) → HasWritten text rest old at → CutsValue rest value behind →
+    EndsParam behind → new ≡ at ++ value_text value → WritesValues text behind old new
+wrote_all text rest value behind old at new h cut ends last = record {
+  values = h.done ++ value ∷ [];
+  reads = all_values text h.done rest value behind h.has cut ends;
+  wrote = last ∙ ap (λ t. t ++ value_text value) h.wrote ∙ append_assoc old (closed_text h.done) (value_text value)
+      ∙ ap (λ t. old ++ t) (sym (closed_last h.done value));
+}
 
 -- the values of a parameter are the only ones
 pub one_values : (text : List ℕ) (vs : List (List ℕ)) (r : List ℕ) (ws : List (List ℕ)) (s : List ℕ) → ValuesThen text vs r → EndsParam r →

@@ -21,7 +21,7 @@ ends_plain [] e = refl
 ends_plain (b ∷ rest) e = separator_not_plain b e
 
 -- what stands before the closing quote
-quoted_run : (inside value rest : List ℕ) → IsTrue (list_all is_quotable_octet value) → inside ≡ value ++ 34 ∷ rest →
+pub quoted_run : (inside value rest : List ℕ) → IsTrue (list_all is_quotable_octet value) → inside ≡ value ++ 34 ∷ rest →
     IsRun is_quotable_octet inside value (34 ∷ rest)
 quoted_run inside value rest q e = record { whole = e; passes = q; stops = refl }
 
@@ -35,7 +35,7 @@ pub then_from_cuts : (text value rest : List ℕ) → CutsValue text value rest 
 then_from_cuts text value rest (quoted q e) = inl (q, e)
 then_from_cuts text value rest (plain r n) = inr (r.passes, r.whole)
 
-quote_clash : (text inside : List ℕ) → text ≡ 34 ∷ inside → begins (λ b. b == 34) text ≡ false → ⊥
+pub quote_clash : (text inside : List ℕ) → text ≡ 34 ∷ inside → begins (λ b. b == 34) text ≡ false → ⊥
 quote_clash text inside e n = let f : begins (λ b. b == 34) (34 ∷ inside) ≡ false =
     subst (λ (t : List ℕ). begins (λ b. b == 34) t ≡ false) e n in cc
 

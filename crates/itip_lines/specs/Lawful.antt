@@ -20,11 +20,6 @@ values_text [] = []
 values_text (v ∷ []) = value_text v
 values_text (v ∷ (w ∷ vs)) = value_text v ++ 44 ∷ values_text (w ∷ vs)
 
--- values with a comma before each
-abbrev pub others_text : List (List ℕ) → List ℕ
-others_text [] = []
-others_text (v ∷ vs) = 44 ∷ (value_text v ++ others_text vs)
-
 abbrev pub param_text : Param → List ℕ
 param_text param = 59 ∷ (param.name ++ 61 ∷ values_text param.values)
 

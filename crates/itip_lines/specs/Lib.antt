@@ -1,9 +1,11 @@
 pub mod Octets
 pub mod Lawful
+pub mod ParamsText
 pub mod Spelling
 pub mod Cutting
 pub mod Reading
 pub mod Parts
+pub mod Lookup
 pub mod Stretches
 pub mod ScanSteps
 pub mod Writing

@@ -4,6 +4,7 @@ use Rattle.std.specs.List.{list_all}
 use Rattle.std.specs.Str.{IsUtf8}
 use Rattle.itip_lines.specs.declared.line.Param.{Param}
 use Rattle.itip_lines.specs.Octets.{is_name_octet, is_value_octet, is_quotable_octet, is_plain_octet, is_separator}
+use Rattle.itip_lines.specs.Lawful.{values_text, param_text}
 use Rattle.itip_lines.specs.Spelling.{ValueThen, ValuesThen, ParamThen, IsTail, Spells}
 use Rattle.itip_lines.specs.declared.grammar.Octets.{Octets}
 use Rattle.itip_lines.specs.declared.grammar.Octets.TheVariants.{Name, Plain, Quotable, Value}
@@ -53,6 +54,12 @@ pub record ReadsValues (text : List ℕ) (values : List (List ℕ)) (rest : List
   pub utf8 : IsUtf8 rest
   pub shorter : length rest < length text + 1
 
+-- the same, and `new` is `old` with these values behind it as they are written
+pub record WritesValues (text rest old new : List ℕ) : Type 0 where
+  pub values : List (List ℕ)
+  pub reads : ReadsValues text values rest
+  pub wrote : new ≡ old ++ values_text values
+
 abbrev pub LacksValues : List ℕ → Type 0
 LacksValues text = (values : List (List ℕ)) (rest : List ℕ) → ValuesThen text values rest → EndsParam rest → ⊥
 
@@ -61,6 +68,11 @@ pub record ReadsParam (text : List ℕ) (param : Param) (rest : List ℕ) : Type
   pub ends : EndsParam rest
   pub utf8 : IsUtf8 rest
   pub shorter : length rest < length text + 1
+
+pub record WritesParam (text rest old new : List ℕ) : Type 0 where
+  pub param : Param
+  pub reads : ReadsParam text param rest
+  pub wrote : new ≡ old ++ param_text param
 
 abbrev pub LacksParam : List ℕ → Type 0
 LacksParam text = (param : Param) (rest : List ℕ) → ParamThen text param rest → EndsParam rest → ⊥

@@ -1,16 +1,18 @@
 //! The grammar of one unfolded line.
-ghost use Rattle.std.specs.Prelude.{◌≡◌, ◌≢◌, ◌≤◌, ◌∷◌, ℕ, List, IfOk, length, MatchOption};
+ghost use Rattle.std.specs.Prelude.{◌≡◌, ◌≢◌, ◌≤◌, ◌∷◌, ◌++◌, [], ℕ, List, IfOk, OnOk, length, map, MatchOption};
+ghost use Rattle.std.specs.Char.{to_ascii_uppercase};
 ghost use Rattle.std.specs.List.{prefix_len};
 ghost use Rattle.std.specs.Str.{IsUtf8, str_to_ascii_uppercase};
 ghost use Rattle.itip_lines.specs.Octets.{is_name_octet, is_value_octet, is_separator};
 ghost use Rattle.itip_lines.specs.Lawful.{line_limit};
 ghost use Rattle.itip_lines.specs.Spelling.{IsTail, Spells};
-ghost use Rattle.itip_lines.specs.Parts.{is_of, begins, ends_param, IsRun, CutsValue, LacksValue, LacksValues, ReadsValues, LacksParam};
-ghost use Rattle.itip_lines.specs.Parts.{ReadsParam, LacksTail, LacksLine};
+ghost use Rattle.itip_lines.specs.Parts.{is_of, begins, ends_param, IsRun, CutsValue, LacksValue, LacksValues, WritesValues};
+ghost use Rattle.itip_lines.specs.Parts.{LacksParam, WritesParam, LacksTail, LacksLine};
 
-use crate::line::{Line, Param};
-use crate::list::ListOf;
+use crate::line::Line;
+use crate::params::Params;
 use crate::text::Text;
+use crate::write::push_value;
 use std::alloc::{AllocError, Global};
 
 /// The octets that a part of a line may have.
@@ -69,14 +71,14 @@ fn run_len(text: &[u8], octets: Octets) -> usize
 }
 
 /// The longest front of such octets, and the rest.
-fn cut_run(text: &[u8], octets: Octets) -> (&[u8], &[u8])
+pub(crate) fn cut_run(text: &[u8], octets: Octets) -> (&[u8], &[u8])
     ensures { IsRun (is_of octets) text.now result.0.now result.1.now }
 {
     text.split_at(run_len(text, octets))
 }
 
 /// What stands behind the octet, where the text begins with it.
-fn strip(text: &[u8], octet: u8) -> Option<&[u8]>
+pub(crate) fn strip(text: &[u8], octet: u8) -> Option<&[u8]>
     ensures { MatchOption result ((rest : List ℕ) → text.now ≢ octet ∷ rest)
         (λ rest. text.now ≡ octet ∷ rest.now) }
 {
@@ -127,34 +129,56 @@ fn ends_param(text: &[u8]) -> bool
     matches!(text, [b';' | b':', ..])
 }
 
-/// The values of a parameter that the text begins with, up to `;` or `:`, and the rest.
-fn read_values(alloc: Global, text: &[u8]) -> Result<Option<(ListOf<Text>, &[u8])>, AllocError>
+/// Appends the values of a parameter that the text begins with, up to `;` or `:`, and gives the rest. Where there are none,
+/// perhaps a part of them is appended.
+fn read_values<'a>(text: &'a [u8], out: &mut Vec<u8>) -> Result<Option<&'a [u8]>, AllocError>
     requires { IsUtf8 text.now }
-    ensures { IfOk result (λ o.
-        MatchOption o (LacksValues text.now) (λ p. ReadsValues text.now p.0 p.1.now)) }
+    ensures { IfOk result (λ o. MatchOption o (LacksValues text.now)
+        (λ rest. WritesValues text.now rest.now out.old.items out.new.items)) }
 {
-    let mut values = Vec::new(alloc);
     let mut rest = text;
     loop {
         let Some((value, behind)) = cut_value(rest) else {
             return Ok(None);
         };
-        values.push(copy(alloc, value)?)?;
+        push_value(value, out)?;
         if let Some(more) = strip(behind, b',') {
+            out.push(b',')?;
             rest = more;
         } else if ends_param(behind) {
-            return Ok(Some((ListOf::from_vec(values), behind)));
+            return Ok(Some(behind));
         } else {
             return Ok(None);
         }
     }
 }
 
-/// The parameter that the text begins with, and the rest.
-fn read_param(alloc: Global, text: &[u8]) -> Result<Option<(Param, &[u8])>, AllocError>
+/// Appends the octets, ASCII letters in upper case.
+fn push_upper(text: &[u8], out: &mut Vec<u8>) -> Result<(), AllocError>
+    ensures { OnOk result (out.new.items ≡ out.old.items ++ map to_ascii_uppercase text.now) }
+{
+    for octet in text {
+        out.push(octet.to_ascii_uppercase())?;
+    }
+    Ok(())
+}
+
+/// Appends `;`, a name in upper case, and `=`.
+fn push_name(name: &[u8], out: &mut Vec<u8>) -> Result<(), AllocError>
+    ensures { OnOk result (out.new.items ≡ out.old.items ++ 59 ∷ (str_to_ascii_uppercase name.now ++ 61 ∷ [])) }
+{
+    out.push(b';')?;
+    push_upper(name, out)?;
+    out.push(b'=')?;
+    Ok(())
+}
+
+/// Appends the parameter that the text begins with, and gives the rest. Where there is none, perhaps a part of it is
+/// appended.
+fn read_param<'a>(text: &'a [u8], out: &mut Vec<u8>) -> Result<Option<&'a [u8]>, AllocError>
     requires { IsUtf8 text.now }
-    ensures { IfOk result (λ o.
-        MatchOption o (LacksParam text.now) (λ p. ReadsParam text.now p.0 p.1.now)) }
+    ensures { IfOk result (λ o. MatchOption o (LacksParam text.now)
+        (λ rest. WritesParam text.now rest.now out.old.items out.new.items)) }
 {
     let (spelled, behind) = cut_run(text, Octets::Name);
     let Some(after) = strip(behind, b'=') else {
@@ -163,25 +187,32 @@ fn read_param(alloc: Global, text: &[u8]) -> Result<Option<(Param, &[u8])>, Allo
     if spelled.is_empty() {
         return Ok(None);
     }
-    let Some((values, rest)) = read_values(alloc, after)? else {
+    push_name(spelled, out)?;
+    let Some(rest) = read_values(after, out)? else {
         return Ok(None);
     };
-    let name = upper_name(alloc, spelled)?;
-    Ok(Some((Param { name, values }, rest)))
+    Ok(Some(rest))
+}
+
+/// Room for the parameters of a line, which are written no longer than they were read.
+fn room(text: &[u8]) -> usize {
+    match text {
+        [b';', ..] => text.len(),
+        _ => 0,
+    }
 }
 
 /// The parameters and the value of a line, from what stands behind its name.
-fn read_tail(alloc: Global, text: &[u8]) -> Result<Option<(ListOf<Param>, Text)>, AllocError>
+fn read_tail(alloc: Global, text: &[u8]) -> Result<Option<(Params, Text)>, AllocError>
     requires { IsUtf8 text.now }
     ensures { IfOk result (λ o. MatchOption o (LacksTail text.now) (λ p. IsTail text.now p.0 p.1)) }
 {
-    let mut params = Vec::new(alloc);
+    let mut params = Vec::with_capacity(alloc, room(text))?;
     let mut rest = text;
     while let Some(after) = strip(rest, b';') {
-        let Some((param, behind)) = read_param(alloc, after)? else {
+        let Some(behind) = read_param(after, &mut params)? else {
             return Ok(None);
         };
-        params.push(param)?;
         rest = behind;
     }
     let Some(value) = strip(rest, b':') else {
@@ -190,7 +221,8 @@ fn read_tail(alloc: Global, text: &[u8]) -> Result<Option<(ListOf<Param>, Text)>
     if run_len(value, Octets::Value) < value.len() {
         return Ok(None);
     }
-    Ok(Some((ListOf::from_vec(params), copy(alloc, value)?)))
+    let value = copy(alloc, value)?;
+    Ok(Some((Params::from_text(params), value)))
 }
 
 /// The line of a text, where the grammar has one.

@@ -3,11 +3,12 @@ ghost use Rattle.itip_lines.specs.Lawful.{IsLawful, IsLawful-prop};
 ghost use Rattle.std.specs.Prelude.{◌≡◌};
 
 use crate::list::ListOf;
+use crate::params::Params;
 use crate::text::Text;
 use std::alloc::AllocError;
 
-/// A parameter of a line: its name in upper case, and its values without quotes.
-#[derive(PartialEq, Debug, Drop)]
+/// A parameter of a line, as contracts see each of its `Params`: its name in upper case, and its values without quotes.
+#[derive(Drop)]
 pub struct Param {
     pub name: Text,
     pub values: ListOf<Text>,
@@ -20,7 +21,7 @@ pub struct Param {
 #[derive(PartialEq, Debug, Drop)]
 pub struct Line {
     pub name: Text,
-    pub params: ListOf<Param>,
+    pub params: Params,
     pub value: Text,
     pub ghost lawful: { IsLawful name params value } by { IsLawful-prop name params value },
 }
@@ -32,16 +33,6 @@ pub struct NumberedLine {
     /// ones are counted.
     pub number: usize,
     pub line: Line,
-}
-
-impl Clone for Param {
-    ghost is_clone = { λ param copy. copy ≡ param };
-
-    fn clone(&self) -> Result<Param, AllocError> {
-        let name = self.name.clone()?;
-        let values = self.values.clone()?;
-        Ok(Param { name, values })
-    }
 }
 
 impl Clone for Line {

@@ -2,12 +2,12 @@
 ghost use Rattle.std.specs.Prelude.{◌≡◌, ◌≤◌, ◌++◌, ◌∷◌, [], IfOk, OnOk, OnErr};
 ghost use Rattle.std.specs.List.{list_any};
 ghost use Rattle.itip_lines.specs.Octets.{is_separator};
-ghost use Rattle.itip_lines.specs.Lawful.{value_text, values_text, others_text, param_text, params_text, line_text};
+ghost use Rattle.itip_lines.specs.Lawful.{value_text, params_text, line_text};
 ghost use Rattle.itip_lines.specs.Writing.{following, folded, written, Writes, Extends};
 
 use crate::grammar::is_separator;
-use crate::line::{Line, Param};
-use crate::text::Text;
+use crate::line::Line;
+use crate::params::Params;
 use std::alloc::AllocError;
 
 /// The most octets of a piece of a line, without its break (RFC 5545 3.1).
@@ -25,7 +25,7 @@ pub fn write_line(line: &Line, out: &mut Vec<u8>) -> Result<(), AllocError>
 {
     write_property(
         line.name.as_str(),
-        line.params.as_slice(),
+        &line.params,
         line.value.as_str().as_bytes(),
         out,
     )
@@ -36,11 +36,24 @@ pub fn write_line(line: &Line, out: &mut Vec<u8>) -> Result<(), AllocError>
 /// Where memory is refused `out` stays as it was.
 pub fn write_property(
     name: &str,
-    params: &[Param],
+    params: &Params,
     value: &[u8],
     out: &mut Vec<u8>,
 ) -> Result<(), AllocError>
     ensures appended { OnOk result (out.new.items ≡ out.old.items ++ folded 0 (line_text name.now params.now value.now)) }
+    ensures err { OnErr result (out.new.items ≡ out.old.items) }
+{
+    write_parts(name, params.as_str().as_bytes(), value, out)
+}
+
+/// The same where `params` is the text of the parameters, as `write_param` makes it; empty where there is none.
+pub fn write_parts(
+    name: &str,
+    params: &[u8],
+    value: &[u8],
+    out: &mut Vec<u8>,
+) -> Result<(), AllocError>
+    ensures appended { OnOk result (out.new.items ≡ out.old.items ++ folded 0 (name.now ++ (params.now ++ 58 ∷ value.now))) }
     ensures err { OnErr result (out.new.items ≡ out.old.items) }
 {
     let start = out.len();
@@ -52,85 +65,42 @@ pub fn write_property(
 }
 
 /// Appends a line with its breaks; where memory is refused, perhaps a part of it.
-fn write_all(
-    name: &str,
-    params: &[Param],
-    value: &[u8],
-    out: &mut Vec<u8>,
-) -> Result<(), AllocError>
-    ensures appended { OnOk result (out.new.items ≡ out.old.items ++ folded 0 (line_text name.now params.now value.now)) }
+fn write_all(name: &str, params: &[u8], value: &[u8], out: &mut Vec<u8>) -> Result<(), AllocError>
+    ensures appended { OnOk result (out.new.items ≡ out.old.items ++ folded 0 (name.now ++ (params.now ++ 58 ∷ value.now))) }
     ensures extends { Extends out.old.items out.new.items }
 {
     let used = write_octets(name.as_bytes(), 0, out)?;
-    let used = write_params(params, used, out)?;
+    let used = write_octets(params, used, out)?;
     let used = write_octet(b':', used, out)?;
     write_octets(value, used, out)?;
     out.extend_from_slice(b"\r\n")
 }
 
-/// Appends parameters behind so many octets of a piece, and gives how many the last piece has.
-fn write_params(params: &[Param], mut used: usize, out: &mut Vec<u8>) -> Result<usize, AllocError>
-    requires { used ≤ 75 }
-    ensures wrote { IfOk result (Writes out.old.items used (params_text params.now) out.new.items) }
-    ensures extends { Extends out.old.items out.new.items }
+/// Appends the text of a parameter with one value, without folds: `;`, its name, `=`, and the value, in quotes where it
+/// has `;`, `:` or `,`.
+///
+/// Where memory is refused, perhaps a part of it is appended.
+pub fn write_param(name: &str, value: &str, out: &mut Vec<u8>) -> Result<(), AllocError>
+    ensures { OnOk result (out.new.items
+        ≡ out.old.items ++ params_text ((record { name = name.now; values = value.now ∷ [] }) ∷ [])) }
 {
-    for param in params {
-        used = write_param(param, used, out)?;
+    out.push(b';')?;
+    out.extend_from_slice(name.as_bytes())?;
+    out.push(b'=')?;
+    push_value(value.as_bytes(), out)
+}
+
+/// Appends a value of a parameter without folds, in quotes where it needs them.
+pub(crate) fn push_value(value: &[u8], out: &mut Vec<u8>) -> Result<(), AllocError>
+    ensures { OnOk result (out.new.items ≡ out.old.items ++ value_text value.now) }
+{
+    if !has_separator(value) {
+        return out.extend_from_slice(value);
     }
-    Ok(used)
-}
-
-/// Appends a parameter.
-fn write_param(param: &Param, used: usize, out: &mut Vec<u8>) -> Result<usize, AllocError>
-    requires { used ≤ 75 }
-    ensures wrote { IfOk result (Writes out.old.items used (param_text param.now) out.new.items) }
-    ensures extends { Extends out.old.items out.new.items }
-{
-    let used = write_octet(b';', used, out)?;
-    let used = write_octets(param.name.as_str().as_bytes(), used, out)?;
-    let used = write_octet(b'=', used, out)?;
-    write_values(param.values.as_slice(), used, out)
-}
-
-/// Appends values with commas between.
-fn write_values(values: &[Text], used: usize, out: &mut Vec<u8>) -> Result<usize, AllocError>
-    requires { used ≤ 75 }
-    ensures wrote { IfOk result (Writes out.old.items used (values_text values.now) out.new.items) }
-    ensures extends { Extends out.old.items out.new.items }
-{
-    let Some((first, others)) = values.split_first() else {
-        return Ok(used);
-    };
-    let used = write_value(first, used, out)?;
-    write_others(others, used, out)
-}
-
-/// Appends values with a comma before each.
-fn write_others(values: &[Text], mut used: usize, out: &mut Vec<u8>) -> Result<usize, AllocError>
-    requires { used ≤ 75 }
-    ensures wrote { IfOk result (Writes out.old.items used (others_text values.now) out.new.items) }
-    ensures extends { Extends out.old.items out.new.items }
-{
-    for value in values {
-        used = write_octet(b',', used, out)?;
-        used = write_value(value, used, out)?;
-    }
-    Ok(used)
-}
-
-/// Appends a value of a parameter, in quotes where it needs them.
-fn write_value(value: &Text, used: usize, out: &mut Vec<u8>) -> Result<usize, AllocError>
-    requires { used ≤ 75 }
-    ensures wrote { IfOk result (Writes out.old.items used (value_text value.now) out.new.items) }
-    ensures extends { Extends out.old.items out.new.items }
-{
-    let octets = value.as_str().as_bytes();
-    if !has_separator(octets) {
-        return write_octets(octets, used, out);
-    }
-    let used = write_octet(b'"', used, out)?;
-    let used = write_octets(octets, used, out)?;
-    write_octet(b'"', used, out)
+    out.push(b'"')?;
+    out.extend_from_slice(value)?;
+    out.push(b'"')?;
+    Ok(())
 }
 
 fn has_separator(octets: &[u8]) -> bool

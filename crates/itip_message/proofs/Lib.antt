@@ -1,3 +1,4 @@
+pub mod BegunMessages
 pub mod Cuts
 pub mod Dating
 pub mod DraftItems
@@ -16,6 +17,7 @@ pub mod Plain
 pub mod Properties
 pub mod ReadAgain
 pub mod RefusalPlaces
+pub mod SaidMore
 pub mod Searches
 pub mod SomeMessage
 pub mod Stages

@@ -44,25 +44,27 @@ line_stays bytes n is within = λ more.
     subst (λ (t : List ℕ). IsFirstLine (bytes ++ more) t (drop n bytes ++ more)) (take_front n bytes more (omega (arith, within)))
     (subst (λ (t : List ℕ). IsFirstLine (bytes ++ more) (take n (bytes ++ more)) t) (drop_front n bytes more (omega (arith, within))) at)
 
-pub stays_begin : (bytes : List ℕ) → StaysPassing bytes bytes
-stays_begin bytes = λ more. (true, start_passing (bytes ++ more))
+pub stays_begin : (bytes : List ℕ) → StaysPassing bytes bytes true
+stays_begin bytes = λ more. start_passing (bytes ++ more)
 
-pub stays_more : (bytes rest line after : List ℕ) → StaysPassing bytes rest → StaysFirstLine rest line after → ends_calendar line ≡ false →
-    StaysPassing bytes after
-stays_more bytes rest line after so_far first not = λ more.
-    let passed = so_far more in
-    (passed.0 && is_empty line, pass_line (bytes ++ more) (rest ++ more) line (after ++ more) passed.0 passed.1 (first more) not)
+pub stays_more : (bytes rest line after : List ℕ) (blank : Bool) → StaysPassing bytes rest blank → StaysFirstLine rest line after →
+    ends_calendar line ≡ false → StaysPassing bytes after (blank && is_empty line)
+stays_more bytes rest line after blank so_far first not = λ more.
+    pass_line (bytes ++ more) (rest ++ more) line (after ++ more) blank (so_far more) (first more) not
 
 -- with a line that ends a calendar the message ends
-pub stays_end : (bytes rest line after message : List ℕ) → StaysPassing bytes rest → StaysFirstLine rest line after →
+pub stays_end : (bytes rest line after message : List ℕ) (blank : Bool) → StaysPassing bytes rest blank → StaysFirstLine rest line after →
     ends_calendar line ≡ true → length after ≤ length bytes
     → message ≡ take (length bytes - length after) bytes → StaysCut bytes message after
-stays_end bytes rest line after message so_far first ends within is = λ more.
-    let passed = so_far more in
-    let cut = message_ends (bytes ++ more) (rest ++ more) line (after ++ more) passed.0 passed.1 (first more) ends in
+stays_end bytes rest line after message blank so_far first ends within is = λ more.
+    let cut = message_ends (bytes ++ more) (rest ++ more) line (after ++ more) blank (so_far more) (first more) ends in
     let a : length (bytes ++ more) ≡ length bytes + length more = length-append bytes more in
     let b : length (after ++ more) ≡ length after + length more = length-append after more in
     let count : length (bytes ++ more) - length (after ++ more) ≡ length bytes - length after = omega (arith, a, b, within) in
     let text : take (length (bytes ++ more) - length (after ++ more)) (bytes ++ more) ≡ message =
     ap (λ (k : ℕ). take k (bytes ++ more)) count ∙ take_front (length bytes - length after) bytes more (omega (arith, within)) ∙ sym is in
     subst (λ (t : List ℕ). CutsMessage (bytes ++ more) t (after ++ more)) text cut
+
+-- what has octets is not empty
+pub none_left : (bytes after : List ℕ) → 0 < length after → after ≡ [] → bytes ≡ []
+none_left bytes after some none = absurd (let e : length after ≡ 0 = ap length none in omega (arith, e, some))

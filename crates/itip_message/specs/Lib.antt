@@ -9,3 +9,4 @@ pub mod RefusalNumbers
 pub mod Cutting
 pub mod Scanned
 pub mod Passing
+pub mod Begun

@@ -32,5 +32,5 @@ pub record Passes (bytes rest : List ℕ) (blank : Bool) : Type 0 where
   pub blank_is : blank ≡ list_all is_empty passed
 
 -- Lines of which none ends a calendar were passed, whatever octets come behind these.
-abbrev pub StaysPassing : List ℕ → List ℕ → Type 0
-StaysPassing bytes rest = (more : List ℕ) → (blank : Bool) × Passes (bytes ++ more) (rest ++ more) blank
+abbrev pub StaysPassing : List ℕ → List ℕ → Bool → Type 0
+StaysPassing bytes rest blank = (more : List ℕ) → Passes (bytes ++ more) (rest ++ more) blank

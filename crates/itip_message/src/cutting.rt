@@ -1,13 +1,16 @@
 //! Cutting a text of many messages, such as a delta, into messages. Nothing is copied: each is a slice of the text.
-ghost use Rattle.std.specs.Prelude.{◌≡◌, ◌<◌, ◌≤◌, [], length, MatchOption, IfSome};
+ghost use Rattle.std.specs.Prelude.{◌≡◌, ◌<◌, ◌≤◌, [], length, MatchOption, IfSome, IfNone, IfOk, IfErr};
+ghost use Rattle.itip_message.specs.Begun.{IsBegun};
 ghost use Rattle.itip_message.specs.Scanned.{begins_blank, ends_line, line_length, is_return, says, said, is_empty, ends_calendar};
 ghost use Rattle.itip_message.specs.Scanned.{messages_of, CutsMessage, StaysCut};
 ghost use Rattle.itip_message.specs.Passing.{IsFirstLine, StaysFirstLine, SaysFirst, is_left_out};
 ghost use Rattle.itip_lines.specs.Cutting.{is_blank};
 
+use crate::begun::BegunMessage;
+
 const CR: u8 = b'\r';
 
-const LF: u8 = b'\n';
+pub(crate) const LF: u8 = b'\n';
 
 /// The first message of some octets, and what follows it. Empty lines alone are no message.
 ///
@@ -33,21 +36,42 @@ pub fn next_message(bytes: &[u8]) -> Option<(&[u8], &[u8])>
 pub fn whole_message(bytes: &[u8]) -> Option<(&[u8], &[u8])>
     ensures { IfSome result (λ cut. StaysCut bytes.now cut.0.now cut.1.now) }
 {
+    match cut_message(bytes) {
+        Ok(cut) => Some(cut),
+        Err(_) => None,
+    }
+}
+
+/// The first message of some octets that others may follow, and what stands behind it, as [`whole_message`] finds them; or else what
+/// is known of the message that these octets begin.
+pub fn cut_message(bytes: &[u8]) -> Result<(&[u8], &[u8]), BegunMessage<'_>>
+    ensures cut { IfOk result (λ cut. StaysCut bytes.now cut.0.now cut.1.now) }
+    ensures begun { IfErr result IsBegun }
+    ensures octets { IfErr result (λ message. message.octets.now ≡ bytes.now) }
+{
     let mut rest = bytes;
+    let mut all_empty = true;
     while let Some((line, after)) = whole_line(rest) {
         if ends_calendar(line) {
             let message = &bytes[..bytes.len() - after.len()];
-            return Some((message, after));
+            return Ok((message, after));
         }
+        all_empty = all_empty && is_empty(line);
         rest = after;
     }
-    None
+    Err(BegunMessage {
+        octets: bytes,
+        all_empty,
+        line: rest,
+    })
 }
 
 /// The first line as it came, with its folds and its break, and what follows it, where an octet behind shows that it is at its end.
 fn whole_line(bytes: &[u8]) -> Option<(&[u8], &[u8])>
     ensures stays { IfSome result (λ cut. StaysFirstLine bytes.now cut.0.now cut.1.now) }
     ensures shorter { IfSome result (λ cut. length cut.1.now < length bytes.now) }
+    ensures some { IfSome result (λ cut. 0 < length cut.1.now) }
+    ensures goes_on { IfNone result (line_length bytes.now ≡ length bytes.now) }
 {
     let end = line_length(bytes);
     if end < bytes.len() {
@@ -161,7 +185,7 @@ fn first_said(line: &[u8]) -> Option<(u8, &[u8])>
 }
 
 /// Whether an octet is of a break, or is the blank behind one.
-fn is_left_out(b: u8, is_behind: bool, after: &[u8]) -> bool
+pub(crate) fn is_left_out(b: u8, is_behind: bool, after: &[u8]) -> bool
     ensures { result ≡ is_left_out b is_behind after.now }
 {
     b == LF || is_return(b, after) || (is_behind && is_blank(b))

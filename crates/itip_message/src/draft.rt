@@ -12,7 +12,7 @@ use crate::frame::frame;
 use crate::head::read_draft_head;
 use crate::sort::{Component, sort};
 use itip_items::{Item, Method, make_items};
-use itip_lines::{Line, ListOf, NoMemory, NumberedLine, Text, read_lines};
+use itip_lines::{Line, ListOf, NoMemory, NumberedLine, Params, Text, read_lines};
 use itip_todo::{PropertyName, Todo};
 use std::alloc::Global;
 
@@ -76,7 +76,7 @@ fn first_stamp(alloc: Global) -> Result<Line, NoMemory>
     let value = Text::copy(alloc, "19700101T000000Z")?;
     Ok(Line {
         name,
-        params: ListOf::new(alloc),
+        params: Params::new(alloc),
         value,
     })
 }

@@ -2,6 +2,7 @@
 //! item are read as that one item.
 #![tactic(auto)]
 
+mod begun;
 mod cause_lines;
 mod components;
 mod cutting;
@@ -14,7 +15,8 @@ mod parallel;
 mod read;
 mod sort;
 
-pub use cutting::{next_message, whole_message};
+pub use begun::{BegunMessage, stand_in};
+pub use cutting::{cut_message, next_message, whole_message};
 pub use draft::read_draft;
 pub use error::{MessageCause, MessageRefusal, ReadError};
 pub use frame::Placed;

@@ -1,5 +1,5 @@
 -- The name of a time zone, as TZID gives it (RFC 5545 3.2.19).
-use Rattle.std.specs.Prelude.{◌≡◌, ◌≢◌, ℕ, List, []}
+use Rattle.std.specs.Prelude.{◌≡◌, ◌≢◌, ℕ, List, [], Option, Some, None}
 use Rattle.std.specs.Coded.{Coded, coded_list, coded_ℕ}
 use base.Stored.{coded_via}
 use mathlib.Core.HLevel.{is_prop→PathP, ¬_prop}
@@ -16,3 +16,8 @@ same_name a b e =
 
 abbrev pub name_code : Coded Name
 name_code = coded_via (coded_list coded_ℕ) (λ n. n.bytes) same_name
+
+-- the bytes of a name, and none where there is no name
+abbrev pub zone_text : Option Name → List ℕ
+zone_text None = []
+zone_text (Some name) = name.bytes

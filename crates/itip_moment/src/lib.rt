@@ -22,7 +22,7 @@ pub use laws::{
     texts_spell_one_value, written_texts_are_read_back,
 };
 pub use moment::{Form, Moment};
-pub use read::{read_date, read_moment, read_stamp};
+pub use read::{read_date, read_moment, read_moment_in, read_stamp};
 pub use shown::BadText;
 pub use stamp::Stamp;
 pub use std::alloc::AllocError as NoMemory;

@@ -1,5 +1,6 @@
-ghost use Rattle.std.specs.Prelude.{◌<◌, ◌≢◌, ℕ, ℤ, [], option_copied, unwrap_or, IfSome, IfNone, IfOk, OnErr};
+ghost use Rattle.std.specs.Prelude.{◌<◌, ◌≢◌, ℕ, ℤ, [], Some, option_copied, unwrap_or, IfSome, IfNone, IfOk, OnErr};
 ghost use Rattle.itip_moment.specs.Spelling.{IsDayOf, IsDateText, IsClockText, IsLocalText, IsUtcText, IsStampText, MomentText};
+ghost use Rattle.itip_moment.specs.Zone.{zone_text};
 ghost use Rattle.itip_moment.specs.declared.stamp.Stamp.{Stamp};
 ghost use Rattle.itip_moment.specs.declared.moment.Moment.{Moment};
 
@@ -43,6 +44,22 @@ pub fn read_moment(
         (m : Moment) → MomentText text.now (option_copied tzid.entry) m → ⊥)) }
     ensures err { OnErr result (unwrap_or (option_copied tzid.entry) [] ≢ []) }
 {
+    let zone = ZoneName::new(alloc, tzid.unwrap_or(""))?;
+    let moment = read_moment_in(text, zone.as_ref());
+    // By a call: what is dropped in place is proved anew.
+    drop(zone);
+    moment
+}
+
+/// The moment that a text spells beside the zone given, or beside none: as [`read_moment`], with the name made before.
+///
+/// A zoned moment shares the name, so that many in one zone hold it once. An error only when out of memory.
+pub fn read_moment_in(text: &str, zone: Option<&ZoneName>) -> Result<Option<Moment>, NoMemory>
+    ensures found { IfOk result (λ r. IfSome r (MomentText text.now (Some (zone_text (option_copied zone.entry))))) }
+    ensures none { IfOk result (λ r. IfNone r (
+        (m : Moment) → MomentText text.now (Some (zone_text (option_copied zone.entry))) m → ⊥)) }
+    ensures err { OnErr result (zone_text (option_copied zone.entry) ≢ []) }
+{
     let bytes = text.as_bytes();
     if let Some(day) = date(bytes) {
         return Ok(Some(Moment::Date(day)));
@@ -53,9 +70,9 @@ pub fn read_moment(
     let Some(stamp) = local(bytes) else {
         return Ok(None);
     };
-    Ok(Some(match ZoneName::new(alloc, tzid.unwrap_or(""))? {
+    Ok(Some(match zone {
         None => Moment::Floating(stamp),
-        Some(zone) => Moment::Zoned(zone, stamp),
+        Some(zone) => Moment::Zoned(zone.clone()?, stamp),
     }))
 }
 

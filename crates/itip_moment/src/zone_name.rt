@@ -1,33 +1,36 @@
-ghost use Rattle.std.specs.Prelude.{◌≡◌, ◌≢◌, [], string_bytes, IfOk, OnErr, MatchOption, nat_eq};
+ghost use Rattle.std.specs.Prelude.{◌≡◌, ◌≢◌, [], IfOk, OnErr, MatchOption, nat_eq};
+ghost use Rattle.std.specs.Arc.{arc_str_bytes};
 ghost use Rattle.std.specs.Cmp.{partial_order_from_own_ties};
 ghost use Rattle.std.specs.Cmp.Rules.{comparing};
 ghost use Rattle.std.specs.Cmp.Lexicographic.{slice_cmp, pointwise};
 ghost use Rattle.std.specs.Ordering.{on, nat_cmp, as_partial_cmp};
 ghost use Rattle.std.proofs.Common.{rules};
+ghost use Rattle.itip_moment.specs.Zone.{zone_text};
 
 use std::alloc::{AllocError, Global};
 use std::cmp::Ordering;
 use std::fmt;
 use std::marker::Model;
+use std::sync::ArcStr;
 
 /// The name of a time zone, as TZID gives it (RFC 5545 3.2.19): a text that isn't empty.
 ///
-/// Names are ordered by their bytes.
+/// Names are ordered by their bytes. The text is shared: a clone is a count more, and takes no memory.
 #[derive(Drop)]
 pub struct ZoneName {
-    text: String,
-    ghost not_empty: { string_bytes text ≢ [] },
+    text: ArcStr,
+    ghost not_empty: { arc_str_bytes text ≢ [] },
 }
 
 impl Model for ZoneName {
-    ghost use Rattle.std.specs.Prelude.{string_bytes};
+    ghost use Rattle.std.specs.Arc.{arc_str_bytes};
     ghost use Rattle.itip_moment.specs.Zone.{Name, name_code};
 
     ghost Value = { Name };
 
     ghost coded = { name_code };
 
-    ghost view = { λ z. record { bytes = string_bytes z.text; not_empty = z.not_empty } };
+    ghost view = { λ z. record { bytes = arc_str_bytes z.text; not_empty = z.not_empty } };
 }
 
 impl ZoneName {
@@ -37,12 +40,13 @@ impl ZoneName {
     pub fn new(alloc: Global, text: &str) -> Result<Option<ZoneName>, AllocError>
         ensures ok { IfOk result (λ name.
             MatchOption name (text.now ≡ []) (λ z. z.bytes ≡ text.now)) }
+        ensures named { IfOk result (λ name. zone_text name ≡ text.now) }
         ensures err { OnErr result (text.now ≢ []) }
     {
         if text.is_empty() {
             return Ok(None);
         }
-        let text = String::from_str(alloc, text)?;
+        let text = ArcStr::from_str(alloc, text)?;
         Ok(Some(ZoneName { text }))
     }
 
@@ -76,7 +80,7 @@ impl PartialEq for ZoneName {
     ghost laws = { Prim.search (comparing, rules) };
 
     fn eq(&self, other: &ZoneName) -> bool {
-        self.text.as_bytes() == other.text.as_bytes()
+        self.as_str() == other.as_str()
     }
 }
 
@@ -104,6 +108,6 @@ impl Ord for ZoneName {
     ghost matches_eq = { Prim.search (comparing, rules) };
 
     fn cmp(&self, other: &ZoneName) -> Ordering {
-        self.text.as_bytes().cmp(other.text.as_bytes())
+        self.as_str().cmp(other.as_str())
     }
 }

@@ -1,18 +1,54 @@
 -- The lists of desks, one more after those before.
 use Rattle.std.proofs.Common.{◌≡◌, ℕ, ◌+◌, Bool, true, false, ◌||◌, List, [], ◌∷◌, ◌++◌, length, refl, sym, ap, subst, ◌∙◌, append_assoc}
-use Rattle.std.proofs.Common.{arith, Option}
-use Rattle.std.specs.Prelude.{not}
+use Rattle.std.proofs.Common.{arith, inl, inr, Option, Some, None}
+use Rattle.std.specs.Prelude.{not, codes, is_some}
 use Rattle.std.specs.List.{flat_map}
 use Rattle.std.specs.Io.KnownBytes.{Appends}
 use Rattle.std.proofs.KnownBytes.{Appends-nil, Appends-trans}
 use Rattle.std.proofs.Math.Bool.{or-false}
+use Rattle.itip_view.specs.ByUid.{AreAsked}
+use Rattle.itip_view.specs.declared.by_uid.RowsByUid.{RowsByUid}
+use Rattle.itip_view.specs.declared.most.MostRows.{MostRows}
+use Rattle.itip_view.specs.declared.row.Row.{Row}
 use Rattle.itip_view.specs.declared.window.Window.{Window}
+use Rattle.itip_view.proofs.Left.{left_where, too_many_where}
+use Rattle.itip_view.proofs.SameAsked.{rows_of_all, many_of_all}
 use Rattle.itip_desk.specs.Desk.{Shown}
+use Rattle.itip_desk.specs.WrittenRows.{IsListed, WritesListed, WritesListedFront}
 use Rattle.itip_desk.specs.declared.refusal.Refusal.{Refusal}
 use Rattle.itip_streams.specs.Written.{AppendsFront, MovesOut, WritesOutput}
 use Rattle.itip_streams.proofs.Writing.{front_none, front_behind}
-use Rattle.itip_office.specs.Scripts.{refused_job_text, ListsDesk, ListsDesks, is_none, IsEndedText, WritesEndedFront}
+use Rattle.itip_office.specs.Scripts.{refused_job_text, ListsDesk, ListsDesks, WritesList, WritesListFront, is_none, IsEndedText}
+use Rattle.itip_office.specs.Scripts.{WritesEndedFront}
 use Rattle.itip_office.specs.Scripts.ListsDesk.{lists_rows, lists_too_many}
+
+-- ---- the list of one desk
+
+module _ (window : Window) (number : ℕ) (desk : Shown) (asked : RowsByUid) (are : AreAsked (λ (row : Row). Unit {0}) desk.kept window asked)
+    (old new : Option (List ℕ)) (kept : List ℕ) where
+  -- what is written of its rows is its list
+  lists_text : (most : Option MostRows) (text : List ℕ) → IsListed (codes "list") number asked most text →
+      ListsDesk window number desk kept (kept ++ text) (is_some most)
+  lists_text None text is =
+      lists_rows is.rows (kept ++ text)
+      (rows_of_all (λ (row : Row). Unit {0}) desk.kept window (λ row there. tt) is.rows
+      ((left_where (λ (row : Row). Unit {0}) desk.kept window asked are is.rows).0 is.are_left)) is.few
+      (ap (λ (t : List ℕ). kept ++ t) is.text_is)
+  lists_text (Some most) text is =
+      lists_too_many (kept ++ text)
+      (many_of_all (λ (row : Row). Unit {0}) desk.kept window
+      (too_many_where (λ (row : Row). Unit {0}) desk.kept window asked are is.0.0)) (ap (λ (t : List ℕ). kept ++ t) is.1)
+
+  pub writes_list : (rest : List ℕ) (most : Option MostRows) → WritesListed (codes "list") number asked old new kept rest most →
+      WritesList window number desk old new kept rest (is_some most)
+  writes_list rest most writes =
+      record { more = kept ++ writes.text; lists = lists_text most writes.text writes.is_listed; moved = writes.moved }
+
+  pub writes_list_front : WritesListedFront (codes "list") number asked old new kept → WritesListFront window number desk old new kept
+  writes_list_front (inl front) = inl front
+  writes_list_front (inr (text, is, front)) = inr (kept ++ text, false, lists_text None text is, front)
+
+-- ---- one list after another
 
 -- a list behind more
 listed_behind : (window : Window) (number : ℕ) (desk : Shown) (front old new : List ℕ) (over : Bool) →
@@ -134,6 +170,28 @@ module _ (window : Window) (refused : List (ℕ × Refusal)) (desks : List Shown
     };
     appended = Appends-trans old new newer listing.written kept listing.appended appended;
   }
+
+module _ (window : Window) (refused : List (ℕ × Refusal)) (desks : List Shown) (old new newer : Option (List ℕ)) (kept : List ℕ)
+    (refusal : Bool) (listing : IsListing window refused desks old new kept refusal) (desk : Shown) (number : ℕ) (more : List Shown)
+    (at : number ≡ length desks) (more_is : more ≡ desks ++ desk ∷ []) where
+  -- one more list, and what was written of it
+  pub one_written : (rest : List ℕ) (over said : Bool) → WritesList window number desk new newer kept rest over → said ≡ over →
+      IsListing window refused more old newer rest (refusal || said)
+  one_written rest over said writes same =
+      subst (λ (b : Bool). IsListing window refused more old newer rest (refusal || b)) (sym same)
+      (moved_out window refused more old new writes.more (refusal || over)
+      (one_listed window refused desks old new kept refusal listing desk number more writes.more over at more_is writes.lists)
+      newer rest writes.moved)
+
+  -- a front was written of what is kept, or of one more list
+  pub front_of_list : (all left others : List Shown) → all ≡ desks ++ left → all ≡ more ++ others →
+      WritesListFront window number desk new newer kept → WritesEndedFront window old newer refused all
+  front_of_list all left others whole whole_more (inl front) =
+      front_listed window refused desks old new kept refusal listing all left newer whole front
+  front_of_list all left others whole whole_more (inr (text, over, lists, front)) =
+      front_listed window refused more old new text (refusal || over)
+      (one_listed window refused desks old new kept refusal listing desk number more text over at more_is lists) all others newer whole_more
+      front
 
 -- nothing was written
 pub none_listed : (window : Window) (refused : List (ℕ × Refusal)) (desks : List Shown) (old : Option (List ℕ)) →

@@ -13,7 +13,7 @@ use Rattle.itip_desk.specs.Listed.{listed_text}
 use Rattle.itip_desk.specs.Refusals.{number_of, refused_text}
 use Rattle.itip_desk.specs.declared.refusal.Refusal.{Refusal}
 use Rattle.itip_desk.specs.declared.refusal.Refusal.TheVariants.{NoCommand}
-use Rattle.itip_streams.specs.Written.{AppendsFront}
+use Rattle.itip_streams.specs.Written.{AppendsFront, MovesOut}
 use Rattle.itip_script.specs.Jobs.{Errand, takes, carries, looks, unknown, errands_of}
 use Rattle.itip_office.specs.declared.job.Job.{Job}
 use Rattle.itip_office.specs.declared.job.Work.{Work}
@@ -65,6 +65,18 @@ pub data ListsDesk (window : Window) (number : ℕ) (desk : Shown) (old : List �
   lists_rows : (rows : List Row) (new : List ℕ) → AreRows desk.kept window rows → length rows ≤ row_limit
       → new ≡ old ++ listed_text number rows → ListsDesk window number desk old new false
   lists_too_many : (new : List ℕ) → AreTooMany desk.kept window → new ≡ old ++ refused_text 31 → ListsDesk window number desk old new true
+
+-- Such a list is behind what is kept to be written, and a front of both was written.
+pub record WritesList (window : Window) (number : ℕ) (desk : Shown) (old new : Option (List ℕ)) (kept rest : List ℕ) (over : Bool) : Type 0
+  where
+    pub more : List ℕ
+    pub lists : ListsDesk window number desk kept more over
+    pub moved : MovesOut old new more rest
+
+-- A front of what is kept was written, or of that and such a list.
+abbrev pub WritesListFront : Window → ℕ → Shown → Option (List ℕ) → Option (List ℕ) → List ℕ → Type 0
+WritesListFront window number desk old new kept =
+    AppendsFront old new kept ⊎ ((more : List ℕ) × (over : Bool) × ListsDesk window number desk kept more over × AppendsFront old new more)
 
 -- The lists of desks that are numbered from this number on are appended, one after another, and whether one of them has too many rows.
 abbrev pub ListsDesks : Window → ℕ → List Shown → List ℕ → List ℕ → Bool → Type 0

@@ -1,12 +1,12 @@
 //! A script of jobs, from its first command to the last list.
-ghost use Rattle.std.specs.Prelude.{◌≡◌, ◌≢◌, ◌≤◌, ◌++◌, true, IfOk, IfErr, OnOk, OnErr, IsErrOf, IfSome, IsPermutation};
+ghost use Rattle.std.specs.Prelude.{◌≡◌, ◌≢◌, ◌≤◌, ◌++◌, true, IfOk, IfErr, OnOk, OnErr, IsErrOf, IfSome, IsPermutation, is_some};
 ghost use Rattle.std.specs.List.{flat_map};
 ghost use Rattle.std.specs.List.Sorted.{IsNonDecreasingBy};
 ghost use Rattle.std.specs.Io.KnownBytes.{Keeps, Appends};
 ghost use Rattle.itip_desk.specs.Refusals.{refused_text};
 ghost use Rattle.itip_streams.specs.Written.{AppendsFront, WritesOutput};
 ghost use Rattle.itip_office.specs.declared.error.OfficeError.{OfficeError};
-ghost use Rattle.itip_office.specs.Scripts.{refused_of, refused_job_text, ListsDesk, IsEndedText, WritesEndedFront};
+ghost use Rattle.itip_office.specs.Scripts.{refused_of, refused_job_text, WritesList, WritesListFront, IsEndedText, WritesEndedFront};
 ghost use Rattle.itip_office.specs.Scripts.{IsScriptOutput, WritesScriptFront};
 
 use crate::error::ScriptError;
@@ -18,7 +18,7 @@ use crate::watch::Watch;
 use itip_desk::{Desk, Refusal, write_listed};
 use itip_script::read_script;
 use itip_streams::{StreamFault, write_if_many, write_output};
-use itip_view::{ViewError, Window};
+use itip_view::{MostRows, Window};
 use std::alloc::{AllocError, Global};
 use std::io::{Read, Write};
 use std::sync::Wait;
@@ -125,11 +125,10 @@ fn write_ended<W: Write, T: Watch>(
     append_refused(&mut output, refused)?;
     let mut is_refused = !refused.is_empty();
     for (number, desk) in desks.iter().enumerate() {
-        let is_over = append_list(&mut output, number as u64, desk, window)?;
-        if is_over {
-            watch.refused_list(number as u64, Refusal::TooManyRows);
-        }
-        is_refused |= is_over;
+        let most = write_list(number as u64, desk, window, writer, &mut output)?;
+        is_refused |= most.is_some();
+        tell_most(number as u64, most.as_ref(), watch);
+        drop(most);
         write_if_many(writer, &mut output)?;
     }
     write_output(writer, output.as_slice())?;
@@ -154,25 +153,26 @@ fn append_job(output: &mut Vec<u8>, number: u64, refusal: Refusal) -> Result<(),
     output.extend_from_slice(line.as_bytes())
 }
 
-/// Appends the list of a desk, or that it has too many rows, and says whether that was it.
-fn append_list(
-    output: &mut Vec<u8>,
+/// Writes the list of a desk, or that it has too many rows; then it gives the to-do that has the most of them. What is written is put
+/// behind the octets that are kept for it, and no list is held as a whole.
+fn write_list<W: Write>(
     number: u64,
     desk: &Desk,
     window: Window,
-) -> Result<bool, StreamFault>
-    ensures list { IfOk result (λ is_over. ListsDesk window number desk.now output.old.items output.new.items is_over) }
-    ensures fault { IfErr result (λ fault. fault ≡ StreamFault.Memory) }
+    writer: &mut W,
+    kept: &mut Vec<u8>,
+) -> Result<Option<MostRows>, StreamFault>
+    ensures list { IfOk result (λ most. WritesList window number desk.now (W.contents writer.old) (W.contents writer.new)
+        kept.old.items kept.new.items (is_some most)) }
+    ensures front { OnErr result (WritesListFront window number desk.now (W.contents writer.old) (W.contents writer.new) kept.old.items) }
+    ensures fault { IfErr result (λ fault. fault ≢ StreamFault.Read) }
 {
-    match desk.rows(window) {
-        Ok(rows) => {
-            write_listed(number, &rows, output)?;
-            Ok(false)
-        }
-        Err(ViewError::TooManyRows) => {
-            Refusal::TooManyRows.append(output)?;
-            Ok(true)
-        }
-        Err(ViewError::NoMemory) => Err(StreamFault::Memory),
+    let rows = desk.rows(window)?;
+    write_listed("list", number, rows, writer, kept)
+}
+
+fn tell_most<T: Watch>(number: u64, most: Option<&MostRows>, watch: &mut T) {
+    if let Some(most) = most {
+        watch.too_many_rows(number, most);
     }
 }

@@ -1,7 +1,7 @@
 -- Each text where it first appears.
 use Rattle.std.proofs.Common.{◌≡◌, ℕ, List, [], ◌∷◌, ◌++◌, refl, sym, ◌∙◌, ap, Bool, true, false, append-nil}
 use Rattle.std.specs.Prelude.{not, cond, ◌||◌}
-use Rattle.std.specs.List.{filter, list_any, AllByRecursion, IsDistinct}
+use Rattle.std.specs.List.{filter, list_any}
 use Rattle.std.specs.Cmp.{eq_by_cmp_equiv}
 use Rattle.std.proofs.lemmas.Cmp.{nat_list_cmp_total}
 use Rattle.std.proofs.lemmas.List.Elements.{filter-append}
@@ -83,33 +83,3 @@ any_firsts k (x ∷ xs) = by_bool (same_text k x) (list_any (same_text k) (first
     (λ same. ap (λ b. b || list_any (same_text k) (filter (λ y. not (same_text x y)) (firsts xs))) same ∙
     ap (λ b. b || list_any (same_text k) xs) (sym same))
     (λ apart. ap (λ b. same_text k x || b) (any_filter x k (firsts xs) apart ∙ any_firsts k xs))
-
--- each text stands there once
-all_filter : (t : List ℕ → Bool) (P : List ℕ → Type 0) (xs : List (List ℕ)) → AllByRecursion P xs → AllByRecursion P (filter t xs)
-all_filter t P [] h = tt
-all_filter t P (x ∷ xs) h =
-    elim (t x) as (λ b. AllByRecursion P (cond b (x ∷ filter t xs) (filter t xs)))
-    [ true ↦ (h.0, all_filter t P xs h.1) | false ↦ all_filter t P xs h.1 ]
-
-distinct_filter : (t : List ℕ → Bool) (xs : List (List ℕ)) → IsDistinct same_text xs → IsDistinct same_text (filter t xs)
-unfolding IsDistinct
-distinct_filter t [] h = tt
-distinct_filter t (x ∷ xs) h = elim (t x) as (λ b. IsDistinct same_text (cond b (x ∷ filter t xs) (filter t xs))) [
-  | true ↦ (all_filter t (λ y. same_text x y ≡ false) xs h.0, distinct_filter t xs h.1)
-  | false ↦ distinct_filter t xs h.1
-]
-
-others_apart : (x : List ℕ) (xs : List (List ℕ)) → AllByRecursion (λ y. same_text x y ≡ false) (filter (λ y. not (same_text x y)) xs)
-others_apart x [] = tt
-others_apart x (y ∷ ys) =
-    elim (same_text x y) as (λ b. same_text x y ≡ b →
-    AllByRecursion (λ z. same_text x z ≡ false)
-    (cond (not b) (y ∷ filter (λ z. not (same_text x z)) ys) (filter (λ z. not (same_text x z)) ys))) [
-      | true ↦ λ e. others_apart x ys
-      | false ↦ λ e. (e, others_apart x ys)
-    ] refl
-
-pub firsts_distinct : (xs : List (List ℕ)) → IsDistinct same_text (firsts xs)
-unfolding firsts IsDistinct
-firsts_distinct [] = tt
-firsts_distinct (x ∷ xs) = (others_apart x (firsts xs), distinct_filter (λ y. not (same_text x y)) (firsts xs) (firsts_distinct xs))

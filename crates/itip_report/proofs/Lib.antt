@@ -13,3 +13,4 @@ pub mod OfKept
 pub mod OneReport
 pub mod SentAgain
 pub mod NamedReports
+pub mod RowReports

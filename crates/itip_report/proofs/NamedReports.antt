@@ -1,20 +1,27 @@
 -- Reports by name: what is told of rows, over what is kept, and one of each.
-use Rattle.std.proofs.Common.{◌≡◌, ◌∙◌, ℕ, List, refl, sym, ap, subst, Result, Ok, Err}
+use Rattle.std.proofs.Common.{◌≡◌, ◌<◌, ◌≤◌, ◌∙◌, ℕ, List, [], ◌∷◌, length, refl, sym, ap, subst, Result, Ok, Err, arith}
 use Rattle.std.specs.Prelude.{IfOk}
+use Rattle.std.specs.List.{Contains}
 use Rattle.itip_items.specs.declared.item.Item.{Item}
 use Rattle.itip_state.specs.Kept.{AreKept}
 use Rattle.itip_state.proofs.Keeping.{kept_again}
+use Rattle.itip_state.proofs.Members.{cons_first}
+use Rattle.itip_view.specs.ByUid.{AreLeft, AreAsked, AreFewLeft, AreTooManyLeft}
 use Rattle.itip_view.specs.ListText.{list_text}
-use Rattle.itip_view.specs.Rows.{AreTooMany}
+use Rattle.itip_view.specs.Rows.{AreTooMany, row_limit}
+use Rattle.itip_view.specs.Showing.{AreTooManyWhere}
+use Rattle.itip_view.specs.declared.by_uid.RowsByUid.{RowsByUid}
 use Rattle.itip_view.specs.declared.row.Row.{Row}
 use Rattle.itip_view.specs.declared.window.Window.{Window}
 use Rattle.itip_view.proofs.Alike.{KeepAlike, alike_back}
 use Rattle.itip_view.proofs.OfKept.{row_of_same}
+use Rattle.itip_view.proofs.Left.{left_where, too_many_where}
 use Rattle.itip_view.proofs.OneList.{one_view, text_or_too_many}
+use Rattle.itip_view.proofs.SameAsked.{rows_of_all, many_of_all}
 use Rattle.itip_report.specs.Load.{load_lines}
 use Rattle.itip_report.specs.Progress.{progress_lines}
 use Rattle.itip_report.specs.Reports.{AreReportLines}
-use Rattle.itip_report.specs.Named.{TellOfRows, IsReportOf, IsOfRows, HasRowsFor}
+use Rattle.itip_report.specs.Named.{TellOfRows, IsReportOf, IsOfRows, HasRowsFor, AreRowsFor}
 use Rattle.itip_report.specs.declared.report.Report.TheVariants as report
 use Rattle.itip_report.specs.declared.report_name.ReportName.{ReportName}
 use Rattle.itip_report.specs.declared.report_name.ReportName.TheVariants as name
@@ -22,9 +29,56 @@ use Rattle.itip_report.proofs.OfKept.{lines_alike}
 use Rattle.itip_report.proofs.OneReport.{one_lines}
 
 -- a report that tells of no rows needs none
-pub needs_no_rows : (named : ReportName) (heard : List Item) (window : Window) (rows : List Row) → (¬ IsOfRows named) →
+needs_no_rows : (named : ReportName) (heard : List Item) (window : Window) (rows : List Row) → (¬ IsOfRows named) →
     HasRowsFor named heard window rows
 needs_no_rows named heard window rows none = record { are_rows = λ of_rows. absurd (none of_rows); few = λ of_rows. absurd (none of_rows) }
+
+-- ---- the rows that a report looks at
+
+none_over : (heard : List Item) (window : Window) → AreTooManyWhere (λ (row : Row). ⊥) heard window → ⊥
+none_over heard window over = by over.some over.holds over.many
+  where
+    by : (rows : List Row) → ((row : Row) → Contains rows row → ⊥) → row_limit < length rows → ⊥
+    by [] none many = omega arith
+    by (row ∷ rows) none many = none row (cons_first row rows)
+
+module _ (named : ReportName) (heard : List Item) (window : Window) where
+  -- those of the window, where it tells of them
+  pub rows_of_report : {E : Type 0} (r : Result RowsByUid E) → IsOfRows named →
+      IfOk r (AreAsked (λ (row : Row). Unit {0}) heard window) → IfOk r (AreRowsFor named heard window)
+  rows_of_report (Ok asked) of_rows are = record { of_rows = λ _. are; none = λ not. absurd (not of_rows) }
+  rows_of_report (Err e) of_rows are = tt
+
+  -- none, where it tells of none
+  pub no_rows_of_report : {E : Type 0} (r : Result RowsByUid E) → (¬ IsOfRows named) →
+      IfOk r (AreAsked (λ (row : Row). ⊥) heard window) → IfOk r (AreRowsFor named heard window)
+  no_rows_of_report (Ok asked) not none = record { of_rows = λ of_rows. absurd (not of_rows); none = λ _. none }
+  no_rows_of_report (Err e) not none = tt
+
+  module _ (asked : RowsByUid) (are : AreRowsFor named heard window asked) where
+    pub has_rows_for : (number : ℕ) (few : AreFewLeft asked number) → HasRowsFor named heard window few.rows
+    has_rows_for number few = record {
+      are_rows = λ of_rows. rows_of_all (λ (row : Row). Unit {0}) heard window (λ row is. tt) few.rows
+          ((left_where (λ (row : Row). Unit {0}) heard window asked (are.of_rows of_rows) few.rows).0 few.are_left);
+      few = λ _. subst (λ (n : ℕ). n ≤ row_limit) (sym few.number_is) few.few;
+    }
+
+    some_left : AreTooManyLeft asked → (¬ IsOfRows named) → ⊥
+    some_left many not = none_over heard window (too_many_where (λ (row : Row). ⊥) heard window asked (are.none not) many)
+
+    pub too_many_for : AreTooManyLeft asked → IsOfRows named → AreTooMany heard window
+    too_many_for many of_rows =
+        many_of_all (λ (row : Row). Unit {0}) heard window
+        (too_many_where (λ (row : Row). Unit {0}) heard window asked (are.of_rows of_rows) many)
+
+-- only a report that tells of rows finds too many
+pub of_rows_if_many : (named : ReportName) (heard : List Item) (window : Window) (asked : RowsByUid) →
+    AreRowsFor named heard window asked → AreTooManyLeft asked → IsOfRows named
+of_rows_if_many name.Load heard window asked are many = tt
+of_rows_if_many name.Progress heard window asked are many = tt
+of_rows_if_many name.Cancelled heard window asked are many = absurd (some_left name.Cancelled heard window asked are many (λ h. h))
+of_rows_if_many name.Orphans heard window asked are many = absurd (some_left name.Orphans heard window asked are many (λ h. h))
+of_rows_if_many name.Refresh heard window asked are many = absurd (some_left name.Refresh heard window asked are many (λ h. h))
 
 -- ---- the lines of items and rows
 
@@ -45,13 +99,25 @@ told_of name.Cancelled items rows lines are window has = are
 told_of name.Orphans items rows lines are window has = are
 told_of name.Refresh items rows lines are window has = are
 
--- what a call gives that makes the lines of this report
+-- what a call gives that makes the lines of this report over the rows that are left
 pub told_by : {A E : Type 0} (r : Result A E) (lines_of : A → List (List ℕ)) (named other : ReportName) (items : List Item)
-    (rows : List Row) → named ≡ other → IfOk r (λ a. AreLinesFor other items rows (lines_of a)) →
-    IfOk r (λ a. (window : Window) → HasRowsFor named items window rows → IsReportOf named items window (lines_of a))
-told_by (Ok a) lines_of named other items rows same are =
-    told_of named items rows (lines_of a) (subst (λ (n : ReportName). AreLinesFor n items rows (lines_of a)) (sym same) are)
-told_by (Err e) lines_of named other items rows same are = tt
+    (asked : RowsByUid) → named ≡ other → IfOk r (λ a. (rows : List Row) → AreLeft asked rows → AreLinesFor other items rows (lines_of a)) →
+    IfOk r (λ a. (window : Window) (rows : List Row) → AreLeft asked rows → HasRowsFor named items window rows →
+    IsReportOf named items window (lines_of a))
+told_by (Ok a) lines_of named other items asked same are = λ window rows left.
+    told_of named items rows (lines_of a)
+    (subst (λ (n : ReportName). AreLinesFor n items rows (lines_of a)) (sym same) (are rows left)) window
+told_by (Err e) lines_of named other items asked same are = tt
+
+-- and of one that tells of no rows
+pub told_of_kept : {A E : Type 0} (r : Result A E) (lines_of : A → List (List ℕ)) (named other : ReportName) (items : List Item)
+    (asked : RowsByUid) → named ≡ other → (¬ IsOfRows other) → IfOk r (λ a. AreLinesFor other items [] (lines_of a)) →
+    IfOk r (λ a. (window : Window) (rows : List Row) → AreLeft asked rows → HasRowsFor named items window rows →
+    IsReportOf named items window (lines_of a))
+told_of_kept (Ok a) lines_of named other items asked same none are = λ window rows left has.
+    told_of named items [] (lines_of a) (subst (λ (n : ReportName). AreLinesFor n items [] (lines_of a)) (sym same) are) window
+    (needs_no_rows named items window [] (λ of_rows. none (subst (λ (n : ReportName). IsOfRows n) same of_rows)))
+told_of_kept (Err e) lines_of named other items asked same none are = tt
 
 -- ---- sets that keep the same
 

@@ -10,7 +10,7 @@ use Rattle.itip_state.specs.Organizers.{IsOrganizers, IsLastUsed}
 use Rattle.itip_state.proofs.Best.{best_above}
 use Rattle.itip_state.proofs.Keeping.{kept_again, series_kept}
 use Rattle.itip_view.proofs.Alike.{KeepAlike, alike_back, series_alike, stands_alike, stands_from_alike, live_series_alike, governs_alike}
-use Rattle.itip_report.specs.Organizing.{AreStanding, IsResendOf, IsNext, last_sequence}
+use Rattle.itip_report.specs.Organizing.{AreResent, AreStanding, IsResendOf, IsNext, last_sequence}
 use Rattle.itip_report.specs.Reports.{IsStanding, IsCancellation, NoneAt, NoneAtInstance, IsOrphan, IsWanted, IsReported, AreReportLines}
 use Rattle.itip_report.specs.declared.report.Report.{Report}
 use Rattle.itip_report.specs.declared.report.Report.TheVariants as report
@@ -95,6 +95,13 @@ lines_alike x y same asked lines are = record {
   lines_are = are.lines_are;
 }
 
+resent_alike : (x y : List Item) → KeepAlike x y → (uid : List ℕ) (series : Item) (overrides : List Item) →
+    AreResent x uid series overrides → AreResent y uid series overrides
+resent_alike x y same uid series overrides are = record {
+  live = live_series_alike x y same uid series are.live;
+  standing = all_standing_alike x y same uid overrides (standing_alike y x (alike_back x y same) uid) are.standing;
+}
+
 pub resend_alike : (x y : List Item) → KeepAlike x y → (uid : List ℕ) (bytes : Option (List ℕ)) → IsResendOf x uid bytes →
     IsResendOf y uid bytes
 resend_alike x y same uid None none = λ item live. none item (live_series_alike y x (alike_back x y same) uid item live)
@@ -124,6 +131,10 @@ module _ (kept heard : List Item) (are : AreKept kept heard) where
 
   pub resend_of_kept : (uid : List ℕ) (bytes : Option (List ℕ)) → IsResendOf kept uid bytes → IsResendOf heard uid bytes
   resend_of_kept = resend_alike kept heard (kept_again kept heard are)
+
+  pub resent_of_kept : (uid : List ℕ) (series : Item) (overrides : List Item) → AreResent kept uid series overrides →
+      AreResent heard uid series overrides
+  resent_of_kept = resent_alike kept heard (kept_again kept heard are)
 
   pub next_of_kept : (uid : List ℕ) (next : Option ℕ) → IsNext kept uid next → IsNext heard uid next
   next_of_kept = next_alike kept heard (kept_again kept heard are)

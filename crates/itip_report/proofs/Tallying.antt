@@ -1,30 +1,28 @@
 -- Rows are counted one attendee after the other.
 use Rattle.std.proofs.Common.{◌≡◌, ◌+◌, ◌<◌, ◌≤◌, ◌==◌, ◌||◌, ℕ, suc, List, [], ◌∷◌, ◌++◌, refl, sym, ◌∙◌, ap, subst, map, length}
-use Rattle.std.proofs.Common.{length-append, append-nil, append_assoc, min, Bool, true, false, Option, Some, None, arith}
-use Rattle.std.specs.Prelude.{cond, filter, codes, nat_eq}
-use Rattle.std.specs.Fmt.{decimal}
-use Rattle.std.specs.List.{flat_map, list_any, AllByRecursion, IsDistinct}
-use Rattle.std.specs.Map.{keys_of, lookup}
-use Rattle.std.specs.Cmp.Lexicographic.{pointwise, texts_ties}
+use Rattle.std.proofs.Common.{take, drop, get_or, length-append, append-nil, append_assoc, min, Bool, true, false, Option, Some, None, arith}
+use Rattle.std.specs.Prelude.{cond, filter}
+use Rattle.std.specs.List.{flat_map, list_any}
+use Rattle.std.specs.Map.{lookup}
+use Rattle.std.specs.BTreeMap.{BTreeMap, get, Updates}
+use Rattle.std.specs.Ordering.{nat_cmp}
+use Rattle.std.specs.Cmp.Lexicographic.{slice_cmp}
+use Rattle.std.proofs.lemmas.List.{take_more, take-append-drop}
 use Rattle.std.proofs.lemmas.Bool.Decides.{nat_tests}
 use Rattle.std.proofs.lemmas.Grind.{flat_map-append}
 use Rattle.std.proofs.lemmas.List.Folds.{list_any-append}
-use Rattle.indexmap.specs.IndexMap.{insert_entry}
 use Rattle.itip_state.proofs.Members.{by_bool}
 use Rattle.itip_view.specs.declared.row.Row.{Row}
 use Rattle.itip_report.specs.Load.{same_text, keys_in, firsts, rows_with, load_line, load_lines}
-use Rattle.itip_report.specs.Tally.{one_if, IsCounted, IsTally, rows_before}
+use Rattle.itip_report.specs.Tally.{one_if, IsCounted, IsTally, rows_before, rows_of}
 use Rattle.itip_report.specs.declared.load.Tallied.{Tallied}
-use Rattle.itip_report.proofs.Mapped.{map_both}
 use Rattle.itip_report.proofs.Firsts.{same_is, same_itself, same_back, any_push, neither, firsts_new, firsts_old, any_firsts}
-use Rattle.itip_report.proofs.Firsts.{firsts_distinct}
 
-abbrev Entry : Type 0
-Entry = List ℕ × Tallied
+abbrev pub Counts : Type 0
+Counts = BTreeMap (List ℕ) Tallied
 
--- texts are told apart by their octets
-pub eq_is : pointwise nat_eq ≡ same_text
-eq_is = λ i a b. texts_ties a b i
+abbrev pub found_at : Counts → List ℕ → Option Tallied
+found_at counts key = get (slice_cmp nat_cmp) counts key
 
 pub equal_test : (a b : ℕ) → a ≡ b → (a == b) ≡ true
 equal_test a b e = grind (arith, nat_tests)
@@ -34,14 +32,6 @@ apart_test a b n = grind (arith, nat_tests)
 
 equal_from : (a b : ℕ) → (a == b) ≡ true → a ≡ b
 equal_from a b e = grind (arith, nat_tests)
-
-all_map : (P Q : Entry → Type 0) (es : List Entry) → ((e : Entry) → P e → Q e) → AllByRecursion P es → AllByRecursion Q es
-all_map P Q [] f h = tt
-all_map P Q (e ∷ es) f h = (f e h.0, all_map P Q es f h.1)
-
-all_push : (P : Entry → Type 0) (es : List Entry) (e : Entry) → AllByRecursion P es → P e → AllByRecursion P (es ++ e ∷ [])
-all_push P [] e h p = (p, tt)
-all_push P (f ∷ fs) e h p = (h.0, all_push P fs e h.1 p)
 
 -- ---- rows
 rows_none : (k : List ℕ) (done : List Row) → list_any (same_text k) (flat_map keys_in done) ≡ false → rows_with k done ≡ 0
@@ -75,265 +65,265 @@ rows_push k (r ∷ rs) row =
       | false ↦ rows_push k rs row
     ]
 
--- ---- entries
-there : (k : List ℕ) (es : List Entry) (s : Tallied) → lookup (same_text k) es ≡ Some s → list_any (same_text k) (keys_of es) ≡ true
-there k [] s e = let x : None ≡ Some s = e in absurd (cc)
-there k (f ∷ fs) s e =
-    elim (same_text k f.0) as (λ b. cond b (Some f.1) (lookup (same_text k) fs) ≡ Some s →
-    (b || list_any (same_text k) (keys_of fs)) ≡ true) [
-      | true ↦ λ h. refl
-      | false ↦ λ h. there k fs s h
-    ] e
-
-away : (k : List ℕ) (es : List Entry) → lookup (same_text k) es ≡ None → list_any (same_text k) (keys_of es) ≡ false
-away k [] e = refl
-away k (f ∷ fs) e = elim (same_text k f.0) as (λ b. cond b (Some f.1) (lookup (same_text k) fs) ≡ None →
-    (b || list_any (same_text k) (keys_of fs)) ≡ false) [
-      | true ↦ λ h. let x : Some f.1 ≡ None = h in absurd (cc)
-      | false ↦ λ h. away k fs h
-    ] e
-
-insert_new : (k : List ℕ) (v : Tallied) (es : List Entry) → lookup (same_text k) es ≡ None → insert_entry same_text es k v ≡ es ++ (k, v) ∷
-    []
-insert_new k v [] e = refl
-insert_new k v (f ∷ fs) e =
-    elim (same_text k f.0) as (λ b. cond b (Some f.1) (lookup (same_text k) fs) ≡ None →
-    cond b ((f.0, v) ∷ fs) (f ∷ insert_entry same_text fs k v) ≡ f ∷ (fs ++ (k, v) ∷ [])) [
-      | true ↦ λ h. let x : Some f.1 ≡ None = h in absurd (cc)
-      | false ↦ λ h. ap (λ rest. f ∷ rest) (insert_new k v fs h)
-    ] e
-
-insert_keys : (k : List ℕ) (v s : Tallied) (es : List Entry) → lookup (same_text k) es ≡ Some s →
-    keys_of (insert_entry same_text es k v) ≡ keys_of es
-insert_keys k v s [] e = let x : None ≡ Some s = e in absurd (cc)
-insert_keys k v s (f ∷ fs) e =
-    elim (same_text k f.0) as (λ b. cond b (Some f.1) (lookup (same_text k) fs) ≡ Some s →
-    keys_of (cond b ((f.0, v) ∷ fs) (f ∷ insert_entry same_text fs k v)) ≡ keys_of (f ∷ fs)) [
-      | true ↦ λ h. refl
-      | false ↦ λ h. ap (λ ks. f.0 ∷ ks) (insert_keys k v s fs h)
-    ] e
-
-none_any : (x : List ℕ) (ks : List (List ℕ)) → AllByRecursion (λ y. same_text x y ≡ false) ks → list_any (same_text x) ks ≡ false
-none_any x [] h = refl
-none_any x (k ∷ ks) h = ap (λ b. b || list_any (same_text x) ks) h.0 ∙ none_any x ks h.1
-
+-- ---- one attendee is counted
 right_false : (a b : Bool) → b ≡ false → (a || b) ≡ a
 right_false true b e = refl
 right_false false b e = e
 
-module _ (done : List Row) (before : List (List ℕ)) where
-  counted_at : (k : List ℕ) (s : Tallied) (es : List Entry) → AllByRecursion (λ e. IsCounted done before e.0 e.1) es →
-      lookup (same_text k) es ≡ Some s → IsCounted done before k s
-  counted_at k s [] h e = let x : None ≡ Some s = e in absurd (cc)
-  counted_at k s (f ∷ fs) h e =
-      elim (same_text k f.0) as (λ b. same_text k f.0 ≡ b → cond b (Some f.1) (lookup (same_text k) fs) ≡ Some s →
-      IsCounted done before k s) [
-        | true ↦ λ same g. subst (λ (q : List ℕ). IsCounted done before q s) (sym (same_is k f.0 same))
-            (subst (IsCounted done before f.0) (one f.1 s g) h.0)
-        | false ↦ λ apart g. counted_at k s fs h.1 g
-      ] refl e
-    where
-      one : (a b : Tallied) → Some a ≡ Some b → a ≡ b
-      one a b g = cc
+right_true : (a b : Bool) → b ≡ true → (a || b) ≡ true
+right_true true b e = refl
+right_true false b e = e
 
-  module _ (k : List ℕ) where
-    -- the attendee was shown before as after
-    still : (key : List ℕ) (s : Tallied) → list_any (same_text key) (before ++ k ∷ []) ≡ list_any (same_text key) before →
-        IsCounted done before key s → IsCounted done (before ++ k ∷ []) key s
-    still key s same c = record {
-      rows = c.rows ∙ ap (λ b. rows_with key done + one_if b) (sym same);
-      here = λ e. c.here (sym same ∙ e);
-      earlier = λ e. c.earlier (sym same ∙ e);
-    }
+some_one : (a b : Tallied) → Some a ≡ Some b → a ≡ b
+some_one a b e = cc
 
-    other : (key : List ℕ) (s : Tallied) → same_text k key ≡ false → IsCounted done before key s → IsCounted done (before ++ k ∷ []) key s
-    other key s apart = still key s (any_push (same_text key) before k ∙
-        right_false (list_any (same_text key) before) (same_text key k) (same_back key k ∙ apart))
+none_some : (a : Tallied) → None ≡ Some a → ⊥
+none_some a e = cc
 
-    others : (es : List Entry) → list_any (same_text k) (keys_of es) ≡ false → AllByRecursion (λ e. IsCounted done before e.0 e.1) es →
-        AllByRecursion (λ e. IsCounted done (before ++ k ∷ []) e.0 e.1) es
-    others [] apart h = tt
-    others (f ∷ fs) apart h =
-        let parts = neither (same_text k f.0) (list_any (same_text k) (keys_of fs)) apart in
-        (other f.0 f.1 parts.0 h.0, others fs parts.1 h.1)
+module _ (done : List Row) (before : List (List ℕ)) (k : List ℕ) where
+  -- the attendee was shown before as after
+  still : (key : List ℕ) (s : Tallied) → list_any (same_text key) (before ++ k ∷ []) ≡ list_any (same_text key) before →
+      IsCounted done before key s → IsCounted done (before ++ k ∷ []) key s
+  still key s same c = record {
+    rows = c.rows ∙ ap (λ b. rows_with key done + one_if b) (sym same);
+    some = c.some;
+    here = λ e. c.here (sym same ∙ e);
+    earlier = λ e. c.earlier (sym same ∙ e);
+  }
 
-    -- the row at hand has shown him already
-    again : list_any (same_text k) before ≡ true → (e : Entry) → IsCounted done before e.0 e.1 → IsCounted done (before ++ k ∷ []) e.0 e.1
-    again shown e c = by_bool (same_text e.0 k) (IsCounted done (before ++ k ∷ []) e.0 e.1)
-        (λ same.
-        let here : list_any (same_text e.0) before ≡ true = ap (λ q. list_any (same_text q) before) (same_is e.0 k same) ∙ shown in
-        still e.0 e.1 (any_push (same_text e.0) before k ∙ ap (λ b. b || same_text e.0 k) here ∙ sym here) c)
-        (λ apart. still e.0 e.1 (any_push (same_text e.0) before k ∙ right_false (list_any (same_text e.0) before) (same_text e.0 k) apart)
-        c)
+  other : (key : List ℕ) (s : Tallied) → same_text k key ≡ false → IsCounted done before key s → IsCounted done (before ++ k ∷ []) key s
+  other key s apart = still key s (any_push (same_text key) before k ∙
+      right_false (list_any (same_text key) before) (same_text key k) (same_back key k ∙ apart))
 
-    now_here : list_any (same_text k) (before ++ k ∷ []) ≡ true
-    now_here = any_push (same_text k) before k ∙
-        (ap (λ b. list_any (same_text k) before || b) (same_itself k) ∙ right_true (list_any (same_text k) before))
-      where
-        right_true : (a : Bool) → (a || true) ≡ true
-        right_true true = refl
-        right_true false = refl
+  -- the row at hand has shown him already
+  again : list_any (same_text k) before ≡ true → (key : List ℕ) (s : Tallied) → IsCounted done before key s →
+      IsCounted done (before ++ k ∷ []) key s
+  again shown key s c = by_bool (same_text key k) (IsCounted done (before ++ k ∷ []) key s)
+      (λ same.
+      let here : list_any (same_text key) before ≡ true = ap (λ q. list_any (same_text q) before) (same_is key k same) ∙ shown in
+      still key s (any_push (same_text key) before k ∙ ap (λ b. b || same_text key k) here ∙ sym here) c)
+      (λ apart. still key s (any_push (same_text key) before k ∙ right_false (list_any (same_text key) before) (same_text key k) apart) c)
 
-    counted_now : (v : Tallied) → v.rows ≡ rows_with k done + 1 → v.last ≡ length done → IsCounted done (before ++ k ∷ []) k v
-    counted_now v rows last = record {
-      rows = rows ∙ ap (λ b. rows_with k done + one_if b) (sym now_here);
-      here = λ e. last;
-      earlier = λ e. let x : true ≡ false = sym now_here ∙ e in absurd (cc);
-    }
+  now_here : list_any (same_text k) (before ++ k ∷ []) ≡ true
+  now_here = any_push (same_text k) before k ∙ right_true (list_any (same_text k) before) (same_text k k) (same_itself k)
 
-    replaced : (v s : Tallied) → IsCounted done (before ++ k ∷ []) k v → (es : List Entry) → IsDistinct same_text (keys_of es) →
-        AllByRecursion (λ e. IsCounted done before e.0 e.1) es → lookup (same_text k) es ≡ Some s
-        → AllByRecursion (λ e. IsCounted done (before ++ k ∷ []) e.0 e.1) (insert_entry same_text es k v)
-    unfolding IsDistinct
-    replaced v s c [] d h e = let x : None ≡ Some s = e in absurd (cc)
-    replaced v s c (f ∷ fs) d h e =
-        elim (same_text k f.0) as (λ b. same_text k f.0 ≡ b → cond b (Some f.1) (lookup (same_text k) fs) ≡ Some s
-        → AllByRecursion (λ e. IsCounted done (before ++ k ∷ []) e.0 e.1) (cond b ((f.0, v) ∷ fs) (f ∷ insert_entry same_text fs k v))) [
-          | true ↦ λ same g.
-              let is : k ≡ f.0 = same_is k f.0 same in (
-                subst (λ (q : List ℕ). IsCounted done (before ++ k ∷ []) q v) is c,
-                others fs (ap (λ q. list_any (same_text q) (keys_of fs)) is ∙ none_any f.0 (keys_of fs) d.0) h.1,
-              )
-          | false ↦ λ apart g. (other f.0 f.1 apart h.0, replaced v s c fs d.1 h.1 g)
-        ] refl e
+  counted_now : (v : Tallied) → v.rows ≡ rows_with k done + 1 → v.last ≡ length done → IsCounted done (before ++ k ∷ []) k v
+  counted_now v rows last = record {
+    rows = rows ∙ ap (λ b. rows_with k done + one_if b) (sym now_here);
+    some = omega (arith, rows);
+    here = λ e. last;
+    earlier = λ e. let x : true ≡ false = sym now_here ∙ e in absurd (cc);
+  }
 
-  module _ (es : List Entry) (tally : IsTally done before es) (k : List ℕ) where
-    all_any : list_any (same_text k) (keys_of es) ≡ list_any (same_text k) (flat_map keys_in done ++ before)
-    all_any = ap (list_any (same_text k)) tally.keys ∙ any_firsts k (flat_map keys_in done ++ before)
+  module _ (keys : List (List ℕ)) (counts : Counts) (tally : IsTally done before keys counts) where
+    all_any : list_any (same_text k) keys ≡ list_any (same_text k) (flat_map keys_in done ++ before)
+    all_any = ap (list_any (same_text k)) tally.keys_are ∙ any_firsts k (flat_map keys_in done ++ before)
 
     assoc : (flat_map keys_in done ++ before) ++ k ∷ [] ≡ flat_map keys_in done ++ (before ++ k ∷ [])
     assoc = append_assoc (flat_map keys_in done) before (k ∷ [])
 
-    counted_already : (s : Tallied) → lookup (same_text k) es ≡ Some s → s.last ≡ length done → IsTally done (before ++ k ∷ []) es
+    counted_at : (s : Tallied) → found_at counts k ≡ Some s → IsCounted done before k s
+    counted_at s found =
+        let w = tally.counted k (tally.only k s found) in subst (IsCounted done before k) (some_one w.0 s (sym w.1 ∙ found)) w.2
+
+    keys_stay : (s : Tallied) → found_at counts k ≡ Some s → keys ≡ firsts (flat_map keys_in done ++ (before ++ k ∷ []))
+    keys_stay s found = tally.keys_are ∙ sym (firsts_old (flat_map keys_in done ++ before) k (sym all_any ∙ tally.only k s found)) ∙
+        ap firsts assoc
+
+    -- before the row at hand
+    not_shown : (s : Tallied) → found_at counts k ≡ Some s → (s.last ≡ length done → ⊥) → list_any (same_text k) before ≡ false
+    not_shown s found not = by_bool (list_any (same_text k) before) (list_any (same_text k) before ≡ false)
+        (λ e. absurd (not ((counted_at s found).here e))) (λ e. e)
+
+    counted_already : (s : Tallied) → found_at counts k ≡ Some s → s.last ≡ length done → IsTally done (before ++ k ∷ []) keys counts
     counted_already s found last =
-        let c = counted_at k s es tally.counts found in
         let shown : list_any (same_text k) before ≡ true =
-        by_bool (list_any (same_text k) before) (list_any (same_text k) before ≡ true) (λ e. e) (λ e. let x : s.last < length done =
-        c.earlier e in absurd (omega (arith, x, last))) in
+        by_bool (list_any (same_text k) before) (list_any (same_text k) before ≡ true) (λ e. e)
+        (λ e. let x : s.last < length done = (counted_at s found).earlier e in absurd (omega (arith, x, last))) in
         record {
-          keys = tally.keys ∙ sym (firsts_old (flat_map keys_in done ++ before) k (sym all_any ∙ there k es s found)) ∙ ap firsts assoc;
-          counts = all_map (λ e. IsCounted done before e.0 e.1) (λ e. IsCounted done (before ++ k ∷ []) e.0 e.1) es (again k shown)
-              tally.counts;
+          keys_are = keys_stay s found;
+          counted = λ q h. let w = tally.counted q h in (w.0, w.1, again shown q w.0 w.2);
+          only = tally.only;
         }
 
-    counted_first : (v : Tallied) → lookup (same_text k) es ≡ None → v.rows ≡ 1 → v.last ≡ length done →
-        IsTally done (before ++ k ∷ []) (insert_entry same_text es k v)
-    counted_first v none rows last =
-        let absent : list_any (same_text k) (flat_map keys_in done ++ before) ≡ false = sym all_any ∙ away k es none in
-        let parts = neither (list_any (same_text k) (flat_map keys_in done)) (list_any (same_text k) before)
-        (sym (list_any-append (same_text k) (flat_map keys_in done) before) ∙ absent) in
-        let nothing : rows_with k done ≡ 0 = rows_none k done parts.0 in
-        subst (IsTally done (before ++ k ∷ [])) (sym (insert_new k v es none)) (record {
-          keys = map_both (λ (e : Entry). e.0) es ((k, v) ∷ []) ∙ ap (λ ks. ks ++ k ∷ []) tally.keys ∙
-              sym (firsts_new (flat_map keys_in done ++ before) k absent) ∙ ap firsts assoc;
-          counts = all_push (λ e. IsCounted done (before ++ k ∷ []) e.0 e.1) es (k, v) (others k es (away k es none) tally.counts)
-              (counted_now k v (omega (arith, rows, nothing)) last);
-        })
+    module _ (v : Tallied) (last : v.last ≡ length done) (counts' : Counts) (put : Updates (slice_cmp nat_cmp) counts counts' k (Some v)) where
+      here_now : (q : List ℕ) → same_text k q ≡ true → found_at counts' q ≡ Some v
+      here_now q same = put.0 q ∙ ap (λ b. cond b (Some v) (found_at counts q)) same
 
-    counted_more : (v s : Tallied) → lookup (same_text k) es ≡ Some s → (s.last ≡ length done → ⊥) → v.rows ≡ s.rows + 1 →
-        v.last ≡ length done → IsTally done (before ++ k ∷ []) (insert_entry same_text es k v)
-    counted_more v s found not rows last =
-        let c = counted_at k s es tally.counts found in
-        let absent : list_any (same_text k) before ≡ false =
-        by_bool (list_any (same_text k) before) (list_any (same_text k) before ≡ false) (λ e. absurd (not (c.here e))) (λ e. e) in
-        let so_far : s.rows ≡ rows_with k done + 0 = c.rows ∙ ap (λ b. rows_with k done + one_if b) absent in
-        record {
-          keys = insert_keys k v s es found ∙ tally.keys ∙
-              sym (firsts_old (flat_map keys_in done ++ before) k (sym all_any ∙ there k es s found)) ∙ ap firsts assoc;
-          counts = replaced k v s (counted_now k v (omega (arith, rows, so_far)) last) es
-              (subst (IsDistinct same_text) (sym tally.keys) (firsts_distinct (flat_map keys_in done ++ before))) tally.counts found;
-        }
+      as_before : (q : List ℕ) → same_text k q ≡ false → found_at counts' q ≡ found_at counts q
+      as_before q apart = put.0 q ∙ ap (λ b. cond b (Some v) (found_at counts q)) apart
 
-  -- what was counted of an attendee is no more than the rows done
-  few_rows : (es : List Entry) → IsTally done before es → (k : List ℕ) (s : Tallied) → lookup (same_text k) es ≡ Some s →
-      (s.last ≡ length done → ⊥) → s.rows ≤ length done
-  few_rows es tally k s found not =
-      let c = counted_at k s es tally.counts found in
-      let absent : list_any (same_text k) before ≡ false =
-      by_bool (list_any (same_text k) before) (list_any (same_text k) before ≡ false) (λ e. absurd (not (c.here e))) (λ e. e) in
-      let so_far : s.rows ≡ rows_with k done + 0 = c.rows ∙ ap (λ b. rows_with k done + one_if b) absent in
-      let few : rows_with k done ≤ length done = rows_few k done in
-      omega (arith, so_far, few)
+      pub counted_first : (keys' : List (List ℕ)) → keys' ≡ keys ++ k ∷ [] → found_at counts k ≡ None → v.rows ≡ 1 →
+          IsTally done (before ++ k ∷ []) keys' counts'
+      counted_first keys' more none rows = record {
+        keys_are = more ∙ ap (λ ks. ks ++ k ∷ []) tally.keys_are ∙ sym (firsts_new (flat_map keys_in done ++ before) k absent) ∙ ap firsts assoc;
+        counted = λ q h. by_bool (same_text k q)
+            ((seen : Tallied) × (found_at counts' q ≡ Some seen) × IsCounted done (before ++ k ∷ []) q seen)
+            (λ same. (
+              v,
+              here_now q same,
+              subst (λ (x : List ℕ). IsCounted done (before ++ k ∷ []) x v) (same_is k q same)
+                  (counted_now v (omega (arith, rows, nothing)) last),
+            ))
+            (λ apart.
+            let w = tally.counted q (sym (pushed q ∙ right_false (list_any (same_text q) keys) (same_text q k) (same_back q k ∙ apart)) ∙ h) in
+            (w.0, as_before q apart ∙ w.1, other q w.0 apart w.2));
+        only = λ q s e. by_bool (same_text k q) (list_any (same_text q) keys' ≡ true)
+            (λ same. pushed q ∙ right_true (list_any (same_text q) keys) (same_text q k) (same_back q k ∙ same))
+            (λ apart. pushed q ∙ ap (λ b. b || same_text q k) (tally.only q s (sym (as_before q apart) ∙ e)));
+      }
+        where
+          pushed : (q : List ℕ) → list_any (same_text q) keys' ≡ (list_any (same_text q) keys || same_text q k)
+          pushed q = ap (list_any (same_text q)) more ∙ any_push (same_text q) keys k
+
+          no_key : list_any (same_text k) keys ≡ false
+          no_key = by_bool (list_any (same_text k) keys) (list_any (same_text k) keys ≡ false)
+              (λ e. let w = tally.counted k e in absurd (none_some w.0 (sym none ∙ w.1))) (λ e. e)
+
+          absent : list_any (same_text k) (flat_map keys_in done ++ before) ≡ false
+          absent = sym all_any ∙ no_key
+
+          nothing : rows_with k done ≡ 0
+          nothing = rows_none k done (neither (list_any (same_text k) (flat_map keys_in done)) (list_any (same_text k) before)
+              (sym (list_any-append (same_text k) (flat_map keys_in done) before) ∙ absent)).0
+
+      pub counted_more : (s : Tallied) → found_at counts k ≡ Some s → (s.last ≡ length done → ⊥) → v.rows ≡ s.rows + 1 →
+          IsTally done (before ++ k ∷ []) keys counts'
+      counted_more s found not rows = record {
+        keys_are = keys_stay s found;
+        counted = λ q h. by_bool (same_text k q)
+            ((seen : Tallied) × (found_at counts' q ≡ Some seen) × IsCounted done (before ++ k ∷ []) q seen)
+            (λ same. (
+              v,
+              here_now q same,
+              subst (λ (x : List ℕ). IsCounted done (before ++ k ∷ []) x v) (same_is k q same)
+                  (counted_now v (omega (arith, rows, so_far)) last),
+            ))
+            (λ apart. let w = tally.counted q h in (w.0, as_before q apart ∙ w.1, other q w.0 apart w.2));
+        only = λ q t e. by_bool (same_text k q) (list_any (same_text q) keys ≡ true)
+            (λ same. ap (λ x. list_any (same_text x) keys) (sym (same_is k q same)) ∙ tally.only k s found)
+            (λ apart. tally.only q t (sym (as_before q apart) ∙ e));
+      }
+        where
+          so_far : s.rows ≡ rows_with k done + 0
+          so_far = (counted_at s found).rows ∙ ap (λ b. rows_with k done + one_if b) (not_shown s found not)
+
+    -- what was counted of an attendee is no more than the rows done
+    few_rows : (s : Tallied) → found_at counts k ≡ Some s → (s.last ≡ length done → ⊥) → s.rows ≤ length done
+    few_rows s found not =
+        let so_far : s.rows ≡ rows_with k done + 0 = (counted_at s found).rows ∙
+        ap (λ b. rows_with k done + one_if b) (not_shown s found not) in
+        let few : rows_with k done ≤ length done = rows_few k done in
+        omega (arith, so_far, few)
 
 no_number : (n : ℕ) → Some n ≡ None → ⊥
 no_number n e = cc
 
--- ---- one attendee
-module _ (place : ℕ) (done : List Row) (before : List (List ℕ)) (es : List Entry) (k : List ℕ) (long : length done ≡ place)
-    (tally : IsTally done before es) where
-  pub count_done : rows_before place (lookup (same_text k) es) ≡ None → IsTally done (before ++ k ∷ []) es
-  count_done e = by (lookup (same_text k) es) refl e
+number : (a b : ℕ) → Some a ≡ Some b → a ≡ b
+number a b g = cc
+
+-- ---- what was counted before says what is to do
+module _ (place : ℕ) (done : List Row) (before keys : List (List ℕ)) (counts : Counts) (k : List ℕ) (long : length done ≡ place)
+    (tally : IsTally done before keys counts) where
+  pub count_done : rows_before place (found_at counts k) ≡ None → IsTally done (before ++ k ∷ []) keys counts
+  count_done e = by (found_at counts k) refl e
     where
-      by : (o : Option Tallied) → lookup (same_text k) es ≡ o → rows_before place o ≡ None → IsTally done (before ++ k ∷ []) es
+      by : (o : Option Tallied) → found_at counts k ≡ o → rows_before place o ≡ None → IsTally done (before ++ k ∷ []) keys counts
       by None found h = absurd (no_number 0 h)
       by (Some s) found h =
-          elim (s.last == place) as (λ b. (s.last == place) ≡ b → cond b None (Some s.rows) ≡ None → IsTally done (before ++ k ∷ []) es) [
-            | true ↦ λ same g. counted_already done before es tally k s found (equal_from s.last place same ∙ sym long)
+          elim (s.last == place) as (λ b. (s.last == place) ≡ b → cond b None (Some s.rows) ≡ None → IsTally done (before ++ k ∷ []) keys counts) [
+            | true ↦ λ same g. counted_already done before k keys counts tally s found (equal_from s.last place same ∙ sym long)
             | false ↦ λ apart g. absurd (no_number s.rows g)
           ] refl h
 
-  pub count_more : (rows : ℕ) (v : Tallied) → rows_before place (lookup (same_text k) es) ≡ Some rows → place < 18446744073709551615 →
-      v.rows ≡ min (rows + 1) 18446744073709551615 → v.last ≡ place
-      → IsTally done (before ++ k ∷ []) (insert_entry same_text es k v)
-  count_more rows v e small rows_are last = by (lookup (same_text k) es) refl e
-    where
-      number : (a b : ℕ) → Some a ≡ Some b → a ≡ b
-      number a b g = cc
+  module _ (rows : ℕ) (v : Tallied) (so_far : rows_before place (found_at counts k) ≡ Some rows) (small : place < 18446744073709551615)
+      (counted : v.rows ≡ min (rows + 1) 18446744073709551615) (last : v.last ≡ place) (counts' : Counts)
+      (put : Updates (slice_cmp nat_cmp) counts counts' k (Some v)) where
+    earlier_one : (s : Tallied) → found_at counts k ≡ Some s → rows_before place (Some s) ≡ Some rows → (s.last ≡ length done → ⊥) × (s.rows ≡ rows)
+    earlier_one s found h =
+        elim (s.last == place) as (λ b. (s.last == place) ≡ b → cond b None (Some s.rows) ≡ Some rows →
+        (s.last ≡ length done → ⊥) × (s.rows ≡ rows)) [
+          | true ↦ λ same g. absurd (no_number rows (sym g))
+          | false ↦ λ apart g. (λ here. differ (s.last == place) (equal_test s.last place (here ∙ long)) apart, number s.rows rows g)
+        ] refl h
+      where
+        differ : (b : Bool) → b ≡ true → b ≡ false → ⊥
+        differ b p q = let x : true ≡ false = sym p ∙ q in cc
 
-      by : (o : Option Tallied) → lookup (same_text k) es ≡ o → rows_before place o ≡ Some rows →
-          IsTally done (before ++ k ∷ []) (insert_entry same_text es k v)
-      by None found h =
-          let zero_is : 0 ≡ rows = number 0 rows h in
-          counted_first done before es tally k v found (omega (arith, zero_is, rows_are)) (last ∙ sym long)
-      by (Some s) found h =
-          elim (s.last == place) as (λ b. (s.last == place) ≡ b → cond b None (Some s.rows) ≡ Some rows →
-          IsTally done (before ++ k ∷ []) (insert_entry same_text es k v)) [
-            | true ↦ λ same g. let x : None ≡ Some rows = g in absurd (cc)
-            | false ↦ λ apart g.
-                let not : s.last ≡ length done → ⊥ = λ here. differ (s.last == place) (equal_test s.last place (here ∙ long)) apart in
-                let same : s.rows ≡ rows = number s.rows rows g in
-                let few : s.rows ≤ length done = few_rows done before es tally k s found not in
-                counted_more done before es tally k v s found not (omega (arith, same, few, long, small, rows_are)) (last ∙ sym long)
-          ] refl h
-        where
-          differ : (b : Bool) → b ≡ true → b ≡ false → ⊥
-          differ b p q = let x : true ≡ false = sym p ∙ q in cc
+    -- he is new
+    pub count_first : (keys' : List (List ℕ)) → keys' ≡ keys ++ k ∷ [] → rows ≡ 0 → IsTally done (before ++ k ∷ []) keys' counts'
+    count_first keys' more zero = by (found_at counts k) refl so_far
+      where
+        by : (o : Option Tallied) → found_at counts k ≡ o → rows_before place o ≡ Some rows → IsTally done (before ++ k ∷ []) keys' counts'
+        by None found h = counted_first done before k keys counts tally v (last ∙ sym long) counts' put keys' more found
+            (omega (arith, zero, counted))
+        by (Some s) found h =
+            let same : s.rows ≡ rows = (earlier_one s found h).1 in
+            let some : 0 < s.rows = (counted_at done before k keys counts tally s found).some in
+            absurd (omega (arith, same, some, zero))
+
+    -- he was shown by a row before
+    pub count_more : (rows ≡ 0 → ⊥) → IsTally done (before ++ k ∷ []) keys counts'
+    count_more not = by (found_at counts k) refl so_far
+      where
+        by : (o : Option Tallied) → found_at counts k ≡ o → rows_before place o ≡ Some rows → IsTally done (before ++ k ∷ []) keys counts'
+        by None found h = absurd (not (sym (number 0 rows h)))
+        by (Some s) found h =
+            let one = earlier_one s found h in
+            let same : s.rows ≡ rows = one.1 in
+            let few : s.rows ≤ length done = few_rows done before k keys counts tally s found one.0 in
+            counted_more done before k keys counts tally v (last ∙ sym long) counts' put s found one.0
+            (omega (arith, same, few, long, small, counted))
 
 -- ---- one row
-pub end_row : (done : List Row) (row : Row) (es : List Entry) → IsTally done (keys_in row) es → IsTally (done ++ row ∷ []) [] es
-end_row done row es tally = record {
-  keys = tally.keys ∙ ap firsts (sym (append-nil (flat_map keys_in (done ++ row ∷ [])) ∙ flat_map-append keys_in done (row ∷ []) ∙
+pub end_row : (done : List Row) (row : Row) (keys : List (List ℕ)) (counts : Counts) → IsTally done (keys_in row) keys counts →
+    IsTally (done ++ row ∷ []) [] keys counts
+end_row done row keys counts tally = record {
+  keys_are = tally.keys_are ∙ ap firsts (sym (append-nil (flat_map keys_in (done ++ row ∷ [])) ∙ flat_map-append keys_in done (row ∷ []) ∙
       ap (λ ks. flat_map keys_in done ++ ks) (append-nil (keys_in row))));
-  counts = all_map (λ e. IsCounted done (keys_in row) e.0 e.1) (λ e. IsCounted (done ++ row ∷ []) [] e.0 e.1) es more tally.counts;
+  counted = λ q h. let w = tally.counted q h in (w.0, w.1, more q w.0 w.2);
+  only = tally.only;
 }
   where
-    more : (e : Entry) → IsCounted done (keys_in row) e.0 e.1 → IsCounted (done ++ row ∷ []) [] e.0 e.1
-    more e c =
-        let n : ℕ = one_if (list_any (same_text e.0) (keys_in row)) in
-        let rows : e.1.rows ≡ rows_with e.0 done + n = c.rows in
-        let push : rows_with e.0 (done ++ row ∷ []) ≡ rows_with e.0 done + n = rows_push e.0 done row in
+    more : (key : List ℕ) (s : Tallied) → IsCounted done (keys_in row) key s → IsCounted (done ++ row ∷ []) [] key s
+    more key s c =
+        let n : ℕ = one_if (list_any (same_text key) (keys_in row)) in
+        let rows : s.rows ≡ rows_with key done + n = c.rows in
+        let push : rows_with key (done ++ row ∷ []) ≡ rows_with key done + n = rows_push key done row in
         let long : length (done ++ row ∷ []) ≡ length done + 1 = length-append done (row ∷ []) in
         record {
           rows = omega (arith, rows, push);
+          some = c.some;
           here = λ f. let x : false ≡ true = f in absurd (cc);
-          earlier = λ _. by_bool (list_any (same_text e.0) (keys_in row)) (e.1.last < length (done ++ row ∷ []))
-              (λ f. let x : e.1.last ≡ length done = c.here f in omega (arith, x, long))
-              (λ f. let x : e.1.last < length done = c.earlier f in omega (arith, x, long));
+          earlier = λ _. by_bool (list_any (same_text key) (keys_in row)) (s.last < length (done ++ row ∷ []))
+              (λ f. let x : s.last ≡ length done = c.here f in omega (arith, x, long))
+              (λ f. let x : s.last < length done = c.earlier f in omega (arith, x, long));
         }
 
-pub no_tally : IsTally [] [] []
+pub no_tally : (keys : List (List ℕ)) (counts : Counts) → keys ≡ [] → counts.entries ≡ [] → IsTally [] [] keys counts
 unfolding firsts
-no_tally = record { keys = refl; counts = tt }
+no_tally keys counts no_keys none = record {
+  keys_are = no_keys;
+  counted = λ q h. let x : false ≡ true = sym (ap (list_any (same_text q)) no_keys) ∙ h in absurd (cc);
+  only = λ q s e. absurd (none_some s (sym (ap (lookup (same_text q)) none) ∙ e));
+}
 
 -- ---- the lines
-lines_from : (rows : List Row) (es : List Entry) → AllByRecursion (λ e. IsCounted rows [] e.0 e.1) es →
-    map (λ (e : Entry). e.0 ++ (codes " " ++ decimal e.1.rows)) es ≡ map (load_line rows) (keys_of es)
-lines_from rows [] h = refl
-lines_from rows (e ∷ es) h =
-    let so : e.1.rows ≡ rows_with e.0 rows = (let x : e.1.rows ≡ rows_with e.0 rows + 0 = h.0.rows in omega (arith, x)) in
-    λ i. (e.0 ++ (codes " " ++ decimal (so i))) ∷ lines_from rows es h.1 i
+-- the rows counted for one of the attendees
+pub rows_told : (rows : List Row) (keys : List (List ℕ)) (counts : Counts) → IsTally rows [] keys counts → (i : ℕ) (key : List ℕ) →
+    i < length keys → key ≡ get_or keys i key → rows_of (found_at counts key) ≡ rows_with key rows
+rows_told rows keys counts tally i key below is =
+    let w = tally.counted key there in
+    let counted : (w.0).rows ≡ rows_with key rows + 0 = (w.2).rows in
+    ap rows_of w.1 ∙ omega (arith, counted)
+  where
+    there : list_any (same_text key) keys ≡ true
+    there = ap (list_any (same_text key)) (sym (take-append-drop (i + 1) keys)) ∙
+        list_any-append (same_text key) (take (i + 1) keys) (drop (i + 1) keys) ∙
+        ap (λ b. b || list_any (same_text key) (drop (i + 1) keys))
+        (ap (list_any (same_text key)) (take_more keys i key below ∙ ap (λ (k : List ℕ). take i keys ++ k ∷ []) (sym is)) ∙
+        any_push (same_text key) (take i keys) key ∙ right_true (list_any (same_text key) (take i keys)) (same_text key key) (same_itself key))
 
-pub tally_lines : (rows : List Row) (es : List Entry) → IsTally rows [] es →
-    map (λ (e : Entry). e.0 ++ (codes " " ++ decimal e.1.rows)) es ≡ load_lines rows
-tally_lines rows es tally = lines_from rows es tally.counts ∙
-    ap (map (load_line rows)) (tally.keys ∙ ap firsts (append-nil (flat_map keys_in rows)))
+pub tally_lines : (rows : List Row) (keys : List (List ℕ)) (counts : Counts) → IsTally rows [] keys counts →
+    map (load_line rows) keys ≡ load_lines rows
+tally_lines rows keys counts tally = ap (map (load_line rows)) (tally.keys_are ∙ ap firsts (append-nil (flat_map keys_in rows)))

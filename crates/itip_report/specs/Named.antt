@@ -1,7 +1,9 @@
 -- The lines of each report by its name, over what was heard (our own rules and format).
 use Rattle.std.specs.Prelude.{◌≡◌, ◌≤◌, ℕ, List, length}
 use Rattle.itip_items.specs.declared.item.Item.{Item}
+use Rattle.itip_view.specs.ByUid.{AreAsked}
 use Rattle.itip_view.specs.Rows.{AreRows, row_limit}
+use Rattle.itip_view.specs.declared.by_uid.RowsByUid.{RowsByUid}
 use Rattle.itip_view.specs.declared.row.Row.{Row}
 use Rattle.itip_view.specs.declared.window.Window.{Window}
 use Rattle.itip_report.specs.Load.{load_lines}
@@ -38,3 +40,8 @@ IsOfRows name.Refresh = ⊥
 pub record HasRowsFor (named : ReportName) (heard : List Item) (window : Window) (rows : List Row) : Type 0 where
   pub are_rows : IsOfRows named → AreRows heard window rows
   pub few : IsOfRows named → length rows ≤ row_limit
+
+-- Where a report tells of rows, all rows of the window are asked for; else none is.
+pub record AreRowsFor (named : ReportName) (heard : List Item) (window : Window) (asked : RowsByUid) : Type 0 where
+  pub of_rows : IsOfRows named → AreAsked (λ (row : Row). Unit {0}) heard window asked
+  pub none : (¬ IsOfRows named) → AreAsked (λ (row : Row). ⊥) heard window asked

@@ -11,6 +11,11 @@ use Rattle.itip_report.specs.Reports.{IsStanding}
 abbrev pub AreStanding : List Item → List ℕ → List Item → Type 0
 AreStanding heard uid items = AreReported (IsStanding heard uid) items
 
+-- the live series item of a UID, and its overrides
+pub record AreResent (heard : List Item) (uid : List ℕ) (series : Item) (overrides : List Item) : Type 0 where
+  pub live : IsLiveSeries heard uid series
+  pub standing : AreStanding heard uid overrides
+
 -- the canonical messages of the live series item, and then of the overrides
 pub record IsResend (heard : List Item) (uid : List ℕ) (bytes : List ℕ) : Type 0 where
   pub series : Item

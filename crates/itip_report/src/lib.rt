@@ -2,11 +2,13 @@
 //! to nothing, who waits for a newer revision, what to send again, and the next sequence to use.
 #![tactic(auto)]
 
+mod empty;
 mod laws;
 mod line;
 mod lines;
 mod load;
 mod named;
+mod of_rows;
 mod organizing;
 mod places;
 mod report;
@@ -15,12 +17,13 @@ mod reported;
 mod row_progress;
 mod sought;
 
+pub use empty::no_rows;
 pub use laws::{one_report, reports_of_kept, resend_is_read};
 pub use line::{mark, put_instance, put_moment};
 pub use lines::{cancelled, orphans, refresh_wanted};
 pub use load::load_by_attendee;
 pub use named::report_lines;
-pub use organizing::{next_seq, resend};
+pub use organizing::{Resent, next_seq, resend, resent_items};
 pub use places::{by_place, compare_places};
 pub use report::Report;
 pub use report_name::ReportName;

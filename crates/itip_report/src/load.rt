@@ -1,18 +1,20 @@
 //! How many rows show each attendee.
 ghost use Rattle.std.specs.Prelude.{◌≡◌, ◌<◌, ◌++◌, ◌∷◌, [], ℕ, List, IfOk, OnOk, codes, length, map};
 ghost use Rattle.std.specs.Fmt.{decimal};
-ghost use Rattle.std.specs.Map.{lookup};
+ghost use Rattle.std.specs.BTreeMap.{get};
+ghost use Rattle.std.specs.Ordering.{nat_cmp};
+ghost use Rattle.std.specs.Cmp.Lexicographic.{slice_cmp};
 ghost use Rattle.std.specs.String.{string_bytes};
 ghost use Rattle.itip_view.specs.declared.row.Row.{Row};
-ghost use Rattle.itip_report.specs.Load.{load_lines, same_text};
-ghost use Rattle.itip_report.specs.Tally.{IsTally, rows_before};
+ghost use Rattle.itip_report.specs.Load.{load_lines};
+ghost use Rattle.itip_report.specs.Tally.{IsTally, rows_before, rows_of};
 
 use crate::NoMemory;
-use indexmap::IndexMap;
 use itip_lines::Text;
 use itip_todo::attendee_key;
 use itip_view::Row;
 use std::alloc::Global;
+use std::collections::BTreeMap;
 
 /// How many rows have shown an attendee, and the place of the last of them.
 #[derive(Clone, Copy, Debug)]
@@ -21,17 +23,35 @@ struct Tallied {
     last: usize,
 }
 
+/// The attendees that rows show, each counted.
+#[derive(Debug, Drop)]
+struct Tally {
+    /// In the order of first appearance.
+    keys: Vec<Text>,
+    counts: BTreeMap<Text, Tallied>,
+}
+
 /// `address count` for each attendee whom rows show: the address with ASCII letters in lower case, and the number of rows that
 /// show him, in the order of first appearance.
 pub fn load_by_attendee(alloc: Global, rows: &[Row]) -> Result<Vec<String>, NoMemory>
     ensures { IfOk result (λ lines. map string_bytes lines.items ≡ load_lines rows.now) }
 {
-    let tally = tally(alloc, rows)?;
+    let Tally { keys, counts } = count_rows(alloc, rows)?;
     let mut lines = Vec::new(alloc);
-    for (key, seen) in tally.iter() {
-        lines.push(load_line(alloc, key, seen.rows)?)?;
+    for key in &keys {
+        lines.push(load_line(alloc, key, rows_of(&counts, key))?)?;
     }
     Ok(lines)
+}
+
+/// The rows counted for an attendee.
+fn rows_of(counts: &BTreeMap<Text, Tallied>, key: &Text) -> usize
+    ensures { result ≡ rows_of (get (slice_cmp nat_cmp) counts.now key.now) }
+{
+    match counts.get(key) {
+        None => 0,
+        Some(seen) => seen.rows,
+    }
 }
 
 fn load_line(alloc: Global, key: &Text, rows: usize) -> Result<String, NoMemory>
@@ -45,11 +65,14 @@ fn load_line(alloc: Global, key: &Text, rows: usize) -> Result<String, NoMemory>
     Ok(line)
 }
 
-/// The attendees that rows show, each counted.
-fn tally(alloc: Global, rows: &[Row]) -> Result<IndexMap<Text, Tallied>, NoMemory>
-    ensures { IfOk result (λ tally. IsTally rows.now [] tally.entries) }
+/// Counts the rows.
+fn count_rows(alloc: Global, rows: &[Row]) -> Result<Tally, NoMemory>
+    ensures { IfOk result (λ tally. IsTally rows.now [] tally.keys.items tally.counts) }
 {
-    let mut tally = IndexMap::new(alloc);
+    let mut tally = Tally {
+        keys: Vec::new(alloc),
+        counts: BTreeMap::new(alloc),
+    };
     let mut place = 0;
     for row in rows {
         count_row(alloc, &mut tally, row, place)?;
@@ -59,15 +82,10 @@ fn tally(alloc: Global, rows: &[Row]) -> Result<IndexMap<Text, Tallied>, NoMemor
 }
 
 /// Counts the row at a place, once for each attendee that it shows.
-fn count_row(
-    alloc: Global,
-    tally: &mut IndexMap<Text, Tallied>,
-    row: &Row,
-    place: usize,
-) -> Result<(), NoMemory>
+fn count_row(alloc: Global, tally: &mut Tally, row: &Row, place: usize) -> Result<(), NoMemory>
     requires { place < usize.MAX }
     ensures { OnOk result ((done : List Row) → length done ≡ place
-        → IsTally done [] tally.old.entries → IsTally (done ++ row.now ∷ []) [] tally.new.entries) }
+        → IsTally done [] tally.old.keys.items tally.old.counts → IsTally (done ++ row.now ∷ []) [] tally.new.keys.items tally.new.counts) }
 {
     for attendee in row.attendees.as_slice() {
         let key = attendee_key(alloc, attendee.address.as_str())?;
@@ -77,27 +95,31 @@ fn count_row(
 }
 
 /// Counts the row at a place for one attendee, unless it was counted for him.
-fn count(tally: &mut IndexMap<Text, Tallied>, key: Text, place: usize) -> Result<(), NoMemory>
+fn count(tally: &mut Tally, key: Text, place: usize) -> Result<(), NoMemory>
     requires { place < usize.MAX }
     ensures { OnOk result ((done : List Row) (before : List (List ℕ)) → length done ≡ place
-        → IsTally done before tally.old.entries → IsTally done (before ++ key ∷ []) tally.new.entries) }
+        → IsTally done before tally.old.keys.items tally.old.counts
+        → IsTally done (before ++ key ∷ []) tally.new.keys.items tally.new.counts) }
 {
-    let Some(rows) = rows_before(tally, &key, place) else {
+    let Some(rows) = rows_before(&tally.counts, &key, place) else {
         return Ok(());
     };
+    if rows == 0 {
+        tally.keys.push(key.clone()?)?;
+    }
     let seen = Tallied {
         rows: rows.saturating_add(1),
         last: place,
     };
-    tally.insert(key, seen)?;
+    tally.counts.insert(key, seen)?;
     Ok(())
 }
 
 /// The rows counted so far for an attendee, or `None` where the row at the place was counted already.
-fn rows_before(tally: &IndexMap<Text, Tallied>, key: &Text, place: usize) -> Option<usize>
-    ensures { result ≡ rows_before place (lookup (same_text key.now) tally.now.entries) }
+fn rows_before(counts: &BTreeMap<Text, Tallied>, key: &Text, place: usize) -> Option<usize>
+    ensures { result ≡ rows_before place (get (slice_cmp nat_cmp) counts.now key.now) }
 {
-    match tally.get(key) {
+    match counts.get(key) {
         None => Some(0),
         Some(seen) => {
             if seen.last == place {

@@ -1,8 +1,10 @@
 //! What an organizer sends again, and the next sequence to use.
-ghost use Rattle.std.specs.Prelude.{◌≡◌, ◌++◌, IfOk, OnOk};
+ghost use Rattle.std.specs.Prelude.{◌≡◌, ◌++◌, IfOk, OnOk, MatchOption, map};
 ghost use Rattle.std.specs.List.{flat_map};
 ghost use Rattle.std.specs.Option.{option_map};
-ghost use Rattle.itip_report.specs.Organizing.{IsResendOf, IsNext};
+ghost use Rattle.itip_items.specs.declared.item.Item.{Item};
+ghost use Rattle.itip_view.specs.Standing.{IsLiveSeries};
+ghost use Rattle.itip_report.specs.Organizing.{AreResent, IsResendOf, IsNext};
 
 use crate::NoMemory;
 use crate::sought::{Sought, sought_items};
@@ -11,6 +13,30 @@ use itip_state::{ItemsOfUid, State};
 use itip_todo::Uid;
 use itip_view::if_live;
 use std::alloc::Global;
+
+/// The items of a UID whose messages are to be sent again.
+#[derive(Drop)]
+pub struct Resent<'a> {
+    /// The live series item.
+    pub series: &'a Item,
+    /// The instance and range items that stand, by moment, an instance before a range of its moment.
+    pub overrides: Vec<&'a Item>,
+}
+
+/// The items whose messages are to be sent again of what is kept of a UID; `None` where no series item of the UID is live.
+pub fn resent_items<'a>(
+    alloc: Global,
+    items: &ItemsOfUid<'a>,
+) -> Result<Option<Resent<'a>>, NoMemory>
+    ensures { IfOk result (λ resent. MatchOption resent ((item : Item) → ¬ IsLiveSeries items.now.items items.now.uid item)
+        (λ r. AreResent items.now.items items.now.uid r.series.now (map (λ item. item.now) r.overrides.items))) }
+{
+    let Some(series) = if_live(items.series()) else {
+        return Ok(None);
+    };
+    let overrides = sought_items(alloc, items, &Sought::Standing)?;
+    Ok(Some(Resent { series, overrides }))
+}
 
 /// The messages to send again of a UID: the canonical octets of its live series item, then those of the instance and range
 /// items that stand, by moment, an instance before a range of its moment; `None` where no series item of the UID is live.
@@ -25,13 +51,12 @@ pub fn resend(alloc: Global, state: &State, uid: &Uid) -> Result<Option<Vec<u8>>
 fn resend_of(alloc: Global, items: &ItemsOfUid<'_>) -> Result<Option<Vec<u8>>, NoMemory>
     ensures { IfOk result (λ messages. IsResendOf items.now.items items.now.uid (option_map (λ bytes. bytes.items) messages)) }
 {
-    let Some(live) = if_live(items.series()) else {
+    let Some(resent) = resent_items(alloc, items)? else {
         return Ok(None);
     };
-    let overrides = sought_items(alloc, items, &Sought::Standing)?;
     let mut messages = Vec::new(alloc);
-    messages.extend_from_slice(live.bytes.as_slice())?;
-    put_messages(&mut messages, &overrides)?;
+    messages.extend_from_slice(resent.series.bytes.as_slice())?;
+    put_messages(&mut messages, &resent.overrides)?;
     Ok(Some(messages))
 }
 

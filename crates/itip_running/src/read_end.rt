@@ -4,7 +4,8 @@ ghost use mathlib.Core.List.{IsPrefix};
 ghost use Rattle.left_right.specs.Sides.{view};
 ghost use Rattle.itip_desk.specs.Heard.{heard};
 ghost use Rattle.itip_desk.specs.Desk.{IsDeskOf};
-ghost use Rattle.itip_view.specs.ListText.{IsListText, list_text};
+ghost use Rattle.itip_view.specs.ByUid.{IsTextLeft, AreTooManyLeft};
+ghost use Rattle.itip_view.specs.ListText.{IsListText};
 ghost use Rattle.itip_view.specs.Rows.{AreTooMany};
 ghost use Rattle.itip_view.specs.Showing.{Shows, AreTooManyWhere, IsListTextFor};
 ghost use Rattle.itip_running.specs.Deltas.{IsDeltaAfter};
@@ -19,7 +20,7 @@ use crate::pair_protocol::{PublishedReader, PublishedReading, Sees};
 use crate::receipt::Receipt;
 use itip_desk::{Batch, Desk};
 use itip_state::State;
-use itip_view::{Row, Wanted, Window, list_text, rows, rows_where};
+use itip_view::{RowsByUid, Wanted, Window};
 use std::alloc::Global;
 
 /// A reader, and what it has seen.
@@ -81,7 +82,7 @@ impl ReadEnd {
     }
 
     /// The text of the task list in a window. During the read only what it is made of is taken, each item shared, so that
-    /// the keeper waits for no row.
+    /// the keeper waits for no row. Beside the text the rows of one UID are held.
     pub(crate) fn list(self, window: Window) -> (ReadEnd, Result<Vec<u8>, PassError>)
         ensures text { IfOk result.1 (λ text. IsListText (heard (reader_seen result.0)) window text.items) }
         ensures many { IsErrOf result.1 PassError.TooManyRows → AreTooMany (heard (reader_seen result.0)) window }
@@ -178,10 +179,10 @@ fn text_in(alloc: Global, state: &State, window: Window) -> Result<Vec<u8>, Pass
     ensures many { IsErrOf result PassError.TooManyRows → AreTooMany state.now window }
     ensures causes { IfErr result (λ e. (e ≡ PassError.TooManyRows) ⊎ (e ≡ PassError.NoListMemory)) }
 {
-    match rows(alloc, state, window) {
-        Ok(rows) => text_of(&rows),
-        Err(fault) => Err(fault.into()),
-    }
+    let Ok(rows) = RowsByUid::of(alloc, state, window, &Wanted::all()) else {
+        return Err(PassError::NoListMemory);
+    };
+    text_of(&rows)
 }
 
 /// The text of the rows of a state in a window that show the attendee of an address.
@@ -195,20 +196,22 @@ fn text_for(
     ensures many { IsErrOf result PassError.TooManyRows → AreTooManyWhere (Shows address.now) state.now window }
     ensures causes { IfErr result (λ e. (e ≡ PassError.TooManyRows) ⊎ (e ≡ PassError.NoListMemory)) }
 {
-    match rows_where(alloc, state, window, &Wanted::showing(Some(address))) {
-        Ok(rows) => text_of(&rows),
-        Err(fault) => Err(fault.into()),
-    }
+    let wanted = Wanted::showing(Some(address));
+    let Ok(rows) = RowsByUid::of(alloc, state, window, &wanted) else {
+        return Err(PassError::NoListMemory);
+    };
+    text_of(&rows)
 }
 
-/// The text of rows.
-fn text_of(rows: &Vec<Row>) -> Result<Vec<u8>, PassError>
-    ensures text { IfOk result (λ text. text.items ≡ list_text rows.now.items) }
-    ensures fault { IfErr result (λ e. e ≡ PassError.NoListMemory) }
+/// The text of rows, which are made a UID at a time.
+fn text_of(rows: &RowsByUid<'_, '_>) -> Result<Vec<u8>, PassError>
+    ensures text { IfOk result (λ text. IsTextLeft rows.now text.items) }
+    ensures many { IsErrOf result PassError.TooManyRows → AreTooManyLeft rows.now }
+    ensures causes { IfErr result (λ e. (e ≡ PassError.TooManyRows) ⊎ (e ≡ PassError.NoListMemory)) }
 {
-    match list_text(*rows.allocator(), rows) {
+    match rows.text() {
         Ok(text) => Ok(text),
-        Err(_) => Err(PassError::NoListMemory),
+        Err(fault) => Err(fault.into()),
     }
 }
 

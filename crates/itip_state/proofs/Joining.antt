@@ -25,16 +25,16 @@ use Rattle.itip_state.proofs.Lookups.{all_from_values, value_from_all}
 use Rattle.itip_state.proofs.UidStates.{AreSorted, held_as, series_held, entry_held}
 use Rattle.itip_state.proofs.Combine.{combined, combined_sorted, combined_first, combined_second, combined_one}
 
-no_later_itself : (b : Best) → IsNoLater b b
+pub no_later_itself : (b : Best) → IsNoLater b b
 no_later_itself b = IsUpTo-refl revisions_total b.value
 
 no_later_through : (a b c : Best) → IsNoLater a b → IsNoLater b c → IsNoLater a c
 no_later_through a b c = IsUpTo-trans revisions_total a.value b.value c.value
 
-no_later_one : (a b : Best) → IsNoLater a b ⊎ IsNoLater b a
+pub no_later_one : (a b : Best) → IsNoLater a b ⊎ IsNoLater b a
 no_later_one a b = IsUpTo-comparable revisions_total a.value b.value
 
-no_later_same : (a b : Best) → IsNoLater a b → IsNoLater b a → a ≡ b
+pub no_later_same : (a b : Best) → IsNoLater a b → IsNoLater b a → a ≡ b
 no_later_same a b p q = λ i. record { value = revision_exact a.value b.value (IsUpTo-tie revisions_total a.value b.value p q) i }
 
 abbrev both_entries : List (Key × Best) → List (Key × Best) → List (Key × Best)

@@ -26,3 +26,7 @@ pub mod Finding
 pub mod OfKey
 pub mod UidParts
 pub mod Using
+pub mod Dying
+pub mod Tracking
+pub mod Waiting
+pub mod Giving

@@ -1,7 +1,7 @@
 -- Members of lists, and cases by a test.
 use Rattle.std.proofs.Common.{◌≡◌, List, [], ◌∷◌, ◌++◌, ◌≤◌, ◌<◌, length, slice_index_or, refl, sym, ap, subst, ◌⊎◌, inl, inr, Bool, true}
 use Rattle.std.proofs.Common.{false, arith, zero, suc, Ok, Err, Result}
-use Rattle.std.specs.Prelude.{OnOk, OnErr, IfOk}
+use Rattle.std.specs.Prelude.{is_ok, OnOk, OnErr, IfOk, IfSome, Option, Some, None}
 use Rattle.std.specs.List.{Contains, All, AllPairs}
 use Rattle.std.proofs.lemmas.List.Elements.{Contains-append_cases, Contains-append_left, Contains-append_right, Contains-push}
 use Rattle.std.proofs.lemmas.List.Elements.{Contains-push_cases, All-contains_itself, All-weaker}
@@ -70,3 +70,11 @@ if_ok_then P Q (Err e) f p = tt
 pub on_ok_always : {A E P : Type 0} (r : Result A E) → P → OnOk r P
 on_ok_always (Ok x) p = p
 on_ok_always (Err e) p = tt
+
+pub if_some_then : {A : Type 0} (o : Option A) (P Q : A → Type 0) → ((a : A) → P a → Q a) → IfSome o P → IfSome o Q
+if_some_then None P Q f p = tt
+if_some_then (Some a) P Q f p = f a p
+
+pub when_ok : {A E P : Type 0} (r : Result A E) → OnOk r P → is_ok r ≡ true → P
+when_ok (Ok x) p e = p
+when_ok (Err x) p e = let f : false ≡ true = e in absurd (cc)

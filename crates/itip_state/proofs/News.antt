@@ -13,14 +13,14 @@ use Rattle.itip_items.specs.declared.key.Key.{Key}
 use Rattle.itip_items.specs.declared.key.Key.TheVariants.{Series}
 use Rattle.itip_state.specs.Kept.{IsBest, IsKept, IsDead, KeepSame, Moves}
 use Rattle.itip_state.specs.Slots.{slot_cmp}
-use Rattle.itip_state.specs.Held.{Best, UidState, best, is_series, kills, items_of, uid_state_items, at, IsSound, AreHeld}
+use Rattle.itip_state.specs.Held.{Best, UidState, best, is_series, kills, items_of, uid_state_items, at, IsSound, AreHeld, IsHeldAs}
 use Rattle.itip_state.specs.Told.{IsTold, IsOutdone, AreNews, HoldsNoEarlier}
 use Rattle.itip_state.proofs.Members.{by_bool, none_in, cons_cases}
 use Rattle.itip_state.proofs.Later.{neither_later}
 use Rattle.itip_state.proofs.Best.{best_above, not_later_itself, later_transitive}
 use Rattle.itip_state.proofs.Keeping.{Covers, covers_itself, kept_of_parts, kept_part, best_part, series_kept}
 use Rattle.itip_state.proofs.Tests.{series_key, dead_under, can, kill}
-use Rattle.itip_state.proofs.UidStates.{IsHeldAs, known_key, series_held, entry_held, entry_key, held_as, series_is, killed_is_dead}
+use Rattle.itip_state.proofs.UidStates.{known_key, series_held, entry_held, entry_key, held_as, series_is, killed_is_dead}
 use Rattle.itip_state.proofs.Reading.{held_part, held_no_part, held_sound}
 
 pub one_more_news : (set items news : List Item) (j : Item) → (¬ IsOutdone set j) → AreNews set items news →

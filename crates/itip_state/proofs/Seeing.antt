@@ -38,6 +38,14 @@ module _ {V : Type 0} (of : V → UidState) where
       at (uid_states xs of) q ≡ at (uid_states zs of) q
   same_seen xs zs q e = sym (seen_at xs q) ∙ ap (option_map of) e ∙ seen_at zs q
 
+  -- what is found in a map that is seen as `all`
+  module _ (es : List (List ℕ × V)) (all : List (List ℕ × UidState)) (seen : uid_states es of ≡ all) (q : List ℕ) where
+    pub seen_some : (v : V) → Some v ≡ value_at uid_cmp es q → at all q ≡ Some (of v)
+    seen_some v e = ap (λ xs. at xs q) (sym seen) ∙ sym (seen_at es q) ∙ ap (option_map of) (sym e)
+
+    pub seen_none : None ≡ value_at uid_cmp es q → at all q ≡ None
+    seen_none e = ap (λ xs. at xs q) (sym seen) ∙ sym (seen_at es q) ∙ ap (option_map of) (sym e)
+
   -- ---- another value at a UID
   map_cond : (b : Bool) (o p : Option V) → option_map of (cond b o p) ≡ cond b (option_map of o) (option_map of p)
   map_cond true o p = refl

@@ -1,5 +1,6 @@
 -- What the tests of keys and of death say.
-use Rattle.std.proofs.Common.{◌≡◌, List, ◌<◌, ◌≤◌, refl, ◌∙◌, ap, subst, Bool, true, false, ◌&&◌, arith, Some, None, nat_lt}
+use Rattle.std.proofs.Common.{◌≡◌, List, ◌<◌, ◌≤◌, refl, ◌∙◌, ap, subst, Bool, true, false, ◌&&◌, arith, Option, Some, None, nat_lt}
+use Rattle.std.specs.Prelude.{option_map, is_some}
 use Rattle.std.specs.List.{Contains}
 use Rattle.std.specs.Ordering.{is_eq, nat_cmp}
 use Rattle.std.specs.Cmp.{tied_itself, Equal-is}
@@ -12,7 +13,7 @@ use Rattle.itip_items.specs.declared.key.Key.{Key}
 use Rattle.itip_items.specs.declared.key.Key.TheVariants.{Series, Instance, Range, Answer, Refresh}
 use Rattle.itip_join.specs.declared.lift.Lift.TheVariants.{Known}
 use Rattle.itip_state.specs.Kept.{IsBest, IsDead, CanDie}
-use Rattle.itip_state.specs.Held.{is_series, can_die, is_below, kills, best}
+use Rattle.itip_state.specs.Held.{is_series, can_die, is_below, kills, best, IsPlaceOf}
 use Rattle.itip_state.specs.DyingLaws.{less_from, from_less}
 use Rattle.itip_state.proofs.Best.{best_above}
 use Rattle.itip_state.proofs.Keeping.{eff_up}
@@ -23,6 +24,16 @@ series_key (Instance uid id) e = let x : false ≡ true = e in absurd (cc)
 series_key (Range uid id) e = let x : false ≡ true = e in absurd (cc)
 series_key (Answer uid id attendee) e = let x : false ≡ true = e in absurd (cc)
 series_key (Refresh uid id attendee) e = let x : false ≡ true = e in absurd (cc)
+
+-- an item that has a place among the others is no series item
+module _ {A : Type 0} (place : A → Key) (key : Key) where
+  pub no_place : (o : Option A) → IsPlaceOf (option_map place o) key → is_some o ≡ false → is_series key ≡ true
+  no_place None p e = p
+  no_place (Some x) p e = let f : true ≡ false = e in absurd (cc)
+
+  pub has_place : (o : Option A) → IsPlaceOf (option_map place o) key → is_some o ≡ true → is_series key ≡ false
+  has_place None p e = let f : false ≡ true = e in absurd (cc)
+  has_place (Some x) p e = p.1
 
 pub dies : (key : Key) → can_die key ≡ true → CanDie key
 dies (Series uid) e = let x : false ≡ true = e in absurd (cc)

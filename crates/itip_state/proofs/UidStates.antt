@@ -1,5 +1,5 @@
 -- What is held of one UID: a state, and when it tells no more than another.
-use Rattle.std.proofs.Common.{◌≡◌, ℕ, List, [], ◌∷◌, refl, sym, ◌∙◌, ap, subst, ◌⊎◌, inl, inr, true, false, Option, Some, None}
+use Rattle.std.proofs.Common.{◌≡◌, ℕ, List, [], ◌∷◌, refl, sym, ◌∙◌, ap, subst, inl, inr, true, false, Option, Some, None}
 use Rattle.std.specs.Prelude.{cond}
 use Rattle.std.specs.List.{Contains, AllByRecursion}
 use Rattle.std.specs.List.Sorted.{IsStrictlySortedBy}
@@ -20,7 +20,7 @@ use Rattle.itip_state.specs.Kept.{IsDead, CanDie}
 use Rattle.itip_state.specs.Order.{IsState}
 use Rattle.itip_state.specs.Slots.{slot_cmp, slot_total, slot_exact}
 use Rattle.itip_state.specs.Held.{Best, UidState, best, is_series, is_killed, kills, series_items, entry_items, uid_state_items, IsSeriesAt}
-use Rattle.itip_state.specs.Held.{IsEntryAt, IsSound}
+use Rattle.itip_state.specs.Held.{IsEntryAt, IsSound, IsHeldAs}
 use Rattle.itip_state.proofs.Members.{by_bool, none_in, cons_cases, cons_first, cons_later}
 use Rattle.itip_state.proofs.Lookups.{at_head, from_tail, value_from_all}
 use Rattle.itip_state.proofs.Best.{not_later_itself}
@@ -63,11 +63,6 @@ pub known_items : (s : Lift Best) (i : Item) → Contains (series_items s) i →
 known_items Nothing i h = absurd (none_in i h)
 known_items (Known s) i h =
     elim (cons_cases s.value [] i h) [ inl same ↦ λ x. Known (record { value = same x }) | inr none ↦ absurd (none_in i none) ]
-
--- how an item is held
-abbrev pub IsHeldAs : UidState → Item → Type 0
-IsHeldAs sh i = ((sh.series ≡ Known (best i)) × (is_series i.key ≡ true)) ⊎
-    ((value_at slot_cmp sh.entries i.key ≡ Some (best i)) × (is_series i.key ≡ false))
 
 module _ (uid : List ℕ) (sh : UidState) (sound : IsSound uid sh) where
   pub known_key : (i : Item) → sh.series ≡ Known (best i) → i.key ≡ Series uid

@@ -14,14 +14,13 @@ use Rattle.itip_join.specs.KeyByKey.{value_at, entries_from_values}
 use Rattle.itip_join.specs.Killed.{found_alive}
 use Rattle.itip_join.specs.Lifted.{IsLiftedBelow}
 use Rattle.itip_join.specs.Optional.{IsBelowUnder}
-use Rattle.itip_items.specs.KeyParts.{uid_of}
 use Rattle.itip_items.specs.declared.item.Item.{Item}
 use Rattle.itip_items.specs.declared.key.Key.{Key}
 use Rattle.itip_state.specs.Changes.{IsBackAt, in_place_of}
 use Rattle.itip_state.specs.Joined.{IsUidStateBelow, HoldsOfTwo, IsJoinedAt}
-use Rattle.itip_state.specs.Undone.{IsNoted, LeadsBack, IsUndone, AreUndone, IsOfAll, NotesAll}
+use Rattle.itip_state.specs.Undone.{IsNoted, LeadsBack, IsUndone, AreUndone}
 use Rattle.itip_state.specs.declared.hear.Before.{Before}
-use Rattle.itip_state.specs.declared.hear.Before.TheVariants.{Absent, Whole, Entry}
+use Rattle.itip_state.specs.declared.hear.Before.TheVariants.{Absent, Entry}
 use Rattle.itip_state.specs.declared.hear.Hearing.{Hearing}
 use Rattle.itip_state.specs.DyingLaws.{IsNoLater}
 use Rattle.itip_state.specs.Held.{Best, UidState, best, is_series, is_killed, alone, at, IsReduced, AreOrdered}
@@ -138,7 +137,6 @@ joined_some (Some a) b n (joined, e, j) = ap is_some e
 pub noted_leads : (before : Before) (item : Item) (old now : Option UidState) → IsNoted before item old →
     IsJoinedAt old (Some (alone item)) now → LeadsBack before item now old
 noted_leads Absent item old now is joined = is
-noted_leads (Whole was) item old now is joined = (joined_some old (alone item) now joined, is.0)
 noted_leads (Entry place held) item old now (w, e, back, other, here) joined =
     let all : IsJoinedAt (Some w) (Some (alone item)) now =
     subst (λ (o : Option UidState). IsJoinedAt o (Some (alone item)) now) e joined in (
@@ -153,7 +151,6 @@ noted_leads (Entry place held) item old now (w, e, back, other, here) joined =
 
 pub noted_stays : (before : Before) (item : Item) (old : Option UidState) → IsNoted before item old → LeadsBack before item old old
 noted_stays Absent item old is = is
-noted_stays (Whole was) item old is = (ap is_some is.0, is.0)
 noted_stays (Entry place held) item old (w, e, back, other, here) = (w, w, e, e, back, here)
 
 -- ---- a list of them
@@ -166,62 +163,6 @@ pub undone_pop : (cs : List Hearing) (c : Hearing) (now start : List (List ℕ �
     (mid : List (List ℕ × UidState)) × IsUndone c now mid × AreUndone cs mid start
 undone_pop [] c now start (m, same, one) = (start, subst (λ (n : List (List ℕ × UidState)). IsUndone c n start) (sym same) one, refl)
 undone_pop (d ∷ cs) c now start (m, rest, first) = let r = undone_pop cs c now m rest in (r.0, r.1, (m, r.2, first))
-
-pub of_all : (b : Before) → ((place : _) (held : Option Best) → b ≡ Entry place held → ⊥) → IsOfAll b
-of_all Absent not = tt
-of_all (Whole was) not = tt
-of_all (Entry place held) not = not place held refl
-
-first_same : {X : Type 0} (x y : X) (xs ys : List X) → x ∷ xs ≡ y ∷ ys → x ≡ y
-first_same x y xs ys e = cc
-
-rest_same : {X : Type 0} (x y : X) (xs ys : List X) → x ∷ xs ≡ y ∷ ys → xs ≡ ys
-rest_same x y xs ys e = cc
-
-none_begins : {X : Type 0} (x : X) (xs : List X) → [] ≡ x ∷ xs → ⊥
-none_begins x xs e = cc
-
-none_ends : {X : Type 0} (xs : List X) (x : X) → [] ≡ xs ++ x ∷ [] → ⊥
-none_ends [] x e = none_begins x [] e
-none_ends (y ∷ xs) x e = none_begins y (xs ++ x ∷ []) e
-
--- a list has one last
-one_last : {X : Type 0} (xs ys : List X) (x y : X) → xs ++ x ∷ [] ≡ ys ++ y ∷ [] → x ≡ y
-one_last [] [] x y e = first_same x y [] [] e
-one_last [] (z ∷ ys) x y e = absurd (none_ends ys y (rest_same x z [] (ys ++ y ∷ []) e))
-one_last (z ∷ xs) [] x y e = absurd (none_ends xs x (rest_same y z [] (xs ++ x ∷ []) (sym e)))
-one_last (v ∷ xs) (w ∷ ys) x y e = one_last xs ys x y (rest_same v w (xs ++ x ∷ []) (ys ++ y ∷ []) e)
-
--- what notes all is the last change
-pub last_notes : (cs earlier : List Hearing) (c : Hearing) (u : List ℕ) → cs ≡ earlier ++ c ∷ [] → NotesAll cs u →
-    (uid_of c.item.now.key ≡ u) × IsOfAll c.before
-last_notes cs earlier c u e notes =
-    let same : notes.last ≡ c = one_last notes.earlier earlier notes.last c (sym notes.is_last ∙ e) in
-    (subst (λ (d : Hearing). uid_of d.item.now.key ≡ u) same notes.about, subst (λ (d : Hearing). IsOfAll d.before) same notes.all)
-
-pub notes_same : (cs ds : List Hearing) (u v : List ℕ) → cs ≡ ds → u ≡ v → NotesAll cs u → NotesAll ds v
-notes_same cs ds u v e f notes = subst (λ (xs : List Hearing). NotesAll xs v) e (subst (NotesAll cs) f notes)
-
-leads_still : (b : Before) (item : Item) (now next old : Option UidState) → IsOfAll b → (is_some now ≡ true → is_some next ≡ true) →
-    LeadsBack b item now old → LeadsBack b item next old
-leads_still Absent item now next old all some leads = leads
-leads_still (Whole was) item now next old all some leads = (some leads.0, leads.1)
-leads_still (Entry place held) item now next old all some leads = absurd all
-
--- what is noted of a UID as a whole takes back what happens to it later, too
-pub undone_still : (cs : List Hearing) (u : List ℕ) (now next start : List (List ℕ × UidState)) → NotesAll cs u →
-    (is_some (at now u) ≡ true → is_some (at next u) ≡ true)
-    → ((q : List ℕ) → is_eq (uid_cmp u q) ≡ false → at next q ≡ at now q) → AreUndone cs now start → AreUndone cs next start
-undone_still cs u now next start notes some others all =
-    let last = undone_pop notes.earlier notes.last now start (subst (λ ds. AreUndone ds now start) notes.is_last all) in
-    let v : List ℕ = uid_of (notes.last).item.now.key in
-    subst (λ ds. AreUndone ds next start) (sym notes.is_last)
-    (undone_push notes.earlier notes.last next last.0 start last.2 (record {
-      there = leads_still (notes.last).before (notes.last).item.now (at now v) (at next v) (at last.0 v) notes.all
-          (subst (λ (w : List ℕ). is_some (at now w) ≡ true → is_some (at next w) ≡ true) (sym notes.about) some) last.1.there;
-      others = λ q n. others q (ap (λ w. is_eq (uid_cmp w q)) (sym notes.about) ∙ n) ∙ last.1.others q n;
-      ordered = last.1.ordered;
-    }))
 
 -- ---- a change that is taken back
 -- with `o` at the UID, a map is what it was before
@@ -239,6 +180,19 @@ undone_put now next before k u o about ordered was put there others =
 pub replaced_some : (o : Option UidState) (x : UidState) → is_some o ≡ true → replaced o x ≡ Some x
 replaced_some None x s = let y : false ≡ true = s in absurd (cc)
 replaced_some (Some v) x s = refl
+
+-- a value is taken out for a change: an empty one keeps its place
+pub replaced_twice : (old mid now : List (List ℕ × UidState)) (u : List ℕ) (x y : UidState) → is_some (at old u) ≡ true →
+    ((q : List ℕ) → at mid q ≡ cond (is_eq (uid_cmp u q)) (replaced (at old u) x) (at old q)) →
+    ((q : List ℕ) → at now q ≡ cond (is_eq (uid_cmp u q)) (replaced (at mid u) y) (at mid q)) → (q : List ℕ) →
+    at now q ≡ cond (is_eq (uid_cmp u q)) (Some y) (at old q)
+replaced_twice old mid now u x y there first second q =
+    by_bool (is_eq (uid_cmp u q)) (at now q ≡ cond (is_eq (uid_cmp u q)) (Some y) (at old q))
+    (λ same. second q ∙ ap (λ b. cond b (replaced (at mid u) y) (at mid q)) same ∙
+    replaced_some (at mid u) y (ap is_some (first u ∙ ap (λ b. cond b (replaced (at old u) x) (at old u)) (itself nat_list_cmp_total exact_bytes u)
+    ∙ replaced_some (at old u) x there)) ∙ sym (ap (λ b. cond b (Some y) (at old q)) same))
+    (λ apart. second q ∙ ap (λ b. cond b (replaced (at mid u) y) (at mid q)) apart ∙ first q ∙
+    ap (λ b. cond b (replaced (at old u) x) (at old q)) apart ∙ sym (ap (λ b. cond b (Some y) (at old q)) apart))
 
 -- what stands at a key, once it was put there, is there and nowhere else
 pub put_at : (now next : List (List ℕ × UidState)) (k u : List ℕ) (o : Option UidState) → k ≡ u →

@@ -1,5 +1,5 @@
 -- What a state holds of each UID (our own rule): the best series item, and of each other key the best item, unless it is dead.
-use Rattle.std.specs.Prelude.{◌≡◌, ◌<◌, ℕ, List, [], ◌∷◌, ◌++◌, Option, Some, None, Bool, true, false, cond, ◌&&◌, nat_lt, length}
+use Rattle.std.specs.Prelude.{◌≡◌, ◌<◌, ◌⊎◌, ℕ, List, [], ◌∷◌, ◌++◌, Option, Some, None, Bool, true, false, cond, ◌&&◌, nat_lt, length}
 use Rattle.std.specs.List.{AllByRecursion}
 use Rattle.std.specs.List.Sorted.{IsStrictlySortedBy}
 use Rattle.std.specs.Map.{keys_of}
@@ -73,6 +73,10 @@ abbrev pub entry_items : List (Key × Best) → List Item
 entry_items [] = []
 entry_items (e ∷ es) = e.1.value ∷ entry_items es
 
+abbrev pub found_items : Option Best → List Item
+found_items None = []
+found_items (Some found) = found.value ∷ []
+
 abbrev pub uid_state_items : UidState → List Item
 uid_state_items uid_state = series_items uid_state.series ++ entry_items uid_state.entries
 
@@ -85,6 +89,10 @@ items_of (e ∷ es) = uid_state_items e.1 ++ items_of es
 abbrev pub series_list : List (List ℕ × UidState) → List Item
 series_list [] = []
 series_list (e ∷ es) = series_items e.1.series ++ series_list es
+
+-- what is held at a key
+abbrev pub items_at_key : UidState → Key → List Item
+items_at_key uid_state key = cond (is_series key) (series_items uid_state.series) (found_items (value_at slot_cmp uid_state.entries key))
 
 -- where items of a key are held among those of its UID: at the key; series items have no such place
 abbrev pub IsPlaceOf : Option Key → Key → Type 0
@@ -130,6 +138,15 @@ pub record AreHeld (es : List (List ℕ × UidState)) : Type 0 where
 abbrev pub alone : Item → UidState
 alone item = cond (is_series item.key) (record { series = Known (best item); entries = [] })
     (record { series = Nothing; entries = (item.key, best item) ∷ [] })
+
+-- one series item alone
+abbrev pub series_alone : Best → UidState
+series_alone series = record { series = Known series; entries = [] }
+
+-- how an item is held: as the series item, or at its key
+abbrev pub IsHeldAs : UidState → Item → Type 0
+IsHeldAs uid_state item = ((uid_state.series ≡ Known (best item)) × (is_series item.key ≡ true)) ⊎
+    ((value_at slot_cmp uid_state.entries item.key ≡ Some (best item)) × (is_series item.key ≡ false))
 
 -- what is held is what is kept of what was heard
 pub record HoldKept (heard : List Item) (es : List (List ℕ × UidState)) : Type 0 where

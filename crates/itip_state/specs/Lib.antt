@@ -8,7 +8,12 @@ pub mod UidStates
 pub mod DyingLaws
 pub mod Joined
 pub mod Told
+pub mod Giving
+pub mod Greatest
+pub mod Due
 pub mod Changes
 pub mod Undone
+pub mod Raised
+pub mod Newer
 pub mod Plain
 pub mod Organizers

@@ -1,30 +1,32 @@
 //! How a map by UID hears items: in place, with what takes it back where memory is refused on the way.
-ghost use Rattle.std.specs.Prelude.{◌≡◌, ◌↔◌, ◌++◌, ◌∷◌, [], ℕ, List, Some, false, map, IsTrue, IfOk, OnOk, OnErr};
+//!
+//! A series item of a UID of which something is held may make others dead, which could not be put back without memory. So of
+//! several items those are heard last, once nothing can be refused any more.
+ghost use Rattle.std.specs.Prelude.{◌≡◌, ◌↔◌, ◌++◌, ◌∷◌, ◌⊎◌, [], ℕ, List, Some, None, false, map, IsTrue, IfOk, OnOk, OnErr};
 ghost use Rattle.std.specs.Ordering.{nat_cmp, is_eq};
 ghost use Rattle.std.specs.Cmp.Lexicographic.{slice_cmp};
 ghost use Rattle.itip_items.specs.KeyParts.{uid_of};
 ghost use Rattle.itip_items.specs.declared.item.Item.{Item};
-ghost use Rattle.itip_state.specs.Held.{UidState, at, alone, AreOrdered, HoldKept};
+ghost use Rattle.itip_state.specs.Held.{UidState, at, alone, is_series, AreOrdered, HoldKept};
 ghost use Rattle.itip_state.specs.Joined.{IsJoinedAt};
-ghost use Rattle.itip_state.specs.Undone.{IsNoted, IsUndone, AreUndone, NotesAll};
+ghost use Rattle.itip_state.specs.Undone.{IsNoted, IsUndone, AreUndone};
+ghost use Rattle.itip_state.specs.Newer.{IsNewerOf, IsTakenIn, AreAwaited, newer_items};
 
 use crate::NoMemory;
 use crate::held::Held;
-use crate::held_of_uid::{HeldOfUid, of_item, of_nothing, put_back};
+use crate::held_of_uid::{of_nothing, put_back};
 use crate::revision::Best;
 use crate::shared::SharedItem;
 use crate::slot::Slot;
-use itip_join::Join;
+use itip_join::{Exact, Greatest, Join};
 use itip_todo::Uid;
 use std::alloc::Global;
 
-/// What was held of a UID before an item was heard, as far as hearing it can change that.
+/// What was held of a UID before an item was heard, as far as hearing it changes that.
 #[derive(Drop)]
 enum Before<'a> {
     /// Nothing was held of the UID.
     Absent,
-    /// All this. The item is a series item, which may make others dead.
-    Whole(HeldOfUid),
     /// At the place of the item this, or nothing, and at least one item of the UID. The item is no series item, so that all else stays.
     Entry(&'a Slot, Option<Best>),
 }
@@ -36,16 +38,40 @@ struct Hearing<'a> {
     before: Before<'a>,
 }
 
+/// A series item that is heard last, and its UID.
+#[derive(Drop)]
+struct Newer<'a> {
+    uid: &'a Uid,
+    best: Best,
+}
+
 /// Joins in what is kept of one item, in place. A refusal (out of memory) changes nothing.
-pub(crate) fn hear(held: &mut Held, alloc: Global, item: &SharedItem) -> Result<(), NoMemory>
+pub(crate) fn hear(held: &mut Held, item: &SharedItem) -> Result<(), NoMemory>
     ensures kept { OnOk result ((heard : List Item) → HoldKept heard held.old → HoldKept (heard ++ item.now ∷ []) held.new) }
-    ensures joined { OnOk result (IsJoinedAt (at held.old (uid_of item.now.key)) (Some (alone item.now))
-        (at held.new (uid_of item.now.key))) }
-    ensures others { (q : List ℕ) → is_eq (slice_cmp nat_cmp (uid_of item.now.key) q) ≡ false → at held.new q ≡ at held.old q }
     ensures err { OnErr result (held.new ≡ held.old) }
 {
-    let one = of_item(alloc, item)?;
-    held.join_one(item.uid(), &one)
+    match newer_of(held, item)? {
+        None => held.join_one(item),
+        Some(best) => {
+            held.raise(item.uid(), best);
+            Ok(())
+        }
+    }
+}
+
+/// What a series item is, where something of its UID is held.
+fn newer_of(held: &Held, item: &SharedItem) -> Result<Option<Best>, NoMemory>
+    ensures { IfOk result (IsNewerOf (at held.now (uid_of item.now.key)) item.now) }
+{
+    if item.slot().is_some() {
+        return Ok(None);
+    }
+    match held.get(item.uid()) {
+        None => Ok(None),
+        Some(_) => Ok(Some(Greatest {
+            value: item.revision().copy()?,
+        })),
+    }
 }
 
 /// Joins in what is kept of these items, in place. Where memory is refused, what was changed is changed back. A single
@@ -60,53 +86,45 @@ pub(crate) fn hear_all(
     ensures err { OnErr result (held.new ≡ held.old) }
 {
     if let [item] = items {
-        return hear(held, alloc, item);
+        return hear(held, item);
     }
     let mut changes = Vec::new(alloc);
+    let mut newer = Vec::new(alloc);
     for item in items {
-        if let Err(refused) = hear_noted(held, alloc, item, &mut changes) {
+        if let Err(refused) = hear_noted(held, item, &mut changes, &mut newer) {
             take_back(held, alloc, changes);
             return Err(refused);
         }
     }
+    raise_all(held, newer);
     Ok(())
 }
 
-/// Joins in what is kept of one item, and notes what takes that back. After a refusal, too, the notes take everything back.
+/// Joins in what is kept of one item, and notes what takes that back, or puts it to those that are heard last. After a refusal, too,
+/// the notes take everything back.
 fn hear_noted<'a>(
     held: &mut Held,
-    alloc: Global,
     item: &'a SharedItem,
     changes: &mut Vec<Hearing<'a>>,
+    newer: &mut Vec<Newer<'a>>,
 ) -> Result<(), NoMemory>
-    ensures kept { OnOk result ((heard : List Item) → HoldKept heard held.old → HoldKept (heard ++ item.now ∷ []) held.new) }
+    ensures taken { OnOk result (IsTakenIn held.old held.new item.now newer.old.items newer.new.items) }
     ensures noted { (start : List (List ℕ × UidState))
         → AreUndone changes.old.items held.old start → AreUndone changes.new.items held.new start }
 {
-    if notes_all(changes, item.uid()) {
-        return hear(held, alloc, item);
+    if let Some(best) = newer_of(held, item)? {
+        let uid = item.uid();
+        newer.push(Newer { uid, best })?;
+        return Ok(());
     }
     let before = note(held, item)?;
     changes.push(Hearing { item, before })?;
-    hear(held, alloc, item)
+    held.join_one(item)
 }
 
-/// Whether the last change noted all that was held of a UID: then it takes back later hearings of this UID too. So a
-/// batch copies what is held of a UID at most once for each run of items of the UID, however long the run is.
-fn notes_all(changes: &[Hearing<'_>], about: &Uid) -> bool
-    ensures { IsTrue result ↔ NotesAll changes.now about.now }
-{
-    let Some((last, _)) = changes.split_last() else {
-        return false;
-    };
-    match &last.before {
-        Before::Entry(_, _) => false,
-        _ => last.item.uid().cmp(about).is_eq(),
-    }
-}
-
-/// What takes back the hearing of an item.
+/// What takes back the hearing of an item, which is no series item where something is held of its UID.
 fn note<'a>(held: &Held, item: &'a SharedItem) -> Result<Before<'a>, NoMemory>
+    requires { (is_series item.now.key ≡ false) ⊎ (at held.now (uid_of item.now.key) ≡ None) }
     ensures noted { IfOk result (λ before. IsNoted before item.now (at held.now (uid_of item.now.key))) }
     ensures ordered { AreOrdered held.now }
 {
@@ -114,11 +132,21 @@ fn note<'a>(held: &Held, item: &'a SharedItem) -> Result<Before<'a>, NoMemory>
         return Ok(Before::Absent);
     };
     match item.slot() {
-        None => Ok(Before::Whole(series.copy()?)),
+        None => Ok(Before::Absent),
         Some(slot) => match series.entries.get(slot) {
             None => Ok(Before::Entry(slot, None)),
             Some(best) => Ok(Before::Entry(slot, Some(best.copy()?))),
         },
+    }
+}
+
+/// Hears the series items that are heard last.
+fn raise_all(held: &mut Held, newer: Vec<Newer<'_>>)
+    ensures { AreAwaited held.old newer.entry.items → (heard : List Item)
+        → HoldKept heard held.old → HoldKept (heard ++ newer_items newer.entry.items) held.new }
+{
+    for Newer { uid, best } in newer {
+        held.raise(uid, best);
     }
 }
 
@@ -142,9 +170,6 @@ fn undo(held: &mut Held, alloc: Global, change: Hearing<'_>)
     let uid = item.uid();
     match before {
         Before::Absent => held.remove(uid),
-        Before::Whole(series) => {
-            held.replace(uid, series);
-        }
         Before::Entry(slot, best) => {
             // It is taken out for this, so that it is not copied; an empty one keeps its place.
             if let Some(series) = held.replace(uid, of_nothing(alloc)) {

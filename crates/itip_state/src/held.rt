@@ -5,24 +5,34 @@ ghost use Rattle.std.specs.Map.{keys_of};
 ghost use Rattle.std.specs.Option.{option_copied};
 ghost use Rattle.std.specs.Ordering.{nat_cmp, is_eq};
 ghost use Rattle.std.specs.Cmp.Lexicographic.{slice_cmp};
+ghost use Rattle.itip_items.specs.KeyParts.{uid_of};
 ghost use Rattle.itip_join.specs.Changes.{replaced};
-ghost use Rattle.itip_state.specs.Held.{at, AreOrdered, AreSound, items_of, series_list};
+ghost use Rattle.itip_state.specs.Held.{at, alone, AreOrdered, AreSound, items_of, series_list};
 ghost use Rattle.itip_state.specs.UidStates.{uid_state};
 ghost use Rattle.itip_state.specs.Joined.{IsJoinedAt, AreBelow};
+ghost use Rattle.itip_state.specs.Due.{AddsUnderAt};
+ghost use Rattle.itip_state.specs.Raised.{IsRaisedAt};
 
 use crate::NoMemory;
-use crate::held_of_uid::{HeldOfUid, share};
+use crate::due::{Due, share_under};
+use crate::held_of_uid::{HeldOfUid, of_item, of_nothing, raised, share};
+use crate::revision::Best;
 use crate::shared::SharedItem;
+use crate::tracked::{follow, keep};
 use itip_items::Item;
 use itip_join::{Join, Keyed, Lift};
 use itip_todo::Uid;
 use std::alloc::Global;
+use std::collections::BTreeMap;
 use std::marker::Model;
 
 /// A map by UID. It is seen as what it holds of each UID: the series item, and the other items by their keys.
 #[derive(Debug, Drop)]
 pub(crate) struct Held {
+    alloc: Global,
     map: Keyed<Uid, HeldOfUid>,
+    /// Of UIDs with many items, those that can die.
+    due: BTreeMap<Uid, Due>,
 }
 
 impl Model for Held {
@@ -39,6 +49,10 @@ impl Model for Held {
     ghost coded = { Prim.hlevel (codes, item.the_row.coded, key.the_row.coded) };
 
     ghost view = { λ h. uid_states h.map.map uid_state };
+
+    ghost use Rattle.itip_state.specs.Due.{AreTracked};
+
+    ghost invariant = { λ h. AreTracked h.due (uid_states h.map.map uid_state) };
 }
 
 impl Held {
@@ -47,7 +61,9 @@ impl Held {
         ensures { result ≡ [] }
     {
         Held {
+            alloc,
             map: Keyed::empty(alloc),
+            due: BTreeMap::new(alloc),
         }
     }
 
@@ -59,14 +75,34 @@ impl Held {
         self.map.get(uid)
     }
 
-    /// Joins `one` in at a UID, in place. A refusal (out of memory) changes nothing.
-    pub(crate) fn join_one(&mut self, uid: &Uid, one: &HeldOfUid) -> Result<(), NoMemory>
-        ensures joined { OnOk result (IsJoinedAt (at self.old uid.now) (Some (uid_state one.now)) (at self.new uid.now)) }
-        ensures others { (q : List ℕ) → is_eq (slice_cmp nat_cmp uid.now q) ≡ false → at self.new q ≡ at self.old q }
+    /// Joins in what is held where this item alone was heard, in place. A refusal (out of memory) changes nothing.
+    pub(crate) fn join_one(&mut self, item: &SharedItem) -> Result<(), NoMemory>
+        ensures joined { OnOk result (IsJoinedAt (at self.old (uid_of item.now.key)) (Some (alone item.now))
+            (at self.new (uid_of item.now.key))) }
+        ensures others { (q : List ℕ) → is_eq (slice_cmp nat_cmp (uid_of item.now.key) q) ≡ false → at self.new q ≡ at self.old q }
         ensures ordered { AreOrdered self.new }
         ensures err { OnErr result (self.new ≡ self.old) }
     {
-        self.map.join_one(uid, one)
+        let one = of_item(self.alloc, item)?;
+        follow(&mut self.due, &self.map, item);
+        self.map.join_one(item.uid(), &one)
+    }
+
+    /// Hears a series item of a UID of which something is held; where nothing is, nothing changes. No memory is needed, and what
+    /// the item doesn't kill is not looked at.
+    pub(crate) fn raise(&mut self, uid: &Uid, best: Best)
+        ensures raised { IsRaisedAt (at self.old uid.now) best (at self.new uid.now) }
+        ensures others { (q : List ℕ) → is_eq (slice_cmp nat_cmp uid.now q) ≡ false → at self.new q ≡ at self.old q }
+        ensures ordered { AreOrdered self.new }
+    {
+        let due = self.due.remove(uid);
+        // It is taken out for this, so that it is not copied; an empty one keeps its place.
+        let Some(held) = self.map.replace(uid, of_nothing(self.alloc)) else {
+            return;
+        };
+        let (held, due) = raised(self.alloc, held, due, best);
+        keep(&mut self.due, uid, due);
+        self.map.replace(uid, held);
     }
 
     /// Puts in a copy of what another map holds of a UID. A refusal (out of memory) changes nothing.
@@ -76,7 +112,9 @@ impl Held {
         ensures ordered { OnOk result (AreOrdered self.new) }
     {
         let copy = series.copy()?;
-        self.map.insert(uid.clone()?, copy)?;
+        let name = uid.clone()?;
+        self.due.remove(uid);
+        self.map.insert(name, copy)?;
         Ok(())
     }
 
@@ -95,6 +133,7 @@ impl Held {
             ≡ cond (is_eq (slice_cmp nat_cmp uid.now q)) (replaced (at self.old uid.now) (uid_state series)) (at self.old q) }
         ensures ordered { AreOrdered self.new }
     {
+        self.due.remove(uid);
         self.map.replace(uid, series)
     }
 
@@ -107,6 +146,7 @@ impl Held {
         ensures succeeds { AreBelow other.now self.old → IsOk result }
         ensures err { OnErr result (self.new ≡ self.old) }
     {
+        self.due.clear();
         self.map.join(&other.map)
     }
 
@@ -151,6 +191,22 @@ impl Held {
             share(series, &mut items)?;
         }
         Ok(items)
+    }
+
+    /// Adds the items of a UID that a series item of this effective sequence makes dead. No other is looked at where they are many.
+    pub(crate) fn share_under(
+        &self,
+        uid: &Uid,
+        sequence: u32,
+        items: &mut Vec<SharedItem>,
+    ) -> Result<(), NoMemory>
+        requires { AreSound self.now }
+        ensures { OnOk result (AddsUnderAt sequence (at self.now uid.now) items.old.items items.new.items) }
+    {
+        match self.map.get(uid) {
+            None => Ok(()),
+            Some(held) => share_under(&held.entries, self.due.get(uid), sequence, items),
+        }
     }
 
     /// The number of items; `usize::MAX` where there are more. Each UID is looked at once.

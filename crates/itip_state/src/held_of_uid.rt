@@ -1,8 +1,9 @@
 //! What a state holds of one UID.
-ghost use Rattle.std.specs.Prelude.{◌≡◌, ◌++◌, [], ℕ, List, cond, IfOk, OnOk};
+ghost use Rattle.std.specs.Prelude.{◌≡◌, ◌↔◌, ◌++◌, [], ℕ, List, cond, IfOk, OnOk, IsTrue};
 ghost use Rattle.itip_join.specs.declared.lift.Lift.TheVariants.{Nothing};
-ghost use Rattle.itip_state.specs.Held.{can_die as key_can_die, is_below as item_is_below, kills as series_kills, alone, UidState};
-ghost use Rattle.itip_state.specs.Held.{uid_state_items, IsPlaced};
+ghost use Rattle.itip_state.specs.Held.{can_die as key_can_die, is_below as item_is_below, kills as series_kills};
+ghost use Rattle.itip_state.specs.Held.{alone, best as one_best, UidState};
+ghost use Rattle.itip_state.specs.Held.{uid_state_items, IsPlaced, series_alone, items_at_key, IsHeldAs};
 ghost use Rattle.itip_state.specs.UidStates.{uid_state};
 ghost use Rattle.std.specs.Ordering.{is_eq};
 ghost use Rattle.itip_join.specs.KeyByKey.{value_at};
@@ -10,13 +11,16 @@ ghost use Rattle.itip_items.specs.declared.key.Key.{Key};
 ghost use Rattle.itip_state.specs.Slots.{slot_cmp};
 ghost use Rattle.itip_state.specs.Changes.{IsBackAt, in_place_of};
 ghost use Rattle.itip_state.specs.DyingLaws.{kills_below, kills_more};
+ghost use Rattle.itip_state.specs.Due.{AreDueIn};
+ghost use Rattle.itip_state.specs.Joined.{IsJoined};
 
 use crate::NoMemory;
+use crate::due::{Due, drop_dead};
 use crate::revision::Best;
 use crate::shared::SharedItem;
 use crate::slot::Slot;
 use itip_items::{Item, Key};
-use itip_join::{Exact, Greatest, Guard, Guarded, Keyed, Lift};
+use itip_join::{Exact, Greatest, Guard, Guarded, Join, Keyed, Lift};
 use std::alloc::Global;
 
 /// The kept items of one UID: the best series item, or none, and under it the best items of the other keys. It makes
@@ -37,7 +41,7 @@ impl Guard<Slot, Best> for Lift<Best> {
 }
 
 /// Whether items of this key can die.
-fn can_die(key: &Key) -> bool
+pub(crate) fn can_die(key: &Key) -> bool
     ensures { result ≡ key_can_die key.now }
 {
     match key {
@@ -91,6 +95,81 @@ pub(crate) fn of_item(alloc: Global, item: &SharedItem) -> Result<HeldOfUid, NoM
             entries: Keyed::of_one(alloc, slot.copy()?, best)?,
         }),
     }
+}
+
+/// What is held of one UID once a series item was heard: it is the series item, unless that of the UID is no earlier, and what it
+/// kills is gone. `due` is the set of those that can die, where there is one, before it and after it.
+///
+/// No memory is needed; what is asked for in vain makes it slower.
+pub(crate) fn raised(
+    alloc: Global,
+    held: HeldOfUid,
+    due: Option<Due>,
+    best: Best,
+) -> (HeldOfUid, Option<Due>)
+    requires { AreDueIn due held.entries.map }
+    ensures joined { IsJoined (uid_state held) (series_alone best) (uid_state result.0) }
+    ensures due { AreDueIn result.1 result.0.entries.map }
+{
+    let Guarded { guard, mut entries } = held;
+    let newer = Lift::Known(best);
+    if newer.below(&guard) {
+        drop(newer);
+        return (Guarded { guard, entries }, due);
+    }
+    let due = drop_dead(alloc, &mut entries, due, &newer);
+    drop(guard);
+    let held = Guarded {
+        guard: newer,
+        entries,
+    };
+    (held, due)
+}
+
+/// Whether an item is what is held at its key.
+pub(crate) fn holds(held: &HeldOfUid, item: &SharedItem) -> bool
+    ensures { IsTrue result ↔ IsHeldAs (uid_state held.now) item.now }
+{
+    match item.slot() {
+        None => match &held.guard {
+            Lift::Nothing => false,
+            Lift::Known(best) => is_same(best, item),
+        },
+        Some(slot) => match held.entries.get(slot) {
+            None => false,
+            Some(best) => is_same(best, item),
+        },
+    }
+}
+
+fn is_same(best: &Best, item: &SharedItem) -> bool
+    ensures { IsTrue result ↔ (best.now ≡ one_best item.now) }
+{
+    best.value == *item.revision()
+}
+
+/// Adds what is held at the key of an item, if anything is.
+pub(crate) fn share_at(
+    held: &HeldOfUid,
+    item: &SharedItem,
+    items: &mut Vec<SharedItem>,
+) -> Result<(), NoMemory>
+    requires { (uid : List ℕ) × IsPlaced uid (uid_state held.now) }
+    ensures { OnOk result (items.new.items ≡ items.old.items ++ items_at_key (uid_state held.now) item.now.key) }
+{
+    match item.slot() {
+        None => {
+            if let Lift::Known(best) = &held.guard {
+                items.push(SharedItem::held_at(None, &best.value)?)?;
+            }
+        }
+        Some(slot) => {
+            if let Some(best) = held.entries.get(slot) {
+                items.push(SharedItem::held_at(Some(slot), &best.value)?)?;
+            }
+        }
+    }
+    Ok(())
 }
 
 /// Adds the items of one UID, the series item first.

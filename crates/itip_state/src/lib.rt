@@ -4,6 +4,7 @@
 //! of items; merging two states gives their least upper bound.
 #![tactic(auto)]
 
+mod due;
 mod hear;
 mod held;
 mod held_of_uid;
@@ -16,10 +17,12 @@ mod revision;
 mod shared;
 mod slot;
 mod state;
+mod tracked;
 
 pub use laws::{kept_of_kept, least_upper_bound, order_of_states, uid_by_uid};
 pub use of_uid::ItemsOfUid;
 pub use plain::kept;
+pub use revision::Revision;
 pub use shared::{SharedItem, by_octets, uids};
 pub use state::State;
 pub use std::alloc::AllocError as NoMemory;

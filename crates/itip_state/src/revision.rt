@@ -14,7 +14,7 @@ use std::sync::Arc;
 
 /// An item in the order of revisions. It is shared: a second one is a count more, and takes no memory.
 #[derive(Debug, Drop)]
-pub(crate) struct Revision {
+pub struct Revision {
     shared: Arc<Item>,
 }
 
@@ -43,7 +43,7 @@ impl Revision {
     }
 
     /// The item.
-    pub(crate) fn item(&self) -> &Item
+    pub fn item(&self) -> &Item
         ensures { result.now ≡ self.now }
     {
         &self.shared

@@ -96,10 +96,19 @@ impl SharedItem {
     }
 
     /// The item in the order of revisions.
-    pub(crate) fn revision(&self) -> &Revision
+    pub fn revision(&self) -> &Revision
         ensures { result.now ≡ self.now }
     {
         &self.revision
+    }
+
+    /// The item in the order of revisions, which takes no memory.
+    pub fn into_revision(self) -> Revision
+        ensures { result ≡ self }
+    {
+        let SharedItem { revision, slot } = self;
+        drop(slot);
+        revision
     }
 
     /// Where a state holds it among the items of its UID, or `None` where it is a series item.

@@ -8,17 +8,22 @@ ghost use Rattle.itip_items.specs.declared.item.Item.{Item};
 ghost use Rattle.itip_state.specs.Held.{items_of, uid_state_items, AreHeld};
 ghost use Rattle.itip_state.specs.UidStates.{uid_state};
 ghost use Rattle.itip_state.specs.Told.{IsOutdone, HoldsNoEarlier};
+ghost use Rattle.itip_state.specs.Greatest.{AreNotedWith};
+ghost use Rattle.std.specs.List.Sorted.{IsStrictlySortedBy};
+ghost use Rattle.std.specs.Map.{keys_of};
+ghost use Rattle.std.specs.Ordering.{nat_cmp};
+ghost use Rattle.std.specs.Cmp.Lexicographic.{slice_cmp};
 
 use crate::NoMemory;
 use crate::hear::{hear, hear_all};
 use crate::held::Held;
-use crate::held_of_uid::{HeldOfUid, is_dead_below, share};
+use crate::held_of_uid::{HeldOfUid, holds, is_dead_below, share, share_at};
 use crate::of_uid::ItemsOfUid;
 use crate::organizers::greatest;
 use crate::revision::Best;
 use crate::shared::{SharedItem, by_octets};
 use itip_items::Item;
-use itip_join::Lift;
+use itip_join::{Lift, OrderedMap};
 use itip_todo::Uid;
 use std::alloc::Global;
 use std::marker::Model;
@@ -54,6 +59,25 @@ fn outdoes(held: &Held, item: &SharedItem) -> bool
         return false;
     };
     holds_no_earlier(series, item) || is_dead_below(&series.guard, item.key(), item.item())
+}
+
+/// Notes the effective sequence of a series item, if it is the greatest of its UID so far.
+fn note_greatest(greatest: &mut OrderedMap<Uid, u32>, item: &SharedItem) -> Result<(), NoMemory>
+    requires { IsStrictlySortedBy (slice_cmp nat_cmp) (keys_of greatest.old) }
+    ensures sorted { IsStrictlySortedBy (slice_cmp nat_cmp) (keys_of greatest.new) }
+    ensures noted { OnOk result (AreNotedWith greatest.old item.now greatest.new) }
+{
+    if item.slot().is_some() {
+        return Ok(());
+    }
+    let sequence = item.item().eff;
+    if let Some(before) = greatest.get(item.uid()) {
+        if *before >= sequence {
+            return Ok(());
+        }
+    }
+    greatest.insert(item.uid().clone()?, sequence)?;
+    Ok(())
 }
 
 /// Shows the items of one UID, the series item first.
@@ -100,6 +124,7 @@ impl State {
     ghost use Rattle.itip_state.specs.Order.{IsState, IsBelow, IsLeastUpperBound};
     ghost use Rattle.itip_state.specs.Organizers.{IsLastUsed};
     ghost use Rattle.itip_state.specs.Told.{AreNews};
+    ghost use Rattle.itip_state.specs.Giving.{AreGivingWay};
 
     /// The state of nothing heard. It takes no memory.
     pub fn empty(alloc: Global) -> State
@@ -118,7 +143,7 @@ impl State {
         let mut held = Held::empty(alloc);
         for item in items {
             let item = SharedItem::new(alloc, item.clone()?)?;
-            hear(&mut held, alloc, &item)?;
+            hear(&mut held, &item)?;
         }
         Ok(State { alloc, held })
     }
@@ -144,6 +169,35 @@ impl State {
         ensures err { OnErr result (self.new ≡ self.old) }
     {
         hear_all(&mut self.held, self.alloc, items)
+    }
+
+    /// The kept items that can give way to these, shared with this state: those at their keys, and those that are dead below
+    /// them. In no particular order, and perhaps more than once. No other is looked at where they are many.
+    pub fn giving_way(&self, news: &[&SharedItem]) -> Result<Vec<SharedItem>, NoMemory>
+        ensures { IfOk result (λ items. AreGivingWay self.now (map (λ item. item.now) news.now) items.items) }
+    {
+        let mut items = Vec::new(self.alloc);
+        let mut greatest = OrderedMap::new(self.alloc);
+        for item in news {
+            if let Some(held) = self.held.get(item.uid()) {
+                share_at(held, item, &mut items)?;
+                note_greatest(&mut greatest, item)?;
+            }
+        }
+        for (uid, sequence) in greatest.iter() {
+            self.held.share_under(uid, *sequence, &mut items)?;
+        }
+        Ok(items)
+    }
+
+    /// Whether an item is kept. It takes no memory.
+    pub fn has(&self, item: &SharedItem) -> bool
+        ensures { IsTrue result ↔ Contains self.now item.now }
+    {
+        match self.held.get(item.uid()) {
+            None => false,
+            Some(held) => holds(held, item),
+        }
     }
 
     /// Hears another state: their least upper bound. A refusal (out of memory) changes nothing.

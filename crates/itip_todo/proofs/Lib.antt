@@ -1,3 +1,4 @@
+pub mod Appending
 pub mod Commas
 pub mod ContentLines
 pub mod Contents
@@ -9,6 +10,7 @@ pub mod InOrder
 pub mod GoodLines
 pub mod LawfulLines
 pub mod Listing
+pub mod MomentLines
 pub mod Names
 pub mod Putting
 pub mod ReadingLaws

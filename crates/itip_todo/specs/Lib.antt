@@ -2,6 +2,7 @@ pub mod Table
 pub mod Parts
 pub mod StatusText
 pub mod Written
+pub mod UpTo
 pub mod Lawful
 pub mod PartsOf
 pub mod Values

@@ -1,14 +1,11 @@
 -- How an attendee takes part: the first value of the first PARTSTAT, without regard to case (RFC 5545 3.2.12).
-use Rattle.std.specs.Prelude.{ℕ, nat_eq, Bool, cond, List, [], ◌∷◌, codes, map}
-use Rattle.std.specs.Cmp.Lexicographic.{pointwise}
+use Rattle.std.specs.Prelude.{ℕ, cond, List, codes, map}
 use Rattle.std.specs.Char.{to_ascii_lowercase}
 use Rattle.itip_lines.specs.declared.line.Param.{Param}
+pub use Rattle.itip_lines.specs.Lookup.{same_text, first_value, param_value}
 use Rattle.itip_todo.specs.declared.attendee.PartStat.{PartStat}
 use Rattle.itip_todo.specs.declared.attendee.PartStat.TheVariants.{NeedsAction, Accepted, Declined, Tentative, Delegated, Completed}
 use Rattle.itip_todo.specs.declared.attendee.PartStat.TheVariants.{InProcess}
-
-abbrev pub same_text : List ℕ → List ℕ → Bool
-same_text = pointwise nat_eq
 
 -- the participation of this name in lower case; any other name is NEEDS-ACTION
 abbrev pub partstat_named : List ℕ → PartStat
@@ -19,15 +16,6 @@ partstat_named name =
     (cond (same_text name (codes "delegated")) Delegated
     (cond (same_text name (codes "completed")) Completed
     (cond (same_text name (codes "in-process")) InProcess NeedsAction)))))
-
-abbrev pub first_value : List (List ℕ) → List ℕ
-first_value [] = []
-first_value (value ∷ values) = value
-
--- the first value of the first parameter of this name, empty where there is none
-abbrev pub param_value : List ℕ → List Param → List ℕ
-param_value name [] = []
-param_value name (param ∷ params) = cond (same_text param.name name) (first_value param.values) (param_value name params)
 
 abbrev pub partstat_of : List Param → PartStat
 partstat_of params = partstat_named (map to_ascii_lowercase (param_value (codes "PARTSTAT") params))

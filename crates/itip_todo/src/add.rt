@@ -21,7 +21,7 @@ pub(crate) fn add_line(alloc: Global, draft: &mut Draft, line: &Line) -> Result<
     ensures cause { IfErr result (λ e. IfCause e (Refuses (property_of line.now) line.now draft.old)) }
 {
     match PropertyName::of_line(line) {
-        PropertyName::Uid => add_uid(draft, line),
+        PropertyName::Uid => add_uid(alloc, draft, line),
         PropertyName::DtStamp => add_stamp(draft, line),
         PropertyName::Sequence => add_seq(draft, line),
         PropertyName::DeskBase => add_base(draft, line),
@@ -32,7 +32,7 @@ pub(crate) fn add_line(alloc: Global, draft: &mut Draft, line: &Line) -> Result<
         PropertyName::PercentComplete => add_percent(draft, line),
         PropertyName::Priority => add_priority(draft, line),
         PropertyName::Summary => add_summary(draft, line),
-        PropertyName::Organizer => add_organizer(draft, line),
+        PropertyName::Organizer => add_organizer(alloc, draft, line),
         PropertyName::Attendee => add_attendee(alloc, draft, line),
         PropertyName::RRule => add_rule(draft, line),
         PropertyName::RDate => add_rdate(alloc, draft, line),

@@ -1,8 +1,8 @@
-ghost use Rattle.std.specs.Prelude.{◌≡◌, ◌++◌, ◌<◌, drop, length, IfOk, Some};
-ghost use Rattle.itip_todo.specs.Participation.{partstat_of, partstat_named, partstat_text, param_value};
+ghost use Rattle.std.specs.Prelude.{◌≡◌, IfOk, Some};
+ghost use Rattle.itip_todo.specs.Participation.{partstat_of, partstat_named, partstat_text};
 ghost use Rattle.itip_todo.specs.Table.{attendee_key};
 
-use itip_lines::{NoMemory, Param, Text};
+use itip_lines::{NoMemory, Params, Text};
 use std::alloc::Global;
 use std::fmt;
 
@@ -44,10 +44,10 @@ impl fmt::Display for PartStat {
 }
 
 /// The participation that an attendee's parameters give: the first value of the first PARTSTAT.
-pub fn participation(params: &[Param]) -> PartStat
+pub fn participation(params: &Params) -> PartStat
     ensures { result ≡ partstat_of params.now }
 {
-    let name = first_value("PARTSTAT", params);
+    let name = params.first_value("PARTSTAT");
     if name.eq_ignore_ascii_case("ACCEPTED") {
         PartStat::Accepted
     } else if name.eq_ignore_ascii_case("DECLINED") {
@@ -70,19 +70,4 @@ pub fn attendee_key(alloc: Global, address: &str) -> Result<Text, NoMemory>
     ensures { IfOk result (λ key. key ≡ attendee_key address.now) }
 {
     Text::lower(alloc, address)
-}
-
-/// The first value of the first parameter of this name, empty where there is none.
-pub(crate) fn first_value<'a>(name: &str, params: &'a [Param]) -> &'a str
-    ensures { result.now ≡ param_value name.now params.now }
-{
-    for param in params {
-        if param.name.as_str() == name {
-            return match param.values.as_slice() {
-                [value, ..] => value.as_str(),
-                [] => "",
-            };
-        }
-    }
-    ""
 }

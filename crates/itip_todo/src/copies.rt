@@ -2,6 +2,7 @@
 ghost use Rattle.std.specs.Prelude.{◌≡◌, IfOk};
 
 use crate::property::Property;
+use crate::shared_property::SharedProperty;
 use crate::todo::Todo;
 use crate::uid::Uid;
 use itip_lines::{Line, ListOf, NoMemory, Text};
@@ -29,7 +30,7 @@ fn copy_times(todo: &Todo) -> Result<Times, NoMemory>
 #[derive(Drop)]
 pub(crate) struct Subject {
     pub summary: Option<Property>,
-    pub organizer: Option<Property>,
+    pub organizer: Option<SharedProperty>,
     pub attendees: ListOf<Property>,
 }
 

@@ -2,6 +2,7 @@
 ghost use Rattle.std.specs.Prelude.{◌≡◌, [], None};
 
 use crate::property::Property;
+use crate::shared_property::SharedProperty;
 use crate::status::Status;
 use crate::uid::Uid;
 use itip_lines::{Line, Text};
@@ -24,7 +25,7 @@ pub(crate) struct Draft {
     pub percent: Option<u8>,
     pub priority: Option<u8>,
     pub summary: Option<Property>,
-    pub organizer: Option<Property>,
+    pub organizer: Option<SharedProperty>,
     pub attendees: Vec<Property>,
     /// The keys of the attendees.
     pub keys: BTreeSet<Text>,

@@ -1,20 +1,22 @@
 //! Lines of the properties that may stand more than once.
-ghost use Rattle.std.specs.Prelude.{◌≡◌, ◌≢◌, ◌++◌, ◌∷◌, List, Some, OnOk, IfOk, IfErr, MatchOption};
+ghost use Rattle.std.specs.Prelude.{◌≡◌, ◌≢◌, ◌++◌, ◌∷◌, List, Some, codes, option_copied, OnOk, IfOk, IfErr, MatchOption};
 ghost use Rattle.itip_moment.specs.declared.moment.Moment.{Moment};
 ghost use Rattle.itip_moment.specs.Spelling.{MomentText};
+ghost use Rattle.itip_moment.specs.Zone.{zone_text};
 ghost use Rattle.itip_todo.specs.Drafts.{Takes, Refuses, HasNoComma, PutsMoment, PutsMoments};
 ghost use Rattle.itip_todo.specs.Causes.{IfCause};
+ghost use Rattle.itip_todo.specs.Participation.{param_value};
 ghost use Rattle.itip_todo.specs.Values.{AreMoments};
 ghost use Rattle.itip_todo.specs.declared.error.TodoCause.TheVariants as cause;
 ghost use Rattle.itip_todo.specs.declared.property_name.PropertyName.TheVariants as name;
 
-use crate::attendee::{attendee_key, first_value};
+use crate::attendee::attendee_key;
 use crate::draft::Draft;
 use crate::error::{CauseError, TodoCause};
 use crate::property_name::PropertyName;
 use crate::values::{bad_value, property_of};
 use itip_lines::Line;
-use itip_moment::{Moment, read_moment};
+use itip_moment::{Moment, ZoneName, read_moment_in};
 use std::alloc::Global;
 use std::collections::BTreeSet;
 
@@ -82,13 +84,32 @@ fn put_moments(
     ensures cause { IfErr result (λ e. IfCause e (λ c.
         (c ≡ cause.BadValue property) × ((ms : List Moment) → AreMoments line.now.params line.now.value ms → ⊥))) }
 {
-    let zone = first_value("TZID", line.params.as_slice());
+    let tzid = line.params.first_value("TZID");
+    let zone = ZoneName::new(alloc, tzid)?;
+    let put = put_in_zone(property, line, zone.as_ref(), set);
+    // By a call: what is dropped in place is proved anew.
+    drop(zone);
+    put
+}
+
+/// Puts the moments of a line into a set, in the zone that its parameters name; where the value is bad, perhaps a part of them.
+fn put_in_zone(
+    property: PropertyName,
+    line: &Line,
+    zone: Option<&ZoneName>,
+    set: &mut BTreeSet<Moment>,
+) -> Result<(), CauseError>
+    requires { zone_text (option_copied zone) ≡ param_value (codes "TZID") line.now.params }
+    ensures put { OnOk result (PutsMoments line.now.params line.now.value set.old set.new) }
+    ensures cause { IfErr result (λ e. IfCause e (λ c.
+        (c ≡ cause.BadValue property) × ((ms : List Moment) → AreMoments line.now.params line.now.value ms → ⊥))) }
+{
     let mut rest = line.value.as_str();
     while let Some((front, after)) = cut_comma(rest) {
-        put_moment(alloc, property, front, zone, set)?;
+        put_moment(property, front, zone, set)?;
         rest = after;
     }
-    put_moment(alloc, property, rest, zone, set)
+    put_moment(property, rest, zone, set)
 }
 
 /// What stands before and behind the first comma.
@@ -100,17 +121,16 @@ fn cut_comma(text: &str) -> Option<(&str, &str)>
 }
 
 fn put_moment(
-    alloc: Global,
     property: PropertyName,
     text: &str,
-    zone: &str,
+    zone: Option<&ZoneName>,
     set: &mut BTreeSet<Moment>,
 ) -> Result<(), CauseError>
-    ensures put { OnOk result (PutsMoment text.now zone.now set.old set.new) }
+    ensures put { OnOk result (PutsMoment text.now (zone_text (option_copied zone.entry)) set.old set.new) }
     ensures cause { IfErr result (λ e. IfCause e (λ c.
-        (c ≡ cause.BadValue property) × ((m : Moment) → MomentText text.now (Some zone.now) m → ⊥))) }
+        (c ≡ cause.BadValue property) × ((m : Moment) → MomentText text.now (Some (zone_text (option_copied zone.entry))) m → ⊥))) }
 {
-    let Some(moment) = read_moment(alloc, text, Some(zone))? else {
+    let Some(moment) = read_moment_in(text, zone)? else {
         return Err(bad_value(property));
     };
     set.insert(moment)?;

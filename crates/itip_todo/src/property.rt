@@ -1,9 +1,9 @@
-use itip_lines::{ListOf, NoMemory, Param, Text};
+use itip_lines::{NoMemory, Params, Text};
 
 /// A value with its parameters, in their order: what stands behind a property's name (RFC 5545 3.1).
 #[derive(PartialEq, Debug, Drop)]
 pub struct Property {
-    pub params: ListOf<Param>,
+    pub params: Params,
     pub value: Text,
 }
 

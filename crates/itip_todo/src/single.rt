@@ -1,15 +1,11 @@
 //! Lines of the properties that may stand once.
 ghost use Rattle.std.specs.Prelude.{◌≡◌, ◌≢◌, true, false, None, OnOk, IfOk, IfErr};
-ghost use Rattle.std.specs.List.{list_any};
-ghost use Rattle.itip_lines.specs.declared.line.Param.{Param};
 ghost use Rattle.itip_todo.specs.Drafts.{Takes, Refuses};
-ghost use Rattle.itip_todo.specs.Participation.{same_text};
 ghost use Rattle.itip_todo.specs.Causes.{IfCause};
 ghost use Rattle.itip_todo.specs.Reading.{has_range, has_bad_range};
 ghost use Rattle.itip_todo.specs.declared.error.TodoCause.TheVariants as cause;
 ghost use Rattle.itip_todo.specs.declared.property_name.PropertyName.TheVariants as name;
 
-use crate::attendee::first_value;
 use crate::draft::Draft;
 use crate::error::{CauseError, TodoCause};
 use crate::property_name::PropertyName;
@@ -33,12 +29,12 @@ fn check_free<T>(field: &Option<T>, property: PropertyName) -> Result<(), CauseE
     Ok(())
 }
 
-pub(crate) fn add_uid(draft: &mut Draft, line: &Line) -> Result<(), CauseError>
+pub(crate) fn add_uid(alloc: Global, draft: &mut Draft, line: &Line) -> Result<(), CauseError>
     ensures taken { OnOk result (Takes name.Uid line.now draft.old draft.new) }
     ensures cause { IfErr result (λ e. IfCause e (Refuses name.Uid line.now draft.old)) }
 {
     check_free(&draft.uid, PropertyName::Uid)?;
-    draft.uid = Some(uid_of(line)?);
+    draft.uid = Some(uid_of(alloc, line)?);
     Ok(())
 }
 
@@ -136,12 +132,12 @@ pub(crate) fn add_summary(draft: &mut Draft, line: &Line) -> Result<(), CauseErr
     Ok(())
 }
 
-pub(crate) fn add_organizer(draft: &mut Draft, line: &Line) -> Result<(), CauseError>
+pub(crate) fn add_organizer(alloc: Global, draft: &mut Draft, line: &Line) -> Result<(), CauseError>
     ensures taken { OnOk result (Takes name.Organizer line.now draft.old draft.new) }
     ensures cause { IfErr result (λ e. IfCause e (Refuses name.Organizer line.now draft.old)) }
 {
     check_free(&draft.organizer, PropertyName::Organizer)?;
-    draft.organizer = Some(organizer_of(line)?);
+    draft.organizer = Some(organizer_of(alloc, line)?);
     Ok(())
 }
 
@@ -154,7 +150,7 @@ fn range_of(line: &Line) -> Result<bool, CauseError>
     if has_range(line) {
         return Ok(true);
     }
-    if has_param("RANGE", line) {
+    if line.params.has("RANGE") {
         return Err(CauseError::Cause(TodoCause::Range));
     }
     Ok(false)
@@ -164,13 +160,7 @@ fn range_of(line: &Line) -> Result<bool, CauseError>
 fn has_range(line: &Line) -> bool
     ensures { result ≡ has_range line.now }
 {
-    first_value("RANGE", line.params.as_slice()).eq_ignore_ascii_case("THISANDFUTURE")
-}
-
-/// Whether a line has a parameter of this name.
-fn has_param(name: &str, line: &Line) -> bool
-    ensures { result ≡ list_any (λ (param : Param). same_text param.name name.now) line.now.params }
-{
-    let mut params = line.params.as_slice().iter();
-    params.any(|param| param.name.as_str() == name)
+    line.params
+        .first_value("RANGE")
+        .eq_ignore_ascii_case("THISANDFUTURE")
 }

@@ -4,6 +4,7 @@ ghost use Rattle.itip_todo.specs.Lawful.{IsLawful, IsLawful-prop};
 
 use crate::copies::{copy_head, copy_lists};
 use crate::property::Property;
+use crate::shared_property::SharedProperty;
 use crate::status::Status;
 use crate::uid::Uid;
 use itip_lines::{Line, ListOf, NoMemory, Text};
@@ -40,7 +41,7 @@ pub struct Todo {
     /// SUMMARY with its parameters.
     pub summary: Option<Property>,
     /// ORGANIZER with its parameters; the address is not empty.
-    pub organizer: Option<Property>,
+    pub organizer: Option<SharedProperty>,
     /// ATTENDEE with its parameters, in order of appearance; no address is empty, and no two are one.
     pub attendees: ListOf<Property>,
     /// The values of RRULE as they stand, in order of appearance.

@@ -14,43 +14,45 @@ use std::cmp::Ordering;
 use std::fmt;
 use std::hash::{Hash, Hasher};
 use std::marker::Model;
+use std::sync::Arc;
 
 /// The UID of a to-do (RFC 5545 3.8.4.7), compared by its octets.
 ///
-/// Its first octets stand in it as a number too, so that its order seldom has to look at the text, which lies elsewhere in memory.
+/// Its text is shared: a clone is a count more, and takes no memory. Its first octets stand in it as a number too, so that its order
+/// seldom has to look at the text, which lies elsewhere in memory.
 #[derive(Debug, Drop)]
 pub struct Uid {
     head: u128,
-    text: Text,
+    text: Arc<Text>,
 }
 
 impl Model for Uid {
     ghost use Rattle.std.specs.Prelude.{List, ℕ};
+    ghost use Rattle.std.specs.Arc.{arc_value};
     ghost use Rattle.itip_todo.specs.Heads.{IsHead};
 
     ghost Value = { List ℕ };
 
-    ghost view = { λ uid. uid.text };
+    ghost view = { λ uid. arc_value uid.text };
 
-    ghost invariant = { λ uid. IsHead uid.head uid.text };
+    ghost invariant = { λ uid. IsHead uid.head (arc_value uid.text) };
 }
 
 impl Uid {
     /// The UID with this text, whose memory it keeps.
-    pub fn new(text: Text) -> Uid
-        ensures { result ≡ text }
+    pub fn new(alloc: Global, text: Text) -> Result<Uid, NoMemory>
+        ensures { IfOk result (λ uid. uid ≡ text) }
     {
-        Uid {
-            head: head(text.as_str().as_bytes()),
-            text,
-        }
+        let number = head(text.as_str().as_bytes());
+        let text = Arc::new(alloc, text)?;
+        Ok(Uid { head: number, text })
     }
 
     /// A UID with a copy of a text.
     pub fn copy(alloc: Global, text: &str) -> Result<Uid, NoMemory>
         ensures { IfOk result (λ uid. uid ≡ text.now) }
     {
-        Ok(Uid::new(Text::copy(alloc, text)?))
+        Uid::new(alloc, Text::copy(alloc, text)?)
     }
 
     /// The text.

@@ -8,14 +8,14 @@ ghost use Rattle.itip_todo.specs.Causes.{IfCause};
 ghost use Rattle.itip_todo.specs.Reading.{IsUidOf, IsStampOf, IsMomentOf, IsStatusOf, IsPropertyOf, IsOrganizerOf};
 ghost use Rattle.itip_todo.specs.Values.{IsNumberUpTo, IsGoodValue};
 
-use crate::attendee::first_value;
 use crate::error::{CauseError, TodoCause};
 use crate::number::read_number;
 use crate::property::Property;
 use crate::property_name::PropertyName;
+use crate::shared_property::SharedProperty;
 use crate::status::Status;
 use crate::uid::Uid;
-use itip_lines::Line;
+use itip_lines::{Line, NoMemory};
 use itip_moment::{Moment, Stamp, read_moment, read_stamp};
 use std::alloc::Global;
 
@@ -25,14 +25,15 @@ pub(crate) fn bad_value(property: PropertyName) -> CauseError
     CauseError::Cause(TodoCause::BadValue(property))
 }
 
-pub(crate) fn uid_of(line: &Line) -> Result<Uid, CauseError>
+pub(crate) fn uid_of(alloc: Global, line: &Line) -> Result<Uid, CauseError>
     ensures value { IfOk result (λ uid. IsUidOf line.now uid) }
     ensures cause { IfErr result (λ e. IfCause e (λ c. (c ≡ cause.BadValue name.Uid) × (IsGoodValue name.Uid line.now → ⊥))) }
 {
     if line.value.as_str().is_empty() {
         return Err(bad_value(PropertyName::Uid));
     }
-    Ok(Uid::new(line.value.clone()?))
+    let text = line.value.clone()?;
+    Ok(Uid::new(alloc, text)?)
 }
 
 pub(crate) fn stamp_of(line: &Line) -> Result<Stamp, CauseError>
@@ -65,7 +66,7 @@ pub(crate) fn moment_of(
     ensures value { IfOk result (λ m. IsMomentOf line.now m) }
     ensures cause { IfErr result (λ e. IfCause e (λ c. (c ≡ cause.BadValue property) × ((m : Moment) → IsMomentOf line.now m → ⊥))) }
 {
-    let zone = first_value("TZID", line.params.as_slice());
+    let zone = line.params.first_value("TZID");
     match read_moment(alloc, line.value.as_str(), Some(zone))? {
         Some(moment) => Ok(moment),
         None => Err(bad_value(property)),
@@ -79,21 +80,21 @@ pub(crate) fn status_of(line: &Line) -> Result<Status, CauseError>
     Status::named(line.value.as_str()).ok_or(bad_value(PropertyName::Status))
 }
 
-pub(crate) fn property_of(line: &Line) -> Result<Property, CauseError>
+pub(crate) fn property_of(line: &Line) -> Result<Property, NoMemory>
     ensures value { IfOk result (λ property. IsPropertyOf line.now property) }
-    ensures cause { IfErr result (λ e. IfCause e (λ c. ⊥)) }
 {
     let params = line.params.clone()?;
     let value = line.value.clone()?;
     Ok(Property { params, value })
 }
 
-pub(crate) fn organizer_of(line: &Line) -> Result<Property, CauseError>
+pub(crate) fn organizer_of(alloc: Global, line: &Line) -> Result<SharedProperty, CauseError>
     ensures value { IfOk result (λ property. IsOrganizerOf line.now property) }
     ensures cause { IfErr result (λ e. IfCause e (λ c. (c ≡ cause.BadValue name.Organizer) × (IsGoodValue name.Organizer line.now → ⊥))) }
 {
     if line.value.as_str().is_empty() {
         return Err(bad_value(PropertyName::Organizer));
     }
-    property_of(line)
+    let property = property_of(line)?;
+    Ok(SharedProperty::new(alloc, property)?)
 }

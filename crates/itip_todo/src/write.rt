@@ -4,16 +4,18 @@ ghost use Rattle.std.specs.Fmt.{decimal};
 ghost use Rattle.itip_todo.specs.Written.{content_of, contents_octets, todo_contents, head_contents, bare, plain, moment_line};
 ghost use Rattle.itip_todo.specs.Written.{property_line, optional};
 ghost use Rattle.itip_todo.specs.Octets.{AreReadAs};
+ghost use Rattle.itip_todo.specs.UpTo.{AppendsUpTo};
 ghost use Rattle.itip_todo.specs.PartsOf.{parts_of};
 ghost use Rattle.itip_todo.specs.StatusText.{status_text};
 ghost use Rattle.itip_todo.specs.declared.property_name.PropertyName.TheVariants as name;
 
 use crate::property::Property;
 use crate::property_name::PropertyName;
+use crate::shared_property::SharedProperty;
 use crate::status::Status;
 use crate::todo::Todo;
 use crate::write_moment::{write_moments, write_optional_moment, write_rid};
-use itip_lines::{Line, Text, write_line, write_property};
+use itip_lines::{Line, Text, write_line, write_parts, write_property};
 use itip_moment::write_stamp;
 use std::alloc::AllocError;
 
@@ -30,12 +32,16 @@ pub fn write_todo(todo: &Todo, out: &mut Vec<u8>) -> Result<(), AllocError>
     ensures err { OnErr result (out.new.items ≡ out.old.items) }
 {
     let mut text = Vec::with_capacity(*out.allocator(), USUAL)?;
-    write_lines(todo, &mut text)?;
+    write_todo_up_to(todo, usize::MAX, &mut text)?;
     out.extend_from_slice(text.as_slice())
 }
 
-fn write_lines(todo: &Todo, out: &mut Vec<u8>) -> Result<(), AllocError>
-    ensures { OnOk result (out.new.items ≡ out.old.items ++ contents_octets (todo_contents (parts_of todo.now))) }
+/// Appends the canonical lines of a to-do, as [`write_todo`] does, as far as a limit allows.
+///
+/// Where `out` would have more than `limit` octets with all of them, it has more, and maybe not all lines: once it has more, no
+/// line of a list is written. On an error, when memory was refused, a part of the lines may stand in `out`.
+pub fn write_todo_up_to(todo: &Todo, limit: usize, out: &mut Vec<u8>) -> Result<(), AllocError>
+    ensures { OnOk result (AppendsUpTo limit (todo_contents (parts_of todo.now)) out.old.items out.new.items) }
 {
     write_value("BEGIN", b"VTODO", out)?;
     write_head(todo, out)?;
@@ -47,12 +53,12 @@ fn write_lines(todo: &Todo, out: &mut Vec<u8>) -> Result<(), AllocError>
     write_small(PropertyName::PercentComplete, todo.percent, out)?;
     write_small(PropertyName::Priority, todo.priority, out)?;
     write_optional_whole(PropertyName::Summary, &todo.summary, out)?;
-    write_optional_whole(PropertyName::Organizer, &todo.organizer, out)?;
-    write_attendees(todo.attendees.as_slice(), out)?;
-    write_rule(todo.rule.as_slice(), out)?;
-    write_moments(PropertyName::RDate, todo.rdates.as_slice(), out)?;
-    write_moments(PropertyName::ExDate, todo.exdates.as_slice(), out)?;
-    write_others(todo.others.as_slice(), out)?;
+    write_organizer(&todo.organizer, out)?;
+    write_attendees(todo.attendees.as_slice(), limit, out)?;
+    write_rule(todo.rule.as_slice(), limit, out)?;
+    write_moments(PropertyName::RDate, todo.rdates.as_slice(), limit, out)?;
+    write_moments(PropertyName::ExDate, todo.exdates.as_slice(), limit, out)?;
+    write_others(todo.others.as_slice(), limit, out)?;
     write_value("END", b"VTODO", out)
 }
 
@@ -122,10 +128,26 @@ fn write_optional_whole(
     }
 }
 
-fn write_attendees(attendees: &[Property], out: &mut Vec<u8>) -> Result<(), AllocError>
-    ensures { OnOk result (out.new.items ≡ out.old.items ++ contents_octets (map (property_line name.Attendee) attendees.now)) }
+fn write_organizer(organizer: &Option<SharedProperty>, out: &mut Vec<u8>) -> Result<(), AllocError>
+    ensures { OnOk result (out.new.items ≡ out.old.items ++ contents_octets (optional (property_line name.Organizer) organizer.now)) }
+{
+    match organizer {
+        Some(organizer) => write_whole(PropertyName::Organizer, organizer.property(), out),
+        None => Ok(()),
+    }
+}
+
+fn write_attendees(
+    attendees: &[Property],
+    limit: usize,
+    out: &mut Vec<u8>,
+) -> Result<(), AllocError>
+    ensures { OnOk result (AppendsUpTo limit (map (property_line name.Attendee) attendees.now) out.old.items out.new.items) }
 {
     for attendee in attendees {
+        if out.len() > limit {
+            return Ok(());
+        }
         write_whole(PropertyName::Attendee, attendee, out)?;
     }
     Ok(())
@@ -136,22 +158,28 @@ fn write_whole(name: PropertyName, property: &Property, out: &mut Vec<u8>) -> Re
     ensures { OnOk result (out.new.items ≡ out.old.items ++ contents_octets (property_line name property.now ∷ [])) }
 {
     let value = property.value.as_str().as_bytes();
-    write_property(name.as_str(), property.params.as_slice(), value, out)
+    write_property(name.as_str(), &property.params, value, out)
 }
 
-fn write_rule(rule: &[Text], out: &mut Vec<u8>) -> Result<(), AllocError>
-    ensures { OnOk result (out.new.items ≡ out.old.items ++ contents_octets (map (plain name.RRule) rule.now)) }
+fn write_rule(rule: &[Text], limit: usize, out: &mut Vec<u8>) -> Result<(), AllocError>
+    ensures { OnOk result (AppendsUpTo limit (map (plain name.RRule) rule.now) out.old.items out.new.items) }
 {
     for value in rule {
+        if out.len() > limit {
+            return Ok(());
+        }
         write_value("RRULE", value.as_str().as_bytes(), out)?;
     }
     Ok(())
 }
 
-fn write_others(lines: &[Line], out: &mut Vec<u8>) -> Result<(), AllocError>
-    ensures { OnOk result (out.new.items ≡ out.old.items ++ contents_octets (map content_of lines.now)) }
+fn write_others(lines: &[Line], limit: usize, out: &mut Vec<u8>) -> Result<(), AllocError>
+    ensures { OnOk result (AppendsUpTo limit (map content_of lines.now) out.old.items out.new.items) }
 {
     for line in lines {
+        if out.len() > limit {
+            return Ok(());
+        }
         write_line(line, out)?;
     }
     Ok(())
@@ -161,5 +189,5 @@ fn write_others(lines: &[Line], out: &mut Vec<u8>) -> Result<(), AllocError>
 fn write_value(name: &str, value: &[u8], out: &mut Vec<u8>) -> Result<(), AllocError>
     ensures { OnOk result (out.new.items ≡ out.old.items ++ contents_octets (bare name.now value.now ∷ [])) }
 {
-    write_property(name, &[], value, out)
+    write_parts(name, &[], value, out)
 }

@@ -1,8 +1,9 @@
 -- Which answer decides, and whom the lines show, step by step.
-use Rattle.std.proofs.Common.{◌≡◌, List, [], ◌∷◌, ◌++◌, refl, sym, ap, inr, Option, Some, None, append_assoc}
+use Rattle.std.proofs.Common.{◌≡◌, List, [], ◌∷◌, ◌++◌, refl, sym, ap, inl, inr, Option, Some, None, append_assoc}
+use Rattle.std.specs.Prelude.{MatchOption}
 use Rattle.itip_todo.specs.declared.property.Property.{Property}
 use Rattle.itip_items.specs.declared.item.Item.{Item}
-use Rattle.itip_view.specs.Answers.{Asked, NoneCounts, Decides, AreShown, shown_line, in_front}
+use Rattle.itip_view.specs.Answers.{Asked, Counts, NoneCounts, Decides, AreShown, shown_line, in_front}
 use Rattle.itip_view.specs.declared.row.ShownAttendee.{ShownAttendee}
 
 module _ (heard : List Item) where
@@ -10,6 +11,12 @@ module _ (heard : List Item) where
       Decides heard (asked ∷ rest) answer
   decides_later asked rest none None decides = (none, decides)
   decides_later asked rest none (Some answer) decides = inr (none, decides)
+
+  -- the last question
+  pub decides_last : (asked : Asked) (answer : Option Item) → MatchOption answer (NoneCounts heard asked) (Counts heard asked) →
+      Decides heard (asked ∷ []) answer
+  decides_last asked None none = (none, tt)
+  decides_last asked (Some answer) counts = inl counts
 
   pub shows_more : (asked_of : Property → List Asked) (line : Property) (lines : List Property) (answer : Option Item)
       (others : List ShownAttendee) → Decides heard (asked_of line) answer →

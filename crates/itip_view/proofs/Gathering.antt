@@ -79,7 +79,7 @@ module _ (heard : List Item) (window : Window) where
 
   -- those of all UIDs of which something was heard are all of which it holds
   module _ (uids : List (List ℕ)) (of : AreUidsOf uids heard) (P : Row → Type 0) where
-    among_all : (row : Row) → (IsRow heard window row × IsAmong uids P row) ↔ (IsRow heard window row × P row)
+    pub among_all : (row : Row) → (IsRow heard window row × IsAmong uids P row) ↔ (IsRow heard window row × P row)
     among_all row = (
       λ h. (h.0, h.1.holds),
       λ h. (h.0, record { uid_is = uid_of_row uids of.all row h.0; holds = h.1 }),
@@ -87,6 +87,9 @@ module _ (heard : List Item) (window : Window) where
 
     pub all_gathered : (rows : List Row) → AreRowsWhere (IsAmong uids P) heard window rows → AreRowsWhere P heard window rows
     all_gathered = rows_same (IsAmong uids P) P heard heard window among_all
+
+    pub all_among : (rows : List Row) → AreRowsWhere P heard window rows → AreRowsWhere (IsAmong uids P) heard window rows
+    all_among = rows_same P (IsAmong uids P) heard heard window (λ row. ((among_all row).1, (among_all row).0))
 
     pub all_too_many : AreTooManyWhere (IsAmong uids P) heard window → AreTooManyWhere P heard window
     all_too_many = many_same (IsAmong uids P) P heard heard window among_all

@@ -23,3 +23,9 @@ pub mod SameRows
 pub mod Occurring
 pub mod RangeOrder
 pub mod Ranging
+pub mod Made
+pub mod Asked
+pub mod Counting
+pub mod Tallies
+pub mod Texts
+pub mod Left

@@ -1,5 +1,5 @@
 -- Which items a row needs: one whose rows can stand in the window, and one that names each attendee that it shows.
-use Rattle.std.proofs.Common.{◌≡◌, ◌∙◌, ℕ, ℤ, List, [], ◌∷◌, refl, sym, ap, subst, ◌⊎◌, inl, inr, Bool, true, false, cond, Some, None}
+use Rattle.std.proofs.Common.{◌≡◌, ◌∙◌, ℕ, ℤ, List, [], ◌∷◌, refl, ap, subst, ◌⊎◌, inl, inr, Bool, true, false, cond, Some, None}
 use Rattle.std.proofs.Common.{Option, ◌↔◌, IsTrue}
 use Rattle.std.specs.List.{Contains}
 use Rattle.std.specs.Option.{option_map}
@@ -20,8 +20,8 @@ use Rattle.itip_items.specs.declared.kind.Kind.TheVariants as kind
 use Rattle.itip_state.specs.Kept.{IsBest}
 use Rattle.itip_state.proofs.Members.{none_in, cons_cases, cons_first, cons_later}
 use Rattle.itip_view.specs.Answers.{Asked, AreShown, in_front, shown_line, unless_removed}
-use Rattle.itip_view.specs.RowDays.{is_of_rows, has_rows, days_from, whole_days, days_at, row_days, Meets, HasRowsIn, Names, NamesIn}
-use Rattle.itip_view.specs.Rows.{IsRow, IsInstanceRow, IsOccurrenceRow, IsRangeRow, IsSingleRow, IsOpaqueRow, day_of, instance_day}
+use Rattle.itip_view.specs.RowDays.{is_of_rows, days_from, whole_days, days_at, row_days, Meets, HasRowsIn, NamesIn}
+use Rattle.itip_view.specs.Rows.{IsInstanceRow, IsOccurrenceRow, IsRangeRow, IsSingleRow, IsOpaqueRow, day_of, instance_day}
 use Rattle.itip_view.specs.Rows.{instance_answers, occurrence_answers, range_answers, series_answers}
 use Rattle.itip_view.specs.Showing.{Shows}
 use Rattle.itip_view.specs.Standing.{is_live, IsLive, IsLiveSeries}
@@ -29,7 +29,7 @@ use Rattle.itip_view.specs.Window.{IsInWindow}
 use Rattle.itip_view.specs.declared.row.Row.{Row}
 use Rattle.itip_view.specs.declared.row.ShownAttendee.{ShownAttendee}
 use Rattle.itip_view.specs.declared.days.RowDays.{RowDays}
-use Rattle.itip_view.specs.declared.days.RowDays.TheVariants.{One, Any}
+use Rattle.itip_view.specs.declared.days.RowDays.TheVariants.{One}
 use Rattle.itip_view.specs.declared.window.Window.{Window}
 
 -- two tests of one fact

@@ -60,7 +60,7 @@ one_best heard key a b p q =
     ] refl
 
 -- one answer decides
-one_decides : (heard : List Item) (all : List Asked) (a b : Option Item) → Decides heard all a → Decides heard all b → a ≡ b
+pub one_decides : (heard : List Item) (all : List Asked) (a b : Option Item) → Decides heard all a → Decides heard all b → a ≡ b
 one_decides heard [] None None p q = refl
 one_decides heard [] None (Some b) p q = absurd q
 one_decides heard [] (Some a) b p q = absurd p

@@ -1,13 +1,16 @@
 -- What has a row at a place, and where nothing has.
-use Rattle.std.proofs.Common.{◌≡◌, ℕ, List, [], ◌∷◌, refl, sym, ◌∙◌, ap, subst, ◌⊎◌, inl, inr, Option, Some, None, Bor}
+use Rattle.std.proofs.Common.{◌≡◌, ℕ, List, refl, sym, ◌∙◌, ap, subst, ◌⊎◌, inl, inr, Option, Some, None}
 use Rattle.itip_moment.specs.declared.moment.Moment.{Moment}
+use Rattle.itip_todo.specs.declared.property.Property.{Property}
 use Rattle.itip_recur.specs.ToDoShape.{Recurs, IsShape, IsSeriesOf}
 use Rattle.itip_recur.specs.declared.series.Series.{Series}
 use Rattle.itip_recur.specs.declared.series.Shape.TheVariants as shape
 use Rattle.itip_items.specs.declared.item.Item.{Item}
 use Rattle.itip_items.specs.declared.key.Key.TheVariants as key
-use Rattle.itip_view.specs.Answers.{AreShown}
+use Rattle.itip_state.specs.OfUid.{UidPart}
+use Rattle.itip_view.specs.Answers.{Asked, AreShown}
 use Rattle.itip_view.specs.OfUid.{IsRowOf, IsRowAt, IsOccurrence}
+use Rattle.itip_view.specs.Places.{HasOwn}
 use Rattle.itip_view.specs.Rows.{
   IsInstanceRow,
   IsOccurrenceRow,
@@ -29,8 +32,8 @@ use Rattle.itip_view.specs.Rows.{
 }
 use Rattle.itip_view.specs.Standing.{Stands, NoneStands, Rules, NoneRules, IsLive, IsLiveSeries, IsLiveInstance}
 use Rattle.itip_view.specs.Window.{IsInWindow}
-use Rattle.itip_view.specs.declared.answers.Question.{Question}
 use Rattle.itip_view.specs.declared.row.Row.{Row}
+use Rattle.itip_view.specs.declared.row.RowId.{RowId}
 use Rattle.itip_view.specs.declared.row.RowId.TheVariants as id
 use Rattle.itip_view.specs.declared.window.Window.{Window}
 use Rattle.itip_view.proofs.OneRow.{one_best, one_rules}
@@ -41,9 +44,13 @@ some_one m n e = cc
 not_none : (m : Moment) → Some m ≡ None → ⊥
 not_none m e = cc
 
--- the questions of the row of an occurrence: answers to it, then answers to the to-do as a whole
-abbrev pub in_turn : Bor Moment → ℕ → ℕ → List Question
-in_turn at own since = record { id = Some at; since = own } ∷ record { id = None; since = since } ∷ []
+-- a row with the dates of its item
+pub own_row : (part : UidPart) (item : Item) (name : RowId) (start due : Option Moment) (asked : Property → List Asked) (row : Row) →
+    HasOwn item start due → IsRowOf part.items item part.uid name start due asked row →
+    IsRowOf part.items item part.uid name item.todo.start item.todo.due asked row
+own_row part item name start due asked row dates of =
+    subst (λ (s : Option Moment). IsRowOf part.items item part.uid name s item.todo.due asked row) dates.start_is
+    (subst (λ (d : Option Moment). IsRowOf part.items item part.uid name start d asked row) dates.due_is of)
 
 module _ (items : List Item) (window : Window) (uid : List ℕ) where
   pub instance_is : (at : Moment) (item : Item) (row : Row) → Stands items uid at item → IsLive item →

@@ -1,14 +1,14 @@
 -- The rows of one UID, by what is known of it (our own form).
-use Rattle.std.specs.Prelude.{List, Option}
+use Rattle.std.specs.Prelude.{◌≡◌, List}
 use Rattle.itip_moment.specs.declared.moment.Moment.{Moment}
 use Rattle.itip_items.specs.declared.item.Item.{Item}
-use Rattle.itip_view.specs.OfUid.{IsWhole, IsBetween, IsAnswerAt, IsOccurrence, AreOccurrencesOf, IsRowOf, ArePlaces, AreRowsOf, asked_by}
+use Rattle.itip_state.specs.OfUid.{UidPart}
+use Rattle.itip_view.specs.OfUid.{IsWhole, IsBetween, IsOccurrence, ArePlaces, AreRowsOf}
 use Rattle.itip_view.specs.Rows.{NoneStandsAtStart}
 use Rattle.itip_view.specs.Standing.{Stands, NoneStands, Rules, NoneRules, IsLiveSeries}
-use Rattle.itip_view.specs.declared.answers.Question.{Question}
 use Rattle.itip_view.specs.declared.of_uid.UidView.{UidView}
 use Rattle.itip_view.specs.declared.row.Row.{Row}
-use Rattle.itip_view.specs.declared.row.RowId.{RowId}
+use Rattle.itip_view.specs.declared.window.Window.{Window}
 
 module _ (view : UidView) where
   -- its to-do as a whole is the live series item, or none is live
@@ -22,15 +22,9 @@ module _ (view : UidView) where
   abbrev pub HasRows : List Row → Type 0
   HasRows rows = AreRowsOf view.items.now.items view.window view.items.now.uid rows
 
-  abbrev pub HasOccurrences : List Moment → Type 0
-  HasOccurrences moments = AreOccurrencesOf view.items.now.items view.window view.items.now.uid moments
-
-  abbrev pub HasPlaces : List Moment → Type 0
-  HasPlaces moments = ArePlaces view.items.now.items view.window view.items.now.uid moments
-
-  -- what has a row there, or that nothing has
-  abbrev pub HasAnswerAt : Option Moment → Option Row → Type 0
-  HasAnswerAt at row = IsAnswerAt view.items.now.items view.window view.items.now.uid at row
+  -- its rows may stand at these moments
+  abbrev pub HasPlaces : Type 0
+  HasPlaces = ArePlaces view.items.now.items view.window view.items.now.uid view.places.items
 
   abbrev pub HasOccurrence : Moment → Type 0
   HasOccurrence at = IsOccurrence view.items.now.items view.window view.items.now.uid at
@@ -55,7 +49,14 @@ module _ (view : UidView) where
   abbrev pub HasNoneAtStart : Item → Type 0
   HasNoneAtStart series = NoneStandsAtStart view.items.now.items view.items.now.uid series.todo.start
 
-  -- a row with this name and these dates, and what else it shows of the item that governs it
-  abbrev pub IsRowWith : Item → RowId → Option Moment → Option Moment → List Question → Row → Type 0
-  IsRowWith item id start due questions row =
-      IsRowOf view.items.now.items item view.items.now.uid id start due (asked_by view.items.now.uid questions) row
+-- what a view has of its UID is what its kept items tell
+pub record IsFound (view : UidView) : Type 0 where
+  pub whole : HasWhole view
+  pub between : HasBetween view
+  pub places : HasPlaces view
+
+-- the view of these kept items of a UID in a window
+pub record IsViewOf (part : UidPart) (window : Window) (view : UidView) : Type 0 where
+  pub items_are : view.items.now ≡ part
+  pub window_is : view.window ≡ window
+  pub found : IsFound view

@@ -12,7 +12,10 @@ pub mod ListText
 pub mod Showing
 pub mod Wanting
 pub mod Wanted
+pub mod Places
+pub mod AscendingUids
 pub mod Most
+pub mod ByUid
 pub mod RowDays
 pub mod InQuestion
 pub mod OfKept

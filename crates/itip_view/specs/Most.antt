@@ -5,9 +5,11 @@ use Rattle.std.specs.Ordering.{nat_cmp}
 use Rattle.std.specs.Cmp.Lexicographic.{slice_cmp}
 use Rattle.std.specs.declared.cmp.Ordering.TheVariants.{Less}
 use Rattle.itip_items.specs.declared.item.Item.{Item}
-use Rattle.itip_view.specs.Rows.{IsRow}
-use Rattle.itip_view.specs.Showing.{AreRowsWhere, IsOf}
+use Rattle.itip_view.specs.Rows.{IsRow, row_limit}
+use Rattle.itip_view.specs.Showing.{AreRowsWhere, AreTooManyWhere, IsAmong, IsOf}
 use Rattle.itip_view.specs.declared.most.MostRows.{MostRows}
+use Rattle.itip_view.specs.declared.most.RowCount.{RowCount}
+use Rattle.itip_view.specs.declared.most.RowCount.TheVariants.{Few, TooMany}
 use Rattle.itip_view.specs.declared.row.Row.{Row}
 use Rattle.itip_view.specs.declared.window.Window.{Window}
 
@@ -41,3 +43,16 @@ pub record HasMostAmong (P : Row → Type 0) (heard : List Item) (window : Windo
 abbrev pub IsMostAmong : (Row → Type 0) → List Item → Window → List (List ℕ) → Option MostRows → Type 0
 IsMostAmong P heard window uids None = (uid : List ℕ) → Contains uids uid → HasRows P heard window uid 0
 IsMostAmong P heard window uids (Some most) = HasMostAmong P heard window uids most
+
+-- so many rows of these UIDs there are of which it holds, and no more than a list may have
+pub record AreFewAmong (P : Row → Type 0) (heard : List Item) (window : Window) (uids : List (List ℕ)) (number : ℕ) : Type 0 where
+  pub rows : List Row
+  pub are_rows : AreRowsWhere (IsAmong uids P) heard window rows
+  pub number_is : length rows ≡ number
+  pub few : number ≤ row_limit
+
+-- how many there are, or that they are too many and which UID has the most of them
+abbrev pub IsCountAmong : (Row → Type 0) → List Item → Window → List (List ℕ) → RowCount → Type 0
+IsCountAmong P heard window uids (Few number) = AreFewAmong P heard window uids number
+IsCountAmong P heard window uids (TooMany most) =
+    AreTooManyWhere (IsAmong uids P) heard window × HasMostAmong P heard window uids most

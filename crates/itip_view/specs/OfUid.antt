@@ -1,7 +1,8 @@
 -- The rows of one UID (our own form): what is known of its series item, where its rows may stand, and what each place shows.
-use Rattle.std.specs.Prelude.{◌≡◌, ◌↔◌, ℕ, List, Option, Some, None, map}
+use Rattle.std.specs.Prelude.{◌≡◌, ◌↔◌, ℕ, List, ◌∷◌, Option, Some, None, map}
+use denote.Ref.{Bor}
 use Rattle.std.specs.List.{Contains}
-use Rattle.std.specs.Option.{option_copied}
+use Rattle.std.specs.Option.{option_copied, option_to_list}
 use Rattle.std.specs.List.Sorted.{IsStrictlySortedBy}
 use Rattle.itip_moment.specs.Order.{moment_cmp}
 use Rattle.itip_moment.specs.declared.moment.Moment.{Moment}
@@ -18,6 +19,7 @@ use Rattle.itip_view.specs.Answers.{Asked, AreShown}
 use Rattle.itip_view.specs.Rows.{HasFields, HasProgress, IsRow, AscendRows, moment_of}
 use Rattle.itip_view.specs.Standing.{Stands, StandsBeside, NoneStands, IsLiveSeries}
 use Rattle.itip_view.specs.declared.answers.Question.{Question}
+use Rattle.itip_view.specs.declared.answers.Questions.{Questions}
 use Rattle.itip_view.specs.declared.between.Between.{Between}
 use Rattle.itip_view.specs.declared.row.Row.{Row}
 use Rattle.itip_view.specs.declared.row.RowId.{RowId}
@@ -37,12 +39,23 @@ StandsBesideOf (Some series) item = StandsBeside series item
 abbrev pub to_question : List ℕ → List ℕ → Question → Asked
 to_question uid attendee question = record { key = key.Answer uid (option_copied question.id) attendee; since = question.since }
 
+-- one question and no other
+abbrev pub only : Option (Bor Moment) → ℕ → Questions
+only id since = record { first = record { id = id; since = since }; second = None }
+
+-- one about an instance, then one about the to-do as a whole
+abbrev pub in_turn : Bor Moment → ℕ → ℕ → Questions
+in_turn at own since = record { first = record { id = Some at; since = own }; second = Some (record { id = None; since = since }) }
+
+abbrev pub listed : Questions → List Question
+listed questions = questions.first ∷ option_to_list questions.second
+
 -- where the answers of the attendee of a key are looked for: those to each of these
-abbrev pub asked_of : List ℕ → List Question → List ℕ → List Asked
-asked_of uid questions attendee = map (to_question uid attendee) questions
+abbrev pub asked_of : List ℕ → Questions → List ℕ → List Asked
+asked_of uid questions attendee = map (to_question uid attendee) (listed questions)
 
 -- where the answers of the attendee of a line are looked for
-abbrev pub asked_by : List ℕ → List Question → Property → List Asked
+abbrev pub asked_by : List ℕ → Questions → Property → List Asked
 asked_by uid questions line = asked_of uid questions (attendee_key line.value)
 
 -- a row with this name and these dates, and what else it shows of the item that governs it

@@ -51,3 +51,10 @@ pub record IsListTextFor (address : List ℕ) (heard : List Item) (window : Wind
   pub are_rows : AreRowsWhere (Shows address) heard window rows
   pub few : length rows ≤ row_limit
   pub text_is : text ≡ list_text rows
+
+-- the text of the rows of these UIDs of which it holds, where there are not too many
+pub record IsTextAmong (P : Row → Type 0) (heard : List Item) (window : Window) (uids : List (List ℕ)) (text : List ℕ) : Type 0 where
+  pub rows : List Row
+  pub are_rows : AreRowsWhere (IsAmong uids P) heard window rows
+  pub few : length rows ≤ row_limit
+  pub text_is : text ≡ list_text rows

@@ -32,6 +32,11 @@ is_done part.InProcess = false
 abbrev pub is_asked : Bool → List ℕ → ShownAttendee → Bool
 is_asked only address attendee = is_named address attendee && not (only && is_done attendee.partstat)
 
+-- the same of an attendee who may be left out
+abbrev pub is_some_asked : Bool → List ℕ → Option ShownAttendee → Bool
+is_some_asked only address None = false
+is_some_asked only address (Some attendee) = is_asked only address attendee
+
 -- one of these is the attendee who is named; where none is, any will do
 abbrev pub shows_named : Bool → Option (List ℕ) → List ShownAttendee → Bool
 shows_named only None attendees = true
@@ -54,6 +59,10 @@ abbrev pub is_due_before : Option ℤ → Option Moment → Bool
 is_due_before None due = true
 is_due_before (Some day) None = false
 is_due_before (Some day) (Some due) = int_lt (moment_day due) day
+
+-- a row with this DUE and this STATUS is asked for, where it shows the attendee who is named
+abbrev pub takes : Wanted → Option Moment → Option Status → Bool
+takes wanted due status = is_due_before wanted.due_before due && not (wanted.is_open && is_over status)
 
 abbrev pub wants : Wanted → Row → Bool
 wants wanted row =

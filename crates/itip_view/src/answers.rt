@@ -1,17 +1,22 @@
 //! Which answers count, and what a row shows of the attendees.
-ghost use Rattle.std.specs.Prelude.{◌≡◌, ◌∷◌, [], IfOk, MatchOption, Some, None, map, max};
+ghost use Rattle.std.specs.Prelude.{◌≡◌, IfOk, List, MatchOption, Option, map, max};
+ghost use Rattle.std.specs.List.{list_any};
 ghost use Rattle.std.specs.Option.{option_copied};
+ghost use Rattle.itip_items.specs.declared.item.Item.{Item};
 ghost use Rattle.itip_view.specs.Answers.{Counts, NoneCounts, Decides, AreShown, partstat_in, shown_line};
-ghost use Rattle.itip_view.specs.OfUid.{asked_by, asked_of, to_question};
+ghost use Rattle.itip_view.specs.OfUid.{asked_by, asked_of, in_turn, only, to_question};
+ghost use Rattle.itip_view.specs.Wanted.{is_asked, is_some_asked};
+ghost use Rattle.itip_view.specs.declared.row.ShownAttendee.{ShownAttendee};
 
 use crate::NoMemory;
 use crate::keyed_item::AttendeeLine;
 use crate::row::ShownAttendee;
+use crate::wanted::{is_asked, is_named};
 use itip_items::{Item, Kind};
 use itip_lines::ListOf;
 use itip_moment::Moment;
 use itip_state::ItemsOfUid;
-use itip_todo::{PartStat, Property, participation};
+use itip_todo::{PartStat, Property, attendee_key, participation};
 use std::alloc::Global;
 
 /// The answers to an instance, or to the to-do as a whole, from a sequence on.
@@ -21,33 +26,51 @@ pub(crate) struct Question<'q> {
     pub(crate) since: u32,
 }
 
-/// On the row of an occurrence: the answers to it from one sequence on, then those to the to-do as a whole from another.
-pub(crate) fn in_turn(at: &Moment, own: u32, since: u32) -> [Question<'_>; 2]
-    ensures { result ≡ (record { id = Some at.entry; since = own } ∷ record { id = None; since = since } ∷ []) }
+/// Which answers a row asks: those to the first question, and where none of them counts those to the second.
+#[derive(Drop)]
+pub(crate) struct Questions<'q> {
+    pub(crate) first: Question<'q>,
+    pub(crate) second: Option<Question<'q>>,
+}
+
+/// The answers to an instance, or to the to-do as a whole, from a sequence on, and no others.
+pub(crate) fn only(id: Option<&Moment>, since: u32) -> Questions<'_>
+    ensures { result ≡ only id.entry since }
 {
-    [
-        Question {
-            id: Some(at),
-            since: own,
-        },
-        Question { id: None, since },
-    ]
+    Questions {
+        first: Question { id, since },
+        second: None,
+    }
+}
+
+/// On the row of an occurrence: the answers to it from one sequence on, then those to the to-do as a whole from another.
+pub(crate) fn in_turn(at: &Moment, own: u32, since: u32) -> Questions<'_>
+    ensures { result ≡ in_turn at.entry own since }
+{
+    let first = Question {
+        id: Some(at),
+        since: own,
+    };
+    let second = Question { id: None, since };
+    Questions {
+        first,
+        second: Some(second),
+    }
 }
 
 /// The same where a range item rules the occurrence of a series.
-pub(crate) fn in_turn_under<'q>(at: &'q Moment, range: &Item, series: &Item) -> [Question<'q>; 2]
-    ensures { result ≡ (record { id = Some at.entry; since = range.now.own }
-        ∷ record { id = None; since = max range.now.own series.now.own } ∷ []) }
+pub(crate) fn in_turn_under<'q>(at: &'q Moment, range: &Item, series: &Item) -> Questions<'q>
+    ensures { result ≡ in_turn at.entry range.now.own (max range.now.own series.now.own) }
 {
     // An answer to the to-do as a whole is dead where it is earlier than the series, so it doesn't count here either (our own rule).
     in_turn(at, range.own, range.own.max(series.own))
 }
 
-/// Which answers a row asks: those of the UID to each of these in turn.
+/// Answers of a UID to these questions.
 #[derive(Drop)]
 pub(crate) struct AnswerSearch<'v, 'a> {
     pub(crate) items: &'v ItemsOfUid<'a>,
-    pub(crate) questions: &'v [Question<'v>],
+    pub(crate) questions: &'v Questions<'v>,
 }
 
 impl<'v, 'a> AnswerSearch<'v, 'a> {
@@ -70,17 +93,65 @@ impl<'v, 'a> AnswerSearch<'v, 'a> {
         Ok(ListOf::from_vec(attendees))
     }
 
+    /// Whether one of the attendees that these lines show is asked for: that of an address, where only open rows are asked for
+    /// with something left to do. Answers are looked up for that attendee alone.
+    pub(crate) fn shows(
+        &self,
+        alloc: Global,
+        lines: &[Property],
+        address: &str,
+        is_open: bool,
+    ) -> Result<bool, NoMemory>
+        ensures { IfOk result (λ shows. (shown : List ShownAttendee)
+            → AreShown self.now.items.now.items (asked_by self.now.items.now.uid self.now.questions.now) lines.now shown
+            → list_any (is_asked is_open address.now) shown ≡ shows) }
+    {
+        for line in lines {
+            let is_shown = self.line_shows(alloc, line, address, is_open)?;
+            if is_shown {
+                return Ok(true);
+            }
+        }
+        Ok(false)
+    }
+
+    /// Whether the attendee whom a line shows is asked for.
+    fn line_shows(
+        &self,
+        alloc: Global,
+        line: &Property,
+        address: &str,
+        is_open: bool,
+    ) -> Result<bool, NoMemory>
+        ensures { IfOk result (λ shows. (answer : Option Item)
+            → Decides self.now.items.now.items (asked_by self.now.items.now.uid self.now.questions.now line.now) answer
+            → is_some_asked is_open address.now (shown_line line.now answer) ≡ shows) }
+    {
+        let shown = line.value.as_str();
+        if !is_named(shown, address) {
+            return Ok(false);
+        }
+        let key = attendee_key(alloc, shown)?;
+        let answer = self.deciding(key.as_str());
+        let Some(attendee) = shown_line(line, answer)? else {
+            return Ok(false);
+        };
+        Ok(is_asked(&attendee, address, is_open))
+    }
+
     /// The first answer of the attendee of a key that counts. It takes no memory.
     fn deciding(&self, attendee: &str) -> Option<&'a Item>
         ensures { Decides self.now.items.now.items (asked_of self.now.items.now.uid self.now.questions.now attendee.now)
             (option_copied result) }
     {
-        for question in self.questions {
-            if let Some(answer) = self.counting(question, attendee) {
-                return Some(answer);
-            }
+        let questions = self.questions;
+        if let Some(answer) = self.counting(&questions.first, attendee) {
+            return Some(answer);
         }
-        None
+        match &questions.second {
+            Some(second) => self.counting(second, attendee),
+            None => None,
+        }
     }
 
     /// The answer to a question of the attendee of a key, where it counts.
@@ -103,7 +174,7 @@ fn shown_line(line: &Property, answer: Option<&Item>) -> Result<Option<ShownAtte
     let Some(answer) = answer else {
         return Ok(Some(ShownAttendee {
             address: line.value.clone()?,
-            partstat: participation(line.params.as_slice()),
+            partstat: participation(&line.params),
             percent: None,
         }));
     };
@@ -122,7 +193,7 @@ fn partstat_in(lines: &[Property]) -> PartStat
     ensures { result ≡ partstat_in lines.now }
 {
     match lines {
-        [line, ..] => participation(line.params.as_slice()),
+        [line, ..] => participation(&line.params),
         [] => PartStat::NeedsAction,
     }
 }

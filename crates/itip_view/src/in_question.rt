@@ -8,7 +8,7 @@ ghost use Rattle.itip_view.specs.OfUid.{asked_by};
 ghost use Rattle.itip_view.specs.Standing.{Stands, NoneStands, Rules, NoneRules, IsLiveSeries};
 
 use crate::NoMemory;
-use crate::answers::{AnswerSearch, Question, in_turn, in_turn_under};
+use crate::answers::{AnswerSearch, Questions, in_turn, in_turn_under, only};
 use crate::governs::governing_between;
 use crate::keyed_item::KeyedItem;
 use crate::ranges::Ranges;
@@ -130,12 +130,9 @@ impl<'v, 'a> InQuestion<'v, 'a> {
         let Some(whole) = &self.whole else {
             return Ok(None);
         };
-        let question = Question {
-            id: None,
-            since: whole.item.own,
-        };
         let governing = KeyedItem::of(self.alloc, whole.item)?;
-        let row = row_of(self.alloc, self.items, &governing, &[question])?;
+        let questions = only(None, whole.item.own);
+        let row = row_of(self.alloc, self.items, &governing, &questions)?;
         Ok(Some(row))
     }
 
@@ -161,12 +158,9 @@ impl<'v, 'a> InQuestion<'v, 'a> {
         if !is_live(item.kind) {
             return Ok(None);
         }
-        let question = Question {
-            id: Some(at),
-            since: item.own,
-        };
         let governing = KeyedItem::of(self.alloc, item)?;
-        let row = row_of(self.alloc, self.items, &governing, &[question])?;
+        let questions = only(Some(at), item.own);
+        let row = row_of(self.alloc, self.items, &governing, &questions)?;
         Ok(Some(row))
     }
 
@@ -232,7 +226,7 @@ fn row_of<'a>(
     alloc: Global,
     items: &ItemsOfUid<'a>,
     governing: &KeyedItem<'a>,
-    questions: &[Question<'_>],
+    questions: &Questions<'_>,
 ) -> Result<RowInQuestion<'a>, NoMemory>
     ensures item { IfOk result (λ row. row.item.now ≡ governing.now.item.now) }
     ensures shown { IfOk result (λ row. AreShown items.now.items (asked_by items.now.uid questions.now)

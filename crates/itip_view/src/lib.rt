@@ -3,6 +3,7 @@
 
 mod answers;
 mod between;
+mod by_uid;
 mod dates;
 mod days;
 mod error;
@@ -16,14 +17,15 @@ mod progress;
 mod ranges;
 mod row;
 mod row_order;
+mod row_place;
 mod row_text;
 mod shown;
 mod standing;
-mod state_rows;
 mod wanted;
 mod whole;
 mod window;
 
+pub use by_uid::RowsByUid;
 pub use dates::have_one_form;
 pub use days::{RowDays, has_rows, row_days};
 pub use error::{BadWindow, ViewError};
@@ -33,13 +35,12 @@ pub use laws::{
     answers_of_kept, one_list, question_of_kept, rows_are_governed, rows_are_in_question,
     rows_need_items, rows_of_part, standing_of_kept, view_of_kept,
 };
-pub use most::{MostRows, most_rows};
+pub use most::{MostRows, RowCount};
 pub use ranges::Ranges;
 pub use row::{Row, RowId, ShownAttendee};
 pub use row_order::sorted_uids;
-pub use row_text::{list_text, write_list};
+pub use row_text::write_row;
 pub use standing::{if_live, is_live, stands_beside};
-pub use state_rows::{rows, rows_among, rows_of, rows_where};
 pub use std::alloc::AllocError as NoMemory;
 pub use wanted::Wanted;
 pub use window::Window;

@@ -1,18 +1,19 @@
-//! Which to-do has the most rows.
+//! How many rows there are, and which to-do has the most of them.
 ghost use Rattle.std.specs.Prelude.{IfOk, map};
 ghost use Rattle.itip_state.specs.Kept.{AscendTexts};
-ghost use Rattle.itip_view.specs.Most.{IsMostAmong, IsMostOf};
+ghost use Rattle.itip_view.specs.Most.{IsCountAmong};
 ghost use Rattle.itip_view.specs.Wanting.{Wants};
 
 use crate::NoMemory;
-use crate::shown::shown_rows;
+use crate::row_order::ROW_LIMIT;
+use crate::shown::count_shown;
 use crate::wanted::Wanted;
 use crate::window::Window;
 use itip_state::State;
 use itip_todo::Uid;
 use std::alloc::Global;
 
-/// The to-do with the most rows.
+/// The to-do with the most rows, of several the one whose UID is the least by octets.
 #[derive(Debug, Drop)]
 pub struct MostRows {
     pub uid: Uid,
@@ -20,46 +21,43 @@ pub struct MostRows {
     pub rows: usize,
 }
 
-/// Which to-do has the most of the rows of a state in a window that are asked for, of several the one whose UID is the least by
-/// octets; `None` where no row is asked for.
-///
-/// Each UID is looked at, and the rows of one at a time are held. The one error is that memory was refused.
-pub fn most_rows(
-    alloc: Global,
-    state: &State,
-    window: Window,
-    wanted: &Wanted<'_>,
-) -> Result<Option<MostRows>, NoMemory>
-    ensures { IfOk result (IsMostOf (Wants wanted.now) state.now window) }
-{
-    let uids = state.uids()?;
-    most_among(alloc, state, &uids, window, wanted)
+/// How many rows there are.
+#[derive(Debug, Drop)]
+pub enum RowCount {
+    /// So many, at most 100,000.
+    Few(usize),
+    /// More than 100,000; and the to-do with the most of them.
+    TooMany(MostRows),
 }
 
-/// The same among these UIDs.
-fn most_among(
+/// How many of the rows of these UIDs in a window are asked for.
+pub(crate) fn count_among(
     alloc: Global,
     state: &State,
     uids: &[&Uid],
     window: Window,
     wanted: &Wanted<'_>,
-) -> Result<Option<MostRows>, NoMemory>
+) -> Result<RowCount, NoMemory>
     requires { AscendTexts (map (λ uid. uid.now) uids.now) }
-    ensures { IfOk result (IsMostAmong (Wants wanted.now) state.now window (map (λ uid. uid.now) uids.now)) }
+    ensures { IfOk result (IsCountAmong (Wants wanted.now) state.now window (map (λ uid. uid.now) uids.now)) }
 {
+    let mut number: usize = 0;
     let mut leader = None;
     let mut most = 0;
     for uid in uids {
-        let rows = shown_rows(alloc, state, uid, window, wanted)?;
-        let count = rows.len();
+        let count = count_shown(alloc, state, uid, window, wanted)?;
+        number = number.saturating_add(count);
         if count > most {
             leader = Some(*uid);
             most = count;
         }
     }
     let Some(leader) = leader else {
-        return Ok(None);
+        return Ok(RowCount::Few(0));
     };
+    if number <= ROW_LIMIT {
+        return Ok(RowCount::Few(number));
+    }
     let uid = leader.clone()?;
-    Ok(Some(MostRows { uid, rows: most }))
+    Ok(RowCount::TooMany(MostRows { uid, rows: most }))
 }

@@ -1,20 +1,27 @@
 //! The rows of one UID.
-ghost use Rattle.std.specs.Prelude.{◌≡◌, ◌∷◌, [], ◌++◌, IfOk, OnOk, MatchBool, Some, None, option_to_list};
-ghost use Rattle.std.specs.Option.{option_map};
+ghost use Rattle.std.specs.Prelude.{◌≡◌, ◌++◌, IfOk, OnOk, MatchBool, List, Some, None, map, option_to_list};
+ghost use Rattle.std.specs.Option.{option_copied, option_map};
 ghost use Rattle.itip_recur.specs.ToDoShape.{IsShape};
 ghost use Rattle.itip_todo.specs.declared.property.Property.{Property};
-ghost use Rattle.itip_view.specs.OfUid.{AreRowsOf};
-ghost use Rattle.itip_view.specs.InUid.{HasWhole, HasBetween, HasRows, HasOccurrences, HasPlaces, HasAnswerAt, HasOccurrence};
-ghost use Rattle.itip_view.specs.InUid.{HasStanding, HasNoStanding, HasRuling, HasNoRuling, HasNoneAtStart, HasLiveSeries, IsRowWith};
+ghost use Rattle.itip_view.specs.Answers.{AreShown};
+ghost use Rattle.itip_view.specs.OfUid.{AreOccurrencesOf, ArePlaces, AreRowsOf, asked_by};
+ghost use Rattle.itip_view.specs.Places.{AreWanted, IsMade, IsPlaceAt, IsShownAt, IsWanted, governing_item, questions_of};
+ghost use Rattle.itip_view.specs.InUid.{HasWhole, HasBetween, HasRows, HasOccurrence, IsFound, IsViewOf};
+ghost use Rattle.itip_view.specs.InUid.{HasStanding, HasNoStanding, HasRuling, HasNoRuling, HasNoneAtStart, HasLiveSeries};
+ghost use Rattle.itip_view.specs.Wanted.{shows_named};
+ghost use Rattle.itip_view.specs.declared.row.ShownAttendee.{ShownAttendee};
+ghost use Rattle.itip_view.specs.declared.window.Window.{Window};
 
 use crate::NoMemory;
-use crate::answers::{AnswerSearch, Question, in_turn, in_turn_under};
+use crate::answers::AnswerSearch;
 use crate::between::Between;
-use crate::dates::{day_of, due_from, due_of, instance_day, start_from};
-use crate::keyed_item::KeyedItem;
+use crate::dates::{day_of, instance_day};
+use crate::keyed_item::{AttendeeLine, KeyedItem};
 use crate::progress::progress_of;
-use crate::row::{Row, RowId};
+use crate::row::Row;
+use crate::row_place::{Governing, RowKind, RowPlace};
 use crate::standing::{is_live, standing_item, stands_beside};
+use crate::wanted::Wanted;
 use crate::whole::{Whole, occurrences, sorted_moments, whole_of};
 use crate::window::Window;
 use itip_items::{Item, Key};
@@ -25,15 +32,8 @@ use itip_state::ItemsOfUid;
 use itip_todo::Todo;
 use std::alloc::Global;
 
-/// What names a row beside its UID, and its dates.
-#[derive(Drop)]
-struct RowHead {
-    id: RowId,
-    start: Option<Moment>,
-    due: Option<Moment>,
-}
-
-/// The view of one UID: its kept items, its to-do as a whole, what governs the occurrences in the window, and the window that is asked for.
+/// The view of one UID: its kept items, its to-do as a whole, what governs the occurrences in the window, the window that is asked
+/// for, and the moments at which rows may stand in it, ascending.
 #[derive(Drop)]
 struct UidView<'v, 'a> {
     alloc: Global,
@@ -41,6 +41,7 @@ struct UidView<'v, 'a> {
     whole: Option<Whole<'a>>,
     between: Option<Between<'v, 'a>>,
     window: Window,
+    places: Vec<Moment>,
 }
 
 /// The rows of a UID in a window, in their order.
@@ -51,87 +52,126 @@ pub(crate) fn rows_of_uid(
 ) -> Result<Vec<Row>, NoMemory>
     ensures { IfOk result (λ rows. AreRowsOf items.now.items window items.now.uid rows.items) }
 {
-    let whole = whole_of(alloc, items)?;
-    let occurrences = occurrences(alloc, &whole, window)?;
-    let between = Between::of(alloc, items, &whole, occurrences.as_slice())?;
-    let view = UidView {
-        alloc,
-        items,
-        whole,
-        between,
-        window,
-    };
-    view.rows(occurrences)
+    let view = UidView::of(alloc, items, window)?;
+    view.rows()
+}
+
+/// How many of the rows of a UID in a window are asked for. None of them is made.
+pub(crate) fn count_of_uid(
+    alloc: Global,
+    items: &ItemsOfUid<'_>,
+    window: Window,
+    wanted: &Wanted<'_>,
+) -> Result<usize, NoMemory>
+    ensures { IfOk result (AreWanted wanted.now items.now window) }
+{
+    let view = UidView::of(alloc, items, window)?;
+    view.count(wanted)
+}
+
+/// The moments at which rows may stand, ascending: those at which instance items stand, and the occurrences in a window.
+fn places_of(items: &ItemsOfUid<'_>, occurrences: Vec<Moment>) -> Result<Vec<Moment>, NoMemory>
+    ensures { IfOk result (λ places. (window : Window) → AreOccurrencesOf items.now.items window items.now.uid occurrences.items
+        → ArePlaces items.now.items window items.now.uid places.items) }
+{
+    let mut places = occurrences;
+    let series = items.series();
+    for item in items.as_slice() {
+        if let Key::Instance(_, at) = &item.key {
+            if stands_beside(series, item) {
+                places.push(at.clone()?)?;
+            }
+        }
+    }
+    sorted_moments(places)
 }
 
 impl<'v, 'a> UidView<'v, 'a> {
-    /// The rows, in their order, where these are the occurrences in the window.
-    fn rows(&self, occurrences: Vec<Moment>) -> Result<Vec<Row>, NoMemory>
-        requires whole { HasWhole self.now }
-        requires between { HasBetween self.now }
-        requires occurrences { HasOccurrences self.now occurrences.items }
+    /// The view of a UID in a window.
+    fn of(
+        alloc: Global,
+        items: &'v ItemsOfUid<'a>,
+        window: Window,
+    ) -> Result<UidView<'v, 'a>, NoMemory>
+        ensures { IfOk result (IsViewOf items.now window) }
+    {
+        let whole = whole_of(alloc, items)?;
+        let occurrences = occurrences(alloc, &whole, window)?;
+        let between = Between::of(alloc, items, &whole, occurrences.as_slice())?;
+        let places = places_of(items, occurrences)?;
+        Ok(UidView {
+            alloc,
+            items,
+            whole,
+            between,
+            window,
+            places,
+        })
+    }
+
+    /// The rows, in their order.
+    fn rows(&self) -> Result<Vec<Row>, NoMemory>
+        requires { IsFound self.now }
         ensures { IfOk result (λ rows. HasRows self.now rows.items) }
     {
-        let places = self.places(occurrences)?;
-        let mut rows = Vec::with_capacity(self.alloc, places.len().saturating_add(1))?;
-        let row = self.whole_row()?;
+        let mut rows = Vec::with_capacity(self.alloc, self.places.len().saturating_add(1))?;
+        let row = self.made(&self.whole_place())?;
         push_some(&mut rows, row)?;
-        for at in &places {
-            let row = self.row_at(at)?;
+        for at in &self.places {
+            let row = self.made(&self.place_at(at))?;
             push_some(&mut rows, row)?;
         }
         Ok(rows)
     }
 
-    /// The moments at which rows may stand, ascending: those at which instance items stand, and the occurrences in the window.
-    fn places(&self, occurrences: Vec<Moment>) -> Result<Vec<Moment>, NoMemory>
-        requires { HasOccurrences self.now occurrences.items }
-        ensures { IfOk result (λ places. HasPlaces self.now places.items) }
+    /// How many of the rows are asked for.
+    fn count(&self, wanted: &Wanted<'_>) -> Result<usize, NoMemory>
+        requires { IsFound self.now }
+        ensures { IfOk result (AreWanted wanted.now self.now.items.now self.now.window) }
     {
-        let mut places = occurrences;
-        let series = self.items.series();
-        for item in self.items.as_slice() {
-            if let Key::Instance(_, at) = &item.key {
-                if stands_beside(series, item) {
-                    places.push(at.clone()?)?;
-                }
-            }
+        let is_wanted = self.is_wanted(&self.whole_place(), wanted)?;
+        let mut number = usize::from(is_wanted);
+        for at in &self.places {
+            let is_wanted = self.is_wanted(&self.place_at(at), wanted)?;
+            number += usize::from(is_wanted);
         }
-        sorted_moments(places)
+        Ok(number)
     }
 
-    /// The row of the to-do as a whole.
-    fn whole_row(&self) -> Result<Option<Row>, NoMemory>
+    /// Where the to-do as a whole has a row.
+    fn whole_place(&self) -> Option<RowPlace<'_>>
         requires { HasWhole self.now }
-        ensures { IfOk result (HasAnswerAt self.now None) }
+        ensures { IsPlaceAt self.now.items.now self.now.window None result }
     {
         let Some(whole) = &self.whole else {
-            return Ok(None);
+            return None;
         };
         match &whole.shape {
-            Shape::Single => self.single_row(whole.item),
-            Shape::Opaque => {
-                let row = self.own_row(whole.item, RowId::Opaque, None)?;
-                Ok(Some(row))
-            }
-            Shape::Repeats(_) => Ok(None),
+            Shape::Single => self.single_place(whole.item),
+            Shape::Opaque => Some(RowPlace {
+                governing: Governing::Plain(whole.item),
+                kind: RowKind::Opaque,
+            }),
+            Shape::Repeats(_) => None,
         }
     }
 
-    /// The row of a to-do that doesn't recur.
-    fn single_row(&self, series: &Item) -> Result<Option<Row>, NoMemory>
+    /// Where a to-do that doesn't recur has its row.
+    fn single_place<'p>(&'p self, series: &'p Item) -> Option<RowPlace<'p>>
         requires live { HasLiveSeries self.now series.now }
         requires single { IsShape series.now.todo Shape.Single }
-        ensures { IfOk result (HasAnswerAt self.now None) }
+        ensures { IsPlaceAt self.now.items.now self.now.window None result }
     {
         if !self.window.has(day_of(&series.todo)) {
-            return Ok(None);
+            return None;
         }
         if self.is_replaced(series) {
-            return Ok(None);
+            return None;
         }
-        let row = self.own_row(series, RowId::Single, None)?;
-        Ok(Some(row))
+        Some(RowPlace {
+            governing: Governing::Plain(series),
+            kind: RowKind::Single,
+        })
     }
 
     /// Whether an instance item stands at DTSTART of the series item.
@@ -144,161 +184,196 @@ impl<'v, 'a> UidView<'v, 'a> {
         }
     }
 
-    /// The row at a moment: that of the item that stands there, or of the occurrence.
-    fn row_at(&self, at: &Moment) -> Result<Option<Row>, NoMemory>
+    /// Whether a row stands at a moment: that of the item that stands there, or of the occurrence.
+    fn place_at<'p>(&'p self, at: &'p Moment) -> Option<RowPlace<'p>>
         requires whole { HasWhole self.now }
         requires between { HasBetween self.now }
         requires occurs { HasNoStanding self.now at.now → HasOccurrence self.now at.now }
-        ensures { IfOk result (HasAnswerAt self.now (Some at.now)) }
+        ensures { IsPlaceAt self.now.items.now self.now.window (Some at.now) result }
     {
         match standing_item(self.items, at) {
-            Some(item) => self.instance_row(item, at),
-            None => self.row_between(at),
+            Some(item) => self.instance_place(item, at),
+            None => self.place_between(at),
         }
     }
 
     /// The row of an instance, where it is live and its day is in the window.
-    fn instance_row(&self, item: &Item, at: &Moment) -> Result<Option<Row>, NoMemory>
+    fn instance_place<'p>(&'p self, item: &'p Item, at: &'p Moment) -> Option<RowPlace<'p>>
         requires { HasStanding self.now at.now item.now }
-        ensures { IfOk result (HasAnswerAt self.now (Some at.now)) }
+        ensures { IsPlaceAt self.now.items.now self.now.window (Some at.now) result }
     {
         if !is_live(item.kind) {
-            return Ok(None);
+            return None;
         }
         if !self.window.has(instance_day(at, &item.todo)) {
-            return Ok(None);
+            return None;
         }
-        let id = RowId::At(at.clone()?);
-        let row = self.own_row(item, id, Some(at))?;
-        Ok(Some(row))
-    }
-
-    /// A row with the dates of the item that governs it, the one row of that item.
-    fn own_row(&self, item: &Item, id: RowId, asked: Option<&Moment>) -> Result<Row, NoMemory>
-        ensures { IfOk result (IsRowWith self.now item.now id item.now.todo.start item.now.todo.due
-            (record { id = asked.entry; since = item.now.own } ∷ [])) }
-    {
-        let place = RowHead {
-            id,
-            start: item.todo.start.clone()?,
-            due: item.todo.due.clone()?,
-        };
-        let question = Question {
-            id: asked,
-            since: item.own,
-        };
-        let governing = KeyedItem::of(self.alloc, item)?;
-        self.row_of(&governing, place, &[question])
+        Some(RowPlace {
+            governing: Governing::Plain(item),
+            kind: RowKind::Instance(at),
+        })
     }
 
     /// The row of an occurrence at which no instance item stands.
-    fn row_between(&self, at: &Moment) -> Result<Option<Row>, NoMemory>
+    fn place_between<'p>(&'p self, at: &'p Moment) -> Option<RowPlace<'p>>
         requires whole { HasWhole self.now }
         requires between { HasBetween self.now }
         requires none { HasNoStanding self.now at.now }
         requires occurs { HasOccurrence self.now at.now }
-        ensures { IfOk result (HasAnswerAt self.now (Some at.now)) }
+        ensures { IsPlaceAt self.now.items.now self.now.window (Some at.now) result }
     {
         let Some(between) = &self.between else {
-            return Ok(None);
+            return None;
         };
         match between.ranges.ruling(at) {
-            Some(range) => self.range_row(between.series.item, range, at),
-            None => self.occurrence_row(&between.series, at),
+            Some(range) => self.range_place(between.series.item, range, at),
+            None => self.occurrence_place(&between.series, at),
         }
     }
 
     /// The row of an occurrence that a range item rules, where that is live.
-    fn range_row(
-        &self,
-        series: &Item,
-        range: &KeyedItem<'_>,
-        at: &Moment,
-    ) -> Result<Option<Row>, NoMemory>
+    fn range_place<'p>(
+        &'p self,
+        series: &'p Item,
+        range: &'p KeyedItem<'p>,
+        at: &'p Moment,
+    ) -> Option<RowPlace<'p>>
         requires live { HasLiveSeries self.now series.now }
         requires none { HasNoStanding self.now at.now }
         requires rules { HasRuling self.now at.now range.now.item.now }
         requires occurs { HasOccurrence self.now at.now }
-        ensures { IfOk result (HasAnswerAt self.now (Some at.now)) }
+        ensures { IsPlaceAt self.now.items.now self.now.window (Some at.now) result }
     {
         let Key::Range(_, id) = &range.item.key else {
-            return Ok(None);
+            return None;
         };
         if !is_live(range.item.kind) {
-            return Ok(None);
+            return None;
         }
-        let place = RowHead {
-            id: RowId::At(at.clone()?),
-            start: start_from(&range.item.todo.start, id, at)?,
-            due: due_from(&range.item.todo.due, id, at)?,
-        };
-        let questions = in_turn_under(at, range.item, series);
-        let row = self.row_of(range, place, &questions)?;
-        Ok(Some(row))
+        Some(RowPlace {
+            governing: Governing::Keyed(range),
+            kind: RowKind::Ranged { at, id, series },
+        })
     }
 
     /// The row of an occurrence that no range item rules.
-    fn occurrence_row(
-        &self,
-        governing: &KeyedItem<'_>,
-        at: &Moment,
-    ) -> Result<Option<Row>, NoMemory>
+    fn occurrence_place<'p>(
+        &'p self,
+        governing: &'p KeyedItem<'p>,
+        at: &'p Moment,
+    ) -> Option<RowPlace<'p>>
         requires whole { HasWhole self.now }
         requires live { HasLiveSeries self.now governing.now.item.now }
         requires none { HasNoStanding self.now at.now }
         requires none_rules { HasNoRuling self.now at.now }
         requires occurs { HasOccurrence self.now at.now }
-        ensures { IfOk result (HasAnswerAt self.now (Some at.now)) }
+        ensures { IsPlaceAt self.now.items.now self.now.window (Some at.now) result }
     {
         let Some(whole) = &self.whole else {
-            return Ok(None);
+            return None;
         };
         let series = match &whole.shape {
             Shape::Repeats(series) => series,
-            Shape::Single | Shape::Opaque => return Ok(None),
+            Shape::Single | Shape::Opaque => return None,
         };
-        let item = governing.item;
-        let place = RowHead {
-            id: RowId::At(at.clone()?),
-            start: Some(at.clone()?),
-            due: due_of(&item.todo.due, &series.start, at)?,
+        Some(RowPlace {
+            governing: Governing::Keyed(governing),
+            kind: RowKind::Occurrence {
+                at,
+                start: &series.start,
+            },
+        })
+    }
+
+    /// The row of a place, where there is one.
+    fn made(&self, place: &Option<RowPlace<'_>>) -> Result<Option<Row>, NoMemory>
+        ensures { IfOk result (IsMade self.now.items.now place.now) }
+    {
+        let Some(place) = place else {
+            return Ok(None);
         };
-        let questions = in_turn(at, item.own, item.own);
-        let row = self.row_of(governing, place, &questions)?;
+        let row = self.row_of(place)?;
         Ok(Some(row))
     }
 
-    /// The row at a place that an item governs; of each attendee these are asked, one after the other.
-    fn row_of(
-        &self,
-        governing: &KeyedItem<'_>,
-        place: RowHead,
-        questions: &[Question<'_>],
-    ) -> Result<Row, NoMemory>
-        ensures { IfOk result (IsRowWith self.now governing.now.item.now place.id place.start place.due questions.now) }
+    fn row_of(&self, place: &RowPlace<'_>) -> Result<Row, NoMemory>
+        ensures { IfOk result (IsShownAt self.now.items.now place.now) }
     {
-        let item = governing.item;
+        match place.governing {
+            Governing::Keyed(keyed) => self.row_with(place, &keyed.lines),
+            Governing::Plain(item) => {
+                let keyed = KeyedItem::of(self.alloc, item)?;
+                self.row_with(place, &keyed.lines)
+            }
+        }
+    }
+
+    /// The row of a place, with the ATTENDEE lines of the item that governs it and their keys.
+    fn row_with(&self, place: &RowPlace<'_>, lines: &[AttendeeLine<'_>]) -> Result<Row, NoMemory>
+        requires { map (λ line. line.line.now) lines.now ≡ (governing_item place.now.governing).todo.attendees }
+        ensures { IfOk result (IsShownAt self.now.items.now place.now) }
+    {
+        let item = place.item();
         let todo = &item.todo;
+        let questions = place.questions();
         let asked = AnswerSearch {
             items: self.items,
-            questions,
+            questions: &questions,
         };
-        let attendees = asked.shown_attendees(self.alloc, &governing.lines)?;
+        let attendees = asked.shown_attendees(self.alloc, lines)?;
         let progress = progress_of(attendees.as_slice());
+        let uid = self.items.uid().clone()?;
+        let id = place.id()?;
+        let dates = place.dates()?;
         let summary = summary(todo)?;
         Ok(Row {
-            uid: self.items.uid().clone()?,
-            id: place.id,
+            uid,
+            id,
             seq: item.own,
             status: todo.status,
             percent: todo.percent,
             priority: todo.priority,
-            start: place.start,
-            due: place.due,
+            start: dates.start,
+            due: dates.due,
             summary,
             attendees,
             progress,
         })
+    }
+
+    /// Whether there is a row at a place that is asked for.
+    fn is_wanted(&self, place: &Option<RowPlace<'_>>, wanted: &Wanted<'_>) -> Result<bool, NoMemory>
+        ensures { IfOk result (IsWanted wanted.now self.now.items.now place.now) }
+    {
+        let Some(place) = place else {
+            return Ok(false);
+        };
+        let dates = place.dates()?;
+        if !wanted.takes(&dates.due, place.item().todo.status) {
+            return Ok(false);
+        }
+        self.shows_named(place, wanted)
+    }
+
+    /// Whether the row of a place shows the attendee who is named, where one is; where only open rows are asked for, with
+    /// something left to do.
+    fn shows_named(&self, place: &RowPlace<'_>, wanted: &Wanted<'_>) -> Result<bool, NoMemory>
+        ensures { IfOk result (λ shows. (shown : List ShownAttendee)
+            → AreShown self.now.items.now.items (asked_by self.now.items.now.uid
+            (questions_of (governing_item place.now.governing) place.now.kind))
+            (governing_item place.now.governing).todo.attendees shown
+            → shows_named wanted.now.is_open (option_copied wanted.now.attendee) shown ≡ shows) }
+    {
+        let Some(address) = wanted.attendee else {
+            return Ok(true);
+        };
+        let questions = place.questions();
+        let asked = AnswerSearch {
+            items: self.items,
+            questions: &questions,
+        };
+        let lines = place.item().todo.attendees.as_slice();
+        asked.shows(self.alloc, lines, address, wanted.is_open)
     }
 }
 

@@ -1,13 +1,11 @@
 //! The rows of several UIDs, one UID after the other.
-ghost use Rattle.std.specs.Prelude.{◌≤◌, ◌↔◌, ℕ, List, IfOk, IsErrOf, length, map};
+ghost use Rattle.std.specs.Prelude.{◌↔◌, ℕ, List, IfOk, map};
 ghost use Rattle.std.specs.List.{Contains};
 ghost use Rattle.itip_state.specs.Kept.{AscendTexts};
-ghost use Rattle.itip_view.specs.Rows.{row_limit};
-ghost use Rattle.itip_view.specs.Showing.{AreRowsWhere, AreTooManyWhere, IsAmong};
+ghost use Rattle.itip_view.specs.Showing.{AreRowsWhere, IsAmong};
 ghost use Rattle.itip_view.specs.Wanting.{Wants};
 
 use crate::NoMemory;
-use crate::error::ViewError;
 use crate::row::Row;
 use crate::shown::shown_rows;
 use crate::wanted::Wanted;
@@ -30,27 +28,21 @@ pub fn sorted_uids<'a>(uids: Vec<&'a Uid>) -> Result<Vec<&'a Uid>, NoMemory>
     Ok(uids)
 }
 
-/// The rows of these UIDs in a window that are asked for, in their order, at most 100,000.
+/// The rows of these UIDs in a window that are asked for, in their order.
 pub(crate) fn rows_by_uid(
     alloc: Global,
     state: &State,
     uids: &[&Uid],
     window: Window,
     wanted: &Wanted<'_>,
-) -> Result<Vec<Row>, ViewError>
+) -> Result<Vec<Row>, NoMemory>
     requires { AscendTexts (map (λ uid. uid.now) uids.now) }
-    ensures rows { IfOk result (λ rows. AreRowsWhere
+    ensures { IfOk result (λ rows. AreRowsWhere
         (IsAmong (map (λ uid. uid.now) uids.now) (Wants wanted.now)) state.now window rows.items) }
-    ensures few { IfOk result (λ rows. length rows.items ≤ row_limit) }
-    ensures many { IsErrOf result ViewError.TooManyRows
-        → AreTooManyWhere (IsAmong (map (λ uid. uid.now) uids.now) (Wants wanted.now)) state.now window }
 {
     let mut rows = Vec::new(alloc);
     for uid in uids {
         let mut more = shown_rows(alloc, state, uid, window, wanted)?;
-        if more.len() > ROW_LIMIT - rows.len() {
-            return Err(ViewError::TooManyRows);
-        }
         rows.append(&mut more)?;
     }
     Ok(rows)

@@ -1,60 +1,67 @@
 //! The text of rows.
-ghost use Rattle.std.specs.Prelude.{◌≡◌, ◌++◌, IfOk, OnOk, OnErr, Option, Some, None};
+ghost use Rattle.std.specs.Prelude.{◌≡◌, ◌++◌, IfOk, IsErrOf, OnOk, Option, Some, None, map};
 ghost use Rattle.std.specs.Fmt.{decimal};
 ghost use Rattle.std.specs.List.{flat_map};
-ghost use Rattle.itip_lines.specs.Writing.{Extends};
 ghost use Rattle.itip_moment.specs.Shown.{shown_moment};
 ghost use Rattle.itip_todo.specs.StatusText.{status_text};
 ghost use Rattle.itip_view.specs.ListText.{list_text, row_text, attendee_text, id_text, names_text, numbers_text, dates_text};
 ghost use Rattle.itip_view.specs.ListText.{summary_text, progress_text, shown};
+ghost use Rattle.itip_state.specs.Kept.{AscendTexts};
+ghost use Rattle.itip_view.specs.Showing.{AreTooManyWhere, IsAmong, IsTextAmong};
+ghost use Rattle.itip_view.specs.Wanting.{Wants};
 
+use crate::error::ViewError;
 use crate::row::{Row, RowId, ShownAttendee};
+use crate::row_order::ROW_LIMIT;
+use crate::shown::shown_rows;
+use crate::wanted::Wanted;
+use crate::window::Window;
 use itip_lines::Text;
 use itip_moment::{Moment, write_moment};
-use itip_todo::Status;
+use itip_state::State;
+use itip_todo::{Status, Uid};
 use itoa::Buffer;
 use std::alloc::{AllocError, Global};
 
-/// The text of rows, in the order given.
-pub fn list_text(alloc: Global, rows: &[Row]) -> Result<Vec<u8>, AllocError>
-    ensures { IfOk result (λ text. text.items ≡ list_text rows.now) }
+/// The text of the rows of these UIDs in a window that are asked for, at most 100,000. The rows of one UID at a time are held.
+pub(crate) fn text_by_uid(
+    alloc: Global,
+    state: &State,
+    uids: &[&Uid],
+    window: Window,
+    wanted: &Wanted<'_>,
+) -> Result<Vec<u8>, ViewError>
+    requires { AscendTexts (map (λ uid. uid.now) uids.now) }
+    ensures text { IfOk result (λ text. IsTextAmong
+        (Wants wanted.now) state.now window (map (λ uid. uid.now) uids.now) text.items) }
+    ensures many { IsErrOf result ViewError.TooManyRows
+        → AreTooManyWhere (IsAmong (map (λ uid. uid.now) uids.now) (Wants wanted.now)) state.now window }
 {
     let mut text = Vec::new(alloc);
-    write_list(rows, &mut text)?;
+    let mut number: usize = 0;
+    for uid in uids {
+        let more = shown_rows(alloc, state, uid, window, wanted)?;
+        if more.len() > ROW_LIMIT - number {
+            return Err(ViewError::TooManyRows);
+        }
+        number += more.len();
+        write_rows(&more, &mut text)?;
+    }
     Ok(text)
 }
 
-/// Appends the text of rows; where memory is refused, that of some of them.
-fn append_list(rows: &[Row], out: &mut Vec<u8>) -> Result<(), AllocError>
-    ensures text { OnOk result (out.new.items ≡ out.old.items ++ list_text rows.now) }
-    ensures extends { Extends out.old.items out.new.items }
+/// Appends the text of rows, in the order given. On an error (out of memory) a part of it may be there.
+fn write_rows(rows: &[Row], out: &mut Vec<u8>) -> Result<(), AllocError>
+    ensures { OnOk result (out.new.items ≡ out.old.items ++ list_text rows.now) }
 {
-    // A row is made apart, so that `out` has whole rows at each time, and what it had can be told from them.
-    let mut text = Vec::new(*out.allocator());
     for row in rows {
-        text.clear();
-        put_row(&mut text, row)?;
-        out.extend_from_slice(&text)?;
+        write_row(row, out)?;
     }
     Ok(())
 }
 
-/// Appends the text of rows, in the order given.
-///
-/// On an error (out of memory) the vector is as before.
-pub fn write_list(rows: &[Row], out: &mut Vec<u8>) -> Result<(), AllocError>
-    ensures ok { OnOk result (out.new.items ≡ out.old.items ++ list_text rows.now) }
-    ensures err { OnErr result (out.new.items ≡ out.old.items) }
-{
-    let start = out.len();
-    let done = append_list(rows, out);
-    if done.is_err() {
-        out.truncate(start);
-    }
-    done
-}
-
-fn put_row(out: &mut Vec<u8>, row: &Row) -> Result<(), AllocError>
+/// Appends the text of a row. On an error (out of memory) a part of it may be there.
+pub fn write_row(row: &Row, out: &mut Vec<u8>) -> Result<(), AllocError>
     ensures { OnOk result (out.new.items ≡ out.old.items ++ row_text row.now) }
 {
     put_names(out, row)?;

@@ -1,10 +1,11 @@
 //! The rows of one UID that are asked for.
 ghost use Rattle.std.specs.Prelude.{IfOk};
+ghost use Rattle.itip_view.specs.Most.{HasRows};
 ghost use Rattle.itip_view.specs.Showing.{AreRowsWhere, IsOf};
 ghost use Rattle.itip_view.specs.Wanting.{Wants};
 
 use crate::NoMemory;
-use crate::of_uid::rows_of_uid;
+use crate::of_uid::{count_of_uid, rows_of_uid};
 use crate::row::Row;
 use crate::wanted::Wanted;
 use crate::window::Window;
@@ -26,4 +27,18 @@ pub(crate) fn shown_rows(
     let mut rows = rows_of_uid(alloc, &items, window)?;
     rows.retain(|row| wanted.has(row));
     Ok(rows)
+}
+
+/// How many they are. No row is made.
+pub(crate) fn count_shown(
+    alloc: Global,
+    state: &State,
+    uid: &Uid,
+    window: Window,
+    wanted: &Wanted<'_>,
+) -> Result<usize, NoMemory>
+    ensures { IfOk result (HasRows (Wants wanted.now) state.now window uid.now) }
+{
+    let items = state.of_uid(uid)?;
+    count_of_uid(alloc, &items, window, wanted)
 }

@@ -3,7 +3,9 @@ ghost use Rattle.std.specs.Prelude.{◌≡◌, ◌↔◌};
 ghost use Rattle.std.specs.List.{list_any};
 ghost use Rattle.std.specs.Option.{option_copied, option_map};
 ghost use Rattle.itip_view.specs.Showing.{ShowsNamed};
-ghost use Rattle.itip_view.specs.Wanted.{is_named, is_done, is_asked, shows_named, is_closed, is_over, is_due_before, wants};
+ghost use Rattle.itip_todo.specs.Participation.{same_text};
+ghost use Rattle.itip_todo.specs.Table.{attendee_key};
+ghost use Rattle.itip_view.specs.Wanted.{is_done, is_asked, shows_named, is_closed, is_over, is_due_before, takes, wants};
 ghost use Rattle.itip_view.specs.Wanting.{Wants};
 ghost use Rattle.itip_view.specs.declared.row.Row.{Row};
 
@@ -46,6 +48,13 @@ impl<'a> Wanted<'a> {
         }
     }
 
+    /// Whether a row with this DUE and this STATUS is asked for, where it shows the attendee who is named.
+    pub(crate) fn takes(&self, due: &Option<Moment>, status: Option<Status>) -> bool
+        ensures { result ≡ takes self.now due.now status }
+    {
+        is_due_before(due, self.due_before) && !(self.is_open && is_over(status))
+    }
+
     /// Whether a row is asked for. It takes no memory.
     pub(crate) fn has(&self, row: &Row) -> bool
         ensures { result ≡ wants self.now row.now }
@@ -74,17 +83,18 @@ fn shows(attendees: &[ShownAttendee], address: &str, is_open: bool) -> bool
         .any(|attendee| is_asked(attendee, address, is_open))
 }
 
-fn is_asked(attendee: &ShownAttendee, address: &str, is_open: bool) -> bool
+/// Whether an attendee is that of an address; where only open rows are asked for, with something left to do.
+pub(crate) fn is_asked(attendee: &ShownAttendee, address: &str, is_open: bool) -> bool
     ensures { result ≡ is_asked is_open address.now attendee.now }
 {
-    is_named(attendee, address) && !(is_open && is_done(attendee.partstat))
+    is_named(attendee.address.as_str(), address) && !(is_open && is_done(attendee.partstat))
 }
 
-/// Whether an attendee is that of an address.
-fn is_named(attendee: &ShownAttendee, address: &str) -> bool
-    ensures { result ≡ is_named address.now attendee.now }
+/// Whether an address that is shown is that of the attendee of an address.
+pub(crate) fn is_named(shown: &str, address: &str) -> bool
+    ensures { result ≡ same_text (attendee_key shown.now) (attendee_key address.now) }
 {
-    attendee.address.as_str().eq_ignore_ascii_case(address)
+    shown.eq_ignore_ascii_case(address)
 }
 
 /// Whether an attendee with this PARTSTAT has nothing left to do.

@@ -160,7 +160,7 @@ address_utf8 (first ∷ lines) lawful line h = elim (cons_cases first lines line
 
 -- ---- rows
 
-none_shows : (heard : List Item) (window : Window) (address : List ℕ) → (¬ IsUtf8 address) → (row : Row) → IsRow heard window row →
+pub none_shows : (heard : List Item) (window : Window) (address : List ℕ) → (¬ IsUtf8 address) → (row : Row) → IsRow heard window row →
     Shows address row → ⊥
 none_shows heard window address not row is shows =
     let named = row_needs_name heard address window row is shows in

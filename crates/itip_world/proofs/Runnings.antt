@@ -1,7 +1,8 @@
 -- A run over the commands of a script: what was written, and what is kept to be written.
 use Rattle.std.proofs.Common.{◌≡◌, ℕ, Bool, false, ◌||◌, List, [], ◌∷◌, ◌++◌, length, refl, sym, ap, subst, ◌∙◌, append_assoc, inl, inr}
 use Rattle.std.proofs.Common.{Option, Some, None, Result, Ok, Err}
-use Rattle.std.specs.Prelude.{OnErr, IfSome}
+use Rattle.std.specs.Prelude.{OnErr, IfSome, is_some}
+use Rattle.std.specs.Option.{option_map}
 use Rattle.std.specs.List.{list_any}
 use Rattle.std.specs.Io.KnownBytes.{Appends}
 use Rattle.std.proofs.KnownBytes.{Appends-nil, Appends-trans}
@@ -17,7 +18,10 @@ use Rattle.itip_desk.specs.Refusals.{refused_text}
 use Rattle.itip_script.specs.Script.{orders_of}
 use Rattle.itip_streams.specs.Written.{AppendsFront, MovesOut, WritesOutput}
 use Rattle.itip_streams.proofs.Writing.{front_none, front_behind}
-use Rattle.itip_world.specs.Running.{Answer, answer_text, is_refusal, Step, Runs, Writes, WritesSome, WritesFront, RunsSoFar, Answers}
+use Rattle.itip_world.specs.Running.{Answer, answer_text, is_refusal, refusal_of, Step, Runs, Writes, WritesSome, WritesFront, RunsSoFar}
+use Rattle.itip_world.specs.Running.{Answers, Replies, RepliesFront, refused, took, posted, arrived, listed, listed_for, counted, reported}
+use Rattle.itip_world.specs.Running.{resent, next_is}
+use Rattle.itip_world.specs.declared.watch.Refused.{Refused as RefusedAs}
 
 pub on_err : {T E P : Type 0} (r : Result T E) → P → OnErr r P
 on_err (Ok x) p = tt
@@ -109,7 +113,7 @@ module _ (window : Window) (desks : ℕ) (old new : Option (List ℕ)) (orders d
       → left ≡ order ∷ others → more ≡ done ++ order ∷ [] → Answers window order world answer after → more_kept ≡ kept ++
       answer_text answer → is_refused ≡ is_refusal answer
       → RunsSoFar window desks old new orders more others after more_kept (refusal || is_refused)
-  one_more order others more after answer more_kept is_refused cut more_is answers text refused =
+  one_more order others more after answer more_kept is_refused cut more_is answers text refused_is =
       let one = answers so_far.past so_far.world_is in
       record {
         whole = so_far.whole ∙ ap (λ (t : List Order). done ++ t) cut ∙ sym (append_assoc done (order ∷ []) others) ∙
@@ -120,7 +124,7 @@ module _ (window : Window) (desks : ℕ) (old new : Option (List ℕ)) (orders d
             (runs_more window (no_past desks) done so_far.answers so_far.past order answer one.more so_far.runs one.step);
         world_is = one.world_is;
         refusal_is = ap (λ (b : Bool). b || is_refused) so_far.refusal_is ∙
-            ap (λ (b : Bool). list_any is_refusal so_far.answers || b) (refused ∙ sym (or-false (is_refusal answer)))
+            ap (λ (b : Bool). list_any is_refusal so_far.answers || b) (refused_is ∙ sym (or-false (is_refusal answer)))
             ∙ sym (list_any-append is_refusal so_far.answers (answer ∷ []));
         written = so_far.written;
         output_is = flat_map-append answer_text so_far.answers (answer ∷ [])
@@ -130,6 +134,46 @@ module _ (window : Window) (desks : ℕ) (old new : Option (List ℕ)) (orders d
             ∙ ap (λ (t : List ℕ). so_far.written ++ t) (sym text);
         appended = so_far.appended;
       }
+
+-- a refusal has a cause, and nothing else has one
+cause_of : (answer : Answer) → is_some (refusal_of answer) ≡ is_refusal answer
+cause_of (refused refusal) = refl
+cause_of (took desk tick changed) = refl
+cause_of (posted packet items) = refl
+cause_of (arrived packet desk tick changed) = refl
+cause_of (listed desk rows) = refl
+cause_of (listed_for desk rows) = refl
+cause_of (counted desk entries) = refl
+cause_of (reported desk named lines) = refl
+cause_of (resent desk bytes) = refl
+cause_of (next_is desk sequence) = refl
+
+some_mapped : (why : Option RefusedAs) → is_some (option_map (λ (r : RefusedAs). r.refusal) why) ≡ is_some why
+some_mapped (Some r) = refl
+some_mapped None = refl
+
+module _ (window : Window) (desks : ℕ) (old new newer : Option (List ℕ)) (orders done left : List Order) (world : ShownWorld)
+    (kept : List ℕ) (refusal : Bool) (so_far : RunsSoFar window desks old new orders done left world kept refusal)
+    (order : Order) (others more : List Order) (cut : left ≡ order ∷ others) (more_is : more ≡ done ++ order ∷ []) where
+  -- one command more, and what was written of its answer
+  pub one_replied : (after : ShownWorld) (rest : List ℕ) (why : Option RefusedAs) (is_refused : Bool) →
+      Replies window order world after new newer kept rest why → is_refused ≡ is_some why
+      → RunsSoFar window desks old newer orders more others after rest (refusal || is_refused)
+  one_replied after rest why is_refused replies refused_is =
+      let said : is_refused ≡ is_refusal replies.answer =
+      refused_is ∙ sym (some_mapped why) ∙ ap is_some replies.refusal_is ∙ cause_of replies.answer in
+      moved_out window desks old new orders more others after (kept ++ answer_text replies.answer) (refusal || is_refused)
+      (one_more window desks old new orders done left world kept refusal so_far order others more after replies.answer
+      (kept ++ answer_text replies.answer) is_refused cut more_is replies.answers refl said) newer rest replies.moved
+
+  -- a front was written of what is kept, or of the answer to one command more
+  pub front_replied : RepliesFront window order world new newer kept → WritesSome window desks old newer orders
+  front_replied (inl front) = front_written window desks old new orders done left world kept refusal so_far newer front
+  front_replied (inr writes) =
+      front_written window desks old new orders more others writes.after (kept ++ answer_text writes.answer)
+      (refusal || is_refusal writes.answer)
+      (one_more window desks old new orders done left world kept refusal so_far order others more writes.after writes.answer
+      (kept ++ answer_text writes.answer) (is_refusal writes.answer) cut more_is writes.answers refl refl) newer writes.appended
 
 -- nothing was done and nothing written
 pub not_started : (window : Window) (desks : ℕ) (old : Option (List ℕ)) (orders : List Order) → WritesSome window desks old old orders

@@ -25,10 +25,11 @@ use Rattle.itip_report.specs.Organizing.{IsResendOf, IsNext}
 use Rattle.itip_report.specs.declared.report_name.ReportName.{ReportName}
 use Rattle.itip_world.specs.declared.answer.Answer.{Answer as Given}
 use Rattle.itip_world.specs.declared.answer.Answer.TheVariants as given
+use Rattle.itip_world.specs.declared.watch.Refused.{Refused as RefusedAs}
 use Rattle.itip_script.specs.Orders.{Order, takes, lists, lists_for, posts, arrives, reports, resends, asks_next, counts, malformed}
 use Rattle.itip_world.specs.AnswerTexts.{taken_text, posted_text, arrived_text, counted_text, reported_text, resent_text, next_text}
 use Rattle.itip_script.specs.Script.{orders_of}
-use Rattle.itip_streams.specs.Written.{AppendsFront}
+use Rattle.itip_streams.specs.Written.{AppendsFront, MovesOut}
 
 -- What a command is answered.
 pub data Answer : Type 0 where
@@ -92,15 +93,27 @@ refusal_of (next_is desk sequence) = None
 -- an answer of the program
 abbrev pub answer_of : Given → Answer
 answer_of (given.Refused refusal) = refused refusal
+answer_of (given.TooMany most) = refused TooManyRows
 answer_of (given.Took desk heard) = took desk heard.tick heard.changed
 answer_of (given.Posted packet items) = posted packet items
 answer_of (given.Arrived packet desk heard) = arrived packet desk heard.tick heard.changed
-answer_of (given.Listed desk rows) = listed desk rows.items
-answer_of (given.ListedFor desk rows) = listed_for desk rows.items
 answer_of (given.Counted desk entries) = counted desk entries
 answer_of (given.Reported desk named lines) = reported desk named (map string_bytes lines.items)
 answer_of (given.Resent desk messages) = resent desk (option_map (λ bytes. bytes.items) messages)
 answer_of (given.Next desk sequence) = next_is desk sequence
+
+-- a command that asks for no list
+abbrev pub AsksForNoList : Order → Type 0
+AsksForNoList (takes desk text) = Unit {0}
+AsksForNoList (lists desk) = ⊥
+AsksForNoList (lists_for desk address) = ⊥
+AsksForNoList (posts desk since) = Unit {0}
+AsksForNoList (arrives packet desk) = Unit {0}
+AsksForNoList (reports desk name) = Unit {0}
+AsksForNoList (resends desk uid) = Unit {0}
+AsksForNoList (asks_next desk uid) = Unit {0}
+AsksForNoList (counts desk) = Unit {0}
+AsksForNoList malformed = Unit {0}
 
 -- the event that a command asks of a world
 abbrev pub event_of : Order → Option Event
@@ -253,3 +266,27 @@ pub record RunsSoFar (window : Window) (desks : ℕ) (old new : Option (List ℕ
   pub written : List ℕ
   pub output_is : flat_map answer_text answers ≡ written ++ kept
   pub appended : Appends old new written
+
+-- the text of an answer is behind what was kept, and this is why the command was refused, if it was
+pub record IsTold (answer : Answer) (kept told : List ℕ) (refused : Option RefusedAs) : Type 0 where
+  pub text_is : told ≡ kept ++ answer_text answer
+  pub refusal_is : option_map (λ (r : RefusedAs). r.refusal) refused ≡ refusal_of answer
+
+-- A command is answered behind what is kept to be written, and a front of both is written; and why it is refused, if it is.
+pub record Replies (window : Window) (order : Order) (world after : ShownWorld) (old new : Option (List ℕ)) (kept rest : List ℕ)
+    (refused : Option RefusedAs) : Type 0 where
+  pub answer : Answer
+  pub answers : Answers window order world answer after
+  pub moved : MovesOut old new (kept ++ answer_text answer) rest
+  pub refusal_is : option_map (λ (r : RefusedAs). r.refusal) refused ≡ refusal_of answer
+
+-- A front was written of what is kept and of the answer to a command.
+pub record WritesAnswer (window : Window) (order : Order) (world : ShownWorld) (old new : Option (List ℕ)) (kept : List ℕ) : Type 0 where
+  pub answer : Answer
+  pub after : ShownWorld
+  pub answers : Answers window order world answer after
+  pub appended : AppendsFront old new (kept ++ answer_text answer)
+
+-- A front was written of what is kept, or of that and of the answer to a command.
+abbrev pub RepliesFront : Window → Order → ShownWorld → Option (List ℕ) → Option (List ℕ) → List ℕ → Type 0
+RepliesFront window order world old new kept = AppendsFront old new kept ⊎ WritesAnswer window order world old new kept

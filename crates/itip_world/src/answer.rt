@@ -1,10 +1,12 @@
 //! What a command is answered.
 ghost use Rattle.std.specs.Prelude.{◌≡◌};
-ghost use Rattle.itip_world.specs.Running.{answer_of, is_refusal, refusal_of};
+ghost use Rattle.std.specs.Option.{option_map};
+ghost use Rattle.itip_world.specs.Running.{answer_of, refusal_of};
 
+use crate::watch::Refused;
 use itip_desk::Refusal;
 use itip_report::ReportName;
-use itip_view::Row;
+use itip_view::MostRows;
 
 /// The tick of a desk after it has heard something, and how many UIDs moved.
 #[derive(Clone, Copy, Debug)]
@@ -13,11 +15,13 @@ pub(crate) struct Heard {
     pub(crate) changed: usize,
 }
 
-/// What a command is answered. Desks and packets are numbered from 0.
+/// What a command is answered that asks for no list. Desks and packets are numbered from 0.
 #[derive(Drop)]
 pub(crate) enum Answer {
     /// Why the command was refused.
     Refused(Refusal),
+    /// There are too many rows to tell of; the to-do with the most of them.
+    TooMany(MostRows),
     /// A desk took a message.
     Took {
         desk: usize,
@@ -33,16 +37,6 @@ pub(crate) enum Answer {
         packet: usize,
         desk: usize,
         heard: Heard,
-    },
-    /// The rows of the list of a desk.
-    Listed {
-        desk: u64,
-        rows: Vec<Row>,
-    },
-    /// The rows of the list of a desk that show an attendee.
-    ListedFor {
-        desk: u64,
-        rows: Vec<Row>,
     },
     /// How many items a desk keeps.
     Counted {
@@ -68,18 +62,16 @@ pub(crate) enum Answer {
 }
 
 impl Answer {
-    pub(crate) fn is_refusal(&self) -> bool
-        ensures { result ≡ is_refusal (answer_of self.now) }
-    {
-        matches!(self, Answer::Refused(_))
-    }
-
-    /// Why a command was refused, if it was.
-    pub(crate) fn refusal(&self) -> Option<Refusal>
-        ensures { result ≡ refusal_of (answer_of self.now) }
+    /// Why the command was refused, if it was.
+    pub(crate) fn refused(self) -> Option<Refused>
+        ensures { option_map (λ r. r.refusal) result ≡ refusal_of (answer_of self) }
     {
         match self {
-            Answer::Refused(refusal) => Some(*refusal),
+            Answer::Refused(refusal) => Some(Refused {
+                refusal,
+                most: None,
+            }),
+            Answer::TooMany(most) => Some(Refused::of_most(most)),
             _ => None,
         }
     }

@@ -1,13 +1,15 @@
 //! The commands of a script, each done and answered.
-ghost use Rattle.std.specs.Prelude.{◌≡◌, IfOk, IfErr, Some};
+ghost use Rattle.std.specs.Prelude.{◌≡◌, ◌≢◌, IfOk, IfErr, OnErr, Some};
 ghost use Rattle.itip_world.specs.Worlds.{no_past, IsWorldOf};
 ghost use Rattle.itip_script.specs.Orders.{Order, order_of};
 ghost use Rattle.itip_view.specs.declared.window.Window.{Window};
 ghost use Rattle.itip_world.specs.Running.{Answers, answer_of, answer_to, heard_at, event_of, HasTick};
+ghost use Rattle.itip_world.specs.Running.{AsksForNoList, IsTold, Replies, RepliesFront};
 
 use crate::answer::{Answer, Heard};
 use crate::event::{Event, Outcome};
 use crate::stop::Cause;
+use crate::watch::Refused;
 use crate::world::World;
 use itip_desk::Refusal;
 use itip_lines::Bytes;
@@ -15,6 +17,7 @@ use itip_script::Command;
 use itip_streams::StreamFault;
 use itip_view::Window;
 use std::alloc::{AllocError, Global};
+use std::io::Write;
 
 /// The desks that commands are asked of, and the window of lists.
 #[derive(Drop)]
@@ -37,8 +40,35 @@ impl Desks {
         })
     }
 
-    /// Does a command, and answers it. An error means out of memory.
-    pub(crate) fn answer(&mut self, command: &Command<'_>) -> Result<Answer, StreamFault>
+    /// Does a command, and says why it was refused, if it was. The answer is put behind the octets that are kept to be written; where
+    /// it is a list, they are written once they are 65,536 or more. After a fault a front of what is kept was written, or of that and
+    /// of the answer.
+    pub(crate) fn reply<W: Write>(
+        &mut self,
+        command: &Command<'_>,
+        writer: &mut W,
+        kept: &mut Vec<u8>,
+    ) -> Result<Option<Refused>, StreamFault>
+        ensures replies { IfOk result (Replies self.old.window (order_of command.now) self.old.world self.new.world
+            (W.contents writer.old) (W.contents writer.new) kept.old.items kept.new.items) }
+        ensures window { self.new.window ≡ self.old.window }
+        ensures front { OnErr result (RepliesFront self.old.window (order_of command.now) self.old.world
+            (W.contents writer.old) (W.contents writer.new) kept.old.items) }
+        ensures fault { IfErr result (λ fault. fault ≢ StreamFault.Read) }
+    {
+        match command {
+            Command::List { desk } => self.list(*desk, writer, kept),
+            Command::Mine { desk, address } => self.list_for(*desk, address, writer, kept),
+            _ => {
+                let answer = self.answer(command)?;
+                told(answer, kept)
+            }
+        }
+    }
+
+    /// Does a command that asks for no list, and answers it. An error means out of memory.
+    fn answer(&mut self, command: &Command<'_>) -> Result<Answer, StreamFault>
+        requires { AsksForNoList (order_of command.now) }
         ensures answers { IfOk result (λ answer.
             Answers self.old.window (order_of command.now) self.old.world (answer_of answer) self.new.world) }
         ensures window { self.new.window ≡ self.old.window }
@@ -57,8 +87,8 @@ impl Desks {
                 packet: *packet as usize,
                 desk: *desk as usize,
             }),
-            Command::List { desk } => self.list(*desk),
-            Command::Mine { desk, address } => self.list_for(*desk, address),
+            Command::List { .. } => unreachable!(),
+            Command::Mine { .. } => unreachable!(),
             Command::Entries { desk } => Ok(self.entries(*desk)),
             Command::Report { desk, name } => self.report(*desk, *name),
             Command::Resend { desk, uid } => self.resend(*desk, uid),
@@ -80,6 +110,15 @@ impl Desks {
             Err(Cause::NoMemory) => Err(StreamFault::Memory),
         }
     }
+}
+
+/// Puts an answer behind the octets that are kept to be written, and says why the command was refused, if it was.
+pub(crate) fn told(answer: Answer, kept: &mut Vec<u8>) -> Result<Option<Refused>, StreamFault>
+    ensures told { IfOk result (IsTold (answer_of answer) kept.old.items kept.new.items) }
+    ensures fault { IfErr result (λ fault. fault ≢ StreamFault.Read) }
+{
+    answer.append(kept)?;
+    Ok(answer.refused())
 }
 
 fn delivery(alloc: Global, desk: u64, text: &[u8]) -> Result<Event, AllocError>

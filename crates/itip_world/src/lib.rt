@@ -22,5 +22,5 @@ pub use run::{Ran, run_world};
 pub use script::{run_script, run_script_watched};
 pub use std::alloc::AllocError as NoMemory;
 pub use stop::{Cause, Stopped};
-pub use watch::Watch;
+pub use watch::{Refused, Watch};
 pub use world::World;

@@ -1,23 +1,24 @@
 //! The answers to the commands that ask a desk for its list, for reports, for messages to send again and for sequences.
-ghost use Rattle.std.specs.Prelude.{◌≡◌, IfOk, IfErr, IsErrOf, map};
+ghost use Rattle.std.specs.Prelude.{◌≡◌, ◌≢◌, IfOk, IfErr, OnErr};
 ghost use Rattle.std.specs.Option.{option_map};
-ghost use Rattle.std.specs.String.{string_bytes};
-ghost use Rattle.itip_view.specs.Rows.{AreTooMany};
-ghost use Rattle.itip_view.specs.Showing.{Shows, AreTooManyWhere};
-ghost use Rattle.itip_report.specs.Named.{IsReportOf, IsOfRows, HasRowsFor};
+ghost use Rattle.itip_view.specs.ByUid.{AreAsked};
+ghost use Rattle.itip_view.specs.Showing.{Shows};
+ghost use Rattle.itip_report.specs.Named.{AreRowsFor};
 ghost use Rattle.itip_report.specs.Organizing.{IsResendOf, IsNext};
 ghost use Rattle.itip_script.specs.Orders.{lists, lists_for, counts, reports, resends, asks_next};
-ghost use Rattle.itip_world.specs.Running.{Answers, answer_of, AreListedFor};
+ghost use Rattle.itip_world.specs.Running.{Answers, answer_of, Replies, RepliesFront};
 
 use crate::answer::Answer;
-use crate::asked::Desks;
-use itip_desk::{Desk, Refusal};
-use itip_report::{ReportName, next_seq};
+use crate::asked::{Desks, told};
+use crate::watch::Refused;
+use itip_desk::{Desk, Refusal, write_listed};
+use itip_report::{ReportName, next_seq, no_rows, report_lines};
 use itip_state::State;
 use itip_streams::StreamFault;
 use itip_todo::Uid;
-use itip_view::{Row, ViewError, Window};
+use itip_view::{MostRows, RowCount, RowsByUid, Window};
 use std::alloc::{AllocError, Global};
+use std::io::Write;
 
 impl Desks {
     ghost use Rattle.std.specs.Prelude.{◌≤◌, Some, MatchOption, length, slice_get};
@@ -30,33 +31,47 @@ impl Desks {
         self.world.desks().get(desk as usize)
     }
 
-    /// Answers with the rows of the list of a desk.
-    pub(crate) fn list(&self, desk: u64) -> Result<Answer, StreamFault>
-        ensures answers { IfOk result (λ answer. Answers self.now.window (lists desk) self.now.world (answer_of answer) self.now.world) }
-        ensures fault { IfErr result (λ fault. fault ≡ StreamFault.Memory) }
+    /// Writes the list of a desk.
+    pub(crate) fn list<W: Write>(
+        &self,
+        desk: u64,
+        writer: &mut W,
+        kept: &mut Vec<u8>,
+    ) -> Result<Option<Refused>, StreamFault>
+        ensures replies { IfOk result (Replies self.now.window (lists desk) self.now.world self.now.world
+            (W.contents writer.old) (W.contents writer.new) kept.old.items kept.new.items) }
+        ensures front { OnErr result (RepliesFront self.now.window (lists desk) self.now.world
+            (W.contents writer.old) (W.contents writer.new) kept.old.items) }
+        ensures fault { IfErr result (λ fault. fault ≢ StreamFault.Read) }
     {
         let Some(listed) = self.desk(desk) else {
-            return Ok(Answer::Refused(Refusal::NoDesk(desk)));
+            return told(Answer::Refused(Refusal::NoDesk(desk)), kept);
         };
-        match listed.rows(self.window) {
-            Ok(rows) => Ok(Answer::Listed { desk, rows }),
-            Err(error) => no_rows(error),
-        }
+        let rows = listed.rows(self.window)?;
+        let most = write_listed("list", desk, rows, writer, kept)?;
+        Ok(refused_for(most))
     }
 
-    /// Answers with the rows of the list of a desk that show the attendee of an address.
-    pub(crate) fn list_for(&self, desk: u64, address: &[u8]) -> Result<Answer, StreamFault>
-        ensures answers { IfOk result (λ answer.
-            Answers self.now.window (lists_for desk address.now) self.now.world (answer_of answer) self.now.world) }
-        ensures fault { IfErr result (λ fault. fault ≡ StreamFault.Memory) }
+    /// Writes the list of a desk, of the rows that show the attendee of an address.
+    pub(crate) fn list_for<W: Write>(
+        &self,
+        desk: u64,
+        address: &[u8],
+        writer: &mut W,
+        kept: &mut Vec<u8>,
+    ) -> Result<Option<Refused>, StreamFault>
+        ensures replies { IfOk result (Replies self.now.window (lists_for desk address.now) self.now.world self.now.world
+            (W.contents writer.old) (W.contents writer.new) kept.old.items kept.new.items) }
+        ensures front { OnErr result (RepliesFront self.now.window (lists_for desk address.now) self.now.world
+            (W.contents writer.old) (W.contents writer.new) kept.old.items) }
+        ensures fault { IfErr result (λ fault. fault ≢ StreamFault.Read) }
     {
         let Some(listed) = self.desk(desk) else {
-            return Ok(Answer::Refused(Refusal::NoDesk(desk)));
+            return told(Answer::Refused(Refusal::NoDesk(desk)), kept);
         };
-        match rows_for(self.alloc, listed, self.window, address) {
-            Ok(rows) => Ok(Answer::ListedFor { desk, rows }),
-            Err(error) => no_rows(error),
-        }
+        let rows = rows_for(self.alloc, listed, self.window, address)?;
+        let most = write_listed("mine", desk, rows, writer, kept)?;
+        Ok(refused_for(most))
     }
 
     /// Answers with the number of items that a desk keeps.
@@ -78,9 +93,13 @@ impl Desks {
         let Some(asked) = self.desk(desk) else {
             return Ok(Answer::Refused(Refusal::NoDesk(desk)));
         };
-        match report_lines(self.alloc, asked, self.window, name) {
-            Ok(lines) => Ok(Answer::Reported { desk, name, lines }),
-            Err(error) => no_rows(error),
+        let rows = report_rows(self.alloc, asked, self.window, name)?;
+        match rows.count()? {
+            RowCount::Few(_) => {
+                let lines = report_lines(self.alloc, asked.state(), name, rows)?;
+                Ok(Answer::Reported { desk, name, lines })
+            }
+            RowCount::TooMany(most) => Ok(Answer::TooMany(most)),
         }
     }
 
@@ -111,30 +130,11 @@ impl Desks {
     }
 }
 
-/// What is answered where a view gave no rows: too many are a refusal.
-fn no_rows(error: ViewError) -> Result<Answer, StreamFault>
-    ensures refused { IfOk result (λ answer. (error ≡ ViewError.TooManyRows) × (answer ≡ Answer.Refused Refusal.TooManyRows)) }
-    ensures fault { IfErr result (λ fault. fault ≡ StreamFault.Memory) }
+/// Why a command is refused, where this to-do has the most of too many rows.
+fn refused_for(most: Option<MostRows>) -> Option<Refused>
+    ensures { option_map (λ r. r.refusal) result ≡ option_map (λ _. Refusal.TooManyRows) most }
 {
-    match error {
-        ViewError::TooManyRows => Ok(Answer::Refused(Refusal::TooManyRows)),
-        ViewError::NoMemory => Err(StreamFault::Memory),
-    }
-}
-
-/// The lines of a report of a desk.
-fn report_lines(
-    alloc: Global,
-    desk: &Desk,
-    window: Window,
-    name: ReportName,
-) -> Result<Vec<String>, ViewError>
-    ensures lines { IfOk result (λ lines. IsReportOf name desk.now.kept window (map string_bytes lines.items)) }
-    ensures of_rows { IsErrOf result ViewError.TooManyRows → IsOfRows name }
-    ensures many { IsErrOf result ViewError.TooManyRows → AreTooMany desk.now.kept window }
-{
-    let rows = report_rows(alloc, desk, window, name)?;
-    Ok(itip_report::report_lines(alloc, desk.state(), name, &rows)?)
+    Some(Refused::of_most(most?))
 }
 
 /// The rows of a desk that a report tells of: none where it tells of no rows.
@@ -143,31 +143,28 @@ fn report_rows(
     desk: &Desk,
     window: Window,
     name: ReportName,
-) -> Result<Vec<Row>, ViewError>
-    ensures rows { IfOk result (λ rows. HasRowsFor name desk.now.kept window rows.items) }
-    ensures of_rows { IsErrOf result ViewError.TooManyRows → IsOfRows name }
-    ensures many { IsErrOf result ViewError.TooManyRows → AreTooMany desk.now.kept window }
+) -> Result<RowsByUid<'_, '_>, AllocError>
+    ensures { IfOk result (AreRowsFor name desk.now.kept window) }
 {
     if name.is_of_rows() {
         desk.rows(window)
     } else {
-        Ok(Vec::new(alloc))
+        no_rows(alloc, desk.state(), window)
     }
 }
 
 // The address of an attendee is a text, so octets that are none show in no row.
-fn rows_for(
+fn rows_for<'a>(
     alloc: Global,
-    desk: &Desk,
+    desk: &'a Desk,
     window: Window,
-    address: &[u8],
-) -> Result<Vec<Row>, ViewError>
-    ensures rows { IfOk result (λ rows. AreListedFor address.now desk.now.kept window rows.items) }
-    ensures many { IsErrOf result ViewError.TooManyRows → AreTooManyWhere (Shows address.now) desk.now.kept window }
+    address: &'a [u8],
+) -> Result<RowsByUid<'a, 'a>, AllocError>
+    ensures { IfOk result (AreAsked (Shows address.now) desk.now.kept window) }
 {
     match str::from_utf8(address) {
         Ok(text) => desk.rows_for(window, text),
-        Err(_) => Ok(Vec::new(alloc)),
+        Err(_) => no_rows(alloc, desk.state(), window),
     }
 }
 

@@ -77,7 +77,7 @@ fn refuse_whole<W: Write>(alloc: Global, writer: &mut W) -> Result<bool, StreamF
     Ok(true)
 }
 
-// Runs the commands of a script over desks that have heard nothing.
+// Runs the commands of a script over desks that have heard nothing. No answer is held as a whole but a report, and messages to send.
 fn run_commands<W: Write, T: Watch>(
     asked: &mut Desks,
     script: &[u8],
@@ -90,15 +90,15 @@ fn run_commands<W: Write, T: Watch>(
         WritesSome asked.old.window desks (W.contents writer.old) (W.contents writer.new) (orders_of script.now)) }
     ensures fault { IfErr result (λ fault. fault ≢ StreamFault.Read) }
 {
-    let mut answers = Vec::new(asked.alloc);
+    let mut kept = Vec::new(asked.alloc);
     let mut is_refused = false;
     for command in Commands::new(script) {
-        let answer = asked.answer(&command)?;
-        is_refused |= answer.is_refusal();
-        watch.answered(&command, answer.refusal());
-        answer.append(&mut answers)?;
-        write_if_many(writer, &mut answers)?;
+        let refused = asked.reply(&command, writer, &mut kept)?;
+        is_refused |= refused.is_some();
+        watch.answered(&command, refused.as_ref());
+        drop(refused);
+        write_if_many(writer, &mut kept)?;
     }
-    write_output(writer, answers.as_slice())?;
+    write_output(writer, kept.as_slice())?;
     Ok(is_refused)
 }

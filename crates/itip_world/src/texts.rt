@@ -8,30 +8,29 @@ ghost use Rattle.itip_world.specs.AnswerTexts.{reported_text, resent_text, next_
 ghost use Rattle.itip_world.specs.Running.{answer_of, answer_text};
 
 use crate::answer::{Answer, Heard};
-use itip_desk::{write_headed, write_listed};
+use itip_desk::Refusal;
 use itip_report::ReportName;
 use std::alloc::AllocError;
 
 impl Answer {
     /// Appends the text of the answer. If an allocation fails a part of it may be there.
-    pub(crate) fn append(self, output: &mut Vec<u8>) -> Result<(), AllocError>
-        ensures { OnOk result (output.new.items ≡ output.old.items ++ answer_text (answer_of self)) }
+    pub(crate) fn append(&self, output: &mut Vec<u8>) -> Result<(), AllocError>
+        ensures { OnOk result (output.new.items ≡ output.old.items ++ answer_text (answer_of self.now)) }
     {
         match self {
             Answer::Refused(refusal) => refusal.append(output),
-            Answer::Took { desk, heard } => append_taken(output, desk, heard),
-            Answer::Posted { packet, items } => append_posted(output, packet, items),
+            Answer::TooMany(_) => Refusal::TooManyRows.append(output),
+            Answer::Took { desk, heard } => append_taken(output, *desk, *heard),
+            Answer::Posted { packet, items } => append_posted(output, *packet, *items),
             Answer::Arrived {
                 packet,
                 desk,
                 heard,
-            } => append_arrived(output, packet, desk, heard),
-            Answer::Listed { desk, rows } => write_listed(desk, &rows, output),
-            Answer::ListedFor { desk, rows } => write_headed("mine", desk, &rows, output),
-            Answer::Counted { desk, entries } => append_counted(output, desk, entries),
-            Answer::Reported { desk, name, lines } => append_reported(output, desk, name, &lines),
-            Answer::Resent { desk, messages } => append_resent(output, desk, messages.as_deref()),
-            Answer::Next { desk, sequence } => append_next(output, desk, sequence),
+            } => append_arrived(output, *packet, *desk, *heard),
+            Answer::Counted { desk, entries } => append_counted(output, *desk, *entries),
+            Answer::Reported { desk, name, lines } => append_reported(output, *desk, *name, lines),
+            Answer::Resent { desk, messages } => append_resent(output, *desk, messages.as_deref()),
+            Answer::Next { desk, sequence } => append_next(output, *desk, *sequence),
         }
     }
 }

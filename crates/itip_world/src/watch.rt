@@ -1,18 +1,41 @@
 //! Who is told how commands were answered.
+ghost use Rattle.std.specs.Prelude.{◌≡◌};
+
 use itip_desk::Refusal;
 use itip_script::Command;
+use itip_view::MostRows;
+
+/// Why a command was refused.
+#[derive(Debug, Drop)]
+pub struct Refused {
+    pub refusal: Refusal,
+    /// Where there are too many rows, the to-do that has the most of them.
+    pub most: Option<MostRows>,
+}
+
+impl Refused {
+    /// There are too many rows, and this to-do has the most of them.
+    pub(crate) fn of_most(most: MostRows) -> Refused
+        ensures { result.refusal ≡ Refusal.TooManyRows }
+    {
+        Refused {
+            refusal: Refusal::TooManyRows,
+            most: Some(most),
+        }
+    }
+}
 
 /// What is told of a script beside the output. Nothing that is read or written depends on it.
 pub trait Watch {
     /// The next command was answered, or refused.
-    fn answered(&mut self, command: &Command<'_>, refusal: Option<Refusal>);
+    fn answered(&mut self, command: &Command<'_>, refused: Option<&Refused>);
 
     /// The script was refused as a whole.
     fn refused_script(&mut self, refusal: Refusal);
 }
 
 impl Watch for () {
-    fn answered(&mut self, _command: &Command<'_>, _refusal: Option<Refusal>) {}
+    fn answered(&mut self, _command: &Command<'_>, _refused: Option<&Refused>) {}
 
     fn refused_script(&mut self, _refusal: Refusal) {}
 }

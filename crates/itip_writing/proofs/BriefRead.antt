@@ -6,20 +6,18 @@ use Rattle.std.specs.Fmt.{decimal}
 use Rattle.std.specs.Str.{IsUtf8}
 use Rattle.std.specs.List.{AllByRecursion, Contains, IsDistinct, list_all}
 use Rattle.std.specs.List.Sorted.{IsStrictlySortedBy}
-use Rattle.itip_lines.specs.Lawful.{IsLawfulParam}
 use Rattle.itip_lines.specs.Octets.{is_value_octet}
 use Rattle.itip_moment.specs.Order.{moment_cmp}
 use Rattle.itip_moment.specs.Written.{stamp_text}
 use Rattle.itip_moment.specs.declared.moment.Moment.{Moment}
 use Rattle.itip_moment.specs.declared.stamp.Stamp.{Stamp}
 use Rattle.itip_todo.specs.Lawful.{HasValue, IsLawful, IsLawfulContent}
-use Rattle.itip_todo.specs.Participation.{partstat_text, same_text}
+use Rattle.itip_todo.specs.Participation.{same_text}
 use Rattle.itip_todo.specs.Parts.{Parts}
 use Rattle.itip_todo.specs.PartsOf.{parts_of}
 use Rattle.itip_todo.specs.Table.{attendee_key, sequence_limit}
 use Rattle.itip_todo.specs.Written.{optional, plain, property_line, rid_line}
 use Rattle.itip_todo.specs.declared.attendee.PartStat.{PartStat}
-use Rattle.itip_todo.specs.declared.attendee.PartStat.TheVariants as partstat
 use Rattle.itip_todo.specs.declared.property.Property.{Property}
 use Rattle.itip_todo.specs.declared.property_name.PropertyName.TheVariants as name
 use Rattle.itip_todo.proofs.LawfulLines.{number_lawful, stamp_lawful}
@@ -47,6 +45,7 @@ use Rattle.itip_writing.specs.Replying.{IsAsked, IsReplyOf, answer_line, no_less
 use Rattle.itip_writing.specs.Sent.{sent_octets}
 use Rattle.itip_writing.specs.declared.answer.Answer.{Answer}
 use Rattle.itip_writing.proofs.IdLines.{attendees_lawful, organizer_lawful, question_params, rid_spelt}
+use Rattle.itip_writing.proofs.Partstats.{partstat_param}
 use Rattle.itip_writing.proofs.SentRead.{IsAlmost, parts_read}
 use Rattle.itip_writing.proofs.Spelt.{AreSpelt, IsSpelt, all_spelt, spelt_of}
 
@@ -136,44 +135,6 @@ asked_address : (heard : List Item) (uid : List ℕ) (id : Option Moment) (addre
 asked_address heard uid id address item named is =
     subst IsAddress (sym is.named_is)
     (address_read item is.attendee.address (line_in_question heard uid id item is.shown is.shows is.attendee is.there))
-
-partstat_param : (status : PartStat) → IsLawfulParam (record { name = codes "PARTSTAT"; values = partstat_text status ∷ [] })
-unfolding lib.Utf8.encode
-partstat_param partstat.NeedsAction = record {
-  named = record { some = omega arith; upper = refl };
-  some = omega arith;
-  values = (record { octets = refl; utf8 = (codes "NEEDS-ACTION", (refl, refl)) }, tt);
-}
-partstat_param partstat.Accepted = record {
-  named = record { some = omega arith; upper = refl };
-  some = omega arith;
-  values = (record { octets = refl; utf8 = (codes "ACCEPTED", (refl, refl)) }, tt);
-}
-partstat_param partstat.Declined = record {
-  named = record { some = omega arith; upper = refl };
-  some = omega arith;
-  values = (record { octets = refl; utf8 = (codes "DECLINED", (refl, refl)) }, tt);
-}
-partstat_param partstat.Tentative = record {
-  named = record { some = omega arith; upper = refl };
-  some = omega arith;
-  values = (record { octets = refl; utf8 = (codes "TENTATIVE", (refl, refl)) }, tt);
-}
-partstat_param partstat.Delegated = record {
-  named = record { some = omega arith; upper = refl };
-  some = omega arith;
-  values = (record { octets = refl; utf8 = (codes "DELEGATED", (refl, refl)) }, tt);
-}
-partstat_param partstat.Completed = record {
-  named = record { some = omega arith; upper = refl };
-  some = omega arith;
-  values = (record { octets = refl; utf8 = (codes "COMPLETED", (refl, refl)) }, tt);
-}
-partstat_param partstat.InProcess = record {
-  named = record { some = omega arith; upper = refl };
-  some = omega arith;
-  values = (record { octets = refl; utf8 = (codes "IN-PROCESS", (refl, refl)) }, tt);
-}
 
 -- an ATTENDEE line that can be written
 record IsLine (line : Property) : Type 0 where

@@ -15,7 +15,7 @@ use Rattle.itip_view.specs.declared.row.Row.{Row}
 use Rattle.itip_view.specs.declared.window.Window.{Window}
 use Rattle.itip_report.specs.Organizing.{IsResendOf}
 use Rattle.itip_report.specs.Reports.{IsWanted}
-use Rattle.itip_report.proofs.OfKept.{resend_of_kept}
+use Rattle.itip_report.proofs.OfKept.{resend_of_kept, resent_of_kept}
 use Rattle.itip_writing.specs.Causes.{IfNothing}
 use Rattle.itip_writing.specs.Errands.{CannotBeWritten, IsWritten, LacksOf}
 use Rattle.itip_writing.specs.Refreshing.{IsRefresh, NoneSequenced}
@@ -100,8 +100,12 @@ module _ (kept heard : List Item) (are : AreKept kept heard) where
   written_of_kept (errand.Request draft) at octets is = request_of_kept kept heard are draft.now at octets is
 
   pub lacks_of_kept : (e : Errand) (lacking : List PropertyName) → LacksOf e kept lacking → LacksOf e heard lacking
-  lacks_of_kept (errand.Resend uid) lacking is =
-      lacking_there uid.now kept heard (same_kept uid.now kept heard are) None lacking is
+  lacks_of_kept (errand.Resend uid) lacking is = record {
+    series = is.series;
+    overrides = is.overrides;
+    resent = resent_of_kept kept heard are uid.now is.series is.overrides is.resent;
+    lacking_is = is.lacking_is;
+  }
   lacks_of_kept (errand.Reply uid id answer) lacking is =
       lacking_there uid.now kept heard (same_kept uid.now kept heard are) (option_copied id) lacking is
   lacks_of_kept (errand.Refresh uid id attendee) lacking is =

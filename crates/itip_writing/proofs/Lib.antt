@@ -9,6 +9,7 @@ pub mod SentRead
 pub mod Composed
 pub mod Seconds
 pub mod Latest
+pub mod Partstats
 pub mod BriefRead
 pub mod AttendeeHeard
 pub mod OwnSequences

@@ -8,7 +8,7 @@ use Rattle.itip_items.specs.declared.item.Item.{Item}
 use Rattle.itip_report.specs.Organizing.{IsResend, IsResendOf}
 use Rattle.itip_writing.specs.Cancelling.{IsCancelling, CannotCancel, IsCancellingOnward, CannotCancelOnward, IsOnwardLacking}
 use Rattle.itip_writing.specs.Causes.{IfNothing}
-use Rattle.itip_writing.specs.Lacking.{lacking_in_request}
+use Rattle.itip_writing.specs.Lacking.{IsResendLacking, lacking_in_request}
 use Rattle.itip_writing.specs.Refreshing.{IsRefresh, CannotRefresh}
 use Rattle.itip_writing.specs.Removing.{IsRemoving, CannotRemove}
 use Rattle.itip_writing.specs.Replying.{IsReply, CannotReply, IsLacking}
@@ -42,7 +42,7 @@ CannotBeWritten (errand.Request draft) heard at error = CannotRequest heard draf
 
 -- what RFC 5546 3.4 wants in the message that is asked for, and that is not there
 abbrev pub LacksOf : Errand → List Item → List PropertyName → Type 0
-LacksOf (errand.Resend uid) heard lacking = IsLacking heard uid.now None lacking
+LacksOf (errand.Resend uid) heard lacking = IsResendLacking heard uid.now lacking
 LacksOf (errand.Reply uid id answer) heard lacking = IsLacking heard uid.now (option_copied id) lacking
 LacksOf (errand.Refresh uid id attendee) heard lacking = IsLacking heard uid.now (option_copied id) lacking
 LacksOf (errand.Cancel uid id) heard lacking = IsLacking heard uid.now (option_copied id) lacking

@@ -1,7 +1,9 @@
 -- Properties that RFC 5546 3.4 wants in a message and that are not there.
-use Rattle.std.specs.Prelude.{Bool, false, ◌==◌, List, [], ◌∷◌, length, Option, Some, None}
+use Rattle.std.specs.Prelude.{◌≡◌, ℕ, Bool, false, cond, ◌==◌, List, [], ◌∷◌, length, Option, Some, None}
 use Rattle.std.specs.Option.{is_none}
 use Rattle.std.specs.List.{filter, list_any}
+use Rattle.itip_items.specs.declared.item.Item.{Item}
+use Rattle.itip_report.specs.Organizing.{AreResent}
 use Rattle.itip_todo.specs.Parts.{Parts}
 use Rattle.itip_todo.specs.PartsOf.{parts_of}
 use Rattle.itip_todo.specs.declared.property.Property.{Property}
@@ -30,3 +32,14 @@ lacks p parts = false
 -- what a REQUEST wants and some to-do of the draft lacks, each property once, in canonical order
 abbrev pub lacking_in_request : List Todo → List PropertyName
 lacking_in_request draft = filter (λ p. list_any (λ (todo : Todo). lacks p (parts_of todo)) draft) wanted_in_request
+
+-- ORGANIZER, where the to-do of one of these items has none
+abbrev pub lacking_of_items : List Item → List PropertyName
+lacking_of_items items = cond (list_any (λ (item : Item). is_none item.todo.organizer) items) (name.Organizer ∷ []) []
+
+-- what RFC 5546 3.4.2 wants in each message that is sent again, and one of them lacks
+pub record IsResendLacking (heard : List Item) (uid : List ℕ) (lacking : List PropertyName) : Type 0 where
+  pub series : Item
+  pub overrides : List Item
+  pub resent : AreResent heard uid series overrides
+  pub lacking_is : lacking ≡ lacking_of_items (series ∷ overrides)

@@ -9,9 +9,9 @@ ghost use Rattle.itip_writing.specs.Sent.{brief_parts, has_sequence, sent_head, 
 
 use crate::rid::write_rid;
 use itip_items::Method;
-use itip_lines::write_property;
+use itip_lines::{write_parts, write_property};
 use itip_moment::{Moment, Stamp, write_stamp};
-use itip_todo::{Property, Status, Uid};
+use itip_todo::{Property, SharedProperty, Status, Uid};
 use std::alloc::AllocError;
 
 /// A to-do of an answer, a wish for the newest revision, a cancellation or a removal, with the few properties that are written
@@ -36,7 +36,7 @@ pub(crate) struct BriefTodo<'a> {
     /// PERCENT-COMPLETE.
     pub percent: Option<u8>,
     /// ORGANIZER with its parameters.
-    pub organizer: &'a Option<Property>,
+    pub organizer: &'a Option<SharedProperty>,
     /// ATTENDEE with its parameters, in order.
     pub attendees: &'a [Property],
 }
@@ -119,13 +119,14 @@ fn write_number(name: &str, number: u32, out: &mut Vec<u8>) -> Result<(), AllocE
     write_value(name, digits.as_str().as_bytes(), out)
 }
 
-fn write_organizer(organizer: &Option<Property>, out: &mut Vec<u8>) -> Result<(), AllocError>
+fn write_organizer(organizer: &Option<SharedProperty>, out: &mut Vec<u8>) -> Result<(), AllocError>
     ensures { OnOk result (out.new.items ≡ out.old.items ++ contents_octets (optional (property_line name.Organizer) organizer.now)) }
 {
     match organizer {
         Some(organizer) => {
+            let organizer = organizer.property();
             let value = organizer.value.as_str().as_bytes();
-            write_property("ORGANIZER", organizer.params.as_slice(), value, out)
+            write_property("ORGANIZER", &organizer.params, value, out)
         }
         None => Ok(()),
     }
@@ -144,12 +145,12 @@ fn write_attendee(attendee: &Property, out: &mut Vec<u8>) -> Result<(), AllocErr
     ensures { OnOk result (out.new.items ≡ out.old.items ++ contents_octets (property_line name.Attendee attendee.now ∷ [])) }
 {
     let value = attendee.value.as_str().as_bytes();
-    write_property("ATTENDEE", attendee.params.as_slice(), value, out)
+    write_property("ATTENDEE", &attendee.params, value, out)
 }
 
 /// Appends a line without parameters.
 fn write_value(name: &str, value: &[u8], out: &mut Vec<u8>) -> Result<(), AllocError>
     ensures { OnOk result (out.new.items ≡ out.old.items ++ contents_octets (bare name.now value.now ∷ [])) }
 {
-    write_property(name, &[], value, out)
+    write_parts(name, &[], value, out)
 }

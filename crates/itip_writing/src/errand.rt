@@ -1,22 +1,21 @@
 //! What is asked for, and the message that is written for it.
 ghost use Rattle.std.specs.Prelude.{IfOk, IfErr, None};
 ghost use Rattle.itip_report.specs.Organizing.{IsResend, IsResendOf};
-ghost use Rattle.itip_view.specs.InQuestion.{NoneInQuestion};
 ghost use Rattle.itip_writing.specs.Causes.{IfNothing};
 ghost use Rattle.itip_writing.specs.Errands.{CannotBeWritten, IsWritten, LacksOf};
-ghost use Rattle.itip_writing.specs.Replying.{IsLacking};
+ghost use Rattle.itip_writing.specs.Lacking.{IsResendLacking};
 
 use crate::answer::Answer;
-use crate::cancel::{cancellation, governing};
+use crate::cancel::cancellation;
 use crate::error::WritingError;
-use crate::lacking::lacking_organizer;
+use crate::lacking::lacking_of_items;
 use crate::onward::onward_cancellation;
 use crate::refresh::refresh_of;
 use crate::removal::removal;
 use crate::reply::reply_to;
 use crate::request::request_of;
 use itip_moment::{Moment, Stamp};
-use itip_report::resend;
+use itip_report::{resend, resent_items};
 use itip_state::{ItemsOfUid, State};
 use itip_todo::{PropertyName, Todo, Uid};
 use std::alloc::Global;
@@ -96,26 +95,30 @@ pub fn message_for(
     }
 }
 
-/// The messages of a to-do once more. They lack ORGANIZER where the series item has none.
+/// The messages of a to-do once more. They lack ORGANIZER where one of them has none.
 ///
 /// `NothingStands` where no series item of the UID is live.
 fn sent_again(alloc: Global, state: &State, uid: &Uid) -> Result<Message, WritingError>
     ensures written { IfOk result (λ message. IsResend state.now uid.now message.octets.items) }
-    ensures lacking { IfOk result (λ message. IsLacking state.now uid.now None message.lacking.items) }
+    ensures lacking { IfOk result (λ message. IsResendLacking state.now uid.now message.lacking.items) }
     ensures fault { IfErr result (IfNothing (IsResendOf state.now uid.now None)) }
 {
-    let lacking = lacking_of(alloc, state, uid)?;
+    let lacking = resend_lacking(alloc, state, uid)?;
     match resend(alloc, state, uid)? {
         Some(octets) => Ok(Message { octets, lacking }),
         None => Err(WritingError::NothingStands),
     }
 }
 
-/// What a message about a to-do as a whole lacks.
+/// What the messages of a to-do that are sent again lack.
 ///
 /// `NothingStands` where no series item of the UID is live.
-fn lacking_of(alloc: Global, state: &State, uid: &Uid) -> Result<Vec<PropertyName>, WritingError>
-    ensures lacking { IfOk result (λ lacking. IsLacking state.now uid.now None lacking.items) }
+fn resend_lacking(
+    alloc: Global,
+    state: &State,
+    uid: &Uid,
+) -> Result<Vec<PropertyName>, WritingError>
+    ensures lacking { IfOk result (λ lacking. IsResendLacking state.now uid.now lacking.items) }
     ensures fault { IfErr result (IfNothing (IsResendOf state.now uid.now None)) }
 {
     let items = state.of_uid(uid)?;
@@ -124,10 +127,12 @@ fn lacking_of(alloc: Global, state: &State, uid: &Uid) -> Result<Vec<PropertyNam
 
 /// The same, where these are the kept items of the UID.
 fn lacking_in(alloc: Global, items: &ItemsOfUid<'_>) -> Result<Vec<PropertyName>, WritingError>
-    ensures lacking { IfOk result (λ lacking. IsLacking items.now.items items.now.uid None lacking.items) }
-    ensures fault { IfErr result (IfNothing (NoneInQuestion items.now.items items.now.uid None)) }
+    ensures lacking { IfOk result (λ lacking. IsResendLacking items.now.items items.now.uid lacking.items) }
+    ensures fault { IfErr result (IfNothing (IsResendOf items.now.items items.now.uid None)) }
 {
-    let item = governing(alloc, items, None)?;
-    let lacking = lacking_organizer(alloc, &item.todo.organizer)?;
+    let Some(resent) = resent_items(alloc, items)? else {
+        return Err(WritingError::NothingStands);
+    };
+    let lacking = lacking_of_items(alloc, resent.series, &resent.overrides)?;
     Ok(lacking)
 }

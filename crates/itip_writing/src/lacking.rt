@@ -1,12 +1,14 @@
 //! Properties that RFC 5546 3.4 wants in a message and that are not there.
-ghost use Rattle.std.specs.Prelude.{◌≡◌, IfOk};
+ghost use Rattle.std.specs.Prelude.{◌≡◌, ◌∷◌, map, IfOk};
 ghost use Rattle.std.specs.List.{list_any};
+ghost use Rattle.std.specs.Option.{is_none};
 ghost use Rattle.itip_todo.specs.PartsOf.{parts_of};
 ghost use Rattle.itip_todo.specs.declared.todo.Todo.{Todo};
-ghost use Rattle.itip_writing.specs.Lacking.{lacking_organizer, lacking_in_request, lacks};
+ghost use Rattle.itip_writing.specs.Lacking.{lacking_organizer, lacking_of_items, lacking_in_request, lacks};
 
 use crate::NoMemory;
-use itip_todo::{Property, PropertyName, Todo};
+use itip_items::Item;
+use itip_todo::{PropertyName, SharedProperty, Todo};
 use std::alloc::Global;
 
 /// What a REQUEST wants in each to-do beside what is always written (RFC 5546 3.4.2), in canonical order.
@@ -21,7 +23,7 @@ const WANTED_IN_REQUEST: [PropertyName; 5] = [
 /// ORGANIZER, where there is none: a REPLY, a CANCEL and a REFRESH want it (RFC 5546 3.4.3, 3.4.5 and 3.4.6).
 pub(crate) fn lacking_organizer(
     alloc: Global,
-    organizer: &Option<Property>,
+    organizer: &Option<SharedProperty>,
 ) -> Result<Vec<PropertyName>, NoMemory>
     ensures { IfOk result (λ names. names.items ≡ lacking_organizer organizer.now) }
 {
@@ -30,6 +32,28 @@ pub(crate) fn lacking_organizer(
         names.push(PropertyName::Organizer)?;
     }
     Ok(names)
+}
+
+/// ORGANIZER, where the to-do of one of these items has none: each message that is sent again wants it (RFC 5546 3.4.2).
+pub(crate) fn lacking_of_items(
+    alloc: Global,
+    series: &Item,
+    overrides: &[&Item],
+) -> Result<Vec<PropertyName>, NoMemory>
+    ensures { IfOk result (λ names. names.items ≡ lacking_of_items (series.now ∷ map (λ item. item.now) overrides.now)) }
+{
+    if some_lacks(overrides) {
+        lacking_organizer(alloc, &None)
+    } else {
+        lacking_organizer(alloc, &series.todo.organizer)
+    }
+}
+
+/// Whether the to-do of one of these items has no ORGANIZER.
+fn some_lacks(items: &[&Item]) -> bool
+    ensures { result ≡ list_any (λ item. is_none item.now.todo.organizer) items.now }
+{
+    items.iter().any(|item| item.todo.organizer.is_none())
 }
 
 /// What a REQUEST wants and some to-do of a draft lacks, each property once, in canonical order.

@@ -19,7 +19,7 @@ use crate::message::{readable, write_alone};
 use crate::reply::copied_id;
 use crate::stamping::{later_stamp, latest_equal, stamp_after};
 use itip_items::{Key, Method};
-use itip_lines::{ListOf, Text};
+use itip_lines::{Params, Text};
 use itip_moment::{Moment, Stamp};
 use itip_state::{ItemsOfUid, State};
 use itip_todo::{Property, Uid};
@@ -131,7 +131,7 @@ fn refresh_line(alloc: Global, address: &Text) -> Result<Vec<Property>, NoMemory
     ensures { IfOk result (λ lines. lines.items ≡ refresh_line address.now ∷ []) }
 {
     let value = address.clone()?;
-    let params = ListOf::new(alloc);
+    let params = Params::new(alloc);
     let mut lines = Vec::new(alloc);
     lines.push(Property { params, value })?;
     Ok(lines)

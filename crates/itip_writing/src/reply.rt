@@ -16,10 +16,9 @@ use crate::errand::Message;
 use crate::error::WritingError;
 use crate::lacking::lacking_organizer;
 use crate::message::{readable, write_alone};
-use crate::rid::one_parameter;
 use crate::stamping::{kept_item, latest_equal, stamp_after};
 use itip_items::{Item, Key, Method};
-use itip_lines::{ListOf, Text};
+use itip_lines::{Params, Text};
 use itip_moment::{Moment, Stamp};
 use itip_state::{ItemsOfUid, State};
 use itip_todo::{PartStat, Property, Uid};
@@ -162,8 +161,7 @@ fn answer_line(alloc: Global, address: &Text, status: PartStat) -> Result<Vec<Pr
     ensures { IfOk result (λ lines. lines.items ≡ answer_line address.now status ∷ []) }
 {
     let value = address.clone()?;
-    let params = one_parameter(alloc, "PARTSTAT", status.as_str())?;
-    let params = ListOf::from_vec(params);
+    let params = Params::one(alloc, "PARTSTAT", status.as_str())?;
     let mut lines = Vec::new(alloc);
     lines.push(Property { params, value })?;
     Ok(lines)

@@ -1,9 +1,10 @@
-use Rattle.std.proofs.Common.{◌≡◌, ◌++◌, map}
+use Rattle.std.proofs.Common.{map}
 use Rattle.std.specs.BTreeSet.{keys_between}
 use Rattle.std.specs.declared.ops.Bound.TheVariants.{Included, Excluded}
 use Rattle.itip_desk.specs.Entries.{entry_cmp}
+use Rattle.itip_desk.proofs.Finding.{FoundUpTo}
 use Rattle.itip_desk.proofs.found.find_between.Given as goal
 
 abbrev pub invariant-loop-entry : goal.invariant-loop-entry
-invariant-loop-entry l = map (λ u. u.now) l.uids.items ++ map (λ e. e.uid) l.entry-iterator
-    ≡ map (λ u. u.now) l.fn.uids.items ++ map (λ e. e.uid) (keys_between entry_cmp (Included l.fn.from) (Excluded l.fn.to) l.index)
+invariant-loop-entry l = FoundUpTo (λ item. Unit {0}) (keys_between entry_cmp (Included l.fn.from) (Excluded l.fn.to) l.index)
+    (map (λ u. u.now) l.fn.uids.items) (map (λ u. u.now) l.uids.items) l.entry-iterator

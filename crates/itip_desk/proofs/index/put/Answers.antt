@@ -1,12 +1,14 @@
-use Rattle.std.proofs.Common.{◌≡◌, ◌||◌, ap, rules, ◌∙◌, List, ℕ}
+use Rattle.std.proofs.Common.{◌||◌, ◌∙◌, ap}
 use Rattle.std.specs.Ordering.{is_eq}
-use Rattle.itip_desk.specs.Entries.{entry_cmp, entry_at}
+use Rattle.itip_desk.specs.Entries.{entry_cmp}
 use Rattle.itip_desk.specs.Index.{has}
+use Rattle.itip_desk.specs.declared.entry.IndexEntry.{IndexEntry}
+use Rattle.itip_desk.specs.declared.entry.Owner.TheVariants.{Of}
 use Rattle.itip_desk.proofs.Noting.{put_in}
 use Rattle.itip_desk.proofs.index.put.Goals as goal
 
-pub returns : goal.returns
-returns c =
-    let copy : c.in_ok-clone.field-0 ≡ c.args.uid.now = search rules in
-    λ e. put_in c.args.entries.now c.insert.new.self (entry_at c.in_ok-clone.field-0 c.args.mark) c.in_ok-insert.ensures.updates e
-    ∙ ap (λ (u : List ℕ). has c.args.entries.now e || is_eq (entry_cmp e (entry_at u c.args.mark))) copy
+pub returns-clause-ok : goal.returns-clause-ok
+returns-clause-ok c = λ e.
+    put_in c.args.index.now c.insert.new.self (record { mark = c.args.mark; owner = Of c.args.number c.in_ok-copy.field-0 }) c.in_ok-insert.ensures.updates e
+    ∙ ap (λ (k : IndexEntry). has c.args.index.now e || is_eq (entry_cmp e k))
+    (λ i. record { mark = c.args.mark; owner = Of (c.requires i) ((c.in_ok-copy.ensures ∙ c.revision.ensures) i) })

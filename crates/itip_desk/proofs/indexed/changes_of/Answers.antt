@@ -1,61 +1,63 @@
-use Rattle.std.proofs.Common.{◌≡◌, ◌∙◌, ◌∷◌, [], ◌++◌, false, ℕ, List, map, sym, ap, subst, IsTrue}
+use Rattle.std.proofs.Common.{◌≡◌, ◌∙◌, ◌++◌, ◌∷◌, ◌+◌, List, [], map, take, inl, inr, sym, subst, arith}
 use Rattle.std.specs.List.{Contains}
-use Rattle.itip_items.specs.KeyParts.{uid_of}
+use Rattle.std.specs.Vec.Iter.{into_iter_items}
+use Rattle.std.proofs.lemmas.List.{nil_from_length}
+use Rattle.std.proofs.lemmas.List.Elements.{Contains-append_left, Contains-push, Contains-push_cases}
 use Rattle.itip_items.specs.declared.item.Item.{Item}
-use Rattle.itip_state.specs.Kept.{AreKept, ArePart}
-use Rattle.itip_state.proofs.Members.{if_ok_then}
-use Rattle.itip_desk.specs.declared.entry.IndexEntry.{IndexEntry}
-use Rattle.itip_desk.specs.Entries.{entries_of}
-use Rattle.itip_desk.specs.Index.{has, is_in, IsTouched, AreOfRows, AreEntriesOf}
-use Rattle.itip_desk.proofs.Touching.{only_one, not_kept, first_old, first_new, first_touched}
+use Rattle.itip_state.proofs.Members.{none_in, cons_cases}
+use Rattle.itip_desk.proofs.Touching.{seen_more, seen_all}
 use Rattle.itip_desk.proofs.indexed.changes_of.Goals as goal
-use Rattle.itip_desk.proofs.indexed.changes_of.Goals.{After-first_of_uid}
 
--- the one item that is found
-abbrev one : (c : After-first_of_uid) → Item
-one c = c.item-in-len1.result.now
+held : (now old : List Item) (x item : Item) → now ≡ old ++ x ∷ [] → Contains old item → Contains now item
+held now old x item is h = subst (λ (xs : List Item). Contains xs item) (sym is) (Contains-append_left old (x ∷ []) item h)
 
-found_is : (c : After-first_of_uid) → one c ∷ [] ≡ map (λ item. item.now) c.args.found.now
-found_is c =
-    ap (λ (i : Item). i ∷ []) c.item-in-len1.ensures
-    ∙ sym (ap (map (λ item. item.now)) (only_one c.item-item.result c.args.found.now c.in-len1.len_at_least c.in-len1.len_below
-    c.item-item.is))
+new_one : (now old : List Item) (x item : Item) → now ≡ old ++ x ∷ [] → x ≡ item → Contains now item
+new_one now old x item is same = subst (λ (xs : List Item). Contains xs item) (sym is)
+    (subst (λ (i : Item). Contains (old ++ x ∷ []) i) same (Contains-push old x))
 
-none_kept : (c : After-first_of_uid) → ArePart (uid_of (one c).key) [] c.args.state.now
-none_kept c =
-    let uid : c.uid.result.now ≡ uid_of (one c).key = c.uid.ensures ∙
-    ap (λ (i : Item). uid_of i.key) (c.item.ensures ∙ sym c.item-in-len1.ensures) in
-    subst (λ (u : List ℕ). ArePart u [] c.args.state.now) uid
-    (not_kept c.keeps.result ((item : Item) × Contains c.args.state.now item × (uid_of item.key ≡ c.uid.result.now))
-    (ArePart c.uid.result.now [] c.args.state.now) c.keeps.ensures c.if-not-keeps.true)
+pub loop-item-preserved : goal.loop-item-preserved
+loop-item-preserved c = λ item h.
+    let now : List Item = map (λ ch. ch.item) c.push_change.new.changes.items in
+    let old : List Item = map (λ ch. ch.item) c.loop-item.changes.items in
+    let x : Item = c.in-Some.item in
+    elim (c.loop-item.invariant item h) [
+      | inl there ↦ inl (held now old x item c.in_ok-push_change.ensures there)
+      | inr comes ↦ elim (cons_cases x (into_iter_items c.next.new.self) item
+          (subst (λ (xs : List Item). Contains xs item) c.in-Some.ensures.steps.0 comes)) [
+            | inl here ↦ inl (new_one now old x item c.in_ok-push_change.ensures here)
+            | inr later ↦ inr later
+          ]
+    ]
 
-pub returns-in-len1-clause-old : goal.returns-in-len1-clause-old
-returns-in-len1-clause-old c =
-    let at = (goal.at.returns-in-len1-clause-old c).After-first_of_uid in
-    if_ok_then (λ change. (e : IndexEntry) → has change.old e ≡ false)
-    (λ change. AreEntriesOf c.args.state.now (map (λ item. item.now) c.args.found.now) change.old) c.first_of_uid.result
-    (λ change empty. subst (λ (found : List Item). AreEntriesOf c.args.state.now found change.old) (found_is at)
-    (first_old c.args.state.now (one at) (none_kept at) change.old empty))
-    c.first_of_uid.ensures.old
+pub loop-item-2-init : goal.loop-item-2-init
+loop-item-2-init c =
+    let none : into_iter_items c.loop-item.item-iterator ≡ [] =
+    nil_from_length _ (omega (arith, c.in-None.ensures.steps.0, c.loop-item.item-iterator.rest.ok.0)) in
+    record {
+      giving = λ item h. elim (c.loop-item.invariant item h) [
+        | inl there ↦ there
+        | inr comes ↦ absurd (none_in item (subst (λ (xs : List Item). Contains xs item) none comes))
+      ];
+      found = λ item h. absurd (none_in item h);
+    }
 
-pub returns-in-len1-clause-new : goal.returns-in-len1-clause-new
-returns-in-len1-clause-new c =
-    let at = (goal.at.returns-in-len1-clause-new c).After-first_of_uid in
-    if_ok_then (λ change. (e : IndexEntry) → has change.new e ≡ is_in (entries_of (one at)) e)
-    (λ change. (news after : List Item) → AreOfRows (map (λ item. item.now) c.args.found.now) news →
-    AreKept after (c.args.state.now ++ news) → AreEntriesOf after (map (λ item. item.now) c.args.found.now) change.new)
-    c.first_of_uid.result
-    (λ change are. subst (λ (found : List Item). (news after : List Item) → AreOfRows found news →
-    AreKept after (c.args.state.now ++ news) → AreEntriesOf after found change.new) (found_is at)
-    (λ news after rows kept. first_new c.args.state.now (one at) (none_kept at) news after rows kept change.new are))
-    c.first_of_uid.ensures.new
+pub loop-item-2-preserved : goal.loop-item-2-preserved
+loop-item-2-preserved c =
+    let now : List Item = map (λ ch. ch.item) c.push_change-in-loop-item-2.new.changes.items in
+    let old : List Item = map (λ ch. ch.item) c.loop-item-2.changes.items in
+    let x : Item = c.in_ok-clone.field-0 in
+    let found : List Item = map (λ item. item.now) c.args.found.now in
+    let more : take (c.loop-item-2.item-index + 1) found ≡ take c.loop-item-2.item-index found ++ c.item-item.result.now ∷ [] =
+    seen_more (λ item. item.now) c.args.found.now c.loop-item-2.item-index c.item-item.result c.loop-item-2-test.true c.item-item.is in
+    record {
+      giving = λ item h. held now old x item c.in_ok-push_change-2.ensures (c.loop-item-2.invariant.giving item h);
+      found = λ item h. elim (Contains-push_cases (take c.loop-item-2.item-index found) c.item-item.result.now item
+          (subst (λ (xs : List Item). Contains xs item) more h)) [
+            | inl before ↦ held now old x item c.in_ok-push_change-2.ensures (c.loop-item-2.invariant.found item before)
+            | inr same ↦ new_one now old x item c.in_ok-push_change-2.ensures (c.in_ok-clone.ensures.cases ∙ same)
+          ];
+    }
 
-pub returns-in-len1-clause-about : goal.returns-in-len1-clause-about
-returns-in-len1-clause-about c =
-    let at = (goal.at.returns-in-len1-clause-about c).After-first_of_uid in
-    if_ok_then (λ change. (e : IndexEntry) → has change.new e ≡ is_in (entries_of (one at)) e)
-    (λ change. (e : IndexEntry) → IsTrue (has change.new e) → IsTouched (map (λ item. item.now) c.args.found.now) e.uid)
-    c.first_of_uid.result
-    (λ change are. subst (λ (found : List Item). (e : IndexEntry) → IsTrue (has change.new e) → IsTouched found e.uid) (found_is at)
-    (first_touched c.args.state.now (one at) (none_kept at) change.new are))
-    c.first_of_uid.ensures.new
+pub returns-clause-found : goal.returns-clause-found
+returns-clause-found c = λ item h. c.loop-item-2.invariant.found item (subst (λ (xs : List Item). Contains xs item)
+    (sym (seen_all (λ item. item.now) c.args.found.now c.loop-item-2.item-index c.loop-item-2-test.false)) h)

@@ -1,16 +1,14 @@
-use Rattle.std.proofs.Common.{◌≡◌, ◌∙◌, ◌++◌, ◌+◌, ap, map, subst, List, ℕ, Option}
-use Rattle.std.specs.Option.{option_copied}
+use Rattle.std.proofs.Common.{◌≡◌, ◌∙◌, ap, map, List, ℕ}
 use Rattle.std.proofs.lemmas.Result.{on_ok_weaker}
 use Rattle.itip_message.specs.Scanned.{messages_of}
-use Rattle.itip_inbox.specs.Inbox.{placed_from}
-use Rattle.itip_inbox.specs.Streaming.{KeepsMessages}
+use Rattle.itip_inbox.proofs.HeldParts.{all_read_for}
 use Rattle.itip_inbox.proofs.read.hear_all.Goals as goal
 
 pub returns-clause-hears : goal.returns-clause-hears
 returns-clause-hears g c =
-    let about : Option (List ℕ) = option_copied c.args.about in
-    let all : map (λ text. text.now) c.as_slice.result.now ≡ messages_of c.args.octets.now =
-    ap (map (λ text. text.now)) c.as_slice.ensures.value ∙ c.in_ok-texts.ensures in
-    on_ok_weaker c.hear.result (λ keeps before kept.
-    subst (λ (ts : List (List ℕ)). KeepsMessages about (before ++ placed_from c.args.inbox.now.source (c.args.inbox.now.messages + 1) ts)
-    c.hear.new.self) all (keeps before kept)) c.hear.ensures.keeps
+    let all : map (λ text. text.now) c.as_slice-2.result.now ≡ messages_of c.args.held.now.octets.items =
+    ap (map (λ text. text.now)) c.as_slice-2.ensures.value ∙ c.in_ok-texts.ensures ∙
+    ap (λ (t : List ℕ). messages_of t) c.as_slice.ensures.value in
+    on_ok_weaker c.hear_texts.result (λ hears came is.
+    hears (messages_of came) (all_read_for c.args.held.now.is_long c.args.held.now.octets.items came
+    (map (λ text. text.now) c.as_slice-2.result.now) is all)) c.hear_texts.ensures.hears

@@ -1,45 +1,38 @@
-use Rattle.std.proofs.Common.{◌∙◌, ap, refl, subst, List, ℕ, Option}
+use Rattle.std.proofs.Common.{◌∙◌, refl}
 use Rattle.std.specs.Option.{option_copied}
-use Rattle.itip_message.specs.Scanned.{messages_of}
-use Rattle.itip_inbox.specs.Streaming.{HearsFirst}
 use Rattle.itip_inbox.proofs.Streams.{reads_none, reads_share, reads_last, heard_on}
 use Rattle.itip_inbox.proofs.read.read_source.Goals as goal
 
 pub loop-init : goal.loop-init
 loop-init g c = record {
   reads = λ before kept. reads_none (option_copied c.args.about) before c.args.inbox.now (g.R.Read.remaining c.args.reader.now)
-      c.new-held.result.items c.new-held.ensures.items kept;
+      c.nothing-held.result c.nothing-held.ensures.octets c.nothing-held.ensures.short kept;
   source = refl;
 }
 
 pub returns-then-is_end-clause-keeps : goal.returns-then-is_end-clause-keeps
 returns-then-is_end-clause-keeps g c = λ before kept.
     reads_last (option_copied c.args.about) before c.args.inbox.now c.loop.inbox (g.R.Read.remaining c.args.reader.now)
-    (g.R.Read.remaining c.loop.reader) c.loop.held.items (c.loop.invariant.reads before kept) c.loop.invariant.source
-    (g.R.Read.remaining c.fill.new.reader) c.fill.new.held.items (messages_of c.as_slice.result.now) c.hear_all.new.inbox
-    c.in_ok-is_end.ensures.fills.0 (c.in_ok-is_end.ensures.fills.1 c.if-is_end.true) (ap messages_of c.as_slice.ensures.value)
-    c.in_ok-hear_all.ensures.hears
+    (g.R.Read.remaining c.loop.reader) c.loop.held (c.loop.invariant.reads before kept) c.loop.invariant.source
+    (g.R.Read.remaining c.fill.new.reader) c.fill.new.held.items c.in_ok-is_end.ensures.fills.0 c.hear_all.new.inbox
+    c.in_ok-hear_all.ensures.hears (c.in_ok-is_end.ensures.fills.1 c.if-is_end.true)
 
 pub returns-then-is_end-clause-heard : goal.returns-then-is_end-clause-heard
 returns-then-is_end-clause-heard g c = λ had.
     heard_on (option_copied c.args.about) had.messages c.args.inbox.now c.loop.inbox (g.R.Read.remaining c.args.reader.now)
-    (g.R.Read.remaining c.loop.reader) c.loop.held.items (c.loop.invariant.reads had.messages had.keeps) c.loop.invariant.source
-    (messages_of c.as_slice.result.now) c.hear_all.new.inbox c.in_ok-hear_all.ensures.hears
+    (g.R.Read.remaining c.loop.reader) c.loop.held (c.loop.invariant.reads had.messages had.keeps) c.loop.invariant.source
+    (g.R.Read.remaining c.fill.new.reader) c.fill.new.held.items c.in_ok-is_end.ensures.fills.0 c.hear_all.new.inbox
+    c.in_ok-hear_all.ensures.hears
 
 pub returns-then-is_end-clause-source : goal.returns-then-is_end-clause-source
 returns-then-is_end-clause-source g c = c.in_ok-hear_all.ensures.source ∙ c.loop.invariant.source
 
 pub loop-preserved : goal.loop-preserved
-loop-preserved g c =
-    let about : Option (List ℕ) = option_copied c.args.about in
-    let first : HearsFirst about c.fill.new.held.items c.in_ok-held.held.items c.loop.inbox c.hear_first.new.inbox =
-    subst (λ (t : List ℕ). HearsFirst about t c.in_ok-held.held.items c.loop.inbox c.hear_first.new.inbox)
-    c.as_slice-in-loop.ensures.value c.in_ok-held.ensures.hears in
-    record {
-      reads = λ before kept.
-          reads_share about before c.args.inbox.now c.loop.inbox (g.R.Read.remaining c.args.reader.now)
-          (g.R.Read.remaining c.loop.reader) c.loop.held.items (c.loop.invariant.reads before kept) c.loop.invariant.source
-          (g.R.Read.remaining c.fill.new.reader) c.fill.new.held.items c.in_ok-held.held.items c.hear_first.new.inbox
-          c.in_ok-is_end.ensures.fills.0 first;
-      source = c.in_ok-held.ensures.source ∙ c.loop.invariant.source;
-    }
+loop-preserved g c = record {
+  reads = λ before kept.
+      reads_share (option_copied c.args.about) before c.args.inbox.now c.loop.inbox (g.R.Read.remaining c.args.reader.now)
+      (g.R.Read.remaining c.loop.reader) c.loop.held (c.loop.invariant.reads before kept) c.loop.invariant.source
+      (g.R.Read.remaining c.fill.new.reader) c.fill.new.held.items c.in_ok-is_end.ensures.fills.0 c.in_ok-held.held
+      c.hear_first.new.inbox c.in_ok-held.ensures.hears;
+  source = c.in_ok-held.ensures.source ∙ c.loop.invariant.source;
+}

@@ -8,6 +8,6 @@ abbrev pub invariant-loop : goal.invariant-loop
 invariant-loop g l = record {
   reads : (before : List Placed) → KeepsMessages (option_copied l.about) before l.fn.inbox →
       ReadsSoFar (option_copied l.about) before l.fn.inbox l.inbox (g.R.Read.remaining l.fn.reader) (g.R.Read.remaining l.reader)
-      l.held.items;
+      l.held;
   source : l.inbox.source ≡ l.fn.inbox.source;
 }

@@ -1,8 +1,8 @@
 use Rattle.std.proofs.Common.{sym, subst, arith}
 use Rattle.std.specs.Str.{IsUtf8}
-use Rattle.itip_lines.proofs.Runs.{empty_from_test}
-use Rattle.itip_lines.proofs.Utf8Parts.{utf8_name, utf8_past_name, utf8_behind}
-use Rattle.itip_lines.proofs.Params.{lacks_equals, lacks_name, lacks_values}
+use Rattle.itip_lines.proofs.Runs.{empty_from_test, some_from_test}
+use Rattle.itip_lines.proofs.Utf8Parts.{utf8_past_name, utf8_behind}
+use Rattle.itip_lines.proofs.ParamLists.{lacks_equals, lacks_name, lacks_values, param_wrote}
 use Rattle.itip_lines.proofs.grammar.read_param.Goals as goal
 
 pub returns-in_default : goal.returns-in_default
@@ -17,7 +17,10 @@ read_values-requires c =
     (utf8_past_name _ _ c.cut_run.ensures.passes (subst IsUtf8 c.cut_run.ensures.whole c.requires))) (omega arith)
 
 pub returns-in_default-2 : goal.returns-in_default-2
-returns-in_default-2 c = lacks_values _ _ _ _ c.cut_run.ensures c.in-Some.ensures (rw c.in_default-2.is at c.in_ok-values.ensures)
+returns-in_default-2 c = lacks_values _ _ _ _ c.cut_run.ensures c.in-Some.ensures (rw c.in_default-2.is at c.in_ok-rest.ensures)
 
-pub upper_name-requires : goal.upper_name-requires
-upper_name-requires c = utf8_name _ c.cut_run.ensures.passes
+pub returns : goal.returns
+returns c =
+    param_wrote c.args.text.now _ _ _ _ c.args.out.now.items c.push_name.new.out.items c.read_values.new.out.items
+    c.cut_run.ensures c.in-Some.ensures (some_from_test _ (sym c.if-is_empty.ensures)) c.in_ok-push_name.ensures
+    (rw c.in-Some-2.is at c.in_ok-rest.ensures)

@@ -1,35 +1,52 @@
 use Rattle.std.proofs.Common.{subst, arith}
 use Rattle.std.specs.Str.{IsUtf8}
 use Rattle.itip_lines.specs.Octets.{is_value_octet}
+use Rattle.itip_lines.specs.Spelling.{IsTail}
 use Rattle.itip_lines.proofs.Runs.{not_all_in_run, all_in_run}
 use Rattle.itip_lines.proofs.Utf8Parts.{utf8_behind}
-use Rattle.itip_lines.proofs.Params.{more_params, lacks_next_param, lacks_colon, lacks_value, all_params}
+use Rattle.itip_lines.proofs.Lines.{lawful_tail}
+use Rattle.itip_lines.proofs.ParamLists.{wrote_no_params, wrote_more_params, lacks_next_param, lacks_colon, lacks_value, all_params}
+use Rattle.itip_lines.proofs.ParamTexts.{is_params_text}
 use Rattle.itip_lines.proofs.grammar.read_tail.Goals as goal
 
+pub loop-after-init : goal.loop-after-init
+loop-after-init c = wrote_no_params _ _ c.requires c.in_ok-params.ensures.items
+
 pub read_param-requires : goal.read_param-requires
-read_param-requires c = utf8_behind 59 _ (subst IsUtf8 c.in-Some.ensures c.loop-after.invariant.utf8) (omega arith)
+read_param-requires c = utf8_behind 59 _ (subst IsUtf8 c.in-Some.ensures c.loop-after.invariant.has.utf8) (omega arith)
 
 pub returns-in_default-2 : goal.returns-in_default-2
-returns-in_default-2 c = lacks_next_param _ _ _ _ c.loop-after.invariant c.in-Some.ensures (rw c.in_default-2.is at c.in_ok-param.ensures)
+returns-in_default-2 c =
+    lacks_next_param _ _ _ _ c.loop-after.invariant.has c.in-Some.ensures (rw c.in_default-2.is at c.in_ok-behind.ensures)
 
 pub loop-after-preserved : goal.loop-after-preserved
 loop-after-preserved c =
-    rw c.in_ok-push.ensures.items (more_params _ _ _ _ _ _ c.loop-after.invariant c.in-Some.ensures
-    (rw c.in-Some-2.is at c.in_ok-param.ensures))
+    wrote_more_params _ _ _ _ _ _ c.loop-after.invariant c.in-Some.ensures (rw c.in-Some-2.is at c.in_ok-behind.ensures)
 
 pub returns-in_default-strip : goal.returns-in_default-strip
-returns-in_default-strip c = lacks_colon _ _ _ c.loop-after.invariant c.in_default.ensures c.in_default-strip.ensures
+returns-in_default-strip c = lacks_colon _ _ _ c.loop-after.invariant.has c.in_default.ensures c.in_default-strip.ensures
 
 pub returns-then-run_len-value : goal.returns-then-run_len-value
 returns-then-run_len-value c =
-    lacks_value _ _ _ _ c.loop-after.invariant c.in-Some-strip.ensures
+    lacks_value _ _ _ _ c.loop-after.invariant.has c.in-Some-strip.ensures
     (not_all_in_run is_value_octet _ _ c.run_len.ensures c.if-run_len-value.true)
 
 pub copy-requires : goal.copy-requires
-copy-requires c = utf8_behind 58 _ (subst IsUtf8 c.in-Some-strip.ensures c.loop-after.invariant.utf8) (omega arith)
+copy-requires c = utf8_behind 58 _ (subst IsUtf8 c.in-Some-strip.ensures c.loop-after.invariant.has.utf8) (omega arith)
+
+pub from_text-requires : goal.from_text-requires
+from_text-requires c =
+    let is : IsTail c.args.text.now c.loop-after.invariant.done c.in-Some-strip.value.now =
+    all_params _ _ _ _ c.loop-after.invariant.has c.in-Some-strip.ensures
+    (all_in_run is_value_octet _ _ c.run_len.ensures c.if-run_len-value.false) in
+    is_params_text _ c.loop-after.invariant.done (lawful_tail _ _ _ c.requires is).0 c.loop-after.invariant.wrote
 
 pub returns : goal.returns
 returns c =
-    rw (c.from_vec.ensures, c.in_ok-copy.ensures)
-    (all_params _ _ _ _ c.loop-after.invariant c.in-Some-strip.ensures
-    (all_in_run is_value_octet _ _ c.run_len.ensures c.if-run_len-value.false))
+    let is : IsTail c.args.text.now c.loop-after.invariant.done c.in-Some-strip.value.now =
+    all_params _ _ _ _ c.loop-after.invariant.has c.in-Some-strip.ensures
+    (all_in_run is_value_octet _ _ c.run_len.ensures c.if-run_len-value.false) in
+    rw (
+      c.from_text.ensures c.loop-after.invariant.done (lawful_tail _ _ _ c.requires is).0 c.loop-after.invariant.wrote,
+      c.in_ok-value.ensures,
+    ) is

@@ -9,6 +9,6 @@ pub returns : goal.returns
 returns c = λ done long tally.
     let all = take_all c.loop-attendee.attendee-index c.as_slice-attendee-items.result.now c.loop-attendee-test.false ∙
     c.as_slice-attendee-items.ensures in
-    end_row done c.args.row.now c.loop-attendee.tally.entries
-    (subst (λ xs. IsTally done (map (λ (a : ShownAttendee). attendee_key a.address) xs) c.loop-attendee.tally.entries) all
-    (c.loop-attendee.invariant done long tally))
+    end_row done c.args.row.now c.loop-attendee.tally.keys.items c.loop-attendee.tally.counts
+    (subst (λ xs. IsTally done (map (λ (a : ShownAttendee). attendee_key a.address) xs) c.loop-attendee.tally.keys.items
+    c.loop-attendee.tally.counts) all (c.loop-attendee.invariant done long tally))

@@ -7,5 +7,6 @@ use Rattle.itip_report.proofs.load.count_row.Given as goal
 
 abbrev pub invariant-loop-attendee : goal.invariant-loop-attendee
 invariant-loop-attendee l =
-    (done : List Row) → length done ≡ l.place → IsTally done [] l.initial.tally.entries
-    → IsTally done (map (λ (a : ShownAttendee). attendee_key a.address) (take l.attendee-index l.attendee-items)) l.tally.entries
+    (done : List Row) → length done ≡ l.place → IsTally done [] l.initial.tally.keys.items l.initial.tally.counts
+    → IsTally done (map (λ (a : ShownAttendee). attendee_key a.address) (take l.attendee-index l.attendee-items)) l.tally.keys.items
+    l.tally.counts

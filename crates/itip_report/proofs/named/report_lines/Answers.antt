@@ -1,30 +1,30 @@
 use Rattle.std.proofs.Common.{map}
 use Rattle.std.specs.String.{string_bytes}
 use Rattle.itip_report.specs.declared.report_name.ReportName.TheVariants as name
-use Rattle.itip_report.proofs.NamedReports.{told_by}
+use Rattle.itip_report.proofs.NamedReports.{told_by, told_of_kept}
 use Rattle.itip_report.proofs.named.report_lines.Goals as goal
 
 pub returns-in-Load : goal.returns-in-Load
 returns-in-Load c =
-    told_by c.load_by_attendee.result (λ lines. map string_bytes lines.items) c.args.name name.Load c.args.state.now c.args.rows.now
-    c.in-Load.is c.load_by_attendee.ensures
+    told_by c.load_of.result (λ lines. map string_bytes lines.items) c.args.name name.Load c.args.state.now c.args.rows c.in-Load.is
+    c.load_of.ensures
 
 pub returns-in-Progress : goal.returns-in-Progress
 returns-in-Progress c =
-    told_by c.progress.result (λ lines. map string_bytes lines.items) c.args.name name.Progress c.args.state.now c.args.rows.now
-    c.in-Progress.is c.progress.ensures
+    told_by c.progress_of.result (λ lines. map string_bytes lines.items) c.args.name name.Progress c.args.state.now c.args.rows
+    c.in-Progress.is c.progress_of.ensures
 
 pub returns-in-Cancelled : goal.returns-in-Cancelled
 returns-in-Cancelled c =
-    told_by c.cancelled.result (λ lines. map string_bytes lines.items) c.args.name name.Cancelled c.args.state.now c.args.rows.now
-    c.in-Cancelled.is c.cancelled.ensures
+    told_of_kept c.cancelled.result (λ lines. map string_bytes lines.items) c.args.name name.Cancelled c.args.state.now c.args.rows
+    c.in-Cancelled.is (λ h. h) c.cancelled.ensures
 
 pub returns-in-Orphans : goal.returns-in-Orphans
 returns-in-Orphans c =
-    told_by c.orphans.result (λ lines. map string_bytes lines.items) c.args.name name.Orphans c.args.state.now c.args.rows.now
-    c.in-Orphans.is c.orphans.ensures
+    told_of_kept c.orphans.result (λ lines. map string_bytes lines.items) c.args.name name.Orphans c.args.state.now c.args.rows
+    c.in-Orphans.is (λ h. h) c.orphans.ensures
 
 pub returns-in-Refresh : goal.returns-in-Refresh
 returns-in-Refresh c =
-    told_by c.refresh_wanted.result (λ lines. map string_bytes lines.items) c.args.name name.Refresh c.args.state.now c.args.rows.now
-    c.in-Refresh.is c.refresh_wanted.ensures
+    told_of_kept c.refresh_wanted.result (λ lines. map string_bytes lines.items) c.args.name name.Refresh c.args.state.now c.args.rows
+    c.in-Refresh.is (λ h. h) c.refresh_wanted.ensures

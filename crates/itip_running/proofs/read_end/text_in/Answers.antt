@@ -1,30 +1,26 @@
-use Rattle.std.proofs.Common.{◌≡◌, ◌⊎◌, ◌∙◌, inl, inr, ap, sym, subst, Err}
 use Rattle.itip_state.proofs.Members.{if_ok_then}
-use Rattle.itip_view.specs.ListText.{IsListText, list_text}
-use Rattle.itip_running.proofs.Seeing.{too_many_rows, list_causes, error_is, if_err_then}
-use Rattle.itip_running.specs.declared.error.PassError.{PassError}
-use Rattle.itip_running.specs.declared.error.PassError.TheVariants as pass
+use Rattle.itip_view.specs.ByUid.{IsTextLeft}
+use Rattle.itip_view.specs.ListText.{IsListText}
+use Rattle.itip_view.specs.Wanting.{Wants}
+use Rattle.itip_view.proofs.Left.{too_many_where}
+use Rattle.itip_view.proofs.SameAsked.{rows_of_all, many_of_all}
 use Rattle.itip_running.proofs.read_end.text_in.Goals as goal
 
-pub returns-in-Ok-clause-text : goal.returns-in-Ok-clause-text
-returns-in-Ok-clause-text c =
-    if_ok_then (λ text. text.items ≡ list_text c.in-Ok.rows.items) (λ text. IsListText c.args.state.now c.args.window text.items)
-    c.text_of.result
-    (λ text is. record { rows = c.in-Ok.rows.items; are_rows = c.in-Ok.ensures.rows; few = c.in-Ok.ensures.few; text_is = is })
+pub returns-clause-text : goal.returns-clause-text
+returns-clause-text c =
+    let heard = c.args.state.now in
+    if_ok_then (λ text. IsTextLeft c.in-Ok.rows text.items) (λ text. IsListText heard c.args.window text.items) c.text_of.result
+    (λ text is. record {
+      rows = is.rows;
+      are_rows = rows_of_all (Wants c.all.result) heard c.args.window (λ row there. c.all.ensures row) is.rows
+          ((c.in-Ok.ensures.rows is.rows).0 is.are_left);
+      few = is.few;
+      text_is = is.text_is;
+    })
     c.text_of.ensures.text
 
-pub returns-in-Ok-clause-many : goal.returns-in-Ok-clause-many
-returns-in-Ok-clause-many c e =
-    absurd (cc (error_is (λ (f : PassError). f ≡ pass.NoListMemory) c.text_of.result pass.TooManyRows c.text_of.ensures.fault e))
-
-pub returns-in-Ok-clause-causes : goal.returns-in-Ok-clause-causes
-returns-in-Ok-clause-causes c =
-    if_err_then (λ (f : PassError). f ≡ pass.NoListMemory) (λ (f : PassError). (f ≡ pass.TooManyRows) ⊎ (f ≡ pass.NoListMemory))
-    c.text_of.result (λ f is. inr is) c.text_of.ensures.fault
-
-pub returns-in-Err-clause-many : goal.returns-in-Err-clause-many
-returns-in-Err-clause-many c e = c.in-Err.ensures.many (ap Err (too_many_rows c.in-Err.fault (sym c.into.ensures ∙ cc e)))
-
-pub returns-in-Err-clause-causes : goal.returns-in-Err-clause-causes
-returns-in-Err-clause-causes c =
-    subst (λ (f : PassError). (f ≡ pass.TooManyRows) ⊎ (f ≡ pass.NoListMemory)) (sym c.into.ensures) (list_causes c.in-Err.fault)
+pub returns-clause-many : goal.returns-clause-many
+returns-clause-many c e =
+    let heard = c.args.state.now in
+    many_of_all (Wants c.all.result) heard c.args.window
+    (too_many_where (Wants c.all.result) heard c.args.window c.in-Ok.rows c.in-Ok.ensures.asked (c.text_of.ensures.many e))

@@ -1,10 +1,20 @@
-use Rattle.std.proofs.Common.{◌∙◌, ap, sym, Some, None}
+use Rattle.std.proofs.Common.{◌≡◌, ◌∙◌, ap, sym, Some, None, inl, inr, true, false}
 use Rattle.itip_state.specs.Held.{UidState, at}
 use Rattle.itip_state.specs.UidStates.{uid_state}
 use Rattle.itip_join.specs.KeyByKey.{value_at}
 use Rattle.itip_state.specs.Slots.{slot_cmp}
 use Rattle.itip_state.proofs.Undoing.{noted_at}
 use Rattle.itip_state.proofs.hear.note.Goals as goal
+
+none_some : {X : Type 0} (x : X) → None ≡ Some x → ⊥
+none_some x e = cc
+
+-- a series item is noted only where nothing is held
+pub returns-in-None-clause-noted : goal.returns-in-None-clause-noted
+returns-in-None-clause-noted c = absurd (elim c.requires [
+  | inl other ↦ let x : true ≡ false = sym c.in-None.ensures ∙ other in cc
+  | inr none ↦ none_some (uid_state c.in-Some.series.now) (sym none ∙ sym (ap (at c.args.held.now) c.uid.ensures) ∙ sym c.in-Some.ensures.found)
+])
 
 pub returns-in-None-get-clause-noted : goal.returns-in-None-get-clause-noted
 returns-in-None-get-clause-noted c =

@@ -1,4 +1,4 @@
-use Rattle.std.proofs.Common.{◌≡◌, ◌∙◌, List, ℕ, ap, sym, subst, Some, None, true}
+use Rattle.std.proofs.Common.{◌≡◌, ◌∙◌, List, ℕ, ap, sym, subst, Some, None}
 use Rattle.std.specs.Prelude.{is_some}
 use Rattle.itip_join.specs.Changes.{replaced}
 use Rattle.itip_items.specs.KeyParts.{uid_of}
@@ -17,18 +17,6 @@ returns-in-Absent c = λ old is.
     undone_put c.args.held.now c.remove.new.self old c.uid-uid.result.now u None c.uid-uid.ensures c.remove.ensures.ordered is.ordered
     c.remove.ensures.without (sym none) is.others
 
-pub returns-in-Whole : goal.returns-in-Whole
-returns-in-Whole c = λ old is.
-    let u : List ℕ = uid_of c.args.change.item.now.key in
-    let was = subst (λ (b : Before). LeadsBack b c.args.change.item.now (at c.args.held.now u) (at old u)) c.in-Whole.is is.there in
-    let some : is_some (at c.args.held.now c.uid-uid.result.now) ≡ true = ap (λ k. is_some (at c.args.held.now k)) c.uid-uid.ensures ∙
-    was.0 in
-    undone_put c.args.held.now c.replace.new.self old c.uid-uid.result.now u
-    (replaced (at c.args.held.now c.uid-uid.result.now) (uid_state c.in-Whole.series)) c.uid-uid.ensures c.replace.ensures.ordered
-    is.ordered
-    c.replace.ensures.with (replaced_some (at c.args.held.now c.uid-uid.result.now) (uid_state c.in-Whole.series) some ∙ sym was.1)
-    is.others
-
 pub put_back-requires : goal.put_back-requires
 put_back-requires c =
     let u : List ℕ = uid_of c.args.change.item.now.key in
@@ -43,7 +31,7 @@ returns-in-Some c = λ old is.
     let u : List ℕ = uid_of c.args.change.item.now.key in
     let k : List ℕ = c.uid-uid.result.now in
     let now : List (List ℕ × UidState) = c.args.held.now in
-    let mid : List (List ℕ × UidState) = c.replace-in-Entry.new.self in
+    let mid : List (List ℕ × UidState) = c.replace.new.self in
     let was = subst (λ (b : Before). LeadsBack b c.args.change.item.now (at now u) (at old u)) c.in-Entry.is is.there in
     let back = entry_leads c.in-Entry.slot c.args.change.item.now c.in-Entry.best (at now u) (at old u) (uid_state c.in-Some.series)
     (sym (ap (at now) c.uid-uid.ensures) ∙ sym c.in-Some.ensures.before) was in

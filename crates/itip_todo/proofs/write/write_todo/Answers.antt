@@ -1,4 +1,4 @@
-use Rattle.std.proofs.Common.{◌≡◌, ◌∙◌, ◌++◌, ℕ, List, cond, ap, Ok, Err, Result}
+use Rattle.std.proofs.Common.{◌≡◌, ◌≤◌, ◌∙◌, ◌++◌, ℕ, List, length, cond, ap, arith, Ok, Err, Result}
 use Rattle.std.proofs.lemmas.Result.{on_ok_weaker}
 use Rattle.std.specs.Prelude.{OnOk, is_ok}
 use Rattle.itip_todo.specs.PartsOf.{parts_of}
@@ -14,9 +14,10 @@ appended (Err x) old new text goal e same = tt
 
 pub returns-clause-ok : goal.returns-clause-ok
 returns-clause-ok c =
+    let few : length c.write_todo_up_to.new.out.items ≤ 18446744073709551615 = omega arith in
     appended c.extend_from_slice.result c.args.out.now.items c.extend_from_slice.new.self.items c.as_slice.result.now
     (contents_octets (todo_contents (parts_of c.args.todo.now))) c.extend_from_slice.ensures.items
-    (c.as_slice.ensures.value ∙ c.in_ok-write_lines.ensures ∙
+    (c.as_slice.ensures.value ∙ c.in_ok-write_todo_up_to.ensures.whole few ∙
     ap (λ (front : List ℕ). front ++ contents_octets (todo_contents (parts_of c.args.todo.now))) c.in_ok-text.ensures.items)
 
 pub returns-clause-read_again : goal.returns-clause-read_again

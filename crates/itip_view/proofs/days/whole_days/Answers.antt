@@ -1,4 +1,4 @@
-use Rattle.std.proofs.Common.{◌≡◌, ap, ◌∙◌}
+use Rattle.std.proofs.Common.{ap, ◌∙◌}
 use Rattle.itip_recur.specs.Given.{are_given}
 use Rattle.itip_recur.specs.ToDoShape.{Recurs}
 use Rattle.itip_recur.proofs.RuleTexts.{given_is}

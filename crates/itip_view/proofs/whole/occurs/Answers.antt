@@ -1,4 +1,4 @@
-use Rattle.std.proofs.Common.{◌≡◌, ◌+ℤ◌, ◌↔◌, pos, arith, FitsSigned, w32, to_z-of_z, IsTrue, sym}
+use Rattle.std.proofs.Common.{◌+ℤ◌, ◌↔◌, pos, arith, FitsSigned, w32, to_z-of_z, IsTrue}
 use Rattle.std.specs.List.{Contains}
 use Rattle.std.proofs.lemmas.Int.{ints}
 use Rattle.itip_recur.specs.Occurrences.{OccursIn, AreOccurrences}

@@ -1,20 +1,18 @@
-use Rattle.std.proofs.Common.{◌≡◌, ◌≤◌, ◌∙◌, length, sym, true, false}
-use Rattle.itip_view.specs.Rows.{AreRows, row_limit}
-use Rattle.itip_report.specs.Named.{HasRowsFor}
-use Rattle.itip_report.proofs.Mapped.{if_ok_both}
-use Rattle.itip_report.proofs.NamedReports.{needs_no_rows}
+use Rattle.std.proofs.Common.{◌≡◌, ◌∙◌, List, subst, sym, true, false}
+use Rattle.std.specs.Prelude.{IfOk}
+use Rattle.itip_items.specs.declared.item.Item.{Item}
+use Rattle.itip_view.specs.ByUid.{AreAsked}
+use Rattle.itip_view.specs.declared.row.Row.{Row}
+use Rattle.itip_report.proofs.NamedReports.{rows_of_report, no_rows_of_report}
 use Rattle.itip_world.proofs.reported.report_rows.Goals as goal
 
-pub returns-then-is_of_rows-clause-rows : goal.returns-then-is_of_rows-clause-rows
-returns-then-is_of_rows-clause-rows c =
-    if_ok_both c.rows.result (λ rows. AreRows c.args.desk.now.kept c.args.window rows.items) (λ rows. length rows.items ≤ row_limit)
-    (λ rows. HasRowsFor c.args.name c.args.desk.now.kept c.args.window rows.items)
-    (λ rows are few. record { are_rows = λ _. are; few = λ _. few }) c.rows.ensures.rows c.rows.ensures.few
+pub returns-then-is_of_rows : goal.returns-then-is_of_rows
+returns-then-is_of_rows c =
+    rows_of_report c.args.name c.args.desk.now.kept c.args.window c.rows.result (c.is_of_rows.ensures.0 c.if-is_of_rows.true)
+    c.rows.ensures.asked
 
-pub returns-then-is_of_rows-clause-of_rows : goal.returns-then-is_of_rows-clause-of_rows
-returns-then-is_of_rows-clause-of_rows c = λ _. c.is_of_rows.ensures.0 c.if-is_of_rows.true
-
-pub returns-else-is_of_rows-clause-rows : goal.returns-else-is_of_rows-clause-rows
-returns-else-is_of_rows-clause-rows c =
-    needs_no_rows c.args.name c.args.desk.now.kept c.args.window c.new.result.items
-    (λ of_rows. let same : true ≡ false = sym (c.is_of_rows.ensures.1 of_rows) ∙ c.if-is_of_rows.false in cc)
+pub returns-else-is_of_rows : goal.returns-else-is_of_rows
+returns-else-is_of_rows c =
+    no_rows_of_report c.args.name c.args.desk.now.kept c.args.window c.no_rows.result
+    (λ of_rows. let same : true ≡ false = sym (c.is_of_rows.ensures.1 of_rows) ∙ c.if-is_of_rows.false in absurd cc)
+    (subst (λ (items : List Item). IfOk c.no_rows.result (AreAsked (λ (row : Row). ⊥) items c.args.window)) c.state.ensures c.no_rows.ensures)

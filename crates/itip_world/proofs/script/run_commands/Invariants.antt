@@ -11,5 +11,5 @@ invariant-loop-command g l =
     ((desks : ℕ) → IsWorldOf (no_past desks) l.fn.asked.world →
     RunsSoFar l.fn.asked.window desks (g.W.Write.contents l.fn.writer) (g.W.Write.contents l.writer) (orders_of l.script)
     (map order_of l.yielded)
-    (orders_left l.command-iterator) l.asked.world l.answers.items l.is_refused)
+    (orders_left l.command-iterator) l.asked.world l.kept.items l.is_refused)
     × (l.asked.window ≡ l.fn.asked.window)

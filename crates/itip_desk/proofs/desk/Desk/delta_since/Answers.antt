@@ -14,7 +14,7 @@ returns c = if_ok_then (λ batch. IsItemsOf batch c.in_ok-shared_of.field-0.item
     (ap (λ (d : Shown). d.kept) c.self.view_is)
     (λ uid. subst (λ (ch : List (List ℕ × ℕ)). Contains (map (λ u. u.now) c.in_ok-uids.uids.items) uid ↔ CarriesAfter ch c.args.tick uid)
     (ap (λ (d : Shown). d.changed) c.self.view_is)
-    (c.in_ok-uids.ensures c.self.inside.tick c.self.invariant uid))
+    (c.in_ok-uids.ensures uid))
     (subst (λ us. ArePartOf c.in_ok-shared_of.field-0.items c.self.inside.kept (map (λ u. u.now) us)) c.deref.ensures.value
     (subst (λ (k : List Item). ArePartOf c.in_ok-shared_of.field-0.items k (map (λ u. u.now) c.deref.result.now)) c.state.ensures
     c.in_ok-shared_of.ensures))

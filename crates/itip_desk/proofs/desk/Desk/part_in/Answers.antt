@@ -1,4 +1,4 @@
-use Rattle.std.proofs.Common.{◌≡◌, ◌∙◌, ◌↔◌, ℕ, List, map, subst, sym, ap}
+use Rattle.std.proofs.Common.{◌∙◌, ◌↔◌, ℕ, List, map, subst, sym, ap}
 use Rattle.std.specs.List.{Contains}
 use Rattle.itip_items.specs.declared.item.Item.{Item}
 use Rattle.itip_state.specs.Kept.{ArePartOf}

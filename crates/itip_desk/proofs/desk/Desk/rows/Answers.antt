@@ -1,31 +1,45 @@
-use Rattle.std.proofs.Common.{◌≡◌, ◌∙◌, ℕ, List, None, map, subst, ap}
+use Rattle.std.proofs.Common.{◌∙◌, ◌↔◌, ℕ, List, map, subst, ap}
 use Rattle.std.specs.List.{Contains}
 use Rattle.itip_items.specs.declared.item.Item.{Item}
 use Rattle.itip_state.proofs.Members.{if_ok_then}
+use Rattle.itip_view.specs.ByUid.{AreAsked, AreLeft}
 use Rattle.itip_view.specs.RowDays.{HasRowsIn}
 use Rattle.itip_view.specs.Rows.{AreRows}
-use Rattle.itip_view.specs.Showing.{ShowsNamed, AreRowsWhere, AreTooManyWhere, IsAmong}
+use Rattle.itip_view.specs.Showing.{IsAmong}
+use Rattle.itip_view.specs.Wanting.{Wants}
+use Rattle.itip_view.specs.declared.by_uid.RowsByUid.{RowsByUid}
+use Rattle.itip_view.specs.declared.row.Row.{Row}
+use Rattle.itip_view.proofs.Left.{asked_as, left_where}
 use Rattle.itip_desk.specs.Desk.{Shown}
-use Rattle.itip_desk.proofs.Between.{all_rows, all_many}
+use Rattle.itip_desk.proofs.Between.{row_found, any_rows}
 use Rattle.itip_desk.proofs.desk.Desk.rows.Goals as goal
+use Rattle.itip_desk.proofs.desk.Desk.rows.Goals.{After-among}
+
+found : (c : After-among) → (uid : List ℕ) → HasRowsIn c.args.self.now.kept c.args.window uid →
+    Contains (map (λ u. u.now) c.in_ok-uids.uids.items) uid
+found c = subst (λ (k : List Item). (uid : List ℕ) → HasRowsIn k c.args.window uid →
+    Contains (map (λ u. u.now) c.in_ok-uids.uids.items) uid) (ap (λ (d : Shown). d.kept) c.self.view_is) c.in_ok-uids.ensures
+
+asked_is : (c : After-among) (asked : RowsByUid) →
+    AreAsked (IsAmong (map (λ u. u.now) c.in_ok-uids.uids.items) (Wants c.all.result)) c.state.result.now c.args.window asked →
+    AreAsked (λ row. Unit {0}) c.args.self.now.kept c.args.window asked
+asked_is c asked is =
+    asked_as (IsAmong (map (λ u. u.now) c.in_ok-uids.uids.items) (Wants c.all.result)) (λ row. Unit {0}) c.state.result.now
+    c.args.self.now.kept c.args.window asked is (c.state.ensures ∙ ap (λ (d : Shown). d.kept) c.self.view_is)
+    (row_found c.args.self.now.kept c.args.window (map (λ u. u.now) c.in_ok-uids.uids.items) (Wants c.all.result) (found c) c.all.ensures)
 
 pub returns-clause-rows : goal.returns-clause-rows
 returns-clause-rows c =
-    let kept : List Item = c.args.self.now.kept in
-    let uids : List (List ℕ) = map (λ u. u.now) c.in_ok-uids.uids.items in
-    let same : c.self.inside.kept ≡ kept = ap (λ (d : Shown). d.kept) c.self.view_is in
-    let found : (uid : List ℕ) → HasRowsIn kept c.args.window uid → Contains uids uid =
-    subst (λ (k : List Item). (uid : List ℕ) → HasRowsIn k c.args.window uid → Contains uids uid) same c.in_ok-uids.ensures in
-    if_ok_then (λ rows. AreRowsWhere (IsAmong uids (ShowsNamed None)) c.state.result.now c.args.window rows.items)
-    (λ rows. AreRows kept c.args.window rows.items) c.rows_among.result
-    (λ rows are. all_rows kept c.args.window uids found rows.items
-    (subst (λ (k : List Item). AreRowsWhere (IsAmong uids (ShowsNamed None)) k c.args.window rows.items) (c.state.ensures ∙ same) are))
-    c.rows_among.ensures.rows
+    let at = (goal.at.returns-clause-rows c).After-among in
+    if_ok_then (AreAsked (IsAmong (map (λ u. u.now) c.in_ok-uids.uids.items) (Wants c.all.result)) c.state.result.now c.args.window)
+    (λ asked. (rows : List Row) → AreLeft asked rows ↔ AreRows c.args.self.now.kept c.args.window rows) c.among.result
+    (λ asked is rows.
+    let left = left_where (λ row. Unit {0}) c.args.self.now.kept c.args.window asked (asked_is at asked is) rows in
+    let any = any_rows c.args.self.now.kept c.args.window rows in
+    (λ h. any.0 (left.0 h), λ are. left.1 (any.1 are))) c.among.ensures.asked
 
-pub returns-clause-many : goal.returns-clause-many
-returns-clause-many c = λ refused.
-    let uids : List (List ℕ) = map (λ u. u.now) c.in_ok-uids.uids.items in
-    let same : c.self.inside.kept ≡ c.args.self.now.kept = ap (λ (d : Shown). d.kept) c.self.view_is in
-    all_many c.args.self.now.kept c.args.window uids
-    (subst (λ (k : List Item). AreTooManyWhere (IsAmong uids (ShowsNamed None)) k c.args.window) (c.state.ensures ∙ same)
-    (c.rows_among.ensures.many refused))
+pub returns-clause-asked : goal.returns-clause-asked
+returns-clause-asked c =
+    let at = (goal.at.returns-clause-asked c).After-among in
+    if_ok_then (AreAsked (IsAmong (map (λ u. u.now) c.in_ok-uids.uids.items) (Wants c.all.result)) c.state.result.now c.args.window)
+    (AreAsked (λ row. Unit {0}) c.args.self.now.kept c.args.window) c.among.result (asked_is at) c.among.ensures.asked

@@ -7,8 +7,8 @@ use Rattle.itip_state.proofs.Keeping.{are_kept_by}
 use Rattle.itip_state.proofs.News.{news_kept, news_move}
 use Rattle.std.specs.Prelude.{cond, Some}
 use Rattle.itip_desk.specs.Desk.{Shown}
-use Rattle.itip_desk.specs.Moves.{is_listed, FallFrom}
-use Rattle.itip_desk.proofs.Ticking.{at_uid, fall_more, fall_places, carried_on, carry_step, nothing_carried}
+use Rattle.itip_desk.specs.Moves.{is_listed, tick_at, HavePlaces, AreReady}
+use Rattle.itip_desk.proofs.Ticking.{carried_on, carry_step, marked_ticks, nothing_carried}
 use Rattle.itip_desk.proofs.Steps.{moved_by_news, none_moved, none_in, some_moved, still_carry, one_more_step}
 use Rattle.itip_desk.proofs.desk.Desk.take.Goals as goal
 use Rattle.itip_desk.proofs.desk.Desk.take.Goals.{In_ok-uids}
@@ -106,36 +106,34 @@ returns-clause-step c = λ steps start.
     let before = (goal.at.returns-clause-step c).In_ok-uids in
     let some : ¬ (length c.in_ok-uids.uids.items ≡ 0) = grind arith in
     let at : c.self.inside.tick ≡ c.args.self.now.tick = ap (λ (d : Shown). d.tick) c.self.view_is in
-    let new : Shown = record { kept = c.hear.new.self; tick = c.self.inside.tick + 1; changed = c.mark.new.self } in
-    let made = c.in_ok-add_places.ensures.places in
+    let new : Shown = record { kept = c.hear.new.self; tick = c.self.inside.tick + 1; changed = c.mark.new.self.carried } in
     one_more_step steps start c.args.self.now new c.args.batch.now
     (kept_with before c.hear.new.self (subst (λ xs. AreKept c.hear.new.self (c.self.inside.kept ++ map (λ item. item.now) xs))
     c.deref-3.ensures.value c.in_default.ensures.ok))
     (inl (some_moved c.in_ok-uids.uids.items c.args.self.now.kept c.args.batch.now (moved before) some, ap (λ t. t + 1) at))
-    (carry_step c.self.inside.moves made.0 c.mark.new.self made.2 c.in_ok-uids.uids.items (c.self.inside.tick + 1)
-    (λ uid. c.mark.ensures.marked uid ∙ ap (λ us. cond (is_listed us uid) (Some (c.self.inside.tick + 1))
-    (at_uid c.add_places.new.self uid)) c.deref-4.ensures.value
-    ∙ ap (λ es. cond (is_listed c.in_ok-uids.uids.items uid) (Some (c.self.inside.tick + 1)) (at_uid es uid)) made.1)
+    (carry_step c.in_ok-uids.uids.items c.self.inside.moves.carried c.prepare.new.self.carried c.mark.new.self.carried
+    (subst (λ us. HavePlaces us c.self.inside.moves.carried c.prepare.new.self.carried) c.deref-2.ensures.value c.prepare.ensures.places) (c.self.inside.tick + 1)
+    (λ uid. c.mark.ensures uid ∙ ap (λ us. cond (is_listed us uid) (Some (c.self.inside.tick + 1))
+    (tick_at c.prepare.new.self.carried uid)) c.deref-4.ensures.value)
     c.args.self.now new c.args.batch.now (sym (ap (λ (d : Shown). d.changed) c.self.view_is)) refl refl (moved before))
 
 pub returns-clause-carried : goal.returns-clause-carried
 returns-clause-carried c =
     let before = (goal.at.returns-clause-carried c).In_ok-uids in
-    let new : Shown = record { kept = c.hear.new.self; tick = c.self.inside.tick + 1; changed = c.mark.new.self } in
-    let made = c.in_ok-add_places.ensures.places in
-    carried_on c.self.inside.moves made.0 c.mark.new.self made.2 c.in_ok-uids.uids.items (c.self.inside.tick + 1)
-    (λ uid. c.mark.ensures.marked uid ∙ ap (λ us. cond (is_listed us uid) (Some (c.self.inside.tick + 1))
-    (at_uid c.add_places.new.self uid)) c.deref-4.ensures.value
-    ∙ ap (λ es. cond (is_listed c.in_ok-uids.uids.items uid) (Some (c.self.inside.tick + 1)) (at_uid es uid)) made.1)
+    let new : Shown = record { kept = c.hear.new.self; tick = c.self.inside.tick + 1; changed = c.mark.new.self.carried } in
+    carried_on c.in_ok-uids.uids.items c.self.inside.moves.carried c.prepare.new.self.carried c.mark.new.self.carried
+    (subst (λ us. HavePlaces us c.self.inside.moves.carried c.prepare.new.self.carried) c.deref-2.ensures.value c.prepare.ensures.places) (c.self.inside.tick + 1)
+    (λ uid. c.mark.ensures uid ∙ ap (λ us. cond (is_listed us uid) (Some (c.self.inside.tick + 1))
+    (tick_at c.prepare.new.self.carried uid)) c.deref-4.ensures.value)
     c.args.self.now new c.args.batch.now (sym (ap (λ (d : Shown). d.changed) c.self.view_is)) refl refl (moved before)
 
 pub mark-requires : goal.mark-requires
-mark-requires c = λ uid listed. c.in_ok-add_places.ensures.all uid
-    (ap (λ us. is_listed us uid) (c.deref-2.ensures.value ∙ sym c.deref-4.ensures.value) ∙ listed)
+mark-requires c = subst (λ us. AreReady us (c.self.inside.tick + 1) c.prepare.new.self)
+    (c.deref-2.ensures.value ∙ sym c.deref-4.ensures.value) c.in_ok-prepare.ensures.ready
 
 pub invariant_of-self-2 : goal.invariant_of-self-2
-invariant_of-self-2 c =
-    let made = c.in_ok-add_places.ensures.places in
-    c.mark.ensures.falls (subst (FallFrom (c.self.inside.tick + 1)) (sym made.1)
-    (fall_places (c.self.inside.tick + 1) c.self.inside.moves made.0 made.2
-    (fall_more c.self.inside.tick (c.self.inside.tick + 1) c.self.inside.moves (omega arith) c.self.invariant)))
+invariant_of-self-2 c = marked_ticks c.in_ok-uids.uids.items c.self.inside.moves.carried c.prepare.new.self.carried c.mark.new.self.carried
+    (c.self.inside.tick + 1) (omega arith) c.self.invariant
+    (subst (λ us. HavePlaces us c.self.inside.moves.carried c.prepare.new.self.carried) c.deref-2.ensures.value c.prepare.ensures.places)
+    (λ uid. c.mark.ensures uid ∙ ap (λ us. cond (is_listed us uid) (Some (c.self.inside.tick + 1))
+    (tick_at c.prepare.new.self.carried uid)) c.deref-4.ensures.value)

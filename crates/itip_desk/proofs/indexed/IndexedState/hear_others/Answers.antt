@@ -1,4 +1,4 @@
-use Rattle.std.proofs.Common.{[], ◌++◌, List, map, refl, sym, subst, OnOk}
+use Rattle.std.proofs.Common.{◌++◌, List, map, sym, subst, OnOk}
 use Rattle.itip_items.specs.declared.item.Item.{Item}
 use Rattle.itip_state.specs.Kept.{AreKept}
 use Rattle.itip_desk.specs.Index.{IsIndexOf}
@@ -9,8 +9,7 @@ pub invariant_of-self : goal.invariant_of-self
 invariant_of-self c =
     let news : List Item = map (λ item. item.now) c.args.news.now in
     either_way c.hear.result c.hear.ensures.ok c.hear.ensures.err
-    (λ kept. index_stays c.self.inside.state news [] c.hear.new.self c.lawful.ensures.state c.requires kept refl c.self.inside.index
-    c.self.invariant)
+    (λ kept. index_stays c.self.inside.state news c.hear.new.self c.lawful.ensures.state c.requires kept c.self.inside.index c.self.invariant)
     (λ same. subst (λ (kept : List Item). IsIndexOf kept c.self.inside.index) (sym same) c.self.invariant)
 
 pub returns-clause-ok : goal.returns-clause-ok

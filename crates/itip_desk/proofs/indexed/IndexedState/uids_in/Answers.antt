@@ -1,8 +1,9 @@
 use Rattle.std.proofs.Common.{◌≡◌, ◌≤ℤ◌, ◌<ℤ◌, ℕ, ℤ, List, map, true, subst, sym}
 use Rattle.std.specs.List.{Contains}
+use Rattle.itip_items.specs.KeyParts.{uid_of}
 use Rattle.itip_items.specs.declared.item.Item.{Item}
 use Rattle.itip_view.specs.RowDays.{HasRowsIn}
-use Rattle.itip_desk.specs.Entries.{entry_at}
+use Rattle.itip_desk.specs.Entries.{entry_of}
 use Rattle.itip_desk.specs.Index.{has}
 use Rattle.itip_desk.specs.declared.entry.Mark.TheVariants.{Day, Always}
 use Rattle.itip_desk.proofs.Between.{found_in}
@@ -11,9 +12,9 @@ use Rattle.itip_desk.proofs.indexed.IndexedState.uids_in.Goals as goal
 
 pub returns : goal.returns
 returns c =
-    if_ok_both (λ uids. (uid : List ℕ) (day : ℤ) → c.args.window.from ≤ℤ day → day <ℤ c.args.window.to →
-    has c.self.inside.index (entry_at uid (Day day)) ≡ true → Contains (map (λ u. u.now) uids.items) uid)
-    (λ uids. (uid : List ℕ) → has c.self.inside.index (entry_at uid Always) ≡ true → Contains (map (λ u. u.now) uids.items) uid)
+    if_ok_both (λ uids. (item : Item) (day : ℤ) → c.args.window.from ≤ℤ day → day <ℤ c.args.window.to →
+    has c.self.inside.index (entry_of item (Day day)) ≡ true → Contains (map (λ u. u.now) uids.items) (uid_of item.key))
+    (λ uids. (item : Item) → has c.self.inside.index (entry_of item Always) ≡ true → Contains (map (λ u. u.now) uids.items) (uid_of item.key))
     (λ uids. (uid : List ℕ) → HasRowsIn c.args.self.now c.args.window uid → Contains (map (λ u. u.now) uids.items) uid) c.find_in.result
     (λ uids days always uid rows. found_in c.self.inside.state c.self.inside.index c.args.window (map (λ u. u.now) uids.items)
     c.self.invariant days always uid

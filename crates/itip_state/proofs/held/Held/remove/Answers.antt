@@ -1,11 +1,17 @@
-use Rattle.std.proofs.Common.{None, ap, ◌∙◌}
+use Rattle.std.proofs.Common.{None, ap, ◌∙◌, refl}
 use Rattle.std.specs.Prelude.{cond}
 use Rattle.std.specs.Ordering.{nat_cmp, is_eq}
 use Rattle.std.specs.Cmp.Lexicographic.{slice_cmp}
 use Rattle.itip_state.specs.Held.{at}
-use Rattle.itip_state.specs.UidStates.{uid_state}
+use Rattle.itip_state.specs.UidStates.{uid_state, uid_states}
 use Rattle.itip_state.proofs.Seeing.{put_seen, in_order}
+use Rattle.itip_state.proofs.Tracking.{tracked_gone}
 use Rattle.itip_state.proofs.held.Held.remove.Goals as goal
+
+pub invariant_of-self : goal.invariant_of-self
+invariant_of-self c = tracked_gone c.args.uid.now c.self.inside.due c.self.inside.due (uid_states c.self.inside.map.map uid_state)
+    (uid_states c.remove.new.self.map uid_state) c.self.invariant None
+    (put_seen uid_state c.self.inside.map.map c.remove.new.self.map c.args.uid.now None c.remove.ensures.without) refl
 
 pub returns-clause-without : goal.returns-clause-without
 returns-clause-without c =

@@ -4,9 +4,18 @@ use Rattle.std.specs.Ordering.{nat_cmp, is_eq}
 use Rattle.std.specs.Cmp.Lexicographic.{slice_cmp}
 use Rattle.itip_join.specs.Changes.{replaced}
 use Rattle.itip_state.specs.Held.{at}
-use Rattle.itip_state.specs.UidStates.{uid_state}
+use Rattle.itip_state.specs.UidStates.{uid_state, uid_states}
 use Rattle.itip_state.proofs.Seeing.{seen_at, replaced_seen, in_order}
+use Rattle.itip_state.proofs.Tracking.{tracked_put}
 use Rattle.itip_state.proofs.held.Held.replace.Goals as goal
+
+pub invariant_of-self : goal.invariant_of-self
+invariant_of-self c =
+    tracked_put c.args.uid.now c.self.inside.due c.remove.new.self (uid_states c.self.inside.map.map uid_state)
+    (uid_states c.replace.new.self.map uid_state) c.self.invariant
+    (replaced (at (uid_states c.self.inside.map.map uid_state) c.args.uid.now) (uid_state c.args.series))
+    (replaced_seen uid_state c.self.inside.map.map c.replace.new.self.map c.args.uid.now c.args.series c.replace.ensures.with)
+    c.remove.ensures.updates
 
 pub returns-clause-before : goal.returns-clause-before
 returns-clause-before c = ap (option_map uid_state) c.replace.ensures.before ∙ seen_at uid_state c.self.inside.map.map c.args.uid.now ∙

@@ -5,7 +5,7 @@ use Rattle.itip_todo.specs.declared.property.Property.{Property}
 use Rattle.itip_items.specs.declared.item.Item.{Item}
 use Rattle.itip_view.specs.Answers.{Asked, Decides, AreShown, shown_line, in_front}
 use Rattle.itip_view.specs.OfUid.{asked_of, asked_by}
-use Rattle.itip_view.specs.declared.answers.Question.{Question}
+use Rattle.itip_view.specs.declared.answers.Questions.{Questions}
 use Rattle.itip_view.specs.declared.keyed_item.AttendeeLine.{AttendeeLine}
 use Rattle.itip_view.specs.declared.row.ShownAttendee.{ShownAttendee}
 use Rattle.itip_view.proofs.Deciding.{shows_more, behind}
@@ -16,7 +16,7 @@ pub loop-line-preserved : goal.loop-line-preserved
 loop-line-preserved c = λ others rest.
     let items : List Item = c.args.self.now.items.now.items in
     let uid : List ℕ = c.args.self.now.items.now.uid in
-    let questions : List Question = c.args.self.now.questions.now in
+    let questions : Questions = c.args.self.now.questions.now in
     let asked : Property → List Asked = asked_by uid questions in
     let lines : List AttendeeLine = c.args.lines.now in
     let line : AttendeeLine = c.line-item.result in

@@ -1,5 +1,5 @@
 use Rattle.std.proofs.Common.{sym, ap, subst, List, ℕ, Option, None}
-use Rattle.std.specs.Prelude.{MatchOption}
+use Rattle.std.specs.Prelude.{IfOk, MatchOption}
 use Rattle.std.specs.Option.{option_copied}
 use Rattle.itip_moment.specs.declared.moment.Moment.{Moment}
 use Rattle.itip_items.specs.declared.item.Item.{Item}
@@ -13,6 +13,11 @@ use Rattle.itip_view.proofs.in_question.InQuestion.governing.Goals as goal
 -- the item in question, or that none is
 abbrev IsFound : List Item → List ℕ → Option Moment → Option Item → Type 0
 IsFound items uid id found = MatchOption found (NoneInQuestion items uid id) (IsInQuestion items uid id)
+
+pub returns-in-Some : goal.returns-in-Some
+returns-in-Some c =
+    subst (λ (id : Option Moment). IfOk c.governing_at.result (λ found. IsFound c.args.self.now.items c.args.self.now.uid id
+    (option_copied found))) (ap option_copied (sym c.in-Some.is)) c.governing_at.ensures
 
 pub returns-in-None : goal.returns-in-None
 returns-in-None c =

@@ -1,11 +1,11 @@
-use Rattle.std.proofs.Common.{◌≡◌, ◌∙◌, sym, subst, List, ℕ, max, true, false, rules}
+use Rattle.std.proofs.Common.{◌≡◌, ◌∙◌, sym, subst, List, ℕ, true, false, rules}
 use Rattle.itip_moment.specs.declared.moment.Moment.{Moment}
 use Rattle.itip_items.specs.declared.item.Item.{Item}
 use Rattle.itip_state.specs.OfUid.{UidPart}
 use Rattle.itip_view.specs.Answers.{AreShown}
 use Rattle.itip_view.specs.OfUid.{asked_by}
 use Rattle.itip_view.specs.Rows.{range_answers}
-use Rattle.itip_view.specs.declared.answers.Question.{Question}
+use Rattle.itip_view.specs.declared.answers.Questions.{Questions}
 use Rattle.itip_view.proofs.Asking.{cancelled_range, shows_range}
 use Rattle.itip_view.proofs.in_question.InQuestion.range_row.Goals as goal
 
@@ -23,7 +23,7 @@ returns c =
     let item : Item = c.args.range.now.item.now in
     let on : c.is_live.result ≡ true = search rules in
     let shown : AreShown items (range_answers uid at item c.args.series.now) item.todo.attendees c.in_ok-row.row.attendees =
-    subst (λ (qs : List Question). AreShown items (asked_by uid qs) item.todo.attendees c.in_ok-row.row.attendees)
+    subst (λ (qs : Questions). AreShown items (asked_by uid qs) item.todo.attendees c.in_ok-row.row.attendees)
     c.in_turn_under-questions.ensures
     (subst (λ (p : UidPart). AreShown p.items (asked_by p.uid c.in_turn_under-questions.result) item.todo.attendees
     c.in_ok-row.row.attendees) c.self.view_is c.in_ok-row.ensures.shown) in

@@ -1,9 +1,10 @@
-use Rattle.std.proofs.Common.{◌≡◌, ◌∙◌, subst, List, [], ◌∷◌, ℕ, Option, Some, None}
+use Rattle.std.proofs.Common.{◌∙◌, subst, List, ℕ, Option, Some}
 use Rattle.itip_items.specs.declared.item.Item.{Item}
 use Rattle.itip_state.specs.OfUid.{UidPart}
 use Rattle.itip_view.specs.Answers.{AreShown}
 use Rattle.itip_view.specs.OfUid.{IsWhole, asked_by}
 use Rattle.itip_view.specs.Rows.{series_answers}
+use Rattle.itip_view.specs.declared.answers.Questions.{Questions}
 use Rattle.itip_view.specs.declared.whole.Whole.{Whole}
 use Rattle.itip_view.proofs.Asking.{shows_whole}
 use Rattle.itip_view.proofs.in_question.InQuestion.whole_row.Goals as goal
@@ -17,8 +18,9 @@ returns c =
     let whole : IsWhole items uid (Some c.in-Some.whole) = subst (λ (w : Option Whole). IsWhole items uid w) c.in-Some.is
     (subst (λ (p : UidPart). IsWhole p.items p.uid c.self.inside.whole) c.self.view_is c.self.invariant.0) in
     let shown : AreShown items (series_answers uid item) governing.todo.attendees c.in_ok-row.row.attendees =
-    subst (λ (p : UidPart). AreShown p.items (asked_by p.uid (record { id = None; since = item.own } ∷ [])) governing.todo.attendees
-    c.in_ok-row.row.attendees) c.self.view_is c.in_ok-row.ensures.shown in
+    subst (λ (qs : Questions). AreShown items (asked_by uid qs) governing.todo.attendees c.in_ok-row.row.attendees) c.only-questions.ensures
+    (subst (λ (p : UidPart). AreShown p.items (asked_by p.uid c.only-questions.result) governing.todo.attendees
+    c.in_ok-row.row.attendees) c.self.view_is c.in_ok-row.ensures.shown) in
     shows_whole items uid item c.in_ok-row.row.item.now c.in_ok-row.row.attendees whole.0
     (subst (λ (i : Item). AreShown items (series_answers uid item) i.todo.attendees c.in_ok-row.row.attendees) c.in_ok-governing.ensures
     shown) (c.in_ok-row.ensures.item ∙ c.in_ok-governing.ensures)

@@ -1,26 +1,33 @@
-use Rattle.std.proofs.Common.{Err, map, ap}
+use Rattle.std.proofs.Common.{List, map, subst, sym}
 use Rattle.std.specs.String.{string_bytes}
-use Rattle.itip_script.specs.Orders.{reports}
-use Rattle.itip_world.specs.Running.{Answers, answer_of}
-use Rattle.itip_world.proofs.Answering.{answers_report, answers_no_rows, answers_no_report, too_many}
+use Rattle.itip_items.specs.declared.item.Item.{Item}
+use Rattle.itip_view.specs.ByUid.{IsCountOf}
+use Rattle.itip_report.specs.Named.{IsReportOf, AreRowsFor}
+use Rattle.itip_report.proofs.NamedReports.{has_rows_for, of_rows_if_many, too_many_for}
+use Rattle.itip_world.proofs.Answering.{answers_report, answers_no_rows, answers_no_report}
 use Rattle.itip_world.proofs.asked.Desks.report.Goals as goal
 
 pub returns-in_default-clause-answers : goal.returns-in_default-clause-answers
 returns-in_default-clause-answers c =
     answers_no_report c.args.self.now.window c.args.self.now.world c.args.desk c.in_default.ensures c.args.name
 
-pub returns-in-Ok-clause-answers : goal.returns-in-Ok-clause-answers
-returns-in-Ok-clause-answers c =
+pub returns-in_ok-lines-in-Few-clause-answers : goal.returns-in_ok-lines-in-Few-clause-answers
+returns-in_ok-lines-in-Few-clause-answers c =
     let asked = c.args.self.now in
-    answers_report asked.window asked.world c.args.desk c.in-Some.asked.now c.in-Some.ensures c.args.name
-    (map string_bytes c.in-Ok.lines.items) c.in-Ok.ensures.lines
+    let few = subst (IsCountOf c.in_ok-rows.rows) c.in-Few.is c.in_ok-count.ensures.count in
+    let lines = map string_bytes c.in_ok-lines-in-Few.lines.items in
+    answers_report asked.window asked.world c.args.desk c.in-Some.asked.now c.in-Some.ensures c.args.name lines
+    (subst (λ (items : List Item). IsReportOf c.args.name items asked.window lines) c.state.ensures
+    (c.in_ok-lines-in-Few.ensures asked.window few.rows few.are_left
+    (has_rows_for c.args.name c.state.result.now asked.window c.in_ok-rows.rows
+    (subst (λ (items : List Item). AreRowsFor c.args.name items asked.window c.in_ok-rows.rows) (sym c.state.ensures) c.in_ok-rows.ensures)
+    c.in-Few.field-0 few)))
 
-pub returns-in-Err-clause-answers : goal.returns-in-Err-clause-answers
-returns-in-Err-clause-answers c =
+pub returns-in-TooMany-clause-answers : goal.returns-in-TooMany-clause-answers
+returns-in-TooMany-clause-answers c =
     let asked = c.args.self.now in
-    too_many c.no_rows.result c.in-Err.error (λ answer. Answers asked.window (reports c.args.desk c.args.name) asked.world
-    (answer_of answer) asked.world) c.no_rows.ensures.refused
-    (λ many.
-    let over = ap (λ e. Err e) many in
-    answers_no_rows asked.window asked.world c.args.desk c.in-Some.asked.now c.in-Some.ensures c.args.name (c.in-Err.ensures.of_rows over)
-    (c.in-Err.ensures.many over))
+    let kept = c.in-Some.asked.now.kept in
+    let many = (subst (IsCountOf c.in_ok-rows.rows) c.in-TooMany.is c.in_ok-count.ensures.count).0 in
+    let of_rows = of_rows_if_many c.args.name kept asked.window c.in_ok-rows.rows c.in_ok-rows.ensures many in
+    answers_no_rows asked.window asked.world c.args.desk c.in-Some.asked.now c.in-Some.ensures c.args.name of_rows
+    (too_many_for c.args.name kept asked.window c.in_ok-rows.rows c.in_ok-rows.ensures many of_rows)

@@ -1,0 +1,32 @@
+//! Numbers that stand for texts in an index: they take no memory of their own, and are compared at once.
+ghost use Rattle.std.specs.Prelude.{◌≡◌};
+ghost use Rattle.itip_todo.specs.Table.{attendee_key};
+ghost use Rattle.itip_desk.specs.Numbers.{with_octet, text_number};
+
+/// The number of a UID.
+pub(crate) fn uid_number(uid: &str) -> u32
+    ensures { result ≡ text_number uid.now }
+{
+    let mut number = 0;
+    for octet in uid.as_bytes() {
+        number = with_octet(number, *octet);
+    }
+    number
+}
+
+/// The number of the attendee of an address: that of its key.
+pub(crate) fn attendee_number(address: &str) -> u32
+    ensures { result ≡ text_number (attendee_key address.now) }
+{
+    let mut number = 0;
+    for octet in address.as_bytes() {
+        number = with_octet(number, octet.to_ascii_lowercase());
+    }
+    number
+}
+
+fn with_octet(number: u32, octet: u8) -> u32
+    ensures { result ≡ with_octet number octet }
+{
+    ((u64::from(number) * 16_777_619 + u64::from(octet)) % 4_294_967_291) as u32
+}

@@ -1,0 +1,78 @@
+//! Rows, written a UID at a time.
+ghost use Rattle.std.specs.Prelude.{◌≢◌, ◌++◌, List, OnOk, OnErr, IfOk, IfErr};
+ghost use Rattle.itip_streams.specs.Written.{AppendsFront, MovesOut};
+ghost use Rattle.itip_view.specs.ByUid.{AreLeft};
+ghost use Rattle.itip_view.specs.ListText.{list_text};
+ghost use Rattle.itip_view.specs.declared.row.Row.{Row};
+ghost use Rattle.itip_desk.specs.WrittenRows.{WritesListed, WritesListedFront};
+
+use crate::listed::write_head;
+use crate::refusal::Refusal;
+use itip_streams::{StreamFault, write_if_many};
+use itip_view::{MostRows, Row, RowCount, RowsByUid, write_row};
+use std::io::Write;
+
+/// Writes the text of the rows that are left, a UID at a time: it is put behind the octets that are kept to be written, and these
+/// are written once they are 65,536 or more. After a fault a front of all was written.
+pub fn write_rows<W: Write>(
+    rows: RowsByUid<'_, '_>,
+    writer: &mut W,
+    kept: &mut Vec<u8>,
+) -> Result<(), StreamFault>
+    ensures moved { OnOk result ((all : List Row) → AreLeft rows.entry all →
+        MovesOut (W.contents writer.old) (W.contents writer.new) (kept.old.items ++ list_text all) kept.new.items) }
+    ensures front { OnErr result ((all : List Row) → AreLeft rows.entry all →
+        AppendsFront (W.contents writer.old) (W.contents writer.new) (kept.old.items ++ list_text all)) }
+    ensures fault { IfErr result (λ fault. fault ≢ StreamFault.Read) }
+{
+    let mut rows = rows;
+    while let Some(some) = rows.next()? {
+        let done = write_each(some.as_slice(), writer, kept);
+        drop(some);
+        done?;
+    }
+    Ok(())
+}
+
+/// Writes the text of some rows so.
+fn write_each<W: Write>(rows: &[Row], writer: &mut W, kept: &mut Vec<u8>) -> Result<(), StreamFault>
+    ensures moved { OnOk result
+        (MovesOut (W.contents writer.old) (W.contents writer.new) (kept.old.items ++ list_text rows.now) kept.new.items) }
+    ensures front { OnErr result
+        (AppendsFront (W.contents writer.old) (W.contents writer.new) (kept.old.items ++ list_text rows.now)) }
+    ensures fault { IfErr result (λ fault. fault ≢ StreamFault.Read) }
+{
+    for row in rows {
+        write_row(row, kept)?;
+        write_if_many(writer, kept)?;
+    }
+    Ok(())
+}
+
+/// Writes a line with a word, the number of the desk and how many rows are left, and the text of these rows; or `refused 31` where
+/// they are more than 100,000, and gives the to-do that has the most of them. It is written as [`write_rows`] does.
+pub fn write_listed<W: Write>(
+    word: &str,
+    desk: u64,
+    rows: RowsByUid<'_, '_>,
+    writer: &mut W,
+    kept: &mut Vec<u8>,
+) -> Result<Option<MostRows>, StreamFault>
+    ensures listed { IfOk result (WritesListed word.now desk rows.entry
+        (W.contents writer.old) (W.contents writer.new) kept.old.items kept.new.items) }
+    ensures front { OnErr result (WritesListedFront word.now desk rows.entry
+        (W.contents writer.old) (W.contents writer.new) kept.old.items) }
+    ensures fault { IfErr result (λ fault. fault ≢ StreamFault.Read) }
+{
+    match rows.count()? {
+        RowCount::Few(number) => {
+            write_head(word, desk, number, kept)?;
+            write_rows(rows, writer, kept)?;
+            Ok(None)
+        }
+        RowCount::TooMany(most) => {
+            Refusal::TooManyRows.append(kept)?;
+            Ok(Some(most))
+        }
+    }
+}

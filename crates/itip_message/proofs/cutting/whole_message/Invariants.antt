@@ -1,9 +1,0 @@
-use Rattle.std.proofs.Common.{length, ◌≤◌}
-use Rattle.itip_message.specs.Passing.{StaysPassing}
-use Rattle.itip_message.proofs.cutting.whole_message.Given as goal
-
-abbrev pub invariant-loop-line : goal.invariant-loop-line
-invariant-loop-line l = StaysPassing l.bytes l.rest × (length l.rest ≤ length l.bytes)
-
-abbrev pub decreases-loop-line : goal.decreases-loop-line
-decreases-loop-line l = length l.rest

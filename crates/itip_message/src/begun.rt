@@ -1,0 +1,107 @@
+//! A message of which only the beginning came, and the few octets that stand for a long one.
+ghost use Rattle.std.specs.Prelude.{◌≡◌, ◌∷◌, ◌++◌, [], ℕ, List, true, false, MatchOption, IfOk};
+ghost use Rattle.itip_message.specs.Begun.{begun_line, break_before, few_octets, IsBegun, IsSaid, PassesLine, SaysTheSame, StandsFor};
+
+use crate::cutting::{LF, is_left_out};
+use std::alloc::{AllocError, Global};
+
+/// Octets that begin a message, or empty lines, where it is not known yet where that message ends.
+#[derive(Clone, Copy)]
+pub struct BegunMessage<'a> {
+    /// All of them.
+    pub octets: &'a [u8],
+    /// Whether the lines before the last are all empty.
+    pub all_empty: bool,
+    /// The last line, with its folds. It may go on.
+    pub line: &'a [u8],
+}
+
+/// A line up to its last octet.
+#[derive(Clone, Copy)]
+pub(crate) struct LineFront {
+    /// What it says: a front of END:VCALENDAR, without regard to case, or another text for anything else.
+    pub said: &'static [u8],
+    /// Whether a break stands before the last octet.
+    pub is_behind: bool,
+    pub last: u8,
+}
+
+/// A few octets that stand for those of a message that has begun: whatever follows, they are cut as these are, into the same
+/// messages but for the first.
+pub fn stand_in(alloc: Global, message: &BegunMessage<'_>) -> Result<Vec<u8>, AllocError>
+    ensures { IfOk result (λ few. IsBegun message.now → StandsFor message.now.octets.now few.items) }
+{
+    match line_front(message.line) {
+        Some(front) => few_octets(alloc, message.all_empty, front),
+        None => Ok(Vec::new(alloc)),
+    }
+}
+
+fn few_octets(alloc: Global, all_empty: bool, front: LineFront) -> Result<Vec<u8>, AllocError>
+    ensures { IfOk result (λ few. few.items ≡ few_octets all_empty front) }
+{
+    let mut few = Vec::from_slice(alloc, begun_line(all_empty))?;
+    few.extend_from_slice(front.said)?;
+    few.extend_from_slice(break_before(front.is_behind))?;
+    few.push(front.last)?;
+    Ok(few)
+}
+
+/// A line that goes on and says nothing yet, behind one that says something unless all are empty.
+fn begun_line(all_empty: bool) -> &'static [u8]
+    ensures { result.now ≡ begun_line all_empty }
+{
+    if all_empty { b"\n " } else { b"X\n\n " }
+}
+
+fn break_before(is_behind: bool) -> &'static [u8]
+    ensures { result.now ≡ break_before is_behind }
+{
+    if is_behind { b"\n" } else { b"" }
+}
+
+/// A line up to its last octet; none where it has no octet.
+fn line_front(line: &[u8]) -> Option<LineFront>
+    ensures { MatchOption result (line.now ≡ []) (λ front. PassesLine line.now front.said.now front.is_behind (front.last ∷ [])) }
+{
+    let mut said: &'static [u8] = b"";
+    let mut is_behind = false;
+    let mut rest = line;
+    while let [b, after @ ..] = rest {
+        if after.is_empty() {
+            return Some(LineFront {
+                said,
+                is_behind,
+                last: *b,
+            });
+        }
+        said = said_with(said, *b, is_left_out(*b, is_behind, after));
+        is_behind = *b == LF;
+        rest = after;
+    }
+    None
+}
+
+/// What is said with an octet more, which may be left out.
+fn said_with(said: &'static [u8], octet: u8, is_out: bool) -> &'static [u8]
+    requires { IsSaid said.now }
+    ensures said { IsSaid result.now }
+    ensures out { is_out ≡ true → result.now ≡ said.now }
+    ensures same { is_out ≡ false → (more : List ℕ) → SaysTheSame (said.now ++ octet ∷ more) (result.now ++ more) }
+{
+    if is_out { said } else { said_then(said, octet) }
+}
+
+fn said_then(said: &'static [u8], octet: u8) -> &'static [u8]
+    requires { IsSaid said.now }
+    ensures said { IsSaid result.now }
+    ensures same { (more : List ℕ) → SaysTheSame (said.now ++ octet ∷ more) (result.now ++ more) }
+{
+    let end: &'static [u8] = b"END:VCALENDAR";
+    let count = said.len();
+    if count < end.len() && end[count] == octet.to_ascii_uppercase() {
+        &end[..count + 1]
+    } else {
+        b"SOMETHING ELSE"
+    }
+}

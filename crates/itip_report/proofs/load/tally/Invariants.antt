@@ -1,9 +1,0 @@
-use Rattle.std.proofs.Common.{◌≡◌, [], take}
-use Rattle.itip_report.specs.Tally.{IsTally}
-use Rattle.itip_report.proofs.load.tally.Given as goal
-
-abbrev pub invariant-loop-row : goal.invariant-loop-row
-invariant-loop-row l = record {
-  at : l.place ≡ l.row-index;
-  tally : IsTally (take l.row-index l.rows) [] l.tally.entries;
-}

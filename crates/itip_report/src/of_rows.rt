@@ -1,0 +1,34 @@
+//! Reports of rows, made a UID at a time.
+ghost use Rattle.std.specs.Prelude.{◌≡◌, List, IfOk, map};
+ghost use Rattle.std.specs.String.{string_bytes};
+ghost use Rattle.itip_view.specs.ByUid.{AreLeft};
+ghost use Rattle.itip_view.specs.declared.row.Row.{Row};
+ghost use Rattle.itip_report.specs.Load.{load_lines};
+ghost use Rattle.itip_report.specs.Progress.{progress_lines};
+
+use crate::NoMemory;
+use crate::load::load_by_attendee;
+use crate::row_progress::progress;
+use itip_view::RowsByUid;
+use std::alloc::Global;
+
+/// The lines of [`load_by_attendee`] over the rows that are left.
+pub(crate) fn load_of(alloc: Global, rows: RowsByUid<'_, '_>) -> Result<Vec<String>, NoMemory>
+    ensures { IfOk result (λ lines. (all : List Row) → AreLeft rows.entry all → map string_bytes lines.items ≡ load_lines all) }
+{
+    let all = rows.to_vec()?;
+    load_by_attendee(alloc, &all)
+}
+
+/// The lines of [`progress`] over the rows that are left.
+pub(crate) fn progress_of(alloc: Global, rows: RowsByUid<'_, '_>) -> Result<Vec<String>, NoMemory>
+    ensures { IfOk result (λ lines. (all : List Row) → AreLeft rows.entry all → map string_bytes lines.items ≡ progress_lines all) }
+{
+    let mut rows = rows;
+    let mut lines = Vec::new(alloc);
+    while let Some(some) = rows.next()? {
+        let mut more = progress(alloc, &some)?;
+        lines.append(&mut more)?;
+    }
+    Ok(lines)
+}

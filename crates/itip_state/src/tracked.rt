@@ -1,0 +1,68 @@
+//! The sets by which a map by UID finds what can die, and how an item that comes changes them.
+ghost use Rattle.std.specs.Prelude.{◌≡◌, ◌⊎◌, ℕ, List, Some, None, true, false, option_map};
+ghost use Rattle.std.specs.BTreeMap.{get};
+ghost use Rattle.std.specs.Ordering.{nat_cmp, is_eq};
+ghost use Rattle.std.specs.Cmp.Lexicographic.{slice_cmp};
+ghost use Rattle.itip_items.specs.KeyParts.{uid_of};
+ghost use Rattle.itip_join.specs.KeyByKey.{value_at};
+ghost use Rattle.itip_state.specs.UidStates.{uid_state};
+ghost use Rattle.itip_state.specs.Due.{IsFollowed};
+
+use crate::due::{Due, put};
+use crate::held_of_uid::HeldOfUid;
+use crate::shared::SharedItem;
+use itip_join::Keyed;
+use itip_todo::Uid;
+use std::collections::BTreeMap;
+
+/// Has the set of a UID, where there is one, know an item that comes to what is held of the UID. Without memory for that there is no
+/// set any more.
+pub(crate) fn follow(due: &mut BTreeMap<Uid, Due>, map: &Keyed<Uid, HeldOfUid>, item: &SharedItem)
+    ensures followed { IsFollowed (option_map uid_state (value_at (slice_cmp nat_cmp) map.now.map (uid_of item.now.key))) item.now
+        (get (slice_cmp nat_cmp) due.old (uid_of item.now.key)) (get (slice_cmp nat_cmp) due.new (uid_of item.now.key)) }
+    ensures others { (q : List ℕ) → is_eq (slice_cmp nat_cmp (uid_of item.now.key) q) ≡ false
+        → get (slice_cmp nat_cmp) due.new q ≡ get (slice_cmp nat_cmp) due.old q }
+{
+    let uid = item.uid();
+    let Some(set) = due.remove(uid) else {
+        return;
+    };
+    let Some(held) = map.get(uid) else {
+        drop(set);
+        return;
+    };
+    let set = grown(set, held, item);
+    keep(due, uid, set);
+}
+
+/// The set with the slot of an item that comes, if that is new.
+fn grown(set: Due, held: &HeldOfUid, item: &SharedItem) -> Option<Due>
+    ensures { IsFollowed (Some (uid_state held.now)) item.now (Some set) result }
+{
+    let mut set = set;
+    let Some(slot) = item.slot() else {
+        return Some(set);
+    };
+    if held.entries.get(slot).is_some() {
+        return Some(set);
+    }
+    match put(&mut set, slot, item.item().eff) {
+        Ok(()) => Some(set),
+        Err(_) => None,
+    }
+}
+
+/// Puts in the set of a UID that has none, if there is one, and the memory for that.
+pub(crate) fn keep(due: &mut BTreeMap<Uid, Due>, uid: &Uid, set: Option<Due>)
+    ensures here { (get (slice_cmp nat_cmp) due.new uid.now ≡ set) ⊎
+        (get (slice_cmp nat_cmp) due.new uid.now ≡ get (slice_cmp nat_cmp) due.old uid.now) }
+    ensures others { (q : List ℕ) → is_eq (slice_cmp nat_cmp uid.now q) ≡ false
+        → get (slice_cmp nat_cmp) due.new q ≡ get (slice_cmp nat_cmp) due.old q }
+{
+    let Some(set) = set else {
+        return;
+    };
+    if let Ok(uid) = uid.clone() {
+        drop(due.insert(uid, set));
+    }
+}
