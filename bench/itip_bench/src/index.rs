@@ -1,7 +1,7 @@
 //! Lists of a few rows of many: those of some days, and those of one attendee.
 
 use crate::error::BenchError;
-use crate::lists::{hear, list_octets, stamped};
+use crate::lists::{count, hear, list_octets, stamped};
 use crate::watch::{micros, now};
 use itip_desk::Desk;
 use itip_moment::{Moment, read_date, write_moment};
@@ -84,7 +84,7 @@ fn list_days<R: AllocGlobal + Clock + Print>(
     to_dos: u64,
     window: Window,
 ) -> Result<(), BenchError> {
-    let rows = desk.rows(window)?.len();
+    let rows = count(&desk.rows(window)?)?;
     let start = now(rt)?;
     for _ in 0..TIMES {
         list_octets(desk, window)?;
@@ -102,7 +102,7 @@ fn list_attendee<R: AllocGlobal + Clock + Print>(
 ) -> Result<(), BenchError> {
     let window = Window::new(FIRST, FIRST + 3_660)?;
     let address = "MAILTO:attendee-7@example.com";
-    let rows = desk.rows_for(window, address)?.len();
+    let rows = count(&desk.rows_for(window, address)?)?;
     let start = now(rt)?;
     for _ in 0..TIMES {
         list_octets_for(desk, window, address)?;

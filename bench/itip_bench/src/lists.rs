@@ -5,7 +5,7 @@ use crate::error::BenchError;
 use crate::load::stating;
 use crate::watch::{micros, now};
 use itip_desk::Desk;
-use itip_view::{Window, rows};
+use itip_view::{RowCount, RowsByUid, ViewError, Wanted, Window};
 use std::alloc::Global;
 use std::rt::Clock;
 
@@ -108,7 +108,15 @@ fn list<R: AllocGlobal + Clock + Print>(rt: &R, desk: &Desk, what: &str) -> Resu
 }
 
 fn count_rows(alloc: Global, desk: &Desk, window: Window) -> Result<usize, BenchError> {
-    Ok(rows(alloc, desk.state(), window)?.len())
+    count(&RowsByUid::of(alloc, desk.state(), window, &Wanted::all())?)
+}
+
+/// How many rows there are; no list here has too many.
+pub(crate) fn count(rows: &RowsByUid<'_, '_>) -> Result<usize, BenchError> {
+    match rows.count()? {
+        RowCount::Few(number) => Ok(number),
+        RowCount::TooMany(_) => Err(BenchError::View(ViewError::TooManyRows)),
+    }
 }
 
 /// Lists what a desk shows: how long the list is.

@@ -7,7 +7,7 @@ use itip_desk::Desk;
 use itip_report::{cancelled, load_by_attendee, next_seq, orphans, refresh_wanted, resend};
 use itip_state::State;
 use itip_todo::Uid;
-use itip_view::{Window, rows};
+use itip_view::{RowsByUid, Wanted, Window};
 use std::alloc::Global;
 use std::rt::Clock;
 use std::time::Instant;
@@ -111,7 +111,8 @@ fn measure_refresh<R: AllocGlobal + Clock + Print>(
 /// Counts the rows of each attendee.
 fn measure_load<R: AllocGlobal + Clock + Print>(rt: &R, state: &State) -> Result<(), BenchError> {
     // 2026-01-01, and a year from there.
-    let rows = rows(rt.alloc(), state, Window::new(20_454, 20_819)?)?;
+    let window = Window::new(20_454, 20_819)?;
+    let rows = RowsByUid::of(rt.alloc(), state, window, &Wanted::all())?.to_vec()?;
     let start = now(rt)?;
     let lines = load_by_attendee(rt.alloc(), &rows)?.len();
     let time = micros(rt, start)?;

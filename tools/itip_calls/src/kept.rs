@@ -8,7 +8,7 @@ use itip_items::{Item, Key};
 use itip_moment::{Moment, read_moment};
 use itip_state::ItemsOfUid;
 use itip_todo::{Uid, attendee_key};
-use itip_view::{Wanted, list_text, rows, rows_where};
+use itip_view::{RowsByUid, Wanted};
 use std::alloc::{AllocError, Global};
 
 pub(crate) fn answer(
@@ -114,11 +114,11 @@ fn parts(alloc: Global, address: &str, texts: &[Vec<u8>]) -> Result<Vec<u8>, Cal
     let desk = desk_after(alloc, texts)?;
     let window = year()?;
     let part = desk.part_in(window)?;
-    let mut told = list_text(alloc, &rows(alloc, &part, window)?)?;
+    let mut told = RowsByUid::of(alloc, &part, window, &Wanted::all())?.text()?;
     told.extend_from_slice(b"of the attendee\n")?;
     let part = desk.part_naming(address)?;
     let wanted = Wanted::showing(Some(address));
-    let mut shown = list_text(alloc, &rows_where(alloc, &part, window, &wanted)?)?;
+    let mut shown = RowsByUid::of(alloc, &part, window, &wanted)?.text()?;
     told.append(&mut shown)?;
     Ok(told)
 }

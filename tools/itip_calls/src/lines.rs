@@ -37,17 +37,24 @@ fn read(alloc: Global, text: &[u8]) -> Result<Vec<u8>, CallError> {
 
 fn show(line: &Line, out: &mut String) -> Result<(), AllocError> {
     out.push_str(line.name.as_str())?;
-    for param in line.params.as_slice() {
-        out.push_str(" ")?;
-        out.push_str(param.name.as_str())?;
-        for value in param.values.as_slice() {
-            out.push_str("=")?;
-            out.push_str(value.as_str())?;
-        }
-    }
+    show_params(line.params.as_str(), out)?;
     out.push_str(" ")?;
     out.push_str(line.value.as_str())?;
     out.push_str("|")
+}
+
+/// Each parameter behind a blank, and each of its values behind `=`, without quotes.
+fn show_params(params: &str, out: &mut String) -> Result<(), AllocError> {
+    let mut quoted = false;
+    for c in params.chars() {
+        match c {
+            '"' => quoted = !quoted,
+            ';' if !quoted => out.push(' ')?,
+            ',' if !quoted => out.push('=')?,
+            _ => out.push(c)?,
+        }
+    }
+    Ok(())
 }
 
 fn counted(alloc: Global, text: &[u8]) -> Result<Vec<u8>, CallError> {

@@ -3,7 +3,7 @@
 use crate::error::CallError;
 use crate::texts::{day, items, state, text};
 use itip_todo::Uid;
-use itip_view::{Row, Window, list_text, rows, write_list};
+use itip_view::{Row, RowCount, RowsByUid, ViewError, Wanted, Window, write_row};
 use std::alloc::Global;
 
 pub(crate) fn answer(
@@ -34,7 +34,12 @@ pub(crate) fn rows_of(
     window: Window,
     texts: &[Vec<u8>],
 ) -> Result<Vec<Row>, CallError> {
-    Ok(rows(alloc, &state(alloc, texts)?, window)?)
+    let state = state(alloc, texts)?;
+    let rows = RowsByUid::of(alloc, &state, window, &Wanted::all())?;
+    match rows.count()? {
+        RowCount::Few(_) => Ok(rows.to_vec()?),
+        RowCount::TooMany(_) => Err(CallError::from(ViewError::TooManyRows)),
+    }
 }
 
 fn count(alloc: Global, count: usize) -> Result<Vec<u8>, CallError> {
@@ -73,8 +78,11 @@ fn list_of(
         "" => None,
         address => Some(address),
     };
-    let rows = itip_view::rows_of(alloc, &state(alloc, texts)?, &uid, window, shown)?;
-    Ok(list_text(alloc, &rows)?)
+    let state = state(alloc, texts)?;
+    let mut uids = Vec::new(alloc);
+    uids.push(&uid)?;
+    let rows = RowsByUid::among(alloc, &state, uids, window, &Wanted::showing(shown))?;
+    Ok(rows.text()?)
 }
 
 /// A list after what was there before.
@@ -85,6 +93,9 @@ fn list(
     texts: &[Vec<u8>],
 ) -> Result<Vec<u8>, CallError> {
     let mut out = Vec::from_slice(alloc, front)?;
-    write_list(&rows_of(alloc, window, texts)?, &mut out)?;
+    let rows = rows_of(alloc, window, texts)?;
+    for row in &rows {
+        write_row(row, &mut out)?;
+    }
     Ok(out)
 }
