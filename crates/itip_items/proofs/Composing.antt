@@ -1,87 +1,83 @@
 -- The canonical octets of a to-do, put together of their parts.
 use Rattle.std.proofs.Common.{◌≡◌, ◌∙◌, sym, ap, refl, subst, ℕ, ◌+◌, ◌<◌, ◌≤◌, List, [], ◌∷◌, ◌++◌, length, length-append, append_assoc}
-use Rattle.std.proofs.Common.{arith, inl, inr}
-use Rattle.std.proofs.lemmas.Bool.{cases_lt}
-use Rattle.std.specs.Prelude.{◌⊎◌, codes}
+use Rattle.std.proofs.Common.{arith}
+use Rattle.std.specs.Prelude.{codes}
 use Rattle.itip_todo.specs.Parts.{Parts}
 use Rattle.itip_todo.specs.UpTo.{AppendsUpTo}
-use Rattle.itip_todo.specs.Written.{Content, contents_octets, content_octets, parts_contents, todo_contents}
-use Rattle.itip_items.specs.Items.{bare, canonical_contents, canonical_octets, method_of, method_text}
+use Rattle.itip_todo.specs.Written.{Content, contents_octets, content_octets, parts_contents, todo_contents, front_contents, rest_contents}
+use Rattle.itip_todo.proofs.Appending.{appends_all, then_up_to, front_and_rest}
+use Rattle.itip_todo.proofs.Contents.{contents_octets-append}
+use Rattle.itip_items.specs.Items.{bare, canonical_contents, canonical_octets, opening_contents, closing_contents, front_octets}
 use Rattle.itip_items.specs.declared.kind.Kind.{Kind}
 
-octets_both : (cs ds : List Content) → contents_octets (cs ++ ds) ≡ contents_octets cs ++ contents_octets ds
-octets_both [] ds = refl
-octets_both (c ∷ cs) ds = ap (λ (bytes : List ℕ). content_octets c ++ bytes) (octets_both cs ds) ∙
-    sym (append_assoc (content_octets c) (contents_octets cs) (contents_octets ds))
+abbrev end_calendar : List Content
+end_calendar = bare (codes "END") (codes "VCALENDAR") ∷ []
 
-abbrev end_todo : Content
-end_todo = bare (codes "END") (codes "VTODO")
+-- the lines before a to-do, those of the to-do, and the last
+canonical_lines : (k : Kind) (parts : Parts) → canonical_contents k parts ≡ opening_contents k ++ (todo_contents parts ++ end_calendar)
+canonical_lines k parts =
+    ap (λ (cs : List Content). opening_contents k ++ (bare (codes "BEGIN") (codes "VTODO") ∷ cs))
+    (sym (append_assoc (parts_contents parts) (bare (codes "END") (codes "VTODO") ∷ []) end_calendar))
 
-abbrev end_calendar : Content
-end_calendar = bare (codes "END") (codes "VCALENDAR")
+-- the lines up to ORGANIZER, and those behind them
+front_lines : (k : Kind) (parts : Parts) → canonical_contents k parts ≡ (opening_contents k ++ front_contents parts) ++
+    closing_contents parts
+front_lines k parts =
+    canonical_lines k parts
+    ∙ ap (λ (cs : List Content). opening_contents k ++ (cs ++ end_calendar)) (front_and_rest parts)
+    ∙ ap (λ (cs : List Content). opening_contents k ++ cs) (append_assoc (front_contents parts) (rest_contents parts) end_calendar)
+    ∙ sym (append_assoc (opening_contents k) (front_contents parts) (closing_contents parts))
 
-ends : (cs : List Content) → contents_octets (cs ++ (end_todo ∷ end_calendar ∷ [])) ≡ contents_octets (cs ++ end_todo ∷ []) ++
-    content_octets end_calendar
-ends cs =
-    octets_both cs (end_todo ∷ end_calendar ∷ [])
-    ∙ sym (ap (λ (bytes : List ℕ). bytes ++ content_octets end_calendar) (octets_both cs (end_todo ∷ [])) ∙
-    append_assoc (contents_octets cs) (contents_octets (end_todo ∷ [])) (content_octets end_calendar))
+-- a line behind lines that are written as far as a limit allows
+pub end_up_to : (limit : ℕ) (cs : List Content) (old mid new : List ℕ) → AppendsUpTo limit cs old mid →
+    new ≡ mid ++ contents_octets end_calendar → AppendsUpTo limit (cs ++ end_calendar) old new
+end_up_to limit cs old mid new written end =
+    then_up_to limit cs end_calendar old mid new written (appends_all limit end_calendar mid new end)
 
--- behind the first three lines: METHOD, the to-do, and the end
-canonical_rest : (k : Kind) (parts : Parts) → contents_octets (bare (codes "METHOD") (method_text (method_of k)) ∷
-    (bare (codes "BEGIN") (codes "VTODO") ∷ (parts_contents parts ++ (end_todo ∷ end_calendar ∷ []))))
-    ≡ (content_octets (bare (codes "METHOD") (method_text (method_of k))) ++ contents_octets (todo_contents parts)) ++
-    content_octets end_calendar
-canonical_rest k parts =
-    let m : List ℕ = content_octets (bare (codes "METHOD") (method_text (method_of k))) in
-    let b : List ℕ = content_octets (bare (codes "BEGIN") (codes "VTODO")) in
-    ap (λ (bytes : List ℕ). m ++ (b ++ bytes)) (ends (parts_contents parts))
-    ∙ ap (λ (bytes : List ℕ). m ++ bytes) (sym
-    (append_assoc b (contents_octets (parts_contents parts ++ end_todo ∷ [])) (content_octets end_calendar)))
-    ∙ sym (append_assoc m (contents_octets (todo_contents parts)) (content_octets end_calendar))
-
-pub canonical_is : (k : Kind) (parts : Parts) (first method todo all : List ℕ)
-    → first ≡ contents_octets (bare (codes "BEGIN") (codes "VCALENDAR") ∷ bare (codes "PRODID") (codes "-//itipdesk//1//EN") ∷
-    bare (codes "VERSION") (codes "2.0") ∷ [])
-    → method ≡ first ++ content_octets (bare (codes "METHOD") (method_text (method_of k)))
-    → todo ≡ method ++ contents_octets (todo_contents parts)
-    → all ≡ todo ++ content_octets end_calendar
-    → all ≡ canonical_octets k parts
-canonical_is k parts first method todo all p q r s =
-    let m : List ℕ = content_octets (bare (codes "METHOD") (method_text (method_of k))) in
-    let t : List ℕ = contents_octets (todo_contents parts) in
-    let e : List ℕ = content_octets end_calendar in
-    let f : List ℕ = contents_octets (bare (codes "BEGIN") (codes "VCALENDAR") ∷ bare (codes "PRODID") (codes "-//itipdesk//1//EN") ∷
-    bare (codes "VERSION") (codes "2.0") ∷ []) in
-    let spelt : all ≡ ((f ++ m) ++ t) ++ e = s ∙
-    ap (λ (bytes : List ℕ). bytes ++ e) (r ∙ ap (λ (bytes : List ℕ). bytes ++ t) (q ∙ ap (λ (bytes : List ℕ). bytes ++ m) p)) in
-    let grouped : ((f ++ m) ++ t) ++ e ≡ f ++ ((m ++ t) ++ e) = ap (λ (bytes : List ℕ). bytes ++ e) (append_assoc f m t) ∙
-    append_assoc f (m ++ t) e in
-    spelt ∙ grouped ∙ sym (ap (λ (bytes : List ℕ). f ++ bytes) (canonical_rest k parts))
-
--- the same, where the to-do is written as far as a limit allows
-pub canonical_up_to : (limit : ℕ) (k : Kind) (parts : Parts) (first method todo all : List ℕ)
-    → first ≡ contents_octets (bare (codes "BEGIN") (codes "VCALENDAR") ∷ bare (codes "PRODID") (codes "-//itipdesk//1//EN") ∷
-    bare (codes "VERSION") (codes "2.0") ∷ [])
-    → method ≡ first ++ content_octets (bare (codes "METHOD") (method_text (method_of k)))
-    → AppendsUpTo limit (todo_contents parts) method todo
-    → all ≡ todo ++ content_octets end_calendar
+-- the canonical form, where the to-do is written as far as a limit allows
+pub canonical_up_to : (limit : ℕ) (k : Kind) (parts : Parts) (opening todo all : List ℕ) → opening ≡ contents_octets (opening_contents k)
+    → AppendsUpTo limit (todo_contents parts) opening todo
+    → all ≡ todo ++ contents_octets end_calendar
     → AppendsUpTo limit (canonical_contents k parts) [] all
-canonical_up_to limit k parts first method todo all p q r s = record {
-  grows = omega arith;
-  whole = λ short. canonical_is k parts first method todo all p q (r.whole (omega (arith, longer, short))) s;
-  over = λ long. each long (cases_lt limit (length todo));
-}
-  where
-    longer : length all ≡ length todo + length (content_octets end_calendar)
-    longer = ap length s ∙ length-append todo (content_octets end_calendar)
+canonical_up_to limit k parts opening todo all p q r =
+    subst (λ (cs : List Content). AppendsUpTo limit cs [] all) (sym (canonical_lines k parts))
+    (then_up_to limit (opening_contents k) (todo_contents parts ++ end_calendar) [] opening all
+    (appends_all limit (opening_contents k) [] opening p) (end_up_to limit (todo_contents parts) opening todo all q r))
 
-    each : limit < length all → (limit < length todo) ⊎ (length todo ≤ limit) → limit < length (canonical_octets k parts)
-    each long (inl many) =
-        let written : List ℕ = method ++ contents_octets (todo_contents parts) in
-        let over : limit < length written = r.over many in
-        let both = length-append written (content_octets end_calendar) in
-        let same = ap length (canonical_is k parts first method written (written ++ content_octets end_calendar) p q refl refl) in
-        omega (arith, over, both, same)
-    each long (inr few) =
-        subst (λ (octets : List ℕ). limit < length octets) (canonical_is k parts first method todo all p q (r.whole few) s) long
+-- the octets of a front
+pub front_is : (k : Kind) (parts : Parts) (opening front : List ℕ) → opening ≡ contents_octets (opening_contents k) →
+    front ≡ opening ++ contents_octets (front_contents parts) → front ≡ front_octets k parts
+front_is k parts opening front p q =
+    q ∙ ap (λ (o : List ℕ). o ++ contents_octets (front_contents parts)) p ∙
+    sym (contents_octets-append (opening_contents k) (front_contents parts))
+
+-- a front, and lines behind it that are written as far as there is room: together they are written as far as the limit allows
+behind_front : (limit room : ℕ) (cs : List Content) (front own : List ℕ) → room + length front ≡ limit → AppendsUpTo room cs [] own →
+    AppendsUpTo limit cs front (front ++ own)
+behind_front limit room cs front own sum written =
+    let now = length-append front own in
+    let all = length-append front (contents_octets cs) in
+    record {
+      grows = omega (arith, now);
+      whole = λ short. ap (λ (octets : List ℕ). front ++ octets) (written.whole (omega (arith, short, now, sum)));
+      over = λ long. let more : room < length (contents_octets cs) = written.over (omega (arith, long, now, sum)) in
+          omega (arith, more, all, sum);
+    }
+
+-- the canonical form, where what follows the front is written as far as there is room
+pub canonical_behind : (limit room : ℕ) (k : Kind) (parts : Parts) (front own : List ℕ) → front ≡ front_octets k parts →
+    room + length front ≡ limit → AppendsUpTo room (closing_contents parts) [] own
+    → AppendsUpTo limit (canonical_contents k parts) [] (front ++ own)
+canonical_behind limit room k parts front own is sum written =
+    subst (λ (cs : List Content). AppendsUpTo limit cs [] (front ++ own)) (sym (front_lines k parts))
+    (then_up_to limit (opening_contents k ++ front_contents parts) (closing_contents parts) [] front (front ++ own)
+    (appends_all limit (opening_contents k ++ front_contents parts) [] front is)
+    (behind_front limit room (closing_contents parts) front own sum written))
+
+-- a front has no more octets than the canonical form
+pub front_shorter : (k : Kind) (parts : Parts) → length (front_octets k parts) ≤ length (canonical_octets k parts)
+front_shorter k parts =
+    let same = ap (λ (cs : List Content). length (contents_octets cs)) (front_lines k parts) in
+    let both = ap length (contents_octets-append (opening_contents k ++ front_contents parts) (closing_contents parts)) in
+    let sum = length-append (front_octets k parts) (contents_octets (closing_contents parts)) in
+    omega (arith, same, both, sum)

@@ -7,7 +7,7 @@ use Rattle.std.specs.Cmp.Lexicographic.{pointwise}
 use Rattle.std.proofs.lemmas.Bool.Decides.{nat_tests}
 use Rattle.itip_moment.specs.declared.moment.Moment.{Moment}
 use Rattle.itip_todo.specs.Parts.{Parts}
-use Rattle.itip_todo.specs.declared.property.Property.{Property}
+use Rattle.itip_todo.specs.Properties.{Property}
 use Rattle.itip_todo.specs.declared.status.Status.{Status}
 use Rattle.itip_items.specs.Needs.{Suits, method_cause, has_some, removes, when}
 use Rattle.itip_items.specs.Items.{drafts, drafts_of, task_draft, add_drafts, series_draft, instance_draft, instance_key, attendee_draft}

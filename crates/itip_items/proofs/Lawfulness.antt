@@ -12,16 +12,17 @@ use Rattle.itip_lines.specs.Lawful.{IsLawfulParam, param_text, params_text}
 use Rattle.itip_lines.specs.declared.line.Param.{Param}
 use Rattle.itip_moment.specs.Written.{moment_text}
 use Rattle.itip_moment.specs.declared.moment.Moment.{Moment}
-use Rattle.itip_todo.specs.Table.{name_text}
-use Rattle.itip_todo.specs.Lawful.{IsLawful, IsLawfulContent, HasValue}
+use Rattle.itip_todo.specs.Participation.{same_text}
+use Rattle.itip_todo.specs.Table.{name_text, attendee_limit}
+use Rattle.itip_todo.specs.Lawful.{IsLawful, IsLawfulContent, HasValue, keys_of}
 use Rattle.itip_todo.specs.Parts.{Parts}
 use Rattle.itip_todo.specs.PartsOf.{parts_of}
 use Rattle.itip_todo.specs.Written.{Content, property_line, rid_line, moment_params, range_params, plain, optional}
-use Rattle.itip_todo.specs.declared.property.Property.{Property}
+use Rattle.itip_todo.specs.Properties.{Property}
 use Rattle.itip_todo.specs.declared.property_name.PropertyName.TheVariants as name
 use Rattle.itip_todo.specs.declared.todo.Todo.{Todo}
 use Rattle.itip_todo.proofs.LawfulLines.{number_lawful}
-use Rattle.itip_items.specs.Items.{with_base, only_of, canonical_base, raised, series_sequence, is_series}
+use Rattle.itip_items.specs.Items.{with_base, only_of, kept_with, canonical_base, raised, series_sequence, is_series}
 use Rattle.itip_items.specs.declared.kind.Method.{Method}
 use Rattle.itip_items.proofs.Pieces.{base_of, rid_of, start_of, due_of, status_of, percent_of, priority_of, summary_of, organizer_of}
 use Rattle.itip_items.proofs.Pieces.{attendees_of, from_rid, from_start, from_due, from_status, from_percent, from_priority, from_summary}
@@ -85,6 +86,10 @@ one_distinct : {K : Type 0} (same : K → K → Bool) (k : K) → IsDistinct sam
 unfolding IsDistinct
 one_distinct same k = (tt, tt)
 
+none_distinct : {K : Type 0} (same : K → K → Bool) → IsDistinct same []
+unfolding IsDistinct
+none_distinct same = tt
+
 none_sorted : {K : Type 0} (cmp : K → K → Ordering) → IsStrictlySortedBy cmp []
 unfolding IsStrictlySortedBy
 none_sorted cmp = tt
@@ -144,22 +149,23 @@ without_range : (v : Option Moment) (b : Bool) → AreLawful (optional (rid_line
 without_range None b h = tt
 without_range (Some m) b h = (fewer_lawful (name_text name.RecurrenceId) (moment_params m) (range_params b) (moment_text m) h.0, tt)
 
-only_lines : (p : Parts) (a : Property) → IsLawful p → IsLawfulContent (property_line name.Attendee a) →
+kept_lines : (p : Parts) (attendees : List Property) → IsLawful p → AreLawful (map (property_line name.Attendee) attendees) →
     AreLawful (optional (rid_line false) p.rid ++
-    (status_of p ++ (percent_of p ++ (organizer_of p ++ (property_line name.Attendee a ∷ [])))))
-only_lines p a h line =
+    (status_of p ++ (percent_of p ++ (organizer_of p ++ (map (property_line name.Attendee) attendees ++ [])))))
+kept_lines p attendees h lines =
     let b : Behind p = behind p h in
     both (optional (rid_line false) p.rid) _ (without_range p.rid p.range (front (rid_of p) (from_start p) b.rid))
     (both (status_of p) _ (front (status_of p) (from_percent p) b.status)
     (both (percent_of p) _ (front (percent_of p) (from_priority p) b.percent)
-    (both (organizer_of p) (property_line name.Attendee a ∷ []) (front (organizer_of p) (from_attendees p) b.organizer) (line, tt))))
+    (both (organizer_of p) _ (front (organizer_of p) (from_attendees p) b.organizer)
+    (both (map (property_line name.Attendee) attendees) [] lines tt))))
 
 none_small : (limit n : ℕ) → None ≡ Some n → n ≤ limit
 none_small limit n e = absurd (cc)
 
-only_lawful : (p : Parts) (a : Property) → IsLawful p → HasValue a → IsLawfulContent (property_line name.Attendee a) →
-    IsLawful (only_of a p)
-only_lawful p a h value line = record {
+kept_lawful : (p : Parts) (attendees : List Property) → IsLawful p → length attendees ≤ attendee_limit → AllByRecursion HasValue attendees →
+    IsDistinct same_text (keys_of attendees) → AreLawful (map (property_line name.Attendee) attendees) → IsLawful (kept_with attendees p)
+kept_lawful p attendees h few values distinct lines = record {
   uid = h.uid;
   seq = h.seq;
   base = none_small 2147483647;
@@ -167,14 +173,22 @@ only_lawful p a h value line = record {
   percent = h.percent;
   priority = none_small 9;
   organizer = h.organizer;
-  attendee_count = omega arith;
-  attendee_values = (value, tt);
-  attendee_keys = one_distinct _ _;
+  attendee_count = few;
+  attendee_values = values;
+  attendee_keys = distinct;
   rdates = none_sorted _;
   exdates = none_sorted _;
   others = refl;
-  lines = (h.lines.0, (h.lines.1.0, (h.lines.1.1.0, only_lines p a h line)));
+  lines = (h.lines.0, (h.lines.1.0, (h.lines.1.1.0, kept_lines p attendees h lines)));
 }
+
+only_lawful : (p : Parts) (a : Property) → IsLawful p → HasValue a → IsLawfulContent (property_line name.Attendee a) →
+    IsLawful (only_of a p)
+only_lawful p a h value line = kept_lawful p (a ∷ []) h (omega arith) (value, tt) (one_distinct _ _) (line, tt)
+
+-- what an answer keeps beside its attendee
+pub kept_alone : (p : Parts) → IsLawful p → IsLawful (kept_with [] p)
+kept_alone p h = kept_lawful p [] h (omega arith) tt (none_distinct _) tt
 
 each_only : (p : Parts) (attendees : List Property) → IsLawful p → AllByRecursion HasValue attendees →
     AreLawful (map (property_line name.Attendee) attendees) → AllByRecursion (λ a. IsLawful (only_of a p)) attendees

@@ -5,6 +5,8 @@ pub mod Counting
 pub mod Drafting
 pub mod Keys
 pub mod Lawfulness
+pub mod Limits
+pub mod OctetPieces
 pub mod Pieces
 pub mod Revisions
 pub mod SameItem

@@ -16,7 +16,7 @@ use Rattle.itip_moment.proofs.Same.{stamp_equal}
 use Rattle.itip_todo.specs.Lawful.{IsLawful, IsLawful-prop}
 use Rattle.itip_todo.specs.Parts.{Parts}
 use Rattle.itip_todo.specs.Written.{Content, content_of, contents_octets, parts_contents}
-use Rattle.itip_todo.specs.declared.property.Property.{Property}
+use Rattle.itip_todo.specs.Properties.{Property}
 use Rattle.itip_moment.specs.declared.moment.Moment.{Moment}
 use Rattle.std.specs.List.{AllByRecursion}
 use Rattle.itip_todo.specs.PartsOf.{parts_of}

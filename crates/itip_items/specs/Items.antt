@@ -1,6 +1,6 @@
 -- The items of a message's to-dos (RFC 5546 2.1.5 and 3.4; the effective sequence and the canonical form are our own).
 use Rattle.std.specs.Prelude.{◌≡◌, ℕ, ◌≤◌, nat_lt, nat_eq, max, Bool, true, false, cond, ◌&&◌, List, [], ◌∷◌, ◌++◌, length, map, codes}
-use Rattle.std.specs.Prelude.{Option, Some, None, unwrap_or}
+use Rattle.std.specs.Prelude.{Option, Some, None, unwrap_or, IfSome}
 use Rattle.std.specs.Option.{is_none}
 use Rattle.itip_moment.specs.declared.moment.Moment.{Moment}
 use Rattle.std.specs.List.{flat_map}
@@ -9,9 +9,9 @@ use Rattle.itip_moment.specs.declared.stamp.Stamp.{Stamp}
 use Rattle.itip_todo.specs.Participation.{same_text}
 use Rattle.itip_todo.specs.Parts.{Parts}
 use Rattle.itip_todo.specs.Table.{attendee_key}
-use Rattle.itip_todo.specs.Written.{Content, contents_octets, parts_contents}
+use Rattle.itip_todo.specs.Written.{Content, contents_octets, parts_contents, front_contents, rest_contents}
 use Rattle.itip_todo.specs.PartsOf.{parts_of}
-use Rattle.itip_todo.specs.declared.property.Property.{Property}
+use Rattle.itip_todo.specs.Properties.{Property}
 use Rattle.itip_todo.specs.declared.todo.Todo.{Todo}
 use Rattle.itip_items.specs.Needs.{Suits, removes}
 use Rattle.itip_items.specs.declared.key.Key.{Key}
@@ -65,6 +65,24 @@ canonical_contents k parts =
 
 abbrev pub canonical_octets : Kind → Parts → List ℕ
 canonical_octets k parts = contents_octets (canonical_contents k parts)
+
+-- the lines before a to-do
+abbrev pub opening_contents : Kind → List Content
+opening_contents k =
+    bare (codes "BEGIN") (codes "VCALENDAR") ∷ bare (codes "PRODID") (codes "-//itipdesk//1//EN") ∷ bare (codes "VERSION") (codes "2.0")
+    ∷ bare (codes "METHOD") (method_text (method_of k)) ∷ []
+
+-- the octets from BEGIN:VCALENDAR to ORGANIZER, which the items of one to-do's attendees share
+abbrev pub front_octets : Kind → Parts → List ℕ
+front_octets k parts = contents_octets (opening_contents k ++ front_contents parts)
+
+-- what is shared of them, where something is
+abbrev pub IsFrontOf : Kind → Parts → Option (List ℕ) → Type 0
+IsFrontOf k parts front = IfSome front (λ octets. octets ≡ front_octets k parts)
+
+-- the lines behind them
+abbrev pub closing_contents : Parts → List Content
+closing_contents parts = rest_contents parts ++ bare (codes "END") (codes "VCALENDAR") ∷ []
 
 abbrev pub one_if : Bool → ℕ
 one_if true = 1
@@ -131,9 +149,9 @@ abbrev pub instance_key : Bool → List ℕ → Moment → Key
 instance_key true uid id = key.Range uid id
 instance_key false uid id = key.Instance uid id
 
--- what an answer or a refresh keeps of its to-do: the one attendee that it is of, and few properties (our own rule)
-abbrev pub only_of : Property → Parts → Parts
-only_of attendee parts = record {
+-- what an answer or a refresh keeps of its to-do: few properties, beside these attendees (our own rule)
+abbrev pub kept_with : List Property → Parts → Parts
+kept_with attendees parts = record {
   uid = parts.uid;
   stamp = parts.stamp;
   seq = parts.seq;
@@ -147,12 +165,16 @@ only_of attendee parts = record {
   priority = None;
   summary = None;
   organizer = parts.organizer;
-  attendees = attendee ∷ [];
+  attendees = attendees;
   rule = [];
   rdates = [];
   exdates = [];
   others = [];
 }
+
+-- its attendee is the one that it is of
+abbrev pub only_of : Property → Parts → Parts
+only_of attendee parts = kept_with (attendee ∷ []) parts
 
 -- an attendee's wish for the newest revision, and no answer
 abbrev pub refreshes : Kind → Bool
@@ -200,6 +222,11 @@ drafts m all = flat_map (λ parts. drafts_of (kind_of m parts) (effective_sequen
 pub record IsWithinLimits (draft : ItemDraft) : Type 0 where
   pub octets : length (canonical_octets draft.kind draft.parts) ≤ canonical_octets_limit
   pub lines : length (canonical_contents draft.kind draft.parts) ≤ canonical_lines_limit
+
+-- these are the octets of the canonical form, which is within its limits
+pub record IsWhole (draft : ItemDraft) (bytes : List ℕ) : Type 0 where
+  pub bytes_are : bytes ≡ canonical_octets draft.kind draft.parts
+  pub within : IsWithinLimits draft
 
 -- these fields are those of the draft
 pub record IsOfDraft (draft : ItemDraft) (key : Key) (own eff : ℕ) (stamp : Stamp) (bytes : List ℕ) (parts : Parts) (kind : Kind) : Type 0

@@ -2,23 +2,53 @@
 ghost use Rattle.std.specs.Prelude.{◌≡◌, ◌∷◌, [], IfOk};
 ghost use Rattle.itip_todo.specs.Lawful.{IsLawful};
 ghost use Rattle.itip_todo.specs.PartsOf.{parts_of};
-ghost use Rattle.itip_items.specs.Items.{only_of, attendee_key_of, refreshes};
+ghost use Rattle.itip_items.specs.Items.{only_of, kept_with, IsFrontOf, attendee_key_of, refreshes};
 
+use crate::canonical::write_front;
 use crate::key::Key;
 use crate::kind::Kind;
-use itip_lines::{ListOf, NoMemory};
+use crate::octets::Front;
+use itip_lines::{LineList, ListOf, NoMemory, TextList};
 use itip_moment::Moment;
-use itip_todo::{Property, SharedProperty, Todo, Uid, attendee_key};
+use itip_todo::{Property, Todo, Uid, attendee_key};
 use std::alloc::Global;
 
 /// The one attendee that it is of, and few properties (our own rule).
 ///
-/// UID, the zone of RECURRENCE-ID and ORGANIZER are shared with the to-do, and so with all answers that it gives.
+/// The attendee has memory of its own, so that an answer that is kept keeps no other attendee.
 pub(crate) fn only_of(alloc: Global, attendee: &Property, todo: &Todo) -> Result<Todo, NoMemory>
     requires { IsLawful (only_of attendee.now (parts_of todo.now)) }
     ensures { IfOk result (λ only. parts_of only ≡ only_of attendee.now (parts_of todo.now)) }
 {
     let attendees = alone(alloc, attendee)?;
+    kept_with(alloc, attendees, todo)
+}
+
+/// The octets with which the canonical forms of the items of all attendees begin; `None` where no two can share them.
+pub(crate) fn shared_front(
+    alloc: Global,
+    kind: Kind,
+    todo: &Todo,
+) -> Result<Option<Front>, NoMemory>
+    requires { IsLawful (kept_with [] (parts_of todo.now)) }
+    ensures { IfOk result (IsFrontOf kind (kept_with [] (parts_of todo.now))) }
+{
+    if todo.attendees.len() < 2 {
+        return Ok(None);
+    }
+    let kept = kept_with(alloc, ListOf::new(alloc), todo)?;
+    let front = write_front(alloc, kind, &kept);
+    drop(kept);
+    Ok(Some(front?))
+}
+
+/// Few properties, beside these attendees.
+///
+/// UID, the zone of RECURRENCE-ID and ORGANIZER are shared with the to-do, and so with all answers that it gives.
+fn kept_with(alloc: Global, attendees: ListOf<Property>, todo: &Todo) -> Result<Todo, NoMemory>
+    requires { IsLawful (kept_with attendees (parts_of todo.now)) }
+    ensures { IfOk result (λ kept. parts_of kept ≡ kept_with attendees (parts_of todo.now)) }
+{
     let (uid, rid, organizer) = shared(todo)?;
     Ok(Todo {
         uid,
@@ -35,24 +65,24 @@ pub(crate) fn only_of(alloc: Global, attendee: &Property, todo: &Todo) -> Result
         summary: None,
         organizer,
         attendees,
-        rule: ListOf::new(alloc),
+        rule: TextList::new(alloc),
         rdates: ListOf::new(alloc),
         exdates: ListOf::new(alloc),
-        others: ListOf::new(alloc),
+        others: LineList::new(alloc),
     })
 }
 
-/// The list of a copy of this attendee.
+/// The list of a copy of this attendee, in memory of its own.
 fn alone(alloc: Global, attendee: &Property) -> Result<ListOf<Property>, NoMemory>
     ensures { IfOk result (λ list. list ≡ attendee.now ∷ []) }
 {
-    let mut attendees = Vec::new(alloc);
-    attendees.push(attendee.clone()?)?;
+    let mut attendees = Vec::with_capacity(alloc, 1)?;
+    attendees.push(attendee.alone(alloc)?)?;
     Ok(ListOf::from_vec(attendees))
 }
 
 /// UID, RECURRENCE-ID and ORGANIZER, which take no memory again.
-fn shared(todo: &Todo) -> Result<(Uid, Option<Moment>, Option<SharedProperty>), NoMemory>
+fn shared(todo: &Todo) -> Result<(Uid, Option<Moment>, Option<Property>), NoMemory>
     ensures { IfOk result (λ copy. (copy.0 ≡ todo.now.uid) × (copy.1 ≡ todo.now.rid) × (copy.2 ≡ todo.now.organizer)) }
 {
     let uid = todo.uid.clone()?;
@@ -72,7 +102,7 @@ pub(crate) fn key_of(
 {
     let uid = todo.uid.clone()?;
     let rid = todo.rid.clone()?;
-    let name = attendee_key(alloc, attendee.value.as_str())?;
+    let name = attendee_key(alloc, attendee.value())?;
     if refreshes(kind) {
         Ok(Key::Refresh(uid, rid, name))
     } else {

@@ -1,11 +1,12 @@
 //! The canonical octets of an item, and its limits.
-ghost use Rattle.std.specs.Prelude.{◌≡◌, ◌≤◌, ◌+◌, ◌^◌, ◌-◌, ◌∷◌, [], ℕ, cond, codes, length, min, IfOk, IfErr};
+ghost use Rattle.std.specs.Prelude.{◌≡◌, ◌≤◌, ◌+◌, ◌++◌, ◌^◌, ◌-◌, ◌∷◌, [], ℕ, cond, codes, length, min, IfOk, IfErr, OnOk};
 ghost use Rattle.std.specs.Option.{is_some};
 ghost use Rattle.itip_todo.specs.PartsOf.{parts_of};
 ghost use Rattle.itip_todo.specs.UpTo.{AppendsUpTo};
-ghost use Rattle.itip_todo.specs.Written.{content_octets};
-ghost use Rattle.itip_items.specs.Items.{ItemDraft, draft_of, canonical_octets, canonical_contents, bare, method_of, method_text};
-ghost use Rattle.itip_items.specs.Items.{IsCanonical, IsItem, IsWithinLimits, canonical_octets_limit, one_if};
+ghost use Rattle.itip_todo.specs.Written.{content_octets, contents_octets};
+ghost use Rattle.itip_items.specs.Items.{ItemDraft, draft_of, canonical_contents, bare, method_of, method_text};
+ghost use Rattle.itip_items.specs.Items.{opening_contents, front_octets, closing_contents, IsFrontOf};
+ghost use Rattle.itip_items.specs.Items.{IsCanonical, IsItem, IsWhole, canonical_octets_limit, one_if};
 ghost use Rattle.itip_items.specs.Given.{IsItemOf, IsOver, IfLarge, Gives};
 ghost use Rattle.itip_items.specs.declared.key.Key.{Key};
 ghost use Rattle.itip_items.specs.declared.kind.Kind.{Kind};
@@ -14,8 +15,9 @@ use crate::error::ItemError;
 use crate::item::Item;
 use crate::key::Key;
 use crate::kind::Kind;
-use itip_lines::{Bytes, NoMemory};
-use itip_todo::{Todo, write_todo_up_to};
+use crate::octets::{Front, Octets};
+use itip_lines::NoMemory;
+use itip_todo::{Todo, write_todo_front, write_todo_rest, write_todo_up_to};
 use std::alloc::Global;
 
 /// The most octets of an item's canonical form (our own limit).
@@ -42,7 +44,41 @@ pub(crate) fn finish_item(
     ensures found { IfOk result (Gives (draft_of key eff todo kind)) }
     ensures large { IfErr result (λ e. IfLarge e (IsOver (draft_of key eff todo kind ∷ []))) }
 {
-    match bytes_within(alloc, kind, &todo) {
+    let bytes = bytes_within(alloc, kind, &todo);
+    finish(kind, key, eff, todo, bytes)
+}
+
+/// The item of an attendee's to-do in canonical form, whose front is shared, where there is one, and where it is within the limits.
+pub(crate) fn finish_behind(
+    alloc: Global,
+    front: &Option<Front>,
+    kind: Kind,
+    key: Key,
+    todo: Todo,
+) -> Result<Item, ItemError>
+    requires { IsCanonical (draft_of key todo.seq todo kind) × IsFrontOf kind (parts_of todo) front.now }
+    ensures found { IfOk result (Gives (draft_of key todo.seq todo kind)) }
+    ensures large { IfErr result (λ e. IfLarge e (IsOver (draft_of key todo.seq todo kind ∷ []))) }
+{
+    let bytes = bytes_sharing(alloc, front, kind, &todo);
+    let eff = todo.seq;
+    finish(kind, key, eff, todo, bytes)
+}
+
+/// The item of a to-do in canonical form, of which these are the octets, or why there are none.
+fn finish(
+    kind: Kind,
+    key: Key,
+    eff: u32,
+    todo: Todo,
+    bytes: Result<Octets, ItemError>,
+) -> Result<Item, ItemError>
+    requires { IsCanonical (draft_of key eff todo kind) × IfOk bytes (IsWhole (draft_of key eff todo kind))
+        × IfErr bytes (λ e. IfLarge e (IsOver (draft_of key eff todo kind ∷ []))) }
+    ensures found { IfOk result (Gives (draft_of key eff todo kind)) }
+    ensures large { IfErr result (λ e. IfLarge e (IsOver (draft_of key eff todo kind ∷ []))) }
+{
+    match bytes {
         Ok(bytes) => Ok(item_of(kind, key, eff, todo, bytes)),
         Err(error) => {
             // By calls: what is dropped in place is proved anew, field by field and case by case.
@@ -54,7 +90,7 @@ pub(crate) fn finish_item(
 }
 
 /// The item of a to-do in canonical form, whose bytes these are.
-fn item_of(kind: Kind, key: Key, eff: u32, todo: Todo, bytes: Bytes) -> Item
+fn item_of(kind: Kind, key: Key, eff: u32, todo: Todo, bytes: Octets) -> Item
     requires { IsItem key todo.seq eff todo.stamp bytes todo kind }
     ensures { IsItemOf (draft_of key eff todo kind) result }
 {
@@ -71,9 +107,8 @@ fn item_of(kind: Kind, key: Key, eff: u32, todo: Todo, bytes: Bytes) -> Item
 
 /// The canonical bytes of a to-do, where the form is within the limits. Nothing is written of too many lines, and few octets above
 /// the limit.
-fn bytes_within(alloc: Global, kind: Kind, todo: &Todo) -> Result<Bytes, ItemError>
-    ensures bytes { IfOk result (λ bytes. bytes ≡ canonical_octets kind (parts_of todo.now)) }
-    ensures within { IfOk result (λ _. (key : Key) (eff : ℕ) → IsWithinLimits (draft_of key eff todo.now kind)) }
+fn bytes_within(alloc: Global, kind: Kind, todo: &Todo) -> Result<Octets, ItemError>
+    ensures bytes { IfOk result (λ bytes. (key : Key) (eff : ℕ) → IsWhole (draft_of key eff todo.now kind) bytes) }
     ensures large { IfErr result (λ e. (key : Key) (eff : ℕ) → IfLarge e (IsOver (draft_of key eff todo.now kind ∷ []))) }
 {
     if line_count(todo) > LINES_LIMIT {
@@ -83,7 +118,44 @@ fn bytes_within(alloc: Global, kind: Kind, todo: &Todo) -> Result<Bytes, ItemErr
     if octets.len() > OCTETS_LIMIT {
         return Err(ItemError::TooLarge);
     }
-    Ok(Bytes::new(octets))
+    Ok(Octets::new(octets))
+}
+
+/// The canonical bytes of a to-do, whose front is shared, where there is one, as [`bytes_within`] gives them.
+fn bytes_sharing(
+    alloc: Global,
+    front: &Option<Front>,
+    kind: Kind,
+    todo: &Todo,
+) -> Result<Octets, ItemError>
+    requires { IsFrontOf kind (parts_of todo.now) front.now }
+    ensures bytes { IfOk result (λ bytes. (key : Key) (eff : ℕ) → IsWhole (draft_of key eff todo.now kind) bytes) }
+    ensures large { IfErr result (λ e. (key : Key) (eff : ℕ) → IfLarge e (IsOver (draft_of key eff todo.now kind ∷ []))) }
+{
+    match front {
+        Some(front) => bytes_behind(alloc, front, kind, todo),
+        None => bytes_within(alloc, kind, todo),
+    }
+}
+
+/// The canonical bytes of a to-do that begin with this front, as [`bytes_within`] gives them. Nothing is written behind a front that is
+/// above the limit.
+fn bytes_behind(alloc: Global, front: &Front, kind: Kind, todo: &Todo) -> Result<Octets, ItemError>
+    requires { front.now ≡ front_octets kind (parts_of todo.now) }
+    ensures bytes { IfOk result (λ bytes. (key : Key) (eff : ℕ) → IsWhole (draft_of key eff todo.now kind) bytes) }
+    ensures large { IfErr result (λ e. (key : Key) (eff : ℕ) → IfLarge e (IsOver (draft_of key eff todo.now kind ∷ []))) }
+{
+    if line_count(todo) > LINES_LIMIT {
+        return Err(ItemError::TooLarge);
+    }
+    let Some(room) = OCTETS_LIMIT.checked_sub(front.as_slice().len()) else {
+        return Err(ItemError::TooLarge);
+    };
+    let own = write_closing(alloc, todo, room)?;
+    if own.len() > room {
+        return Err(ItemError::TooLarge);
+    }
+    Ok(Octets::behind(front, own)?)
 }
 
 /// How many lines the canonical form has, or a number that is too great.
@@ -127,7 +199,9 @@ fn one_if(present: bool) -> usize
 pub fn write_item(alloc: Global, item: &Item) -> Result<Vec<u8>, NoMemory>
     ensures { IfOk result (λ octets. octets.items ≡ item.now.bytes) }
 {
-    Vec::from_slice(alloc, item.bytes.as_slice())
+    let mut octets = Vec::with_capacity(alloc, item.bytes.len())?;
+    item.bytes.append_to(&mut octets)?;
+    Ok(octets)
 }
 
 /// The canonical octets of a to-do under the method of a kind, as far as the limit allows: where they are more, what is written is
@@ -137,12 +211,48 @@ fn write_canonical(alloc: Global, kind: Kind, todo: &Todo) -> Result<Vec<u8>, No
         AppendsUpTo canonical_octets_limit (canonical_contents kind (parts_of todo.now)) [] octets.items) }
 {
     let mut octets = Vec::with_capacity(alloc, USUAL)?;
-    octets.extend_from_slice(b"BEGIN:VCALENDAR\r\nPRODID:-//itipdesk//1//EN\r\nVERSION:2.0\r\n")?;
-    octets.extend_from_slice(method_line(kind))?;
+    write_opening(kind, &mut octets)?;
     write_todo_up_to(todo, OCTETS_LIMIT, &mut octets)?;
-    octets.extend_from_slice(b"END:VCALENDAR\r\n")?;
+    write_end(&mut octets)?;
     octets.shrink_to_fit();
     Ok(octets)
+}
+
+/// The canonical octets of a to-do under the method of a kind, up to ORGANIZER.
+pub(crate) fn write_front(alloc: Global, kind: Kind, todo: &Todo) -> Result<Front, NoMemory>
+    ensures { IfOk result (λ front. front ≡ front_octets kind (parts_of todo.now)) }
+{
+    let mut octets = Vec::with_capacity(alloc, USUAL)?;
+    write_opening(kind, &mut octets)?;
+    write_todo_front(todo, &mut octets)?;
+    octets.shrink_to_fit();
+    Front::new(alloc, octets)
+}
+
+/// The canonical octets of a to-do behind its front, as far as there is room, as [`write_canonical`] gives them.
+fn write_closing(alloc: Global, todo: &Todo, room: usize) -> Result<Vec<u8>, NoMemory>
+    ensures { IfOk result (λ octets. AppendsUpTo room (closing_contents (parts_of todo.now)) [] octets.items) }
+{
+    let mut octets = Vec::with_capacity(alloc, USUAL)?;
+    write_todo_rest(todo, room, &mut octets)?;
+    write_end(&mut octets)?;
+    octets.shrink_to_fit();
+    Ok(octets)
+}
+
+/// Appends the lines before a to-do.
+fn write_opening(kind: Kind, out: &mut Vec<u8>) -> Result<(), NoMemory>
+    ensures { OnOk result (out.new.items ≡ out.old.items ++ contents_octets (opening_contents kind)) }
+{
+    out.extend_from_slice(b"BEGIN:VCALENDAR\r\nPRODID:-//itipdesk//1//EN\r\nVERSION:2.0\r\n")?;
+    out.extend_from_slice(method_line(kind))
+}
+
+/// Appends the line after a to-do.
+fn write_end(out: &mut Vec<u8>) -> Result<(), NoMemory>
+    ensures { OnOk result (out.new.items ≡ out.old.items ++ contents_octets (bare (codes "END") (codes "VCALENDAR") ∷ [])) }
+{
+    out.extend_from_slice(b"END:VCALENDAR\r\n")
 }
 
 /// The METHOD line of the items of a kind.

@@ -3,7 +3,8 @@ ghost use Rattle.itip_items.specs.Items.{IsItem};
 
 use crate::key::Key;
 use crate::kind::Kind;
-use itip_lines::{Bytes, NoMemory};
+use crate::octets::Octets;
+use itip_lines::NoMemory;
 use itip_moment::Stamp;
 use itip_todo::Todo;
 use std::cmp::Ordering;
@@ -22,8 +23,8 @@ pub struct Item {
     pub eff: u32,
     /// DTSTAMP.
     pub stamp: Stamp,
-    /// The canonical octets, at most 262,144.
-    pub bytes: Bytes,
+    /// The canonical octets, at most 262,144. The items of one to-do's attendees share those up to ORGANIZER.
+    pub bytes: Octets,
     /// The to-do in canonical form.
     pub todo: Todo,
     pub kind: Kind,

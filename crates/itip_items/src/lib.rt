@@ -11,6 +11,7 @@ mod kind;
 mod laws;
 mod make;
 mod needs;
+mod octets;
 mod ordered;
 mod sequences;
 
@@ -22,4 +23,5 @@ pub use kind::{BadMethod, Kind, Method, method_named};
 pub use laws::{equal_octets, order_of_revisions};
 pub use make::make_items;
 pub use needs::method_cause;
+pub use octets::Octets;
 pub use std::alloc::AllocError as NoMemory;

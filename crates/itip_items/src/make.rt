@@ -8,16 +8,18 @@ ghost use Rattle.itip_todo.specs.PartsOf.{parts_of};
 ghost use Rattle.itip_items.specs.Needs.{Suits};
 ghost use Rattle.itip_items.specs.Items.{drafts, drafts_of, kind_of, raised, task_draft, series_draft, add_drafts, instance_draft};
 ghost use Rattle.itip_items.specs.Items.{instance_key, attendee_draft, canonical_base, is_task, Sends, IsCanonical};
+ghost use Rattle.itip_items.specs.Items.{kept_with, IsFrontOf};
 ghost use Rattle.itip_items.specs.Given.{GivesItems, IsOver, IfLarge, IfTooLarge, FirstOver, drafts_each, Adds, Gives};
 ghost use Rattle.itip_items.specs.declared.kind.Kind.TheVariants as kinds;
 ghost use Rattle.itip_items.specs.declared.kind.Method.TheVariants as methods;
 
-use crate::attendee::{key_of, only_of};
-use crate::canonical::finish_item;
+use crate::attendee::{key_of, only_of, shared_front};
+use crate::canonical::{finish_behind, finish_item};
 use crate::error::{FormError, ItemError};
 use crate::item::Item;
 use crate::key::Key;
 use crate::kind::{Kind, Method};
+use crate::octets::Front;
 use crate::sequences::{kind_of, sequence_in, series_sequences};
 use itip_lines::NoMemory;
 use itip_moment::Moment;
@@ -203,7 +205,7 @@ fn canonical_base(own: u32, eff: u32) -> Option<u32>
     (own < eff).then_some(eff)
 }
 
-/// Adds one item for each ATTENDEE line.
+/// Adds one item for each ATTENDEE line. Their octets begin alike, and share what is alike.
 fn add_attendees(
     alloc: Global,
     kind: Kind,
@@ -214,27 +216,30 @@ fn add_attendees(
     ensures found { OnOk result (Adds (map (attendee_draft kind (parts_of todo.now)) todo.now.attendees) items.old.items items.new.items) }
     ensures large { IfErr result (λ e. IfLarge e (IsOver (map (attendee_draft kind (parts_of todo.now)) todo.now.attendees))) }
 {
+    let front = shared_front(alloc, kind, todo)?;
     for attendee in todo.attendees.as_slice() {
-        items.push(attendee_item(alloc, kind, todo, attendee)?)?;
+        items.push(attendee_item(alloc, &front, kind, todo, attendee)?)?;
     }
     Ok(())
 }
 
-/// The item of one attendee, with what an answer or a refresh keeps of its to-do.
+/// The item of one attendee, with what an answer or a refresh keeps of its to-do. It shares the front of its octets, where there is one.
 fn attendee_item(
     alloc: Global,
+    front: &Option<Front>,
     kind: Kind,
     todo: &Todo,
     attendee: &Property,
 ) -> Result<Item, ItemError>
     requires { IsCanonical (attendee_draft kind (parts_of todo.now) attendee.now)
-        × IsLawful (attendee_draft kind (parts_of todo.now) attendee.now).parts }
+        × IsLawful (attendee_draft kind (parts_of todo.now) attendee.now).parts
+        × IsFrontOf kind (kept_with [] (parts_of todo.now)) front.now }
     ensures found { IfOk result (Gives (attendee_draft kind (parts_of todo.now) attendee.now)) }
     ensures large { IfErr result (λ e. IfLarge e (IsOver (attendee_draft kind (parts_of todo.now) attendee.now ∷ []))) }
 {
     let key = key_of(alloc, kind, todo, attendee)?;
     match only_of(alloc, attendee, todo) {
-        Ok(only) => finish_item(alloc, kind, key, todo.seq, only),
+        Ok(only) => finish_behind(alloc, front, kind, key, only),
         Err(refused) => {
             drop(key);
             Err(refused.into())

@@ -34,9 +34,9 @@ fn recurs(todo: &Todo) -> bool
     ensures { result ≡ recurs (parts_of todo.now) }
 {
     todo.rid.is_some()
-        || has_some(&todo.rule)
+        || !todo.rule.is_empty()
         || has_some(&todo.rdates)
-        || has_period(todo.others.as_slice())
+        || has_period(&todo.others)
 }
 
 /// Whether a to-do removes attendees in a CANCEL: it has no STATUS and names some.

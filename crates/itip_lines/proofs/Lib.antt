@@ -20,3 +20,6 @@ pub mod Decided
 pub mod Folds
 pub mod LawfulLemmas
 pub mod OneFolding
+pub mod Joined
+pub mod Halves
+pub mod LineLists

@@ -115,9 +115,9 @@ line_spells l = record {
 
 -- ---- its octets are UTF-8, and in no line break
 
-record IsClean (text : List ℕ) : Type 0 where
-  octets : list_all is_value_octet text ≡ true
-  utf8 : IsUtf8 text
+pub record IsClean (text : List ℕ) : Type 0 where
+  pub octets : list_all is_value_octet text ≡ true
+  pub utf8 : IsUtf8 text
 
 both : (a b : List ℕ) → IsClean a → IsClean b → IsClean (a ++ b)
 both a b h k = record { octets = list_all-append is_value_octet a b ∙ rw h.octets k.octets; utf8 = IsUtf8-append a b h.utf8 k.utf8 }
@@ -162,7 +162,7 @@ clean_params (p ∷ ps) h = both (param_text p) (params_text ps) (clean_param p 
 pub utf8_params : (ps : List Param) → AllByRecursion IsLawfulParam ps → IsUtf8 (params_text ps)
 utf8_params ps h = (clean_params ps h).utf8
 
-clean_line : (l : Line) → IsClean (unfolded_text l)
+pub clean_line : (l : Line) → IsClean (unfolded_text l)
 unfolding unfolded_text
 clean_line l =
     both l.name (params_text l.params ++ 58 ∷ l.value) (clean_name l.name l.lawful.named)

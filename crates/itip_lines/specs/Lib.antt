@@ -10,3 +10,6 @@ pub mod Stretches
 pub mod ScanSteps
 pub mod Writing
 pub mod Folding
+pub mod Joining
+pub mod TextsLeft
+pub mod LineTexts

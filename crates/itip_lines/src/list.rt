@@ -8,7 +8,7 @@ use std::alloc::{AllocError, Global};
 use std::cmp::Ordering;
 use std::marker::Model;
 
-/// Values in order, without the spare room of the vector that holds them.
+/// Values in order, as contracts see the vector that holds them.
 #[derive(Debug, Drop)]
 pub struct ListOf<T> {
     values: Vec<T>,
@@ -36,6 +36,14 @@ impl<T> ListOf<T> {
     pub fn from_vec(values: Vec<T>) -> ListOf<T>
         ensures { result ≡ values.items }
     {
+        ListOf { values }
+    }
+
+    /// The values of a vector, whose spare room is given back.
+    pub fn exact(mut values: Vec<T>) -> ListOf<T>
+        ensures { result ≡ values.items }
+    {
+        values.shrink_to_fit();
         ListOf { values }
     }
 

@@ -1,9 +1,25 @@
 //! Finding a parameter by its name in the text of a line's parameters.
 ghost use Rattle.std.specs.Prelude.{◌≡◌, ◌≤◌, ◌==◌, ◌&&◌, false, not, cond, ℕ, List, length, MatchOption};
-ghost use Rattle.itip_lines.specs.Lookup.{same_text, has_param, behind_values, StandsFor, BeginsWithValue, IsFound};
+ghost use Rattle.itip_lines.specs.Lookup.{same_text, has_param, param_value, behind_values, StandsFor, BeginsWithValue, IsFound};
+ghost use Rattle.itip_lines.specs.ParamsText.{params_in, IsParamsText};
 ghost use Rattle.itip_lines.specs.declared.line.Param.{Param};
 
 use crate::grammar::{Octets, cut_run, strip};
+
+/// The first value of the first parameter of this name, which is in upper case; empty where there is none. It takes no
+/// memory.
+///
+/// `params` is the text of parameters, as `Params::as_str` gives it.
+pub fn param_value<'a>(params: &'a str, name: &str) -> &'a str
+    requires { IsParamsText params.now }
+    ensures { result.now ≡ param_value name.now (params_in params.now) }
+{
+    match values_of(name, params.as_bytes()) {
+        // A value of a parameter is UTF-8.
+        Some(values) => unsafe { str::from_utf8_unchecked(leading_value(values)) },
+        None => "",
+    }
+}
 
 /// The text from the values of the first parameter of this name on.
 pub(crate) fn values_of<'a>(name: &str, text: &'a [u8]) -> Option<&'a [u8]>
@@ -21,7 +37,7 @@ pub(crate) fn values_of<'a>(name: &str, text: &'a [u8]) -> Option<&'a [u8]>
     None
 }
 
-fn is_named(spelled: &[u8], name: &str) -> bool
+pub(crate) fn is_named(spelled: &[u8], name: &str) -> bool
     ensures { result ≡ same_text spelled.now name.now }
 {
     spelled == name.as_bytes()

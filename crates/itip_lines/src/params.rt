@@ -11,7 +11,7 @@ ghost use Rattle.itip_lines.specs.ParamsText.{IsParamsText};
 ghost use Rattle.itip_lines.specs.declared.line.Param.{Param};
 
 use crate::bytes::Bytes;
-use crate::lookup::{leading_value, values_of};
+use crate::lookup::{param_value, values_of};
 use crate::write::write_param;
 use std::alloc::{AllocError, Global};
 use std::fmt;
@@ -92,11 +92,7 @@ impl Params {
     pub fn first_value(&self, name: &str) -> &str
         ensures { result.now ≡ param_value name.now self.now }
     {
-        match values_of(name, self.as_str().as_bytes()) {
-            // A value of a parameter is UTF-8.
-            Some(values) => unsafe { str::from_utf8_unchecked(leading_value(values)) },
-            None => "",
-        }
+        param_value(self.as_str(), name)
     }
 }
 

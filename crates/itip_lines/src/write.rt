@@ -31,10 +31,8 @@ pub fn write_line(line: &Line, out: &mut Vec<u8>) -> Result<(), AllocError>
     )
 }
 
-/// Appends the line of a name, parameters and a value, with its breaks, as `write_line` does (RFC 5545 3.1).
-///
-/// Where memory is refused `out` stays as it was.
-pub fn write_property(
+/// Appends the line of a name, parameters and a value, with its breaks.
+fn write_property(
     name: &str,
     params: &Params,
     value: &[u8],
@@ -46,7 +44,10 @@ pub fn write_property(
     write_parts(name, params.as_str().as_bytes(), value, out)
 }
 
-/// The same where `params` is the text of the parameters, as `write_param` makes it; empty where there is none.
+/// Appends the line of a name, parameters and a value, with its breaks, as `write_line` does (RFC 5545 3.1).
+///
+/// `params` is the text of the parameters, as `Params::as_str` gives it or `write_param` makes it; empty where there is none.
+/// Where memory is refused `out` stays as it was.
 pub fn write_parts(
     name: &str,
     params: &[u8],
@@ -73,6 +74,16 @@ fn write_all(name: &str, params: &[u8], value: &[u8], out: &mut Vec<u8>) -> Resu
     let used = write_octets(params, used, out)?;
     let used = write_octet(b':', used, out)?;
     write_octets(value, used, out)?;
+    out.extend_from_slice(b"\r\n")
+}
+
+/// Appends a line with its breaks, where `text` is the line without them and without folds.
+///
+/// Where memory is refused, perhaps a part of it is appended.
+pub fn write_text(text: &str, out: &mut Vec<u8>) -> Result<(), AllocError>
+    ensures { OnOk result (out.new.items ≡ out.old.items ++ folded 0 text.now) }
+{
+    write_octets(text.as_bytes(), 0, out)?;
     out.extend_from_slice(b"\r\n")
 }
 

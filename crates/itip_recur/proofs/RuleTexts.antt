@@ -1,6 +1,6 @@
 -- Which properties a to-do has, and the texts of its rule.
 use Rattle.std.proofs.Common.{◌≡◌, ◌≢◌, ◌↔◌, ◌⊎◌, inl, inr, ℕ, refl, sym, subst, ap, ◌∙◌, arith, true, not, ◌==◌, List, [], ◌∷◌, length}
-use Rattle.std.proofs.Common.{get_or, Option, Some, None}
+use Rattle.std.proofs.Common.{Option, Some, None}
 use Rattle.std.proofs.lemmas.Bool.Decides.{nat_tests}
 use Rattle.itip_lines.specs.declared.line.Line.{Line}
 use Rattle.itip_moment.specs.declared.moment.Moment.{Moment}
@@ -30,8 +30,18 @@ given_is [] [] [] lines = (
 )
 
 -- one text that is no rule with a fitting end makes no rule
-pub no_rule_of : (texts : List (List ℕ)) (start : Moment) (text item : List ℕ) → length texts ≡ 1 → item ≡ get_or texts 0 item → text ≡ item
-    → ((rule : Rule) → RuleText text rule → EndFits start rule.end → ⊥) → (rule : Option Rule) → IsRuleOf texts start rule → ⊥
-no_rule_of texts start text item one at is none None empty = let e = ap length empty in omega arith
-no_rule_of texts start text item one at is none (Some rule) h =
-    let same : h.0 ≡ text = sym (is ∙ (at ∙ ap (λ ts. get_or ts 0 item) h.1)) in none rule (subst (λ t. RuleText t rule) same h.2) h.3
+pub no_rule_of : (texts : List (List ℕ)) (start : Moment) (text : List ℕ) → texts ≡ text ∷ [] →
+    ((rule : Rule) → RuleText text rule → EndFits start rule.end → ⊥) → (rule : Option Rule) → IsRuleOf texts start rule → ⊥
+no_rule_of texts start text is none None empty = let one = ap length is in let no = ap length empty in omega arith
+no_rule_of texts start text is none (Some rule) h =
+    let both : h.0 ∷ [] ≡ text ∷ [] = sym h.1 ∙ is in
+    let same : h.0 ≡ text = cc in
+    none rule (subst (λ (t : List ℕ). RuleText t rule) same h.2) h.3
+
+-- and two make none
+pub no_rule_of_two : (texts : List (List ℕ)) (start : Moment) (text : List ℕ) (behind : List (List ℕ)) (other : List ℕ)
+    (rest : List (List ℕ)) → texts ≡ text ∷ behind → behind ≡ other ∷ rest → (rule : Option Rule) → IsRuleOf texts start rule → ⊥
+no_rule_of_two texts start text behind other rest is more None empty =
+    let some = ap length is in let no = ap length empty in omega arith
+no_rule_of_two texts start text behind other rest is more (Some rule) h =
+    let some = ap length is in let two = ap length more in let one = ap length h.1 in omega arith

@@ -12,7 +12,7 @@ use crate::NoMemory;
 use crate::read::{Reading, read_rule};
 use crate::rule::{End, Rule};
 use crate::series::{Series, Shape};
-use itip_lines::{Line, ListOf, Text};
+use itip_lines::{LineList, ListOf, TextList};
 use itip_moment::{Form, Moment};
 use itip_todo::{Todo, has_period};
 use std::alloc::Global;
@@ -39,15 +39,15 @@ pub fn recurs(todo: &Todo) -> bool
     ensures { IsTrue result ↔ Recurs todo.now }
 {
     are_given(
-        todo.rule.as_slice(),
+        &todo.rule,
         todo.rdates.as_slice(),
         todo.exdates.as_slice(),
-        todo.others.as_slice(),
+        &todo.others,
     )
 }
 
 // Whether there is one of these, or a period among the lines.
-fn are_given(rules: &[Text], rdates: &[Moment], exdates: &[Moment], lines: &[Line]) -> bool
+fn are_given(rules: &TextList, rdates: &[Moment], exdates: &[Moment], lines: &LineList) -> bool
     ensures { result ≡ are_given rules.now rdates.now exdates.now lines.now }
 {
     !rules.is_empty() || !rdates.is_empty() || !exdates.is_empty() || has_period(lines)
@@ -57,13 +57,13 @@ fn series_of(alloc: Global, todo: &Todo) -> Result<Option<Series>, NoMemory>
     requires { Recurs todo.now }
     ensures { IfOk result (λ r. MatchOption r ((s : Series) → IsSeriesOf todo.now s → ⊥) (IsSeriesOf todo.now)) }
 {
-    if has_period(todo.others.as_slice()) {
+    if has_period(&todo.others) {
         return Ok(None);
     }
     let Some(start) = &todo.start else {
         return Ok(None);
     };
-    match rule_of(alloc, start, todo.rule.as_slice())? {
+    match rule_of(alloc, start, &todo.rule)? {
         Some(rule) => Ok(Some(series(start, rule, &todo.rdates, &todo.exdates)?)),
         None => Ok(None),
     }
@@ -99,17 +99,24 @@ fn copy(moments: &ListOf<Moment>) -> Result<ListOf<Moment>, NoMemory>
 }
 
 // The rule of a series, or that it has none; neither where the texts or its end make the series opaque.
-fn rule_of(alloc: Global, start: &Moment, texts: &[Text]) -> Result<Option<Option<Rule>>, NoMemory>
-    ensures { IfOk result (λ r. MatchOption r ((rule : Option Rule) → IsRuleOf texts.now start.now rule → ⊥)
-        (IsRuleOf texts.now start.now)) }
+fn rule_of(
+    alloc: Global,
+    start: &Moment,
+    rules: &TextList,
+) -> Result<Option<Option<Rule>>, NoMemory>
+    ensures { IfOk result (λ r. MatchOption r ((rule : Option Rule) → IsRuleOf rules.now start.now rule → ⊥)
+        (IsRuleOf rules.now start.now)) }
 {
-    match texts {
-        [] => Ok(Some(None)),
-        [text] => match read_fitting(alloc, start, text.as_str())? {
-            Some(rule) => Ok(Some(Some(rule))),
-            None => Ok(None),
-        },
-        _ => Ok(None),
+    let mut texts = rules.iter();
+    let Some(text) = texts.next() else {
+        return Ok(Some(None));
+    };
+    if texts.next().is_some() {
+        return Ok(None);
+    }
+    match read_fitting(alloc, start, text)? {
+        Some(rule) => Ok(Some(Some(rule))),
+        None => Ok(None),
     }
 }
 

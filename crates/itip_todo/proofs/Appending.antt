@@ -1,15 +1,19 @@
 -- Lines that are written as far as a limit of octets allows, one part after the other.
 use Rattle.std.proofs.Common.{◌≡◌, ◌∙◌, sym, ap, refl, subst, ℕ, ◌<◌, ◌≤◌, List, [], ◌∷◌, ◌++◌, length, take, drop, map, arith, inl, inr}
+use Rattle.std.proofs.Common.{append-nil, append_assoc}
 use Rattle.std.proofs.lemmas.Bool.{cases_lt}
 use Rattle.std.proofs.lemmas.List.{length-append, map-append, take-append-drop, take_all}
 use Rattle.std.specs.Prelude.{◌⊎◌, codes}
 use Rattle.itip_todo.specs.Parts.{Parts}
 use Rattle.itip_todo.specs.UpTo.{AppendsUpTo}
-use Rattle.itip_todo.specs.Written.{Content, contents_octets, head_contents, parts_contents, todo_contents, bare}
+use Rattle.itip_lines.specs.Writing.{folded, unfolded_text}
+use Rattle.itip_lines.specs.declared.line.Line.{Line}
+use Rattle.itip_todo.specs.Written.{Content, content_of, content_octets, contents_octets, head_contents, list_contents, parts_contents}
+use Rattle.itip_todo.specs.Written.{todo_contents, bare, front_contents, rest_contents, without_lists}
 use Rattle.itip_todo.proofs.Contents.{then_lines}
 use Rattle.itip_todo.proofs.Segments.{base_lines, base_on, rid_lines, rid_on, start_lines, start_on, due_lines, due_on, status_lines}
 use Rattle.itip_todo.proofs.Segments.{status_on, percent_lines, percent_on, priority_lines, priority_on, summary_lines, summary_on}
-use Rattle.itip_todo.proofs.Segments.{organizer_lines, organizer_on, attendee_lines, attendee_on, rule_lines, rule_on, rdate_lines}
+use Rattle.itip_todo.proofs.Segments.{organizer_lines, organizer_on, attendee_lines, rule_lines, rule_on, rdate_lines}
 use Rattle.itip_todo.proofs.Segments.{rdate_on, exdate_lines, exdate_on, other_lines, other_on}
 
 -- all lines are written
@@ -69,8 +73,54 @@ pub finished : {A : Type 0} (f : A → Content) (xs : List A) (limit i : ℕ) (o
 finished {A} f xs limit i old now done is =
     appends_all limit (map f xs) old now (is ∙ ap (λ (ys : List A). old ++ contents_octets (map f ys)) (take_all i xs done))
 
--- all lines of a to-do, one part after the other
-pub all_up_to : (limit : ℕ) (parts : Parts) (o0 begun headed o1 o2 o3 o4 o5 o6 o7 o8 o9 o10 o11 o12 o13 o14 ended : List ℕ) → begun ≡ o0 ++
+-- With the octets that are left to write, what stands there is that of all lines.
+pub record Leaves (contents : List Content) (old now left : List ℕ) : Type 0 where
+  pub grows : length old ≤ length now
+  pub whole : now ++ left ≡ old ++ contents_octets contents
+
+pub leaves_all : (contents : List Content) (old left : List ℕ) → left ≡ contents_octets contents → Leaves contents old old left
+leaves_all contents old left is = record { grows = omega arith; whole = ap (λ (octets : List ℕ). old ++ octets) is }
+
+pub leaves_less : (contents : List Content) (old now left first rest new : List ℕ) → Leaves contents old now left → left ≡ first ++ rest →
+    new ≡ now ++ first → Leaves contents old new rest
+leaves_less contents old now left first rest new before is wrote =
+    let same = ap length wrote in
+    let both = length-append now first in
+    record {
+      grows = omega (arith, before.grows, same, both);
+      whole = ap (λ (octets : List ℕ). octets ++ rest) wrote ∙ append_assoc now first rest
+          ∙ ap (λ (octets : List ℕ). now ++ octets) (sym is)
+          ∙ before.whole;
+    }
+
+pub leaves_none : (contents : List Content) (limit : ℕ) (old now left : List ℕ) → left ≡ [] → Leaves contents old now left →
+    AppendsUpTo limit contents old now
+leaves_none contents limit old now left none before =
+    appends_all limit contents old now (sym (append-nil now) ∙ ap (λ (octets : List ℕ). now ++ octets) (sym none) ∙ before.whole)
+
+pub leaves_some : (contents : List Content) (limit : ℕ) (old now left : List ℕ) → limit < length now → Leaves contents old now left →
+    AppendsUpTo limit contents old now
+leaves_some contents limit old now left long before =
+    let same = ap length before.whole in
+    let both = length-append now left in
+    record {
+      grows = before.grows;
+      whole = λ short. absurd (omega (arith, short, long));
+      over = λ more. omega (arith, long, same, both);
+    }
+
+-- the octets of texts of lines
+abbrev pub texts_octets : List (List ℕ) → List ℕ
+texts_octets [] = []
+texts_octets (text ∷ texts) = folded 0 text ++ texts_octets texts
+
+pub octets_of_lines : (lines : List Line) → texts_octets (map unfolded_text lines) ≡ contents_octets (map content_of lines)
+unfolding unfolded_text
+octets_of_lines [] = refl
+octets_of_lines (line ∷ lines) = ap (λ (rest : List ℕ). content_octets (content_of line) ++ rest) (octets_of_lines lines)
+
+-- the lines up to ORGANIZER, one part after the other
+pub front_of : (parts : Parts) (o0 begun headed o1 o2 o3 o4 o5 o6 o7 o8 o9 : List ℕ) → begun ≡ o0 ++
     contents_octets (bare (codes "BEGIN") (codes "VTODO") ∷ []) → headed ≡ begun ++ contents_octets (head_contents parts)
     → o1 ≡ headed ++ contents_octets (base_lines parts)
     → o2 ≡ o1 ++ contents_octets (rid_lines parts)
@@ -80,31 +130,68 @@ pub all_up_to : (limit : ℕ) (parts : Parts) (o0 begun headed o1 o2 o3 o4 o5 o6
     → o6 ≡ o5 ++ contents_octets (percent_lines parts)
     → o7 ≡ o6 ++ contents_octets (priority_lines parts)
     → o8 ≡ o7 ++ contents_octets (summary_lines parts)
-    → o9 ≡ o8 ++ contents_octets (organizer_lines parts)
-    → AppendsUpTo limit (attendee_lines parts) o9 o10
+    → o9 ≡ o8 ++ contents_octets (organizer_lines parts) → o9 ≡ o0 ++ contents_octets (front_contents parts)
+front_of parts o0 begun headed o1 o2 o3 o4 o5 o6 o7 o8 o9 eb eh e1 e2 e3 e4 e5 e6 e7 e8 e9 =
+    let few : Parts = without_lists parts in
+    then_lines o0 begun o9 (bare (codes "BEGIN") (codes "VTODO") ∷ []) (parts_contents few) eb
+    (then_lines begun headed o9 (head_contents parts) (base_on few) eh
+    (then_lines headed o1 o9 (base_lines parts) (rid_on few) e1
+    (then_lines o1 o2 o9 (rid_lines parts) (start_on few) e2
+    (then_lines o2 o3 o9 (start_lines parts) (due_on few) e3
+    (then_lines o3 o4 o9 (due_lines parts) (status_on few) e4
+    (then_lines o4 o5 o9 (status_lines parts) (percent_on few) e5
+    (then_lines o5 o6 o9 (percent_lines parts) (priority_on few) e6
+    (then_lines o6 o7 o9 (priority_lines parts) (summary_on few) e7
+    (then_lines o7 o8 o9 (summary_lines parts) (organizer_on few) e8
+    (then_lines o8 o9 o9 (organizer_lines parts) [] e9 (sym (append-nil o9))))))))))))
+
+-- the lines from ATTENDEE on, one list after the other
+pub rest_up_to : (limit : ℕ) (parts : Parts) (o9 o10 o11 o12 o13 o14 ended : List ℕ) → AppendsUpTo limit (attendee_lines parts) o9 o10
     → AppendsUpTo limit (rule_lines parts) o10 o11
     → AppendsUpTo limit (rdate_lines parts) o11 o12
     → AppendsUpTo limit (exdate_lines parts) o12 o13
     → AppendsUpTo limit (other_lines parts) o13 o14
-    → ended ≡ o14 ++ contents_octets (bare (codes "END") (codes "VTODO") ∷ []) → AppendsUpTo limit (todo_contents parts) o0 ended
-all_up_to limit parts o0 begun headed o1 o2 o3 o4 o5 o6 o7 o8 o9 o10 o11 o12 o13 o14 ended eb eh e1 e2 e3 e4 e5 e6 e7 e8 e9 a10 a11 a12 a13
-    a14 ee =
-    let begins : List Content = bare (codes "BEGIN") (codes "VTODO") ∷ [] in
+    → ended ≡ o14 ++ contents_octets (bare (codes "END") (codes "VTODO") ∷ []) → AppendsUpTo limit (rest_contents parts) o9 ended
+rest_up_to limit parts o9 o10 o11 o12 o13 o14 ended a10 a11 a12 a13 a14 ee =
     let ends : List Content = bare (codes "END") (codes "VTODO") ∷ [] in
-    then_up_to limit begins (parts_contents parts ++ ends) o0 begun ended (appends_all limit begins o0 begun eb)
-    (then_up_to limit (parts_contents parts) ends begun o14 ended
-    (then_up_to limit (head_contents parts) (base_on parts) begun headed o14 (appends_all limit (head_contents parts) begun headed eh)
-    (then_up_to limit (base_lines parts) (rid_on parts) headed o1 o14 (appends_all limit (base_lines parts) headed o1 e1)
-    (then_up_to limit (rid_lines parts) (start_on parts) o1 o2 o14 (appends_all limit (rid_lines parts) o1 o2 e2)
-    (then_up_to limit (start_lines parts) (due_on parts) o2 o3 o14 (appends_all limit (start_lines parts) o2 o3 e3)
-    (then_up_to limit (due_lines parts) (status_on parts) o3 o4 o14 (appends_all limit (due_lines parts) o3 o4 e4)
-    (then_up_to limit (status_lines parts) (percent_on parts) o4 o5 o14 (appends_all limit (status_lines parts) o4 o5 e5)
-    (then_up_to limit (percent_lines parts) (priority_on parts) o5 o6 o14 (appends_all limit (percent_lines parts) o5 o6 e6)
-    (then_up_to limit (priority_lines parts) (summary_on parts) o6 o7 o14 (appends_all limit (priority_lines parts) o6 o7 e7)
-    (then_up_to limit (summary_lines parts) (organizer_on parts) o7 o8 o14 (appends_all limit (summary_lines parts) o7 o8 e8)
-    (then_up_to limit (organizer_lines parts) (attendee_on parts) o8 o9 o14 (appends_all limit (organizer_lines parts) o8 o9 e9)
+    then_up_to limit (list_contents parts) ends o9 o14 ended
     (then_up_to limit (attendee_lines parts) (rule_on parts) o9 o10 o14 a10
     (then_up_to limit (rule_lines parts) (rdate_on parts) o10 o11 o14 a11
     (then_up_to limit (rdate_lines parts) (exdate_on parts) o11 o12 o14 a12
-    (then_up_to limit (exdate_lines parts) (other_on parts) o12 o13 o14 a13 a14))))))))))))))
-    (appends_all limit ends o14 ended ee))
+    (then_up_to limit (exdate_lines parts) (other_on parts) o12 o13 o14 a13 a14))))
+    (appends_all limit ends o14 ended ee)
+
+-- lines before two parts of lines
+before : (xs ys zs ws : List Content) → ys ≡ zs ++ ws → xs ++ ys ≡ (xs ++ zs) ++ ws
+before xs ys zs ws e = ap (λ (cs : List Content). xs ++ cs) e ∙ sym (append_assoc xs zs ws)
+
+parts_are : (parts : Parts) → parts_contents parts ≡ parts_contents (without_lists parts) ++ list_contents parts
+parts_are parts =
+    let few : Parts = without_lists parts in
+    let lists : List Content = list_contents parts in
+    before (head_contents parts) (base_on parts) (base_on few) lists
+    (before (base_lines parts) (rid_on parts) (rid_on few) lists
+    (before (rid_lines parts) (start_on parts) (start_on few) lists
+    (before (start_lines parts) (due_on parts) (due_on few) lists
+    (before (due_lines parts) (status_on parts) (status_on few) lists
+    (before (status_lines parts) (percent_on parts) (percent_on few) lists
+    (before (percent_lines parts) (priority_on parts) (priority_on few) lists
+    (before (priority_lines parts) (summary_on parts) (summary_on few) lists
+    (before (summary_lines parts) (organizer_on parts) (organizer_on few) lists
+    (before (organizer_lines parts) lists [] lists refl)))))))))
+
+-- the lines of a to-do are those up to ORGANIZER and those behind it
+pub front_and_rest : (parts : Parts) → todo_contents parts ≡ front_contents parts ++ rest_contents parts
+front_and_rest parts =
+    let ends : List Content = bare (codes "END") (codes "VTODO") ∷ [] in
+    let begin : Content = bare (codes "BEGIN") (codes "VTODO") in
+    ap (λ (cs : List Content). begin ∷ (cs ++ ends)) (parts_are parts) ∙
+    ap (λ (cs : List Content). begin ∷ cs) (append_assoc (parts_contents (without_lists parts)) (list_contents parts) ends)
+
+-- all lines of a to-do
+pub all_up_to : (limit : ℕ) (parts : Parts) (old mid new : List ℕ) → mid ≡ old ++ contents_octets (front_contents parts) →
+    AppendsUpTo limit (rest_contents parts) mid new → AppendsUpTo limit (todo_contents parts) old new
+all_up_to limit parts old mid new front rest =
+    let lines : List Content = front_contents parts in
+    subst (λ (cs : List Content). AppendsUpTo limit cs old new) (sym (front_and_rest parts))
+    (then_up_to limit lines (rest_contents parts) old mid new (appends_all limit lines old mid front) rest)

@@ -3,7 +3,7 @@ use Rattle.std.proofs.Common.{◌≡◌, ℕ, ◌+◌, ◌<◌, List, [], ◌∷
 use Rattle.std.proofs.lemmas.List.{map-append, take_more}
 use Rattle.itip_todo.specs.Written.{Content, content_octets, contents_octets}
 
-contents_octets-append : (xs ys : List Content) → contents_octets (xs ++ ys) ≡ contents_octets xs ++ contents_octets ys
+pub contents_octets-append : (xs ys : List Content) → contents_octets (xs ++ ys) ≡ contents_octets xs ++ contents_octets ys
 contents_octets-append [] ys = refl
 contents_octets-append (x ∷ xs) ys = ap (λ rest. content_octets x ++ rest) (contents_octets-append xs ys) ∙
     sym (append_assoc (content_octets x) (contents_octets xs) (contents_octets ys))

@@ -11,7 +11,7 @@ use Rattle.itip_todo.specs.declared.draft.Draft.{Draft}
 use Rattle.itip_todo.specs.Values.{IsGoodValue}
 use Rattle.itip_todo.specs.declared.error.TodoCause.{TodoCause}
 use Rattle.itip_todo.specs.declared.error.TodoCause.TheVariants as cause
-use Rattle.itip_todo.specs.declared.property.Property.{Property}
+use Rattle.itip_todo.specs.Properties.{Property}
 use Rattle.itip_todo.specs.declared.property_name.PropertyName.{PropertyName}
 use Rattle.itip_todo.specs.declared.property_name.PropertyName.TheVariants as name
 use Rattle.itip_todo.specs.declared.status.Status.{Status}

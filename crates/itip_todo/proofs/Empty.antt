@@ -11,7 +11,7 @@ use Rattle.itip_moment.specs.Order.{moment_cmp}
 use Rattle.itip_moment.specs.declared.moment.Moment.{Moment}
 use Rattle.itip_todo.specs.Drafts.{Holds, HoldsAttendees, IsSetOf}
 use Rattle.itip_todo.specs.Lawful.{HasValue}
-use Rattle.itip_todo.specs.declared.property.Property.{Property}
+use Rattle.itip_todo.specs.Properties.{Property}
 use Rattle.itip_todo.specs.declared.property_name.PropertyName.{PropertyName}
 use Rattle.itip_todo.specs.declared.property_name.PropertyName.TheVariants as name
 
@@ -29,9 +29,9 @@ no_attendee attendees keys e f =
       keys = λ key. ap (λ (ks : List (List ℕ)). list_any (is_at (slice_cmp nat_cmp key)) ks) f;
     }
 
-pub empty_draft : (attendees : Vec Property Global) (keys : BTreeSet (List ℕ)) (rule : Vec (List ℕ) Global)
+pub empty_draft : (attendees : List Property) (keys : BTreeSet (List ℕ)) (rule : Vec (List ℕ) Global)
     (rdates exdates : BTreeSet Moment) (others : Vec Line Global)
-    → attendees.items ≡ [] → keys.keys ≡ [] → rule.items ≡ [] → rdates.keys ≡ [] → exdates.keys ≡ [] → others.items ≡ [] →
+    → attendees ≡ [] → keys.keys ≡ [] → rule.items ≡ [] → rdates.keys ≡ [] → exdates.keys ≡ [] → others.items ≡ [] →
     (p : PropertyName)
     → Holds (record {
       uid = None;
@@ -55,7 +55,7 @@ pub empty_draft : (attendees : Vec Property Global) (keys : BTreeSet (List ℕ))
       others = others;
     }) p []
 empty_draft attendees keys rule rdates exdates others a b c d e f name.RecurrenceId = (tt, refl)
-empty_draft attendees keys rule rdates exdates others a b c d e f name.Attendee = no_attendee attendees.items keys a b
+empty_draft attendees keys rule rdates exdates others a b c d e f name.Attendee = no_attendee attendees keys a b
 empty_draft attendees keys rule rdates exdates others a b c d e f name.RRule = c
 empty_draft attendees keys rule rdates exdates others a b c d e f name.RDate = no_moment rdates d
 empty_draft attendees keys rule rdates exdates others a b c d e f name.ExDate = no_moment exdates e

@@ -12,6 +12,7 @@ pub mod LawfulLines
 pub mod Listing
 pub mod MomentLines
 pub mod Names
+pub mod Placing
 pub mod Putting
 pub mod ReadingLaws
 pub mod SameTodo

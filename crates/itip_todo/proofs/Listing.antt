@@ -21,7 +21,7 @@ use Rattle.itip_todo.specs.Reading.{ListMoments, whole_property, key_of}
 use Rattle.itip_todo.specs.Table.{attendee_limit}
 use Rattle.itip_todo.specs.Values.{AreMoments}
 use Rattle.itip_todo.specs.declared.draft.Draft.{Draft}
-use Rattle.itip_todo.specs.declared.property.Property.{Property}
+use Rattle.itip_todo.specs.Properties.{Property}
 use Rattle.itip_todo.specs.declared.property_name.PropertyName.{PropertyName}
 use Rattle.itip_todo.specs.declared.property_name.PropertyName.TheVariants as name
 use Rattle.itip_todo.proofs.Putting.{cond_or}
@@ -103,9 +103,9 @@ takes_exdate line d new puts = record {
     each above is name.ExDate = set_more (above name.ExDate) line d.exdates new (is name.ExDate) puts
     each above is p = is p
 
-pub takes_attendee : (line : Line) (d new : Draft) → 0 < length line.value → length d.attendees.items < attendee_limit →
+pub takes_attendee : (line : Line) (d new : Draft) → 0 < length line.value → length d.attendees < attendee_limit →
     contains (slice_cmp nat_cmp) d.keys (key_of line) ≡ false → Updates (slice_cmp nat_cmp) d.keys new.keys (key_of line) true
-    → new.attendees.items ≡ d.attendees.items ++ whole_property line ∷ [] → new ≡ record d { attendees = new.attendees; keys = new.keys } →
+    → new.attendees ≡ d.attendees ++ whole_property line ∷ [] → new ≡ record d { attendees = new.attendees; keys = new.keys } →
     Takes name.Attendee line d new
 takes_attendee line d new some few free updates is same = record {
   good = λ above is_draft. record {
@@ -113,7 +113,7 @@ takes_attendee line d new some few free updates is same = record {
     range = refl;
     value = some;
     few = lt-leb attendee_limit (length (above name.Attendee))
-        (subst (λ n. n < attendee_limit) (counted (above name.Attendee) d.attendees.items d.keys (is_draft name.Attendee)) few);
+        (subst (λ n. n < attendee_limit) (counted (above name.Attendee) d.attendees d.keys (is_draft name.Attendee)) few);
     new = sym ((is_draft name.Attendee).keys (key_of line)) ∙ free;
   };
   draft = λ above is_draft. subst (λ (e : Draft). IsDraftOf (more above name.Attendee line) e) (sym same) (each above is_draft);
@@ -122,6 +122,6 @@ takes_attendee line d new some few free updates is same = record {
     each : (above : PropertyName → List Line) → IsDraftOf above d → (p : PropertyName) →
         Holds (record d { attendees = new.attendees; keys = new.keys }) p (more above name.Attendee line p)
     each above h name.Attendee =
-        attendees_more (above name.Attendee) line d.attendees.items new.attendees.items d.keys new.keys (h name.Attendee) some few
+        attendees_more (above name.Attendee) line d.attendees new.attendees d.keys new.keys (h name.Attendee) some few
         (sym ((h name.Attendee).keys (key_of line)) ∙ free) updates is
     each above h p = h p

@@ -24,7 +24,7 @@ use Rattle.itip_todo.specs.StatusText.{status_of, status_text}
 use Rattle.itip_todo.specs.Table.{stands_once, attendee_limit, sequence_limit, percent_limit, priority_limit}
 use Rattle.itip_todo.specs.Values.{IsNumberUpTo, IsMomentText}
 use Rattle.itip_todo.specs.Written.{Content, content_of, plain, moment_line, rid_line, property_line, optional, parts_contents}
-use Rattle.itip_todo.specs.declared.property.Property.{Property}
+use Rattle.itip_todo.specs.Properties.{Property}
 use Rattle.itip_todo.specs.declared.property_name.PropertyName.{PropertyName}
 use Rattle.itip_todo.specs.declared.property_name.PropertyName.TheVariants as name
 use Rattle.itip_todo.specs.declared.todo.Todo.{Todo}

@@ -20,7 +20,7 @@ use Rattle.itip_todo.specs.Table.{is_same, attendee_limit}
 use Rattle.itip_todo.specs.Values.{AreMoments}
 use Rattle.itip_todo.specs.declared.draft.Draft.{Draft}
 use Rattle.itip_todo.specs.declared.error.TodoCause.{TodoCause}
-use Rattle.itip_todo.specs.declared.property.Property.{Property}
+use Rattle.itip_todo.specs.Properties.{Property}
 use Rattle.itip_todo.specs.declared.property_name.PropertyName.{PropertyName}
 use Rattle.itip_todo.specs.declared.property_name.PropertyName.TheVariants as name
 
@@ -72,7 +72,7 @@ Holds draft name.PercentComplete lines = IsOptional IsPercentOf (first_of lines)
 Holds draft name.Priority lines = IsOptional IsPriorityOf (first_of lines) draft.priority
 Holds draft name.Summary lines = IsOptional IsPropertyOf (first_of lines) draft.summary
 Holds draft name.Organizer lines = IsOptional IsOrganizerOf (first_of lines) draft.organizer
-Holds draft name.Attendee lines = HoldsAttendees lines draft.attendees.items draft.keys
+Holds draft name.Attendee lines = HoldsAttendees lines draft.attendees draft.keys
 Holds draft name.RRule lines = draft.rule.items ≡ map value_of lines
 Holds draft name.RDate lines = IsSetOf lines draft.rdates
 Holds draft name.ExDate lines = IsSetOf lines draft.exdates
@@ -111,7 +111,7 @@ draft_parts uid stamp draft = record {
   priority = draft.priority;
   summary = draft.summary;
   organizer = draft.organizer;
-  attendees = draft.attendees.items;
+  attendees = draft.attendees;
   rule = draft.rule.items;
   rdates = draft.rdates.keys;
   exdates = draft.exdates.keys;

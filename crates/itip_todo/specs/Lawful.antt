@@ -12,7 +12,7 @@ use Rattle.itip_todo.specs.Participation.{same_text}
 use Rattle.itip_todo.specs.Parts.{Parts}
 use Rattle.itip_todo.specs.Written.{Content, parts_contents}
 use Rattle.itip_todo.specs.Table.{sequence_limit, percent_limit, priority_limit, attendee_limit, attendee_key, is_other}
-use Rattle.itip_todo.specs.declared.property.Property.{Property}
+use Rattle.itip_todo.specs.Properties.{Property}
 
 abbrev pub IsLawfulContent : Content → Type 0
 IsLawfulContent content = line.IsLawful content.name content.params content.value

@@ -1,4 +1,6 @@
 pub mod Table
+pub mod Properties
+pub mod Places
 pub mod Parts
 pub mod StatusText
 pub mod Written

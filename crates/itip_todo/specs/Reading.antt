@@ -19,7 +19,7 @@ use Rattle.itip_todo.specs.StatusText.{status_of}
 use Rattle.itip_todo.specs.Table.{property_of, is_same, stands_once, attendee_key, attendee_limit, sequence_limit, percent_limit}
 use Rattle.itip_todo.specs.Table.{priority_limit}
 use Rattle.itip_todo.specs.Values.{IsNumberUpTo, IsMomentText, AreMoments, IsGoodValue}
-use Rattle.itip_todo.specs.declared.property.Property.{Property}
+use Rattle.itip_todo.specs.Properties.{Property}
 use Rattle.itip_todo.specs.declared.property_name.PropertyName.{PropertyName}
 use Rattle.itip_todo.specs.declared.property_name.PropertyName.TheVariants as name
 use Rattle.itip_todo.specs.declared.status.Status.{Status}

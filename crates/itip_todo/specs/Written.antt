@@ -8,7 +8,7 @@ use Rattle.itip_lines.specs.declared.line.Param.{Param}
 use Rattle.itip_moment.specs.Written.{stamp_text, moment_text}
 use Rattle.itip_moment.specs.declared.moment.Moment.{Moment}
 use Rattle.itip_moment.specs.declared.moment.Moment.TheVariants.{Date, Floating, Utc, Zoned}
-use Rattle.itip_todo.specs.declared.property.Property.{Property}
+use Rattle.itip_todo.specs.Properties.{Property}
 use Rattle.itip_todo.specs.declared.property_name.PropertyName.{PropertyName}
 use Rattle.itip_todo.specs.declared.property_name.PropertyName.TheVariants as name
 use Rattle.itip_todo.specs.StatusText.{status_text}
@@ -66,6 +66,15 @@ optional line (Some value) = line value ∷ []
 abbrev pub head_contents : Parts → List Content
 head_contents parts = plain name.Uid parts.uid ∷ plain name.DtStamp (stamp_text parts.stamp) ∷ plain name.Sequence (decimal parts.seq) ∷ []
 
+-- the lines that a to-do may have many of, which follow the others
+abbrev pub list_contents : Parts → List Content
+list_contents parts =
+    map (property_line name.Attendee) parts.attendees
+    ++ (map (plain name.RRule) parts.rule
+    ++ (map (moment_line name.RDate) parts.rdates
+    ++ (map (moment_line name.ExDate) parts.exdates
+    ++ map content_of parts.others)))
+
 -- the lines between BEGIN:VTODO and END:VTODO
 abbrev pub parts_contents : Parts → List Content
 parts_contents parts =
@@ -79,11 +88,7 @@ parts_contents parts =
     ++ (optional (λ n. plain name.Priority (decimal n)) parts.priority
     ++ (optional (property_line name.Summary) parts.summary
     ++ (optional (property_line name.Organizer) parts.organizer
-    ++ (map (property_line name.Attendee) parts.attendees
-    ++ (map (plain name.RRule) parts.rule
-    ++ (map (moment_line name.RDate) parts.rdates
-    ++ (map (moment_line name.ExDate) parts.exdates
-    ++ map content_of parts.others)))))))))))))
+    ++ list_contents parts)))))))))
 
 abbrev pub bare : List ℕ → List ℕ → Content
 bare name value = record { name = name; params = []; value = value }
@@ -91,3 +96,13 @@ bare name value = record { name = name; params = []; value = value }
 -- the lines from BEGIN:VTODO to END:VTODO
 abbrev pub todo_contents : Parts → List Content
 todo_contents parts = bare (codes "BEGIN") (codes "VTODO") ∷ (parts_contents parts ++ bare (codes "END") (codes "VTODO") ∷ [])
+
+abbrev pub without_lists : Parts → Parts
+without_lists parts = record parts { attendees = []; rule = []; rdates = []; exdates = []; others = [] }
+
+-- the lines from BEGIN:VTODO to ORGANIZER, and those from ATTENDEE to END:VTODO: together the lines of a to-do
+abbrev pub front_contents : Parts → List Content
+front_contents parts = bare (codes "BEGIN") (codes "VTODO") ∷ parts_contents (without_lists parts)
+
+abbrev pub rest_contents : Parts → List Content
+rest_contents parts = list_contents parts ++ bare (codes "END") (codes "VTODO") ∷ []

@@ -31,7 +31,7 @@ pub(crate) fn add_line(alloc: Global, draft: &mut Draft, line: &Line) -> Result<
         PropertyName::Status => add_status(draft, line),
         PropertyName::PercentComplete => add_percent(draft, line),
         PropertyName::Priority => add_priority(draft, line),
-        PropertyName::Summary => add_summary(draft, line),
+        PropertyName::Summary => add_summary(alloc, draft, line),
         PropertyName::Organizer => add_organizer(alloc, draft, line),
         PropertyName::Attendee => add_attendee(alloc, draft, line),
         PropertyName::RRule => add_rule(draft, line),

@@ -2,7 +2,8 @@ ghost use Rattle.std.specs.Prelude.{◌≡◌, IfOk, Some};
 ghost use Rattle.itip_todo.specs.Participation.{partstat_of, partstat_named, partstat_text};
 ghost use Rattle.itip_todo.specs.Table.{attendee_key};
 
-use itip_lines::{NoMemory, Params, Text};
+use crate::property::Property;
+use itip_lines::{NoMemory, Text};
 use std::alloc::Global;
 use std::fmt;
 
@@ -44,10 +45,10 @@ impl fmt::Display for PartStat {
 }
 
 /// The participation that an attendee's parameters give: the first value of the first PARTSTAT.
-pub fn participation(params: &Params) -> PartStat
-    ensures { result ≡ partstat_of params.now }
+pub fn participation(attendee: &Property) -> PartStat
+    ensures { result ≡ partstat_of attendee.now.params }
 {
-    let name = params.first_value("PARTSTAT");
+    let name = attendee.first_value("PARTSTAT");
     if name.eq_ignore_ascii_case("ACCEPTED") {
         PartStat::Accepted
     } else if name.eq_ignore_ascii_case("DECLINED") {

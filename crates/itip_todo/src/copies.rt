@@ -2,10 +2,9 @@
 ghost use Rattle.std.specs.Prelude.{◌≡◌, IfOk};
 
 use crate::property::Property;
-use crate::shared_property::SharedProperty;
 use crate::todo::Todo;
 use crate::uid::Uid;
-use itip_lines::{Line, ListOf, NoMemory, Text};
+use itip_lines::{LineList, ListOf, NoMemory, TextList};
 use itip_moment::Moment;
 
 /// When a to-do is, and its recurrence id.
@@ -30,7 +29,7 @@ fn copy_times(todo: &Todo) -> Result<Times, NoMemory>
 #[derive(Drop)]
 pub(crate) struct Subject {
     pub summary: Option<Property>,
-    pub organizer: Option<SharedProperty>,
+    pub organizer: Option<Property>,
     pub attendees: ListOf<Property>,
 }
 
@@ -67,10 +66,10 @@ pub(crate) fn copy_head(todo: &Todo) -> Result<(Uid, Times, Subject), NoMemory>
 /// How a to-do recurs, and its lines of all other properties.
 #[derive(Drop)]
 pub(crate) struct Lists {
-    pub rule: ListOf<Text>,
+    pub rule: TextList,
     pub rdates: ListOf<Moment>,
     pub exdates: ListOf<Moment>,
-    pub others: ListOf<Line>,
+    pub others: LineList,
 }
 
 pub(crate) fn copy_lists(todo: &Todo) -> Result<Lists, NoMemory>

@@ -1,8 +1,8 @@
 //! What the lines so far say of a to-do.
 ghost use Rattle.std.specs.Prelude.{◌≡◌, [], None};
 
+use crate::collected::Collected;
 use crate::property::Property;
-use crate::shared_property::SharedProperty;
 use crate::status::Status;
 use crate::uid::Uid;
 use itip_lines::{Line, Text};
@@ -25,8 +25,8 @@ pub(crate) struct Draft {
     pub percent: Option<u8>,
     pub priority: Option<u8>,
     pub summary: Option<Property>,
-    pub organizer: Option<SharedProperty>,
-    pub attendees: Vec<Property>,
+    pub organizer: Option<Property>,
+    pub attendees: Collected,
     /// The keys of the attendees.
     pub keys: BTreeSet<Text>,
     pub rule: Vec<Text>,
@@ -59,7 +59,7 @@ impl Draft {
             priority: None,
             summary: None,
             organizer: None,
-            attendees: Vec::new(alloc),
+            attendees: Collected::new(alloc),
             keys: BTreeSet::new(alloc),
             rule: Vec::new(alloc),
             rdates: BTreeSet::new(alloc),

@@ -2,29 +2,43 @@
 ghost use Rattle.std.specs.Prelude.{◌≡◌, [], ℕ, List, None, Some, IfOk, OnOk, IfErr};
 ghost use Rattle.itip_todo.specs.declared.property_name.PropertyName.TheVariants as name;
 ghost use Rattle.std.specs.BTreeSet.{IsOrdered};
+ghost use Rattle.std.specs.List.{AllByRecursion};
+ghost use Rattle.itip_lines.specs.Joining.{IsOneLine};
 ghost use Rattle.itip_lines.specs.declared.line.Line.{Line};
 ghost use Rattle.itip_moment.specs.Order.{moment_cmp};
 ghost use Rattle.itip_todo.specs.Drafts.{IsDraftOf, IsLawfulDraft};
 ghost use Rattle.itip_todo.specs.Reading.{IfRefused, AreGood, ReadsTodo, LacksProperty, lines_of, missing};
 
+use crate::collected::Collected;
 use crate::draft::Draft;
 use crate::error::{TodoCause, TodoError, TodoRefusal};
+use crate::property::Property;
 use crate::property_name::PropertyName;
 use crate::todo::Todo;
 use crate::uid::Uid;
-use itip_lines::{ListOf, NoMemory};
+use itip_lines::{Line, LineList, ListOf, NoMemory, Text, TextList};
 use itip_moment::{Moment, Stamp};
 use std::alloc::Global;
 use std::collections::BTreeSet;
 
 /// The to-do of the lines.
 pub(crate) fn finish(alloc: Global, draft: Draft) -> Result<Todo, TodoError>
-    requires { IsLawfulDraft draft }
+    requires lawful { IsLawfulDraft draft }
+    requires rule { AllByRecursion IsOneLine draft.rule.items }
     ensures found { IfOk result (λ todo. (lines : List Line) → AreGood [] lines → IsDraftOf (lines_of lines) draft → ReadsTodo lines todo) }
     ensures refused { IfErr result (λ e. IfRefused e (λ refusal. (lines : List Line)
         → AreGood [] lines → IsDraftOf (lines_of lines) draft → LacksProperty lines refusal)) }
 {
-    let needed = values_of(alloc, draft.uid, draft.stamp, draft.rdates, draft.exdates)?;
+    let needed = values_of(
+        alloc,
+        draft.uid,
+        draft.stamp,
+        draft.attendees,
+        draft.rdates,
+        draft.exdates,
+        draft.rule.as_slice(),
+        draft.others.as_slice(),
+    )?;
     Ok(Todo {
         uid: needed.uid,
         stamp: needed.stamp,
@@ -39,34 +53,44 @@ pub(crate) fn finish(alloc: Global, draft: Draft) -> Result<Todo, TodoError>
         priority: draft.priority,
         summary: draft.summary,
         organizer: draft.organizer,
-        attendees: ListOf::from_vec(draft.attendees),
-        rule: ListOf::from_vec(draft.rule),
+        attendees: needed.attendees,
+        rule: needed.rule,
         rdates: needed.rdates,
         exdates: needed.exdates,
-        others: ListOf::from_vec(draft.others),
+        others: needed.others,
     })
 }
 
-/// What a to-do has to have, and the sets of its moments in their order.
+/// What a to-do has to have, the sets of its moments in their order, and its lists that stand in one text each.
 #[derive(Drop)]
 struct Needed {
     uid: Uid,
     stamp: Stamp,
+    attendees: ListOf<Property>,
     rdates: ListOf<Moment>,
     exdates: ListOf<Moment>,
+    rule: TextList,
+    others: LineList,
 }
 
 fn values_of(
     alloc: Global,
     uid: Option<Uid>,
     stamp: Option<Stamp>,
+    attendees: Collected,
     rdates: BTreeSet<Moment>,
     exdates: BTreeSet<Moment>,
+    rule: &[Text],
+    others: &[Line],
 ) -> Result<Needed, TodoError>
+    requires { AllByRecursion IsOneLine rule.now }
     ensures uid { IfOk result (λ needed. uid ≡ Some needed.uid) }
     ensures stamp { IfOk result (λ needed. stamp ≡ Some needed.stamp) }
+    ensures attendees { IfOk result (λ needed. needed.attendees ≡ attendees) }
     ensures rdates { IfOk result (λ needed. needed.rdates ≡ rdates.keys) }
     ensures exdates { IfOk result (λ needed. needed.exdates ≡ exdates.keys) }
+    ensures rule { IfOk result (λ needed. needed.rule ≡ rule.now) }
+    ensures others { IfOk result (λ needed. needed.others ≡ others.now) }
     ensures ordered { OnOk result (IsOrdered moment_cmp rdates × IsOrdered moment_cmp exdates) }
     ensures no_uid { IfErr result (λ e. uid ≡ None → IfRefused e (λ refusal. refusal ≡ missing name.Uid)) }
     ensures no_stamp { IfErr result (λ e. (text : List ℕ) → uid ≡ Some text
@@ -74,13 +98,19 @@ fn values_of(
 {
     let uid = present(uid, PropertyName::Uid)?;
     let stamp = present(stamp, PropertyName::DtStamp)?;
+    let attendees = attendees.into_list(alloc)?;
     let rdates = sorted_moments(alloc, rdates)?;
     let exdates = sorted_moments(alloc, exdates)?;
+    let rule = TextList::copy(alloc, rule)?;
+    let others = LineList::copy(alloc, others)?;
     Ok(Needed {
         uid,
         stamp,
+        attendees,
         rdates,
         exdates,
+        rule,
+        others,
     })
 }
 
@@ -89,7 +119,7 @@ fn sorted_moments(alloc: Global, set: BTreeSet<Moment>) -> Result<ListOf<Moment>
     ensures list { IfOk result (λ list. list ≡ set.keys) }
     ensures ordered { OnOk result (IsOrdered moment_cmp set) }
 {
-    Ok(ListOf::from_vec(set.into_iter().collect(alloc)?))
+    Ok(ListOf::exact(set.into_iter().collect(alloc)?))
 }
 
 fn present<T>(field: Option<T>, property: PropertyName) -> Result<T, TodoError>

@@ -14,7 +14,7 @@ use crate::attendee::attendee_key;
 use crate::draft::Draft;
 use crate::error::{CauseError, TodoCause};
 use crate::property_name::PropertyName;
-use crate::values::{bad_value, property_of};
+use crate::values::bad_value;
 use itip_lines::Line;
 use itip_moment::{Moment, ZoneName, read_moment_in};
 use std::alloc::Global;
@@ -36,8 +36,7 @@ pub(crate) fn add_attendee(alloc: Global, draft: &mut Draft, line: &Line) -> Res
     if !draft.keys.insert(key)? {
         return Err(CauseError::Cause(TodoCause::SameAttendee));
     }
-    let property = property_of(line)?;
-    draft.attendees.push(property)?;
+    draft.attendees.push(&line.params, line.value.as_str())?;
     Ok(())
 }
 

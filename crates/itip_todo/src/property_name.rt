@@ -2,7 +2,7 @@ ghost use Rattle.std.specs.Prelude.{◌≡◌, ◌==◌};
 ghost use Rattle.std.specs.List.{list_any};
 ghost use Rattle.itip_todo.specs.Table.{has_period};
 
-use itip_lines::Line;
+use itip_lines::{Line, LineList};
 use std::fmt;
 
 /// The properties of a to-do that are told apart by name, in canonical order (RFC 5545 3.8; `X-DESK-BASE` is our own).
@@ -122,10 +122,10 @@ impl fmt::Display for PropertyName {
 }
 
 /// Whether an RDATE stands among the lines of other properties: one with a `/` in its value, a period (RFC 5545 3.8.5.2).
-pub fn has_period(others: &[Line]) -> bool
+pub fn has_period(others: &LineList) -> bool
     ensures { result ≡ has_period others.now }
 {
-    others.iter().any(|line| line.name.as_str() == "RDATE")
+    others.has("RDATE")
 }
 
 fn has_slash(text: &str) -> bool

@@ -123,12 +123,12 @@ pub(crate) fn add_priority(draft: &mut Draft, line: &Line) -> Result<(), CauseEr
     Ok(())
 }
 
-pub(crate) fn add_summary(draft: &mut Draft, line: &Line) -> Result<(), CauseError>
+pub(crate) fn add_summary(alloc: Global, draft: &mut Draft, line: &Line) -> Result<(), CauseError>
     ensures taken { OnOk result (Takes name.Summary line.now draft.old draft.new) }
     ensures cause { IfErr result (λ e. IfCause e (Refuses name.Summary line.now draft.old)) }
 {
     check_free(&draft.summary, PropertyName::Summary)?;
-    draft.summary = Some(property_of(line)?);
+    draft.summary = Some(property_of(alloc, line)?);
     Ok(())
 }
 

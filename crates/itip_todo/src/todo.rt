@@ -4,10 +4,9 @@ ghost use Rattle.itip_todo.specs.Lawful.{IsLawful, IsLawful-prop};
 
 use crate::copies::{copy_head, copy_lists};
 use crate::property::Property;
-use crate::shared_property::SharedProperty;
 use crate::status::Status;
 use crate::uid::Uid;
-use itip_lines::{Line, ListOf, NoMemory, Text};
+use itip_lines::{LineList, ListOf, NoMemory, TextList};
 use itip_moment::{Moment, Stamp};
 
 /// A to-do (RFC 5545 3.6.2) as it is kept: the properties that scheduling reads have fields, all others their lines.
@@ -41,17 +40,17 @@ pub struct Todo {
     /// SUMMARY with its parameters.
     pub summary: Option<Property>,
     /// ORGANIZER with its parameters; the address is not empty.
-    pub organizer: Option<SharedProperty>,
+    pub organizer: Option<Property>,
     /// ATTENDEE with its parameters, in order of appearance; no address is empty, and no two are one.
     pub attendees: ListOf<Property>,
     /// The values of RRULE as they stand, in order of appearance.
-    pub rule: ListOf<Text>,
+    pub rule: TextList,
     /// The moments of RDATE, each once, in their order.
     pub rdates: ListOf<Moment>,
     /// The moments of EXDATE, each once, in their order.
     pub exdates: ListOf<Moment>,
     /// The lines of all other properties as they stand, and those of RDATE with a `/` in the value.
-    pub others: ListOf<Line>,
+    pub others: LineList,
     pub ghost lawful: { IsLawful (record {
       uid = uid;
       stamp = stamp;

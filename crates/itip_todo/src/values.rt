@@ -12,7 +12,6 @@ use crate::error::{CauseError, TodoCause};
 use crate::number::read_number;
 use crate::property::Property;
 use crate::property_name::PropertyName;
-use crate::shared_property::SharedProperty;
 use crate::status::Status;
 use crate::uid::Uid;
 use itip_lines::{Line, NoMemory};
@@ -80,21 +79,18 @@ pub(crate) fn status_of(line: &Line) -> Result<Status, CauseError>
     Status::named(line.value.as_str()).ok_or(bad_value(PropertyName::Status))
 }
 
-pub(crate) fn property_of(line: &Line) -> Result<Property, NoMemory>
+pub(crate) fn property_of(alloc: Global, line: &Line) -> Result<Property, NoMemory>
     ensures value { IfOk result (λ property. IsPropertyOf line.now property) }
 {
-    let params = line.params.clone()?;
-    let value = line.value.clone()?;
-    Ok(Property { params, value })
+    Property::new(alloc, &line.params, line.value.as_str())
 }
 
-pub(crate) fn organizer_of(alloc: Global, line: &Line) -> Result<SharedProperty, CauseError>
+pub(crate) fn organizer_of(alloc: Global, line: &Line) -> Result<Property, CauseError>
     ensures value { IfOk result (λ property. IsOrganizerOf line.now property) }
     ensures cause { IfErr result (λ e. IfCause e (λ c. (c ≡ cause.BadValue name.Organizer) × (IsGoodValue name.Organizer line.now → ⊥))) }
 {
     if line.value.as_str().is_empty() {
         return Err(bad_value(PropertyName::Organizer));
     }
-    let property = property_of(line)?;
-    Ok(SharedProperty::new(alloc, property)?)
+    Ok(property_of(alloc, line)?)
 }

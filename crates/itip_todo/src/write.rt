@@ -2,7 +2,7 @@
 ghost use Rattle.std.specs.Prelude.{◌≡◌, ◌++◌, ◌∷◌, [], List, ℕ, map, OnOk, OnErr};
 ghost use Rattle.std.specs.Fmt.{decimal};
 ghost use Rattle.itip_todo.specs.Written.{content_of, contents_octets, todo_contents, head_contents, bare, plain, moment_line};
-ghost use Rattle.itip_todo.specs.Written.{property_line, optional};
+ghost use Rattle.itip_todo.specs.Written.{property_line, optional, front_contents, rest_contents};
 ghost use Rattle.itip_todo.specs.Octets.{AreReadAs};
 ghost use Rattle.itip_todo.specs.UpTo.{AppendsUpTo};
 ghost use Rattle.itip_todo.specs.PartsOf.{parts_of};
@@ -11,11 +11,10 @@ ghost use Rattle.itip_todo.specs.declared.property_name.PropertyName.TheVariants
 
 use crate::property::Property;
 use crate::property_name::PropertyName;
-use crate::shared_property::SharedProperty;
 use crate::status::Status;
 use crate::todo::Todo;
 use crate::write_moment::{write_moments, write_optional_moment, write_rid};
-use itip_lines::{Line, Text, write_line, write_parts, write_property};
+use itip_lines::{LineList, TextList, write_parts, write_text};
 use itip_moment::write_stamp;
 use std::alloc::AllocError;
 
@@ -43,6 +42,16 @@ pub fn write_todo(todo: &Todo, out: &mut Vec<u8>) -> Result<(), AllocError>
 pub fn write_todo_up_to(todo: &Todo, limit: usize, out: &mut Vec<u8>) -> Result<(), AllocError>
     ensures { OnOk result (AppendsUpTo limit (todo_contents (parts_of todo.now)) out.old.items out.new.items) }
 {
+    write_todo_front(todo, out)?;
+    write_todo_rest(todo, limit, out)
+}
+
+/// Appends the canonical lines of a to-do from BEGIN:VTODO to ORGANIZER: those of properties that stand once.
+///
+/// On an error, when memory was refused, a part of the lines may stand in `out`.
+pub fn write_todo_front(todo: &Todo, out: &mut Vec<u8>) -> Result<(), AllocError>
+    ensures { OnOk result (out.new.items ≡ out.old.items ++ contents_octets (front_contents (parts_of todo.now))) }
+{
     write_value("BEGIN", b"VTODO", out)?;
     write_head(todo, out)?;
     write_count(PropertyName::DeskBase, todo.base, out)?;
@@ -52,13 +61,20 @@ pub fn write_todo_up_to(todo: &Todo, limit: usize, out: &mut Vec<u8>) -> Result<
     write_status(todo.status, out)?;
     write_small(PropertyName::PercentComplete, todo.percent, out)?;
     write_small(PropertyName::Priority, todo.priority, out)?;
-    write_optional_whole(PropertyName::Summary, &todo.summary, out)?;
-    write_organizer(&todo.organizer, out)?;
+    write_optional_property(PropertyName::Summary, &todo.summary, out)?;
+    write_optional_property(PropertyName::Organizer, &todo.organizer, out)
+}
+
+/// Appends the canonical lines of a to-do from ATTENDEE to END:VTODO, which follow those of [`write_todo_front`], as far as a limit
+/// allows, as [`write_todo_up_to`] does.
+pub fn write_todo_rest(todo: &Todo, limit: usize, out: &mut Vec<u8>) -> Result<(), AllocError>
+    ensures { OnOk result (AppendsUpTo limit (rest_contents (parts_of todo.now)) out.old.items out.new.items) }
+{
     write_attendees(todo.attendees.as_slice(), limit, out)?;
-    write_rule(todo.rule.as_slice(), limit, out)?;
+    write_rule(&todo.rule, limit, out)?;
     write_moments(PropertyName::RDate, todo.rdates.as_slice(), limit, out)?;
     write_moments(PropertyName::ExDate, todo.exdates.as_slice(), limit, out)?;
-    write_others(todo.others.as_slice(), limit, out)?;
+    write_others(&todo.others, limit, out)?;
     write_value("END", b"VTODO", out)
 }
 
@@ -115,7 +131,7 @@ fn write_status(status: Option<Status>, out: &mut Vec<u8>) -> Result<(), AllocEr
     }
 }
 
-fn write_optional_whole(
+fn write_optional_property(
     name: PropertyName,
     property: &Option<Property>,
     out: &mut Vec<u8>,
@@ -123,16 +139,7 @@ fn write_optional_whole(
     ensures { OnOk result (out.new.items ≡ out.old.items ++ contents_octets (optional (property_line name) property.now)) }
 {
     match property {
-        Some(property) => write_whole(name, property, out),
-        None => Ok(()),
-    }
-}
-
-fn write_organizer(organizer: &Option<SharedProperty>, out: &mut Vec<u8>) -> Result<(), AllocError>
-    ensures { OnOk result (out.new.items ≡ out.old.items ++ contents_octets (optional (property_line name.Organizer) organizer.now)) }
-{
-    match organizer {
-        Some(organizer) => write_whole(PropertyName::Organizer, organizer.property(), out),
+        Some(property) => write_property(name, property, out),
         None => Ok(()),
     }
 }
@@ -148,39 +155,46 @@ fn write_attendees(
         if out.len() > limit {
             return Ok(());
         }
-        write_whole(PropertyName::Attendee, attendee, out)?;
+        write_property(PropertyName::Attendee, attendee, out)?;
     }
     Ok(())
 }
 
-/// Appends a property with its parameters.
-fn write_whole(name: PropertyName, property: &Property, out: &mut Vec<u8>) -> Result<(), AllocError>
-    ensures { OnOk result (out.new.items ≡ out.old.items ++ contents_octets (property_line name property.now ∷ [])) }
+/// Appends the line of a property of this name, with its parameters (RFC 5545 3.1).
+///
+/// Where memory is refused `out` stays as it was.
+pub fn write_property(
+    name: PropertyName,
+    property: &Property,
+    out: &mut Vec<u8>,
+) -> Result<(), AllocError>
+    ensures appended { OnOk result (out.new.items ≡ out.old.items ++ contents_octets (property_line name property.now ∷ [])) }
+    ensures err { OnErr result (out.new.items ≡ out.old.items) }
 {
-    let value = property.value.as_str().as_bytes();
-    write_property(name.as_str(), &property.params, value, out)
+    let params = property.params().as_bytes();
+    write_parts(name.as_str(), params, property.value().as_bytes(), out)
 }
 
-fn write_rule(rule: &[Text], limit: usize, out: &mut Vec<u8>) -> Result<(), AllocError>
+fn write_rule(rule: &TextList, limit: usize, out: &mut Vec<u8>) -> Result<(), AllocError>
     ensures { OnOk result (AppendsUpTo limit (map (plain name.RRule) rule.now) out.old.items out.new.items) }
 {
-    for value in rule {
+    for value in rule.iter() {
         if out.len() > limit {
             return Ok(());
         }
-        write_value("RRULE", value.as_str().as_bytes(), out)?;
+        write_value("RRULE", value.as_bytes(), out)?;
     }
     Ok(())
 }
 
-fn write_others(lines: &[Line], limit: usize, out: &mut Vec<u8>) -> Result<(), AllocError>
+fn write_others(lines: &LineList, limit: usize, out: &mut Vec<u8>) -> Result<(), AllocError>
     ensures { OnOk result (AppendsUpTo limit (map content_of lines.now) out.old.items out.new.items) }
 {
-    for line in lines {
+    for text in lines.texts() {
         if out.len() > limit {
             return Ok(());
         }
-        write_line(line, out)?;
+        write_text(text, out)?;
     }
     Ok(())
 }

@@ -5,14 +5,17 @@ use Rattle.std.proofs.lemmas.Result.{err_from_is_err_and}
 use Rattle.itip_todo.specs.Lawful.{IsLawful}
 use Rattle.itip_todo.specs.Parts.{Parts}
 use Rattle.itip_todo.specs.PartsOf.{parts_of}
-use Rattle.itip_todo.specs.declared.property.Property.{Property}
+use Rattle.itip_todo.specs.Properties.{Property}
 use Rattle.itip_items.specs.Items.{ItemDraft, attendee_draft, only_of}
 use Rattle.itip_items.specs.Given.{Adds, IsOver}
 use Rattle.itip_items.specs.declared.item.Item.{Item}
 use Rattle.itip_items.proofs.Adding.{adds_both, adds_one, adds_none, over_here, over_later, if_large}
 use Rattle.itip_items.proofs.Drafting.{attendee_canonical}
-use Rattle.itip_items.proofs.Lawfulness.{only_each}
+use Rattle.itip_items.proofs.Lawfulness.{kept_alone, only_each}
 use Rattle.itip_items.proofs.make.add_attendees.Goals as goal
+
+pub shared_front-requires : goal.shared_front-requires
+shared_front-requires c = kept_alone (parts_of c.args.todo.now) c.args.todo.now.lawful
 
 pub loop-attendee-init : goal.loop-attendee-init
 loop-attendee-init c =
@@ -21,6 +24,7 @@ loop-attendee-init c =
           (sym c.as_slice-attendee-items.ensures) (only_each parts c.args.todo.now.lawful);
       found = λ new h. h;
       over = λ h. h;
+      front = c.in_ok-front.ensures;
     }
 
 pub attendee_item-requires : goal.attendee_item-requires
@@ -32,11 +36,12 @@ attendee_item-requires c =
     ap (λ (a : Property). a ∷ drop (i + 1) all) (sym c.attendee-item.is) in (
       attendee_canonical c.args.kind parts c.attendee-item.result c.requires.0 c.requires.1 c.requires.2,
       (subst (λ (list : List Property). AllByRecursion (λ a. IsLawful (only_of a parts)) list) at c.loop-attendee.invariant.lawful).0,
+      c.loop-attendee.invariant.front,
     )
 
 pub returns-in_err-attendee_item-clause-large : goal.returns-in_err-attendee_item-clause-large
 returns-in_err-attendee_item-clause-large c =
-    let p = err_from_is_err_and c.from_residual.result c.from_residual.ensures.1 in
+    let p = err_from_is_err_and c.from_residual-in_err-attendee_item.result c.from_residual-in_err-attendee_item.ensures.1 in
     let draft : Property → ItemDraft = attendee_draft c.args.kind (parts_of c.args.todo.now) in
     let i = c.loop-attendee.attendee-index in
     let all = c.as_slice-attendee-items.result.now in
@@ -69,6 +74,7 @@ loop-attendee-preserved c =
           (adds_both (draft a ∷ []) (map draft (drop (i + 1) all)) old mid new one h));
       over = λ h. c.loop-attendee.invariant.over
           (subst (λ (list : List Property). IsOver (map draft list)) (sym at) (over_later (draft a ∷ []) (map draft (drop (i + 1) all)) h));
+      front = c.loop-attendee.invariant.front;
     }
 
 pub returns-clause-found : goal.returns-clause-found

@@ -1,5 +1,7 @@
 use Rattle.std.proofs.Common.{◌≡◌, ℕ, List, [], refl, inl, sym, subst, ◌∙◌, Option, Some, None}
+use Rattle.std.specs.List.{AllByRecursion}
 use Rattle.std.proofs.lemmas.Result.{err_from_is_err_and}
+use Rattle.itip_lines.specs.Joining.{IsOneLine}
 use Rattle.itip_moment.specs.declared.stamp.Stamp.{Stamp}
 use Rattle.itip_lines.specs.declared.line.Line.{Line}
 use Rattle.itip_todo.specs.Drafts.{draft_parts, IsDraftOf}
@@ -17,6 +19,8 @@ use Rattle.itip_todo.proofs.finish.finish.Goals as goal
 
 pub invariant_of-result : goal.invariant_of-result
 invariant_of-result c =
+    let rule : c.in_ok-needed.needed.rule ≡ c.args.draft.rule.items = c.in_ok-needed.ensures.rule ∙ c.as_slice.ensures.value in
+    let others : c.in_ok-needed.needed.others ≡ c.args.draft.others.items = c.in_ok-needed.ensures.others ∙ c.as_slice-2.ensures.value in
     let full : Parts = record {
       uid = c.in_ok-needed.needed.uid;
       stamp = c.in_ok-needed.needed.stamp;
@@ -31,11 +35,11 @@ invariant_of-result c =
       priority = c.args.draft.priority;
       summary = c.args.draft.summary;
       organizer = c.args.draft.organizer;
-      attendees = c.from_vec.result;
-      rule = c.from_vec-2.result;
+      attendees = c.in_ok-needed.needed.attendees;
+      rule = c.in_ok-needed.needed.rule;
       rdates = c.in_ok-needed.needed.rdates;
       exdates = c.in_ok-needed.needed.exdates;
-      others = c.from_vec-3.result;
+      others = c.in_ok-needed.needed.others;
     } in
     let same : full ≡ draft_parts c.in_ok-needed.needed.uid c.in_ok-needed.needed.stamp c.args.draft = λ i. record {
       uid = c.in_ok-needed.needed.uid;
@@ -51,15 +55,15 @@ invariant_of-result c =
       priority = c.args.draft.priority;
       summary = c.args.draft.summary;
       organizer = c.args.draft.organizer;
-      attendees = c.from_vec.ensures i;
-      rule = c.from_vec-2.ensures i;
+      attendees = c.in_ok-needed.ensures.attendees i;
+      rule = rule i;
       rdates = c.in_ok-needed.ensures.rdates i;
       exdates = c.in_ok-needed.ensures.exdates i;
-      others = c.from_vec-3.ensures i;
+      others = others i;
     } in
     record {
       lawful = subst IsLawful (sym same)
-          (c.requires c.in_ok-needed.needed.uid c.in_ok-needed.needed.stamp c.in_ok-needed.ensures.uid c.in_ok-needed.ensures.stamp
+          (c.requires.lawful c.in_ok-needed.needed.uid c.in_ok-needed.needed.stamp c.in_ok-needed.ensures.uid c.in_ok-needed.ensures.stamp
           c.in_ok-needed.ensures.ordered.0 c.in_ok-needed.ensures.ordered.1);
     }
 
@@ -81,13 +85,13 @@ returns-clause-found c = λ lines good is. record {
   priority = is name.Priority;
   summary = is name.Summary;
   organizer = is name.Organizer;
-  attendees = c.from_vec.ensures ∙ (is name.Attendee).whole;
-  rule = c.from_vec-2.ensures ∙ is name.RRule;
+  attendees = c.in_ok-needed.ensures.attendees ∙ (is name.Attendee).whole;
+  rule = c.in_ok-needed.ensures.rule ∙ c.as_slice.ensures.value ∙ is name.RRule;
   rdates = moments_of (lines_of lines name.RDate) c.args.draft.rdates c.in_ok-needed.needed.rdates (is name.RDate)
       c.in_ok-needed.ensures.rdates c.in_ok-needed.ensures.ordered.0;
   exdates = moments_of (lines_of lines name.ExDate) c.args.draft.exdates c.in_ok-needed.needed.exdates (is name.ExDate)
       c.in_ok-needed.ensures.exdates c.in_ok-needed.ensures.ordered.1;
-  others = c.from_vec-3.ensures ∙ is name.Others;
+  others = c.in_ok-needed.ensures.others ∙ c.as_slice-2.ensures.value ∙ is name.Others;
 }
 
 abbrev Lacks : Draft → TodoRefusal → Type 0

@@ -5,7 +5,6 @@ use Rattle.std.specs.Cmp.Lexicographic.{slice_cmp}
 use Rattle.std.specs.Ordering.{nat_cmp}
 use Rattle.itip_todo.specs.Reading.{key_of, whole_property}
 use Rattle.itip_todo.specs.Table.{attendee_key}
-use Rattle.itip_todo.specs.declared.property.Property.{Property}
 use Rattle.itip_todo.proofs.Listing.{takes_attendee}
 use Rattle.itip_todo.proofs.list.add_attendee.Goals as goal
 
@@ -23,8 +22,9 @@ returns-clause-taken c =
     let updates : Updates (slice_cmp nat_cmp) c.args.draft.now.keys c.insert.new.self (key_of c.args.line.now) true =
     subst (λ (k : List ℕ). Updates (slice_cmp nat_cmp) c.args.draft.now.keys c.insert.new.self k true) key
     c.in_ok-insert.ensures.updates in
-    let pushed : c.push.new.self.items ≡ c.args.draft.now.attendees.items ++ whole_property c.args.line.now ∷ [] =
-    c.in_ok-push.ensures.items ∙ ap (λ (p : Property). c.args.draft.now.attendees.items ++ p ∷ []) c.in_ok-property.ensures.value in
+    let pushed : c.push.new.self ≡ c.args.draft.now.attendees ++ whole_property c.args.line.now ∷ [] =
+    c.in_ok-push.ensures ∙ ap (λ (v : List ℕ). c.args.draft.now.attendees ++ (record { params = c.args.line.now.params; value = v }) ∷ [])
+    c.as_str-3.ensures in
     let some : 0 < length c.args.line.now.value = grind (arith, common_steps) in
-    let few : length c.args.draft.now.attendees.items < 2000 = omega (arith, c.if-len-ge-ATTENDEE_LIMIT.false, c.len.ensures) in
+    let few : length c.args.draft.now.attendees < 2000 = omega (arith, c.if-len-ge-ATTENDEE_LIMIT.false, c.len.ensures) in
     takes_attendee c.args.line.now c.args.draft.now _ some few free updates pushed refl

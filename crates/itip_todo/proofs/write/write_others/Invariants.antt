@@ -1,7 +1,12 @@
-use Rattle.std.proofs.Common.{◌≡◌, ◌++◌, map, take}
-use Rattle.itip_todo.specs.Written.{contents_octets, content_of}
+use Rattle.std.proofs.Common.{map}
+use Rattle.itip_lines.specs.TextsLeft.{texts_left}
+use Rattle.itip_todo.specs.Written.{content_of}
+use Rattle.itip_todo.proofs.Appending.{Leaves, texts_octets}
 use Rattle.itip_todo.proofs.write.write_others.Given as goal
 
--- the lines so far are written
-abbrev pub invariant-loop-line : goal.invariant-loop-line
-invariant-loop-line l = l.out.items ≡ l.fn.out.items ++ contents_octets (map content_of (take l.line-index l.lines))
+-- the lines that are left are still to be written
+abbrev pub invariant-loop-text : goal.invariant-loop-text
+invariant-loop-text l =
+    (goal.iterator-loop-text).can_next l.text-iterator ×
+    (goal.iterator-loop-text).is_finite l.text-iterator ×
+    Leaves (map content_of l.fn.lines) l.fn.out.items l.out.items (texts_octets (texts_left l.text-iterator))

@@ -1,21 +1,13 @@
-use Rattle.std.proofs.Common.{◌∙◌, sym, subst}
-use Rattle.std.specs.Str.{IsUtf8}
-use Rattle.itip_lines.proofs.Found.{all_stand, none_named}
+use Rattle.std.proofs.Common.{◌∙◌, List, ap}
+use Rattle.itip_lines.specs.Lookup.{param_value}
+use Rattle.itip_lines.specs.declared.line.Param.{Param}
+use Rattle.itip_lines.proofs.ParamTexts.{params_are, is_params_text}
 use Rattle.itip_lines.proofs.params.Params.first_value.Goals as goal
 
-pub from_utf8_unchecked-requires : goal.from_utf8_unchecked-requires
-from_utf8_unchecked-requires c =
-    let found = c.in-Some.ensures c.args.self.now (all_stand _ c.args.self.now _ c.as_str.ensures.lawful (c.as_bytes.ensures.value ∙
-    c.as_str.ensures.text)) in
-    subst IsUtf8 (sym (c.leading_value.ensures _ found.begins_with)) found.begins_with.lawful.utf8
+pub param_value-requires : goal.param_value-requires
+param_value-requires c = is_params_text _ c.args.self.now c.as_str.ensures.lawful c.as_str.ensures.text
 
-pub returns-in-Some : goal.returns-in-Some
-returns-in-Some c =
-    let found = c.in-Some.ensures c.args.self.now (all_stand _ c.args.self.now _ c.as_str.ensures.lawful (c.as_bytes.ensures.value ∙
-    c.as_str.ensures.text)) in
-    c.from_utf8_unchecked.ensures ∙ c.leading_value.ensures _ found.begins_with
-
-pub returns-in-None : goal.returns-in-None
-returns-in-None c =
-    sym (none_named c.args.name.now c.args.self.now (c.in-None.ensures c.args.self.now
-    (all_stand _ c.args.self.now _ c.as_str.ensures.lawful (c.as_bytes.ensures.value ∙ c.as_str.ensures.text))))
+pub returns : goal.returns
+returns c =
+    c.param_value.ensures ∙ ap (λ (ps : List Param). param_value c.args.name.now ps)
+    (params_are _ c.args.self.now c.as_str.ensures.lawful c.as_str.ensures.text)

@@ -1,0 +1,121 @@
+//! Lines that stand in one piece of memory.
+ghost use Rattle.std.specs.Prelude.{◌≡◌, ◌∷◌, ◌++◌, [], IfOk, OnOk, length, map};
+ghost use Rattle.std.specs.List.{list_any};
+ghost use Rattle.itip_lines.specs.LineTexts.{AreLineTexts, AreLineTexts-prop, has_line, name_in};
+ghost use Rattle.itip_lines.specs.TextsLeft.{texts_left};
+ghost use Rattle.itip_lines.specs.Lookup.{same_text};
+ghost use Rattle.itip_lines.specs.Writing.{unfolded_text};
+
+use crate::grammar::{Octets, cut_run};
+use crate::line::Line;
+use crate::lookup::is_named;
+use crate::text_list::{TextList, Texts};
+use std::alloc::{AllocError, Global};
+use std::marker::Model;
+
+/// Lines in order, as they are kept where nothing reads their parts.
+///
+/// They have no values of their own: each stands as it is written, without folds, in a list of texts.
+#[derive(Debug, Drop)]
+pub struct LineList {
+    texts: TextList,
+    ghost lines: { AreLineTexts texts } by { AreLineTexts-prop texts },
+}
+
+impl Model for LineList {
+    ghost use Rattle.std.specs.Prelude.{List};
+    ghost use Rattle.itip_lines.specs.declared.line.Line.{Line};
+
+    ghost Value = { List Line };
+
+    ghost use Rattle.std.specs.Coded.{coded_list};
+    ghost use Rattle.itip_lines.specs.contracts.line.Line as line;
+
+    ghost coded = { coded_list line.the_row.coded };
+
+    ghost use Rattle.std.specs.List.{list_any};
+    ghost use Rattle.itip_lines.specs.LineTexts.{lines_in};
+
+    ghost view = { λ l. lines_in l.texts l.lines };
+}
+
+impl LineList {
+    /// No line. It takes no memory.
+    pub fn new(alloc: Global) -> LineList
+        ensures { result ≡ [] }
+    {
+        LineList {
+            texts: TextList::new(alloc),
+        }
+    }
+
+    /// Copies of these lines.
+    pub fn copy(alloc: Global, lines: &[Line]) -> Result<LineList, AllocError>
+        ensures { IfOk result (λ copy. copy ≡ lines.now) }
+    {
+        let mut octets = Vec::new(alloc);
+        for line in lines {
+            append(line, &mut octets)?;
+        }
+        Ok(LineList {
+            texts: TextList::from_octets(octets),
+        })
+    }
+
+    /// The lines as they are written, without folds and breaks, one after the other.
+    pub fn texts(&self) -> Texts<'_>
+        ensures { texts_left result ≡ map unfolded_text self.now }
+    {
+        self.texts.iter()
+    }
+
+    /// Whether there is a line of this name, which is in upper case. It takes no memory.
+    pub fn has(&self, name: &str) -> bool
+        ensures { result ≡ has_line name.now self.now }
+    {
+        any_named(self.texts(), name)
+    }
+
+    /// How many lines there are. It takes no memory, and goes through all lines.
+    pub fn len(&self) -> usize
+        ensures { result ≡ length self.now }
+    {
+        self.texts.len()
+    }
+}
+
+/// Whether there is a line of this name, which is in upper case, among these texts.
+fn any_named(mut texts: Texts<'_>, name: &str) -> bool
+    ensures { result ≡ list_any (λ text. same_text (name_in text) name.now) (texts_left texts.entry) }
+{
+    texts.any(|text| has_name(text, name))
+}
+
+/// Whether the line of a text has this name, which is in upper case.
+fn has_name(text: &str, name: &str) -> bool
+    ensures { result ≡ same_text (name_in text.now) name.now }
+{
+    let (spelled, _) = cut_run(text.as_bytes(), Octets::Name);
+    is_named(spelled, name)
+}
+
+/// Appends a line without folds, and LF behind it.
+fn append(line: &Line, out: &mut Vec<u8>) -> Result<(), AllocError>
+    ensures { OnOk result (out.new.items ≡ out.old.items ++ (unfolded_text line.now ++ 10 ∷ [])) }
+{
+    out.extend_from_slice(line.name.as_str().as_bytes())?;
+    out.extend_from_slice(line.params.as_str().as_bytes())?;
+    out.push(b':')?;
+    out.extend_from_slice(line.value.as_str().as_bytes())?;
+    out.push(b'\n')?;
+    Ok(())
+}
+
+impl Clone for LineList {
+    ghost is_clone = { λ lines copy. copy ≡ lines };
+
+    fn clone(&self) -> Result<LineList, AllocError> {
+        let texts = self.texts.clone()?;
+        Ok(LineList { texts })
+    }
+}

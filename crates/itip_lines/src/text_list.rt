@@ -1,0 +1,155 @@
+//! Texts that stand in one piece of memory.
+ghost use Rattle.std.specs.Prelude.{◌≡◌, ◌↔◌, ◌∷◌, ◌++◌, [], ℕ, List, IsTrue, IfOk, OnOk, MatchOption, count_by, length};
+ghost use Rattle.std.specs.List.{AllByRecursion};
+ghost use Rattle.itip_lines.specs.Joining.{is_break, joined, texts_in, IsOneLine, AreJoined};
+ghost use Rattle.itip_lines.specs.TextsLeft.{texts_left};
+
+use crate::bytes::Bytes;
+use crate::text::Text;
+use std::alloc::{AllocError, Global};
+use std::fmt;
+use std::marker::Model;
+
+/// Texts in order, of which none has a line feed.
+///
+/// They have no values of their own: they stand in one piece of memory without spare room, each with LF behind it.
+#[derive(Drop)]
+pub struct TextList {
+    octets: Bytes,
+}
+
+impl Model for TextList {
+    ghost use Rattle.std.specs.Prelude.{List, ℕ};
+
+    ghost Value = { List (List ℕ) };
+
+    ghost use Rattle.itip_lines.specs.Joining.{texts_in, AreJoined};
+
+    ghost view = { λ l. texts_in l.octets };
+
+    ghost invariant = { λ l. AreJoined l.octets };
+}
+
+impl TextList {
+    /// No text. It takes no memory.
+    pub fn new(alloc: Global) -> TextList
+        ensures { result ≡ [] }
+    {
+        TextList::from_octets(Vec::new(alloc))
+    }
+
+    /// Copies of these texts.
+    pub fn copy(alloc: Global, texts: &[Text]) -> Result<TextList, AllocError>
+        requires { AllByRecursion IsOneLine texts.now }
+        ensures { IfOk result (λ copy. copy ≡ texts.now) }
+    {
+        let mut octets = Vec::new(alloc);
+        for text in texts {
+            append(text.as_str().as_bytes(), &mut octets)?;
+        }
+        Ok(TextList::from_octets(octets))
+    }
+
+    /// The texts of these octets, each with LF behind it. The spare room of their memory is given back.
+    pub(crate) fn from_octets(mut octets: Vec<u8>) -> TextList
+        requires { AreJoined octets.items }
+        ensures { (texts : List (List ℕ)) → AllByRecursion IsOneLine texts → octets.items ≡ joined texts → result ≡ texts }
+    {
+        octets.shrink_to_fit();
+        TextList {
+            octets: Bytes::new(octets),
+        }
+    }
+
+    /// The texts as they stand, each with LF behind it.
+    fn as_str(&self) -> &str
+        ensures { texts_in result.now ≡ self.now }
+    {
+        // The invariant: the texts are UTF-8, and so is LF.
+        unsafe { str::from_utf8_unchecked(self.octets.as_slice()) }
+    }
+
+    /// The texts, one after the other.
+    pub fn iter(&self) -> Texts<'_>
+        ensures { texts_left result ≡ self.now }
+    {
+        Texts {
+            rest: self.as_str(),
+        }
+    }
+
+    /// How many texts there are. It takes no memory, and goes through all texts.
+    pub fn len(&self) -> usize
+        ensures { result ≡ length self.now }
+    {
+        breaks(self.octets.as_slice())
+    }
+
+    /// Whether there is none.
+    pub fn is_empty(&self) -> bool
+        ensures { IsTrue result ↔ (length self.now ≡ 0) }
+    {
+        self.octets.as_slice().is_empty()
+    }
+}
+
+/// How many LF there are.
+fn breaks(octets: &[u8]) -> usize
+    ensures { result ≡ count_by is_break octets.now }
+{
+    octets.iter().filter(|octet| **octet == b'\n').count()
+}
+
+/// What stands before and behind the first LF.
+fn cut_text(text: &str) -> Option<(&str, &str)>
+    ensures { MatchOption result (texts_in text.now ≡ []) (λ p. texts_in text.now ≡ p.0.now ∷ texts_in p.1.now) }
+{
+    text.split_once('\n')
+}
+
+/// Appends a text with LF behind it.
+fn append(text: &[u8], out: &mut Vec<u8>) -> Result<(), AllocError>
+    ensures { OnOk result (out.new.items ≡ out.old.items ++ (text.now ++ 10 ∷ [])) }
+{
+    out.extend_from_slice(text)?;
+    out.push(b'\n')?;
+    Ok(())
+}
+
+impl Clone for TextList {
+    ghost is_clone = { λ list copy. copy ≡ list };
+
+    fn clone(&self) -> Result<TextList, AllocError> {
+        let octets = self.octets.clone()?;
+        Ok(TextList { octets })
+    }
+}
+
+impl fmt::Debug for TextList {
+    fn fmt<W: fmt::Write>(&self, f: &mut fmt::Formatter<W>) -> fmt::Result {
+        fmt::Debug::fmt(self.as_str(), f)
+    }
+}
+
+/// The texts of a list, one after the other.
+#[derive(Drop)]
+pub struct Texts<'a> {
+    rest: &'a str,
+}
+
+impl<'a> Iterator for Texts<'a> {
+    ghost use Rattle.std.specs.Iterator.{item_count, YieldsFirstRef};
+    ghost use Rattle.itip_lines.specs.TextsLeft.{texts_left};
+
+    type Item = &'a str;
+
+    ghost next_gives = { YieldsFirstRef texts_left };
+
+    ghost remaining = { item_count texts_left };
+
+    fn next(&mut self) -> Option<&'a str> {
+        let (text, rest) = cut_text(self.rest)?;
+        self.rest = rest;
+        Some(text)
+    }
+}
