@@ -3,8 +3,8 @@ use crate::draft::{Draft, draft_of};
 use crate::run::{FAULT, Terminals};
 use crate::tell::{Teller, complain, complain_of, complain_refused, warn};
 use itip_inbox::{
-    Explained, Notation, Sent, Watch, compact, explain, list, list_records, news, read_sources,
-    report, send,
+    Explained, ListForm, Notation, PageList, Sent, TextList, Watch, compact, explain, list,
+    list_records, news, read_sources, report, send,
 };
 use itip_message::MessageRefusal;
 use itip_moment::Stamp;
@@ -208,19 +208,65 @@ fn write_list<R: AllocGlobal + Threads + Sync, I: io::Read + Drop, W: io::Write,
     threads: usize,
     watch: &mut S,
 ) -> Result<Outcome, StreamFault> {
-    let alloc = rt.alloc();
-    let window = asked.window;
-    let wanted = asked.wanted();
-    let notation = match asked.format {
-        Format::Text => {
-            let done = list(rt, alloc, sources, writer, window, &wanted, threads, watch)?;
-            return done_with(rt, done);
+    match asked.format {
+        Format::Text => write_form(rt, sources, writer, asked, &TextList, threads, watch),
+        Format::Html(today) => {
+            let page = PageList { today };
+            write_form(rt, sources, writer, asked, &page, threads, watch)
         }
-        Format::Csv => Notation::Csv,
-        Format::Json => Notation::Json,
-    };
+        Format::Csv => write_records(rt, sources, writer, asked, Notation::Csv, threads, watch),
+        Format::Json => write_records(rt, sources, writer, asked, Notation::Json, threads, watch),
+    }
+}
+
+fn write_form<
+    R: AllocGlobal + Threads + Sync,
+    I: io::Read + Drop,
+    W: io::Write,
+    S: Watch,
+    F: ListForm,
+>(
+    rt: &R,
+    sources: Vec<I>,
+    writer: &mut W,
+    asked: &Listing,
+    form: &F,
+    threads: usize,
+    watch: &mut S,
+) -> Result<Outcome, StreamFault> {
+    let done = list(
+        rt,
+        rt.alloc(),
+        sources,
+        writer,
+        asked.window,
+        &asked.wanted(),
+        form,
+        threads,
+        watch,
+    )?;
+    done_with(rt, done)
+}
+
+fn write_records<R: AllocGlobal + Threads + Sync, I: io::Read + Drop, W: io::Write, S: Watch>(
+    rt: &R,
+    sources: Vec<I>,
+    writer: &mut W,
+    asked: &Listing,
+    notation: Notation,
+    threads: usize,
+    watch: &mut S,
+) -> Result<Outcome, StreamFault> {
     let done = list_records(
-        rt, alloc, sources, writer, window, &wanted, notation, threads, watch,
+        rt,
+        rt.alloc(),
+        sources,
+        writer,
+        asked.window,
+        &asked.wanted(),
+        notation,
+        threads,
+        watch,
     )?;
     done_with(rt, done)
 }

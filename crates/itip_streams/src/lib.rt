@@ -20,4 +20,4 @@ pub use replacement::Replacement;
 pub use source::{Source, sources_of};
 pub use source_name::{SourceName, refused_line, unread_line};
 pub use terminal_writer::TerminalWriter;
-pub use visible::visible_text;
+pub use visible::{visible_octets, visible_text};

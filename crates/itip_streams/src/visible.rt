@@ -15,6 +15,13 @@ pub fn visible_text(alloc: Global, text: &str) -> Result<String, AllocError>
     String::from_utf8_lossy(alloc, octets.as_slice())
 }
 
+/// The octets of a text in the same form, line ends among the control characters.
+pub fn visible_octets(alloc: Global, octets: &[u8]) -> Result<Vec<u8>, AllocError>
+    ensures { IfOk result (λ shown. shown.items ≡ visible octets.now) }
+{
+    shown_octets(alloc, octets, false)
+}
+
 /// The octets of a text with each control character as its octets, but for line ends: LF, and CR before LF.
 pub(crate) fn visible_lines(alloc: Global, octets: &[u8]) -> Result<Vec<u8>, AllocError>
     ensures { IfOk result (λ shown. shown.items ≡ visible_lines octets.now) }

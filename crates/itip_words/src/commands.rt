@@ -292,7 +292,7 @@ fn row_words<'a>(alloc: Global, command: Command<'a>) -> Result<Command<'a>, All
         .value_name("FORMAT")
         .default_value("text")
         .help(
-            "How rows are written: text, csv (one record an attendee) or json (one object a row)",
+            "How rows are written: text, csv (one record an attendee), json (one object a row) or html (one page)",
         );
     command
         .arg(attendee)?

@@ -82,6 +82,8 @@ pub enum Format {
     Csv,
     /// JSON objects, for other programs.
     Json,
+    /// One page in HTML, with the day that is taken for today.
+    Html(Day),
 }
 
 /// Which report is written.
@@ -256,7 +258,8 @@ fn listing_of(
     let Some(window) = window_in(words, today, is_due) else {
         return Ok(None);
     };
-    let (Some(due_before), Some(format)) = (asked_due(words, today), asked_format(words)) else {
+    let (Some(due_before), Some(format)) = (asked_due(words, today), asked_format(words, today))
+    else {
         return Ok(None);
     };
     let attendee = asked_attendee(alloc, words)?;
@@ -366,7 +369,9 @@ fn today_of(words: &ArgMatches<'_>, clock: Option<Stamp>) -> Result<Option<Optio
 
 fn needs_today(words: &ArgMatches<'_>) -> bool {
     let is_named = words.contains_id("from") || words.contains_id("to");
-    !is_named || words.get_str("due-before").is_some_and(is_today)
+    !is_named
+        || words.get_str("due-before").is_some_and(is_today)
+        || words.get_str("format").is_some_and(is_page)
 }
 
 fn window_in(words: &ArgMatches<'_>, today: Option<Day>, is_due: bool) -> Option<Window>
@@ -384,18 +389,24 @@ fn asked_due(words: &ArgMatches<'_>, today: Option<Day>) -> Option<Option<i32>> 
     Some(Some(day.number))
 }
 
-fn asked_format(words: &ArgMatches<'_>) -> Option<Format> {
-    format_of(words.get_str("format")?)
-}
-
-/// The format of this name.
-pub(crate) fn format_of(word: &str) -> Option<Format> {
-    match word {
+fn asked_format(words: &ArgMatches<'_>, today: Option<Day>) -> Option<Format> {
+    match words.get_str("format")? {
         "text" => Some(Format::Text),
         "csv" => Some(Format::Csv),
         "json" => Some(Format::Json),
+        "html" => Some(Format::Html(today?)),
         _ => None,
     }
+}
+
+/// Whether a word names a format.
+pub(crate) fn names_format(word: &str) -> bool {
+    matches!(word, "text" | "csv" | "json") || is_page(word)
+}
+
+/// Whether a word names the format of the page, which marks what is overdue today.
+fn is_page(word: &str) -> bool {
+    word == "html"
 }
 
 fn intake_of(alloc: Global, words: &ArgMatches<'_>) -> Result<Option<Intake>, AllocError>

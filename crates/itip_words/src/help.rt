@@ -87,6 +87,7 @@ is read. All their messages are heard, in whatever order. One that is refused is
   itipdesk list desk.ics inbox
   itipdesk list --attendee ann@example.com --open --due-before today desk.ics
   itipdesk list --from 20260101 --to 20270101 --format csv < desk.ics
+  itipdesk list --open --format html desk.ics > todos.html
 
 The window is one of days, of which the last is not in it, at most 3660. Without --from and --to it is from 366 days before
 today to 366 days after; with one of them it is 732 days long. With --due-before it begins earlier: 3290 days before today,
@@ -94,6 +95,9 @@ and with one of them it is 3656 days long.
 
 An address without a colon is taken with mailto: before it. Where --attendee and --open stand together, the rows are those
 that are open for this attendee: who has neither completed nor declined nor delegated it.
+
+A page (html) is one file, without scripts and without anything from outside, for a screen, a phone and print. An open row whose
+DUE is before today has the word overdue. No text of a message can put markup into it.
 
 Where there are more than 100000 of the rows that are asked for, `refused 31` is written in place of them; with --why
 standard error then names the to-do with the most rows.

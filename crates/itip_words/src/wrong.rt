@@ -1,7 +1,7 @@
 //! What is said of a value that its word doesn't take, and of standard input that is read twice, in the manner of `clap`.
 use crate::asked_values::{answer_named, named_moment, percent_of};
 use crate::days::is_today;
-use crate::filter::{format_of, threads_of};
+use crate::filter::{names_format, threads_of};
 use crate::words::{desks_of, workers_of};
 use clap::ArgMatches;
 use itip_moment::{read_date, read_stamp};
@@ -51,7 +51,7 @@ fn fault_of(alloc: Global, id: &str, value: &str) -> Result<Option<&'static str>
             is_today(value) || read_date(value).is_some(),
             "neither a date, as 20260131, nor 'today'",
         ),
-        "format" => (format_of(value).is_some(), "not one of text, csv and json"),
+        "format" => (names_format(value), "not one of text, csv, json and html"),
         "name" => (
             read_report_name(value.as_bytes()).is_some(),
             "not one of load, progress, cancelled, orphans and refresh",

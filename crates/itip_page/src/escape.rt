@@ -1,0 +1,45 @@
+//! Texts in a page (HTML Standard 13.1.3 and 13.1.4).
+ghost use Rattle.std.specs.Prelude.{◌≡◌, ◌++◌, OnOk};
+ghost use Rattle.std.specs.List.{flat_map};
+ghost use Rattle.itip_page.specs.Escaped.{escaped, octet_markup};
+
+use crate::put::put;
+use itip_streams::visible_octets;
+use std::alloc::AllocError;
+
+/// Appends a text as it stands in an element or in a double-quoted attribute value: the characters that mean something there as
+/// references, and control characters as their octets, `\x07`. If an allocation fails a part of it may be there.
+pub fn put_escaped(out: &mut Vec<u8>, text: &[u8]) -> Result<(), AllocError>
+    ensures { OnOk result (out.new.items ≡ out.old.items ++ escaped text.now) }
+{
+    let shown = visible_octets(*out.allocator(), text)?;
+    put_octets(out, shown.as_slice())
+}
+
+fn put_octets(out: &mut Vec<u8>, octets: &[u8]) -> Result<(), AllocError>
+    ensures { OnOk result (out.new.items ≡ out.old.items ++ flat_map octet_markup octets.now) }
+{
+    for octet in octets {
+        put_octet(out, *octet)?;
+    }
+    Ok(())
+}
+
+fn put_octet(out: &mut Vec<u8>, octet: u8) -> Result<(), AllocError>
+    ensures { OnOk result (out.new.items ≡ out.old.items ++ octet_markup octet) }
+{
+    if octet == b'&' {
+        return put(out, "&amp;");
+    }
+    if octet == b'<' {
+        return put(out, "&lt;");
+    }
+    if octet == b'>' {
+        return put(out, "&gt;");
+    }
+    if octet == b'"' {
+        return put(out, "&quot;");
+    }
+    out.push(octet)?;
+    Ok(())
+}

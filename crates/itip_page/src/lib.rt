@@ -1,0 +1,24 @@
+//! The task list as a page: one HTML file without scripts and without anything from outside, for a screen, a phone and print.
+//!
+//! What stands in it is what its reader has: the window, the day that is taken for today, and the rows. Each text of a message
+//! stands in it escaped, between tags or in a double-quoted attribute value, so that an HTML parser takes it for that text and for
+//! nothing else.
+#![tactic(auto)]
+
+mod dates;
+mod escape;
+mod frame;
+mod laws;
+mod put;
+mod row;
+mod style;
+mod value;
+mod who;
+
+pub use escape::put_escaped;
+pub use frame::{put_foot, put_head};
+pub use laws::{
+    values_have_no_markup, values_stay_in_attributes, values_stay_in_elements, values_stay_utf8,
+};
+pub use row::PageRows;
+pub use value::put_value;
