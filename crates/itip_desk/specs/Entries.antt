@@ -13,7 +13,7 @@ use Rattle.std.proofs.lemmas.Map.Lookups.{CmpEqualImpliesEq, exact_unsigned, exa
 use Rattle.std.proofs.Common.{ap, refl, sym}
 use Rattle.itip_join.specs.Ranked.{exact_option}
 use Rattle.itip_todo.specs.Table.{attendee_key}
-use Rattle.itip_todo.specs.declared.property.Property.{Property}
+use Rattle.itip_todo.specs.Properties.{Property}
 use Rattle.itip_moment.specs.Order.{moment_cmp}
 use Rattle.itip_moment.specs.OrderLaws.{moment_total}
 use Rattle.itip_moment.specs.declared.moment.Moment.{Moment}

@@ -16,7 +16,7 @@ pub fn write_delta(alloc: Global, batch: &Batch) -> Result<Vec<u8>, NoMemory>
 {
     let mut octets = Vec::new(alloc);
     for item in batch.as_slice() {
-        octets.extend_from_slice(item.bytes.as_slice())?;
+        item.bytes.append_to(&mut octets)?;
     }
     Ok(octets)
 }

@@ -126,7 +126,7 @@ fn names(item: &Item, address: &str) -> bool
     ensures { IsTrue result ↔ NamesLine address.now item.now }
 {
     for line in item.todo.attendees.as_slice() {
-        if line.value.as_str().eq_ignore_ascii_case(address) {
+        if line.value().eq_ignore_ascii_case(address) {
             return true;
         }
     }

@@ -67,7 +67,7 @@ fn put_lines(
     ensures widens { Widens (is_in (each (entry_of item.now) (line_marks item.now.todo.attendees))) index.old index.new }
 {
     for line in item.item().todo.attendees.as_slice() {
-        let mark = Mark::Attendee(attendee_number(line.value.as_str()));
+        let mark = Mark::Attendee(attendee_number(line.value()));
         put(index, item, number, mark)?;
     }
     Ok(())
@@ -130,7 +130,7 @@ fn take_lines_out(index: &mut BTreeSet<IndexEntry>, item: &Item, owner: Owner)
         owner,
     };
     for line in item.todo.attendees.as_slice() {
-        entry.mark = Mark::Attendee(attendee_number(line.value.as_str()));
+        entry.mark = Mark::Attendee(attendee_number(line.value()));
         drop_one(index, &entry);
     }
 }

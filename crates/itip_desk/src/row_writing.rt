@@ -1,49 +1,55 @@
 //! Rows, written a UID at a time.
 ghost use Rattle.std.specs.Prelude.{◌≢◌, ◌++◌, List, OnOk, OnErr, IfOk, IfErr};
+ghost use Rattle.std.specs.List.{flat_map};
 ghost use Rattle.itip_streams.specs.Written.{AppendsFront, MovesOut};
 ghost use Rattle.itip_view.specs.ByUid.{AreLeft};
-ghost use Rattle.itip_view.specs.ListText.{list_text};
 ghost use Rattle.itip_view.specs.declared.row.Row.{Row};
 ghost use Rattle.itip_desk.specs.WrittenRows.{WritesListed, WritesListedFront};
 
 use crate::listed::write_head;
 use crate::refusal::Refusal;
 use itip_streams::{StreamFault, write_if_many};
-use itip_view::{MostRows, Row, RowCount, RowsByUid, write_row};
+use itip_view::{MostRows, PlainRows, Row, RowCount, RowForm, RowsByUid};
 use std::io::Write;
 
-/// Writes the text of the rows that are left, a UID at a time: it is put behind the octets that are kept to be written, and these
+/// Writes the rows that are left in a form, a UID at a time: they are put behind the octets that are kept to be written, and these
 /// are written once they are 65,536 or more. After a fault a front of all was written.
-pub fn write_rows<W: Write>(
+pub fn write_rows<F: RowForm, W: Write>(
     rows: RowsByUid<'_, '_>,
+    form: &F,
     writer: &mut W,
     kept: &mut Vec<u8>,
 ) -> Result<(), StreamFault>
     ensures moved { OnOk result ((all : List Row) → AreLeft rows.entry all →
-        MovesOut (W.contents writer.old) (W.contents writer.new) (kept.old.items ++ list_text all) kept.new.items) }
+        MovesOut (W.contents writer.old) (W.contents writer.new) (kept.old.items ++ flat_map (F.octets form.now) all) kept.new.items) }
     ensures front { OnErr result ((all : List Row) → AreLeft rows.entry all →
-        AppendsFront (W.contents writer.old) (W.contents writer.new) (kept.old.items ++ list_text all)) }
+        AppendsFront (W.contents writer.old) (W.contents writer.new) (kept.old.items ++ flat_map (F.octets form.now) all)) }
     ensures fault { IfErr result (λ fault. fault ≢ StreamFault.Read) }
 {
     let mut rows = rows;
     while let Some(some) = rows.next()? {
-        let done = write_each(some.as_slice(), writer, kept);
+        let done = write_each(some.as_slice(), form, writer, kept);
         drop(some);
         done?;
     }
     Ok(())
 }
 
-/// Writes the text of some rows so.
-fn write_each<W: Write>(rows: &[Row], writer: &mut W, kept: &mut Vec<u8>) -> Result<(), StreamFault>
-    ensures moved { OnOk result
-        (MovesOut (W.contents writer.old) (W.contents writer.new) (kept.old.items ++ list_text rows.now) kept.new.items) }
-    ensures front { OnErr result
-        (AppendsFront (W.contents writer.old) (W.contents writer.new) (kept.old.items ++ list_text rows.now)) }
+/// Writes some rows so.
+fn write_each<F: RowForm, W: Write>(
+    rows: &[Row],
+    form: &F,
+    writer: &mut W,
+    kept: &mut Vec<u8>,
+) -> Result<(), StreamFault>
+    ensures moved { OnOk result (MovesOut (W.contents writer.old) (W.contents writer.new)
+        (kept.old.items ++ flat_map (F.octets form.now) rows.now) kept.new.items) }
+    ensures front { OnErr result (AppendsFront (W.contents writer.old) (W.contents writer.new)
+        (kept.old.items ++ flat_map (F.octets form.now) rows.now)) }
     ensures fault { IfErr result (λ fault. fault ≢ StreamFault.Read) }
 {
     for row in rows {
-        write_row(row, kept)?;
+        form.put(row, kept)?;
         write_if_many(writer, kept)?;
     }
     Ok(())
@@ -67,7 +73,7 @@ pub fn write_listed<W: Write>(
     match rows.count()? {
         RowCount::Few(number) => {
             write_head(word, desk, number, kept)?;
-            write_rows(rows, writer, kept)?;
+            write_rows(rows, &PlainRows, writer, kept)?;
             Ok(None)
         }
         RowCount::TooMany(most) => {

@@ -1,7 +1,7 @@
 -- Which answers decide what a row shows (our own rules).
 use Rattle.std.specs.Prelude.{◌⊎◌, List, Some}
 use Rattle.std.specs.List.{Contains}
-use Rattle.itip_todo.specs.declared.property.Property.{Property}
+use Rattle.itip_todo.specs.Properties.{Property}
 use Rattle.itip_items.specs.declared.item.Item.{Item}
 use Rattle.itip_view.specs.Answers.{Asked, Decides}
 use Rattle.itip_view.specs.Rows.{IsInstanceRow, IsOccurrenceRow, IsRangeRow, IsSingleRow, IsOpaqueRow}

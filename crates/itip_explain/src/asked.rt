@@ -102,7 +102,7 @@ fn add_lines<'a>(
         found.old.items found.new.items) }
 {
     for line in lines {
-        let attendee = attendee_key(alloc, line.value.as_str())?;
+        let attendee = attendee_key(alloc, line.value())?;
         found.push(Asking { by, attendee })?;
     }
     Ok(())

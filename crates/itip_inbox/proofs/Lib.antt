@@ -14,9 +14,11 @@ mod Parts
 mod NewsOf
 mod OfInbox
 mod Outputs
+mod Paging
 mod Explaining
 mod Sending
 mod Showing
 mod Recording
 mod Reporting
 mod SameTold
+mod PartsByUid

@@ -1,5 +1,6 @@
 -- What is written of inputs.
-use Rattle.std.proofs.Common.{◌≡◌, ◌∙◌, sym, ap, refl, subst, true, false, ℕ, ◌+◌, ◌<◌, ◌≤◌, Bool, List, [], ◌∷◌, ◌++◌, length, take, drop, get_or}
+use Rattle.std.proofs.Common.{◌≡◌, ◌∙◌, sym, ap, refl, subst, true, false, ℕ, ◌+◌, ◌<◌, ◌≤◌, Bool, List, [], ◌∷◌, ◌++◌, length, take}
+use Rattle.std.proofs.Common.{drop, get_or}
 use Rattle.std.proofs.Common.{inl, inr, append_assoc, take-append-drop, Option, Result, Ok, Err}
 use Rattle.std.specs.Prelude.{OnErr}
 use Rattle.std.specs.Io.KnownBytes.{Appends}
@@ -7,8 +8,7 @@ use Rattle.std.proofs.KnownBytes.{Appends-nil, Appends-trans}
 use Rattle.std.proofs.lemmas.List.{take_more, take_all}
 use Rattle.itip_items.specs.declared.item.Item.{Item}
 use Rattle.itip_state.specs.Kept.{AreKept, IsItemsOf}
-use Rattle.itip_view.specs.ByUid.{AreLeft, AreAsked, AreFewLeft, AreTooManyLeft}
-use Rattle.itip_view.specs.ListText.{list_text}
+use Rattle.itip_view.specs.ByUid.{AreAsked, AreFewLeft, AreTooManyLeft}
 use Rattle.itip_view.specs.Rows.{row_limit}
 use Rattle.itip_view.specs.Showing.{AreRowsWhere}
 use Rattle.itip_view.specs.declared.by_uid.RowsByUid.{RowsByUid}
@@ -126,35 +126,36 @@ its_batch inputs octets kept refusals refused holds is =
 
 -- ---- the task list
 
--- the text of the rows of what is kept is that of what was heard
-pub text_of_rows : (P : Row → Type 0) (kept heard : List Item) (window : Window) (rows : List Row) (text : List ℕ) →
-    AreKept kept heard → AreRowsWhere P kept window rows → length rows ≤ row_limit
-    → text ≡ list_text rows → IsTextWhere P heard window text
-text_of_rows P kept heard window rows text are rows_are few is =
+-- the octets of the rows of what is kept are those of what was heard
+pub text_of_rows : (octets : List Row → List ℕ) (P : Row → Type 0) (kept heard : List Item) (window : Window) (rows : List Row)
+    (text : List ℕ) → AreKept kept heard → AreRowsWhere P kept window rows → length rows ≤ row_limit → text ≡ octets rows →
+    IsTextWhere octets P heard window text
+text_of_rows octets P kept heard window rows text are rows_are few is =
     record { rows = rows; are_rows = rows_where_of_kept P kept heard are window rows rows_are; few = few; text_is = is }
 
-pub listed_once : (P : Row → Type 0) (heard : List Item) (window : Window) (text other : List ℕ) (refusal more : Bool) →
-    IsListed P heard window text refusal → IsListed P heard window other more → text ≡ other
-listed_once P heard window text other refusal more (inl a) (inl b) =
-    a.0.text_is ∙ ap list_text (one_where P heard window a.0.rows b.0.rows a.0.are_rows b.0.are_rows) ∙ sym b.0.text_is
-listed_once P heard window text other refusal more (inl a) (inr b) =
+pub listed_once : (octets : List Row → List ℕ) (P : Row → Type 0) (heard : List Item) (window : Window) (text other : List ℕ)
+    (refusal more : Bool) → IsListed octets P heard window text refusal → IsListed octets P heard window other more → text ≡ other
+listed_once octets P heard window text other refusal more (inl a) (inl b) =
+    a.0.text_is ∙ ap octets (one_where P heard window a.0.rows b.0.rows a.0.are_rows b.0.are_rows) ∙ sym b.0.text_is
+listed_once octets P heard window text other refusal more (inl a) (inr b) =
     absurd (few_or_too_many P heard window a.0.rows a.0.are_rows a.0.few b.0)
-listed_once P heard window text other refusal more (inr a) (inl b) =
+listed_once octets P heard window text other refusal more (inr a) (inl b) =
     absurd (few_or_too_many P heard window b.0.rows b.0.are_rows b.0.few a.0)
-listed_once P heard window text other refusal more (inr a) (inr b) = a.1 ∙ sym b.1
+listed_once octets P heard window text other refusal more (inr a) (inr b) = a.1 ∙ sym b.1
 
-module _ (P : Row → Type 0) (kept : List Item) (window : Window) (asked : RowsByUid) (are_asked : AreAsked P kept window asked) where
+module _ (octets : List Row → List ℕ) (P : Row → Type 0) (kept : List Item) (window : Window) (asked : RowsByUid)
+    (are_asked : AreAsked P kept window asked) where
   few_listed : (number : ℕ) (few : AreFewLeft asked number) (heard : List Item) → AreKept kept heard →
-      IsListed P heard window (list_text few.rows) false
+      IsListed octets P heard window (octets few.rows) false
   few_listed number few heard are =
       inl (
-        text_of_rows P kept heard window few.rows (list_text few.rows) are
+        text_of_rows octets P kept heard window few.rows (octets few.rows) are
             ((left_where P kept window asked are_asked few.rows).0 few.are_left)
             (subst (λ (n : ℕ). n ≤ row_limit) (sym few.number_is) few.few) refl,
         refl,
       )
 
-  many_listed : AreTooManyLeft asked → (heard : List Item) → AreKept kept heard → IsListed P heard window (refused_text 31) true
+  many_listed : AreTooManyLeft asked → (heard : List Item) → AreKept kept heard → IsListed octets P heard window (refused_text 31) true
   many_listed many heard are =
       inr (
         many_where_of_kept P kept heard are window (too_many_where P kept window asked are_asked many),
@@ -163,27 +164,21 @@ module _ (P : Row → Type 0) (kept : List Item) (window : Window) (asked : Rows
       )
 
   module _ (old new : Option (List ℕ)) where
-    pub writes_list : (number : ℕ) → AreFewLeft asked number → ((all : List Row) → AreLeft asked all → Appends old new (list_text all)) →
-        WritesKept (λ heard. IsListed P heard window) kept old new false
-    writes_list number few appends =
-        record { text = list_text few.rows; is_text = few_listed number few; appended = appends few.rows few.are_left }
+    pub writes_list : (number : ℕ) (few : AreFewLeft asked number) → Appends old new (octets few.rows) →
+        WritesKept (λ heard. IsListed octets P heard window) kept old new false
+    writes_list number few appended = record { text = octets few.rows; is_text = few_listed number few; appended = appended }
 
-    pub list_front : (number : ℕ) → AreFewLeft asked number → ((all : List Row) → AreLeft asked all → AppendsFront old new (list_text all)) →
-        WritesKeptFront (λ heard. IsListed P heard window) kept old new
+    pub list_front : (number : ℕ) (few : AreFewLeft asked number) → AppendsFront old new (octets few.rows) →
+        WritesKeptFront (λ heard. IsListed octets P heard window) kept old new
     list_front number few front =
-        inr (record {
-          text = list_text few.rows;
-          refusal = false;
-          is_text = few_listed number few;
-          appended = front few.rows few.are_left;
-        })
+        inr (record { text = octets few.rows; refusal = false; is_text = few_listed number few; appended = front })
 
     pub refuses_list : AreTooManyLeft asked → Appends old new (refused_text 31) →
-        WritesKept (λ heard. IsListed P heard window) kept old new true
+        WritesKept (λ heard. IsListed octets P heard window) kept old new true
     refuses_list many appended = record { text = refused_text 31; is_text = many_listed many; appended = appended }
 
     pub refusal_front : AreTooManyLeft asked → AppendsFront old new (refused_text 31) →
-        WritesKeptFront (λ heard. IsListed P heard window) kept old new
+        WritesKeptFront (λ heard. IsListed octets P heard window) kept old new
     refusal_front many front =
         inr (record { text = refused_text 31; refusal = true; is_text = many_listed many; appended = front })
 

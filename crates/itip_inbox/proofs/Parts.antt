@@ -10,6 +10,7 @@ use Rattle.itip_message.proofs.ReadAgain.{reads_again}
 use Rattle.itip_state.specs.Kept.{IsKept, SameItems}
 use Rattle.itip_state.proofs.Keeping.{Covers, covers_kept, covers_itself, kept_of_parts, kept_iff, kept_part}
 use Rattle.itip_state.proofs.Members.{none_in}
+use Rattle.itip_view.specs.Blocks.{joined}
 use Rattle.itip_message.specs.Cutting.{IsCutInto}
 use Rattle.itip_message.proofs.Cuts.{cut_by_scan}
 use Rattle.itip_desk.specs.Delta.{delta_octets}
@@ -19,7 +20,7 @@ use Rattle.itip_inbox.specs.Compaction.{AreKeptOctets, IsCompaction, AreCompacti
 use Rattle.itip_inbox.proofs.Answered.{answers_both}
 use Rattle.itip_inbox.proofs.Octets.{octets_none, octets_both}
 use Rattle.itip_inbox.proofs.OneInbox.{one_inbox}
-use Rattle.itip_inbox.proofs.Telling.{flat, heard_told, tells_none, tells_among, tells_either}
+use Rattle.itip_inbox.proofs.Telling.{heard_told, tells_none, tells_among, tells_either}
 
 -- ---- what was written is heard again
 
@@ -34,13 +35,13 @@ pub are_alone : (source n : ℕ) (items : List Item) → AreAnswers (placed_from
 are_alone source n [] = tt
 are_alone source n (item ∷ items) = (reads_again item, are_alone source (n + 1) items)
 
-all_alone : (source : ℕ) (batches : List (List Item)) → AreAnswers (placed_of source (map bytes_of batches)) (map alone (flat batches))
+all_alone : (source : ℕ) (batches : List (List Item)) → AreAnswers (placed_of source (map bytes_of batches)) (map alone (joined batches))
 all_alone source [] = tt
 all_alone source (batch ∷ batches) =
     subst (λ (given : List (Result (List Item) MessageRefusal)). AreAnswers (placed_of source (map bytes_of (batch ∷ batches))) given)
-    (sym (map-append alone batch (flat batches)))
+    (sym (map-append alone batch (joined batches)))
     (answers_both (placed_from source 1 (bytes_of batch)) (placed_of (source + 1) (map bytes_of batches)) (map alone batch)
-    (map alone (flat batches)) (are_alone source 1 batch) (all_alone (source + 1) batches))
+    (map alone (joined batches)) (are_alone source 1 batch) (all_alone (source + 1) batches))
 
 pub heard_alone : (items : List Item) → items ≡ heard_of (map alone items)
 heard_alone [] = refl
@@ -59,15 +60,15 @@ cuts_written : (batches : List (List Item)) → AllZip IsCutInto (map delta_octe
 cuts_written [] = tt
 cuts_written (batch ∷ batches) = (cut_written batch, cuts_written batches)
 
-written_inbox : (batches : List (List Item)) → IsInbox (map delta_octets batches) (flat batches) []
+written_inbox : (batches : List (List Item)) → IsInbox (map delta_octets batches) (joined batches) []
 written_inbox batches = record {
   messages = map bytes_of batches;
   cut = cuts_written batches;
   hears = record {
-    answers = map alone (flat batches);
+    answers = map alone (joined batches);
     each = all_alone 0 batches;
-    heard_are = heard_alone (flat batches);
-    refusals_are = none_refused (placed_of 0 (map bytes_of batches)) (flat batches);
+    heard_are = heard_alone (joined batches);
+    refusals_are = none_refused (placed_of 0 (map bytes_of batches)) (joined batches);
   };
 }
 
@@ -76,10 +77,10 @@ pub batch_inbox : (batch : List Item) → IsInbox (delta_octets batch ∷ []) ba
 batch_inbox batch =
     subst (λ (items : List Item). IsInbox (delta_octets batch ∷ []) items []) (append-nil batch) (written_inbox (batch ∷ []))
 
-joined_octets : (batches : List (List Item)) → concat (map delta_octets batches) ≡ delta_octets (flat batches)
+joined_octets : (batches : List (List Item)) → concat (map delta_octets batches) ≡ delta_octets (joined batches)
 joined_octets [] = sym octets_none
 joined_octets (batch ∷ batches) = ap (λ (t : List ℕ). delta_octets batch ++ t) (joined_octets batches) ∙
-    sym (octets_both batch (flat batches))
+    sym (octets_both batch (joined batches))
 
 -- ---- the parts
 
@@ -88,7 +89,7 @@ record Parted (parts : List (List (List ℕ))) (compacted : List (List ℕ)) : T
   batches : List (List Item)
   heard : List Item
   octets_are : compacted ≡ map delta_octets batches
-  covers : Covers (flat batches) heard
+  covers : Covers (joined batches) heard
   tells : (item : Item) → Contains heard item ↔ TellsItem (all_inputs parts) item
 
 covers_both : (x y part_x part_y : List Item) → Covers part_x x → Covers part_y y → Covers (part_x ++ part_y) (x ++ y)
@@ -116,7 +117,8 @@ part_more part octets parts compacted refused is rest = record {
   batches = is.kept.batch ∷ rest.batches;
   heard = is.heard ++ rest.heard;
   octets_are = λ i. is.kept.octets_are i ∷ rest.octets_are i;
-  covers = covers_both is.heard rest.heard is.kept.batch (flat rest.batches) (covers_kept is.kept.batch is.heard is.kept.kept) rest.covers;
+  covers = covers_both is.heard rest.heard is.kept.batch (joined rest.batches) (covers_kept is.kept.batch is.heard is.kept.kept)
+      rest.covers;
   tells = λ item. (
     λ h. elim (Contains-append_cases is.heard rest.heard item h) [
       | inl l ↦ tells_among part (part ++ all_inputs parts) (Contains-append_left part (all_inputs parts)) item
@@ -157,39 +159,39 @@ octets_of_same heard others octets again iff a b =
 
 -- what the parts left is heard where the octets are heard again, and none is refused: each as an input
 again_inbox : (parts : List (List (List ℕ))) (compacted : List (List ℕ)) (parted : Parted parts compacted) →
-    IsInbox compacted (flat parted.batches) []
+    IsInbox compacted (joined parted.batches) []
 again_inbox parts compacted parted =
-    subst (λ (ts : List (List ℕ)). IsInbox ts (flat parted.batches) []) (sym parted.octets_are) (written_inbox parted.batches)
+    subst (λ (ts : List (List ℕ)). IsInbox ts (joined parted.batches) []) (sym parted.octets_are) (written_inbox parted.batches)
 
 -- or one behind another in one input
 joined_inbox : (parts : List (List (List ℕ))) (compacted : List (List ℕ)) (parted : Parted parts compacted) →
-    IsInbox (concat compacted ∷ []) (flat parted.batches) []
+    IsInbox (concat compacted ∷ []) (joined parted.batches) []
 joined_inbox parts compacted parted =
-    let one : List Item = flat parted.batches in
+    let one : List Item = joined parted.batches in
     let octets : concat compacted ≡ delta_octets one = ap concat parted.octets_are ∙ joined_octets parted.batches in
     subst (λ (t : List ℕ). IsInbox (t ∷ []) one []) (sym octets) (batch_inbox one)
 
 module _ (parts : List (List (List ℕ))) (compacted : List (List ℕ)) (parted : Parted parts compacted) (sources : List (List ℕ))
-    (inbox : IsInbox sources (flat parted.batches) []) (again : List ℕ) (other : Bool) (of_parts : IsCompaction sources again other) where
+    (inbox : IsInbox sources (joined parted.batches) []) (again : List ℕ) (other : Bool) (of_parts : IsCompaction sources again other) where
   again_octets : (whole : List (List ℕ)) (octets : List ℕ) (refused : Bool) → TellSameItems whole (all_inputs parts) →
       IsCompaction whole octets refused → again ≡ octets
   again_octets whole octets refused same_items of_whole =
-      let left : of_parts.heard ≡ flat parted.batches =
-      (one_inbox sources of_parts.heard (flat parted.batches) of_parts.refusals [] of_parts.inbox inbox).0 in
+      let left : of_parts.heard ≡ joined parted.batches =
+      (one_inbox sources of_parts.heard (joined parted.batches) of_parts.refusals [] of_parts.inbox inbox).0 in
       let same : SameItems of_whole.heard parted.heard = λ i. (
         λ h. (parted.tells i).1 ((same_items i).0 ((heard_told whole of_whole.heard of_whole.refusals of_whole.inbox i).0 h)),
         λ h. (heard_told whole of_whole.heard of_whole.refusals of_whole.inbox i).1 ((same_items i).1 ((parted.tells i).0 h)),
       ) in
-      let iff : (i : Item) → IsKept (flat parted.batches) i ↔ IsKept of_whole.heard i = λ i. (
-        λ h. (kept_iff of_whole.heard parted.heard same i).1 ((covers_same (flat parted.batches) parted.heard parted.covers i).0 h),
-        λ h. (covers_same (flat parted.batches) parted.heard parted.covers i).1 ((kept_iff of_whole.heard parted.heard same i).0 h),
+      let iff : (i : Item) → IsKept (joined parted.batches) i ↔ IsKept of_whole.heard i = λ i. (
+        λ h. (kept_iff of_whole.heard parted.heard same i).1 ((covers_same (joined parted.batches) parted.heard parted.covers i).0 h),
+        λ h. (covers_same (joined parted.batches) parted.heard parted.covers i).1 ((kept_iff of_whole.heard parted.heard same i).0 h),
       ) in
-      octets_of_same (flat parted.batches) of_whole.heard again
+      octets_of_same (joined parted.batches) of_whole.heard again
       octets iff (subst (λ (heard : List Item). AreKeptOctets heard again) left of_parts.kept) of_whole.kept
 
   again_refuses_none : other ≡ false
   again_refuses_none = of_parts.refused_is ∙
-      ap is_some_refused (one_inbox sources of_parts.heard (flat parted.batches) of_parts.refusals [] of_parts.inbox inbox).1
+      ap is_some_refused (one_inbox sources of_parts.heard (joined parted.batches) of_parts.refusals [] of_parts.inbox inbox).1
 
 pub parts_compacted : (parts : List (List (List ℕ))) (compacted whole : List (List ℕ)) (octets again : List ℕ) (refused other : Bool) →
     TellSameItems whole (all_inputs parts) → AreCompactions parts compacted

@@ -59,14 +59,14 @@ module _ (x y : List Item) (same : KeepAlike x y) (window : Window) where
   )
   reported_alike name text refusal (inr is) = inr (is.0, many_alike is.1, is.2, is.3)
 
-  module _ (P : Row → Type 0) where
+  module _ (octets : List Row → List ℕ) (P : Row → Type 0) where
     asked_alike : (row : Row) → (IsRow x window row × P row) ↔ (IsRow y window row × P row)
     asked_alike row = (
       λ h. (row_of_same x y same window row h.0, h.1),
       λ h. (row_of_same y x (alike_back x y same) window row h.0, h.1),
     )
 
-    listed_alike : (text : List ℕ) (refusal : Bool) → IsListed P x window text refusal → IsListed P y window text refusal
+    listed_alike : (text : List ℕ) (refusal : Bool) → IsListed octets P x window text refusal → IsListed octets P y window text refusal
     listed_alike text refusal (inl is) = inl (
       record {
         rows = is.0.rows;
@@ -82,13 +82,15 @@ module _ (x y : List Item) (same : KeepAlike x y) (window : Window) where
 
 module _ (inputs others : List (List ℕ)) (same : TellSameItems inputs others) (window : Window) (text again : List ℕ)
     (refused other : Bool) where
-  pub same_list : (P : Row → Type 0) → IsTaskList P inputs window text refused → IsTaskList P others window again other → again ≡ text
-  same_list P a b =
+  pub same_list : (octets : Window → List Row → List ℕ) (P : Row → Type 0) → IsTaskList octets P inputs window text refused →
+      IsTaskList octets P others window again other → again ≡ text
+  same_list octets P a b =
       let are : SameItems a.heard b.heard = same_heard inputs others same a.heard b.heard a.refusals b.refusals a.inbox b.inbox in
-      sym (listed_once P b.heard window text again a.refusal b.refusal
-      (listed_alike a.heard b.heard (kept_iff a.heard b.heard are) window P text a.refusal a.is_text) b.is_text)
+      sym (listed_once (octets window) P b.heard window text again a.refusal b.refusal
+      (listed_alike a.heard b.heard (kept_iff a.heard b.heard are) window (octets window) P text a.refusal a.is_text) b.is_text)
 
-  pub same_report : (name : ReportName) → IsReport name inputs window text refused → IsReport name others window again other → again ≡ text
+  pub same_report : (name : ReportName) → IsReport name inputs window text refused → IsReport name others window again other →
+      again ≡ text
   same_report name a b =
       let are : SameItems a.heard b.heard = same_heard inputs others same a.heard b.heard a.refusals b.refusals a.inbox b.inbox in
       sym (reported_once name b.heard window text again a.refusal b.refusal

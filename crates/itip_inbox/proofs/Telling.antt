@@ -10,6 +10,7 @@ use Rattle.itip_items.specs.declared.item.Item.{Item}
 use Rattle.itip_message.proofs.OneMessage.{one_message, message_apart}
 use Rattle.itip_message.proofs.OneCut.{one_cut}
 use Rattle.itip_state.proofs.Members.{none_in, cons_cases, cons_first, cons_later}
+use Rattle.itip_view.specs.Blocks.{joined}
 use Rattle.itip_inbox.specs.declared.refused.RefusedMessage.{RefusedMessage}
 use Rattle.itip_inbox.specs.Inbox.{Placed, placed_from, placed_of, AreAnswers, heard_of, IsInbox}
 use Rattle.itip_inbox.specs.Compaction.{HasMessage, HaveSameMessages, TellsItem, TellSameItems}
@@ -26,11 +27,6 @@ heard_told inputs heard refusals inbox item = (
 
 -- ---- the texts of messages
 
--- lists one behind another
-abbrev pub flat : {X : Type 0} → List (List X) → List X
-flat [] = []
-flat (xs ∷ xss) = xs ++ flat xss
-
 abbrev texts : List Placed → List (List ℕ)
 texts messages = map (λ (p : Placed). p.text) messages
 
@@ -38,7 +34,7 @@ texts_from : (source n : ℕ) (ts : List (List ℕ)) → texts (placed_from sour
 texts_from source n [] = refl
 texts_from source n (t ∷ ts) = ap (λ (rest : List (List ℕ)). t ∷ rest) (texts_from source (n + 1) ts)
 
-texts_of : (source : ℕ) (all : List (List (List ℕ))) → texts (placed_of source all) ≡ flat all
+texts_of : (source : ℕ) (all : List (List (List ℕ))) → texts (placed_of source all) ≡ joined all
 texts_of source [] = refl
 texts_of source (ts ∷ all) =
     map-append (λ (p : Placed). p.text) (placed_from source 1 ts) (placed_of (source + 1) all) ∙
@@ -57,27 +53,27 @@ has_among inputs others among message has = record {
 
 -- what the inputs are cut into has their messages
 flat_has : (inputs : List (List ℕ)) (all : List (List (List ℕ))) → AllZip IsCutInto inputs all → (message : List ℕ) →
-    Contains (flat all) message → HasMessage inputs message
+    Contains (joined all) message → HasMessage inputs message
 flat_has [] [] cut message h = absurd (none_in message h)
 flat_has [] (ts ∷ all) cut message h = absurd cut
 flat_has (input ∷ inputs) [] cut message h = absurd cut
 flat_has (input ∷ inputs) (ts ∷ all) cut message h =
-    elim (Contains-append_cases ts (flat all) message h) [
+    elim (Contains-append_cases ts (joined all) message h) [
       | inl here ↦ record { input = input; given = cons_first input inputs; messages = ts; cut = cut.0; among = here }
       | inr later ↦ has_among inputs (input ∷ inputs) (cons_later input inputs) message (flat_has inputs all cut.1 message later)
     ]
 
 in_flat : (inputs : List (List ℕ)) (all : List (List (List ℕ))) → AllZip IsCutInto inputs all → (input : List ℕ)
     (messages : List (List ℕ)) (message : List ℕ) → Contains inputs input → IsCutInto input messages → Contains messages message →
-    Contains (flat all) message
+    Contains (joined all) message
 in_flat [] all cut input messages message h own among = absurd (none_in input h)
 in_flat (t ∷ inputs) [] cut input messages message h own among = absurd cut
 in_flat (t ∷ inputs) (ts ∷ all) cut input messages message h own among =
     elim (cons_cases t inputs input h) [
       | inl is ↦
           let same : messages ≡ ts = one_cut t messages ts (subst (λ (i : List ℕ). IsCutInto i messages) (sym is) own) cut.0 in
-          Contains-append_left ts (flat all) message (subst (λ (list : List (List ℕ)). Contains list message) same among)
-      | inr later ↦ Contains-append_right ts (flat all) message (in_flat inputs all cut.1 input messages message later own among)
+          Contains-append_left ts (joined all) message (subst (λ (list : List (List ℕ)). Contains list message) same among)
+      | inr later ↦ Contains-append_right ts (joined all) message (in_flat inputs all cut.1 input messages message later own among)
     ]
 
 -- ---- the items of messages

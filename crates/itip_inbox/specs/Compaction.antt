@@ -25,6 +25,11 @@ pub record IsCompaction (inputs : List (List ℕ)) (octets : List ℕ) (refused 
   pub kept : AreKeptOctets heard octets
   pub refused_is : refused ≡ is_some_refused refusals
 
+-- They have one compaction.
+abbrev pub HaveSameCompaction : List (List ℕ) → List (List ℕ) → Type 0
+HaveSameCompaction inputs others = (octets again : List ℕ) (refused other : Bool) → IsCompaction inputs octets refused →
+    IsCompaction others again other → again ≡ octets
+
 -- What was written, and what is kept to be written, are the octets of these items.
 pub record WritesSoFar (old new : Option (List ℕ)) (done : List Item) (kept : List ℕ) : Type 0 where
   pub written : List ℕ

@@ -6,6 +6,7 @@ pub mod Compaction
 pub mod News
 pub mod OfInbox
 pub mod TaskList
+pub mod PartsByUid
 pub mod Records
 pub mod Reports
 pub mod Following

@@ -52,7 +52,7 @@ pub fn write_items<W: Write>(
 {
     let mut kept = Vec::new(alloc);
     for item in items {
-        kept.extend_from_slice(item.bytes.as_slice())?;
+        item.bytes.append_to(&mut kept)?;
         write_if_many(writer, &mut kept)?;
     }
     write_output(writer, kept.as_slice())

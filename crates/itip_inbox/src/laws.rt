@@ -2,13 +2,19 @@
 ghost use Rattle.std.specs.Prelude.{◌≡◌, ◌≢◌, ◌∷◌, ◌++◌, [], ℕ, Bool, false, List};
 ghost use Rattle.std.specs.List.{concat};
 ghost use Rattle.itip_items.specs.declared.item.Item.{Item};
+ghost use Rattle.itip_view.specs.Blocks.{Block, AreBlocksWhere, AreMerged};
+ghost use Rattle.itip_view.specs.ListText.{list_text};
 ghost use Rattle.itip_view.specs.Wanting.{Wants};
+ghost use Rattle.itip_view.specs.declared.row.Row.{Row};
 ghost use Rattle.itip_view.specs.declared.wanted.Wanted.{Wanted};
 ghost use Rattle.itip_view.specs.declared.window.Window.{Window};
 ghost use Rattle.itip_report.specs.declared.report_name.ReportName.{ReportName};
+ghost use Rattle.itip_desk.specs.Delta.{delta_octets};
 ghost use Rattle.itip_inbox.specs.Compaction.{IsCompaction, AreCompactions, IsPartedInto, all_inputs};
 ghost use Rattle.itip_inbox.specs.Compaction.{HaveSameMessages, TellsItem, TellSameItems};
 ghost use Rattle.itip_inbox.specs.News.{IsNews};
+ghost use Rattle.itip_inbox.specs.PartsByUid.{ArePartedByUid, IsOfHeard, AreOfHeard, IsTextOfBlocks};
+ghost use Rattle.itip_inbox.specs.PartsByUid.{IsKeptBatch, AreMergedBatches};
 ghost use Rattle.itip_inbox.specs.Reports.{IsReport};
 ghost use Rattle.itip_inbox.specs.TaskList.{IsTaskList};
 
@@ -22,14 +28,15 @@ pub fn one_compaction()
 {}
 
 /// Only the items that inputs tell matter: inputs that tell the same ones, in whatever order and number, cut into whatever
-/// messages, have the same compaction, and in each window the same task list, whichever rows are wanted, and the same reports;
-/// and they have the same news beside others that tell the same ones.
+/// messages, have the same compaction, and in each window the same task list, whichever rows are wanted, in each form, and the same
+/// reports; and they have the same news beside others that tell the same ones.
 pub fn only_items_matter()
     ensures compaction { (inputs others : List (List ℕ)) (octets again : List ℕ) (refused other : Bool) → TellSameItems inputs others →
         IsCompaction inputs octets refused → IsCompaction others again other → again ≡ octets }
-    ensures list { (inputs others : List (List ℕ)) (wanted : Wanted) (window : Window) (text again : List ℕ) (refused other : Bool) →
-        TellSameItems inputs others → IsTaskList (Wants wanted) inputs window text refused →
-        IsTaskList (Wants wanted) others window again other → again ≡ text }
+    ensures list { (inputs others : List (List ℕ)) (octets : Window → List Row → List ℕ) (wanted : Wanted) (window : Window)
+        (text again : List ℕ) (refused other : Bool) →
+        TellSameItems inputs others → IsTaskList octets (Wants wanted) inputs window text refused →
+        IsTaskList octets (Wants wanted) others window again other → again ≡ text }
     ensures report { (inputs others : List (List ℕ)) (name : ReportName) (window : Window) (text again : List ℕ) (refused other : Bool) →
         TellSameItems inputs others → IsReport name inputs window text refused → IsReport name others window again other →
         again ≡ text }
@@ -83,4 +90,20 @@ pub fn compaction_with_news()
     ensures least { (than inputs others : List (List ℕ)) (news octets again : List ℕ) (lacking refused other : Bool) (item : Item) →
         IsNews than inputs news lacking → TellsItem (news ∷ []) item → (¬ TellsItem others item) →
         IsCompaction (than ++ inputs) octets refused → IsCompaction (than ++ others) again other → again ≢ octets }
+{}
+
+/// Parts of inputs, no two of which tell of one UID, and which together have the compaction of the whole. The text of a list is that
+/// of its blocks, cut by UID, one after another. The blocks of the parts' lists, sorted by UID, are those of the list of the whole;
+/// and what the compactions of the parts have, sorted by octets, is the compaction of the whole (our own rules).
+pub fn outputs_of_parts()
+    ensures text { (inputs : List (List ℕ)) (wanted : Wanted) (window : Window) (blocks : List Block) (text : List ℕ) (refused : Bool)
+        → IsOfHeard (AreBlocksWhere (Wants wanted) window) inputs blocks
+        → IsTaskList (λ _ rows. list_text rows) (Wants wanted) inputs window text refused → IsTextOfBlocks blocks text }
+    ensures list { (parts : List (List (List ℕ))) (whole : List (List ℕ)) → ArePartedByUid parts whole → (wanted : Wanted)
+        (window : Window) (lists : List (List Block)) (merged : List Block)
+        → AreOfHeard (AreBlocksWhere (Wants wanted) window) parts lists → AreMerged lists merged
+        → IsOfHeard (AreBlocksWhere (Wants wanted) window) whole merged }
+    ensures compaction { (parts : List (List (List ℕ))) (whole : List (List ℕ)) → ArePartedByUid parts whole
+        → (batches : List (List Item)) (merged : List Item) (octets : List ℕ) (refused : Bool) → AreOfHeard IsKeptBatch parts batches
+        → AreMergedBatches batches merged → IsCompaction whole octets refused → octets ≡ delta_octets merged }
 {}

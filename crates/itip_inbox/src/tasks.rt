@@ -1,10 +1,7 @@
 //! The task list of some inputs.
-ghost use Rattle.std.specs.Prelude.{◌≢◌, ℕ, Bool, List, IfOk, IfErr, OnOk, OnErr, IsErrOf};
-ghost use Rattle.std.specs.Io.KnownBytes.{Appends, Keeps};
-ghost use Rattle.itip_view.specs.ByUid.{AreLeft};
-ghost use Rattle.itip_view.specs.ListText.{list_text};
+ghost use Rattle.std.specs.Prelude.{◌≢◌, ℕ, Bool, List, IfOk, IfErr, OnErr, IsErrOf};
+ghost use Rattle.std.specs.Io.KnownBytes.{Keeps};
 ghost use Rattle.itip_view.specs.Wanting.{Wants};
-ghost use Rattle.itip_view.specs.declared.row.Row.{Row};
 ghost use Rattle.itip_streams.specs.Written.{AppendsFront, WritesOutput};
 ghost use Rattle.itip_inbox.specs.Inbox.{AreInputs};
 ghost use Rattle.itip_inbox.specs.OfInbox.{WritesKept, WritesKeptFront};
@@ -12,63 +9,66 @@ ghost use Rattle.itip_inbox.specs.TaskList.{IsTaskList, IsListed};
 
 use crate::gathering::gather;
 use crate::inbox::Inbox;
+use crate::list_form::ListForm;
 use crate::too_many::refuse_rows;
 use crate::watch::Watch;
-use itip_desk::write_rows;
-use itip_streams::{StreamFault, write_output};
+use itip_streams::StreamFault;
 use itip_view::{RowCount, RowsByUid, Wanted, Window};
 use std::alloc::Global;
 use std::io::{Read, Write};
 use std::thread::Threads;
 
-/// Reads sources to their ends and writes the task list of all their messages in a window, of the rows that are wanted; or
+/// Reads sources to their ends and writes the task list of all their messages in a window, of the rows that are wanted, in a form; or
 /// `refused 31` where more than 100,000 of these stand there. Says whether a message was refused, or the list.
 ///
 /// Refused messages are told to `watch`, in the order of the sources, before anything is written; and all sources are read
 /// before that, and the rows counted. They are made and written a UID at a time. After a fault of reading nothing was written, after
 /// another fault a front of the output.
-pub fn list<R: Read + Drop, W: Write, S: Watch>(
+pub fn list<R: Read + Drop, W: Write, S: Watch, F: ListForm>(
     rt: &(impl Threads + Sync),
     alloc: Global,
     sources: Vec<R>,
     writer: &mut W,
     window: Window,
     wanted: &Wanted<'_>,
+    form: &F,
     threads: usize,
     watch: &mut S,
 ) -> Result<bool, StreamFault>
     ensures output { IfOk result (λ refused. (inputs : List (List ℕ)) → AreInputs R.remaining sources.items inputs →
-        WritesOutput (IsTaskList (Wants wanted.now) inputs window) (W.contents writer.old) (W.contents writer.new) refused) }
+        WritesOutput (IsTaskList (F.octets form.now) (Wants wanted.now) inputs window)
+        (W.contents writer.old) (W.contents writer.new) refused) }
     ensures front { OnErr result ((inputs : List (List ℕ)) → AreInputs R.remaining sources.items inputs →
-        (text : List ℕ) (refused : Bool) → IsTaskList (Wants wanted.now) inputs window text refused →
+        (text : List ℕ) (refused : Bool) → IsTaskList (F.octets form.now) (Wants wanted.now) inputs window text refused →
         AppendsFront (W.contents writer.old) (W.contents writer.new) text) }
     ensures unread { IsErrOf result StreamFault.Read → Keeps (W.contents writer.old) (W.contents writer.new) }
 {
     let inbox = gather(rt, alloc, sources, None, threads, watch)?;
-    let is_over = write_list(alloc, &inbox, window, wanted, writer, watch)?;
+    let is_over = write_list(alloc, &inbox, window, wanted, form, writer, watch)?;
     let is_refused = inbox.has_refusals();
     Ok(is_refused | is_over)
 }
 
 /// Writes the list of an inbox, or that there are too many rows, and says whether that was it.
-fn write_list<W: Write, S: Watch>(
+fn write_list<W: Write, S: Watch, F: ListForm>(
     alloc: Global,
     inbox: &Inbox,
     window: Window,
     wanted: &Wanted<'_>,
+    form: &F,
     writer: &mut W,
     watch: &mut S,
 ) -> Result<bool, StreamFault>
-    ensures written { IfOk result (WritesKept (λ heard. IsListed (Wants wanted.now) heard window) inbox.now.state
-        (W.contents writer.old) (W.contents writer.new)) }
-    ensures front { OnErr result (WritesKeptFront (λ heard. IsListed (Wants wanted.now) heard window) inbox.now.state
-        (W.contents writer.old) (W.contents writer.new)) }
+    ensures written { IfOk result (WritesKept (λ heard. IsListed (F.octets form.now window) (Wants wanted.now) heard window)
+        inbox.now.state (W.contents writer.old) (W.contents writer.new)) }
+    ensures front { OnErr result (WritesKeptFront (λ heard. IsListed (F.octets form.now window) (Wants wanted.now) heard window)
+        inbox.now.state (W.contents writer.old) (W.contents writer.new)) }
     ensures fault { IfErr result (λ fault. fault ≢ StreamFault.Read) }
 {
     let rows = RowsByUid::of(alloc, &inbox.state, window, wanted)?;
     match rows.count()? {
-        RowCount::Few(_) => {
-            write_texts(alloc, rows, writer)?;
+        RowCount::Few(number) => {
+            form.write(alloc, window, rows, number, writer)?;
             Ok(false)
         }
         RowCount::TooMany(most) => {
@@ -76,21 +76,4 @@ fn write_list<W: Write, S: Watch>(
             Ok(true)
         }
     }
-}
-
-/// Writes the text of the rows that are left. After a fault a front was written.
-fn write_texts<W: Write>(
-    alloc: Global,
-    rows: RowsByUid<'_, '_>,
-    writer: &mut W,
-) -> Result<(), StreamFault>
-    ensures all { OnOk result ((all : List Row) → AreLeft rows.entry all →
-        Appends (W.contents writer.old) (W.contents writer.new) (list_text all)) }
-    ensures front { OnErr result ((all : List Row) → AreLeft rows.entry all →
-        AppendsFront (W.contents writer.old) (W.contents writer.new) (list_text all)) }
-    ensures fault { IfErr result (λ fault. fault ≢ StreamFault.Read) }
-{
-    let mut kept = Vec::new(alloc);
-    write_rows(rows, writer, &mut kept)?;
-    write_output(writer, kept.as_slice())
 }

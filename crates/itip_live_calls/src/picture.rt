@@ -11,7 +11,7 @@ use std::alloc::Global;
 pub(crate) fn octets(alloc: Global, items: &[Item]) -> Result<Vec<u8>, CallError> {
     let mut octets = Vec::new(alloc);
     for item in items {
-        octets.extend_from_slice(item.bytes.as_slice())?;
+        item.bytes.append_to(&mut octets)?;
     }
     Ok(octets)
 }

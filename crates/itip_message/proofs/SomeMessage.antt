@@ -13,7 +13,7 @@ use Rattle.itip_todo.specs.Lawful.{IsLawful}
 use Rattle.itip_todo.specs.Parts.{Parts}
 use Rattle.itip_todo.specs.PartsOf.{parts_of}
 use Rattle.itip_todo.specs.Reading.{ReadsTodo}
-use Rattle.itip_todo.specs.declared.property.Property.{Property}
+use Rattle.itip_todo.specs.Properties.{Property}
 use Rattle.itip_todo.specs.declared.todo.Todo.{Todo}
 use Rattle.itip_todo.proofs.SameTodo.{todo_of}
 use Rattle.itip_todo.proofs.SomeTodo.{some_todo}

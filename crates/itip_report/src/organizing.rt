@@ -55,7 +55,7 @@ fn resend_of(alloc: Global, items: &ItemsOfUid<'_>) -> Result<Option<Vec<u8>>, N
         return Ok(None);
     };
     let mut messages = Vec::new(alloc);
-    messages.extend_from_slice(resent.series.bytes.as_slice())?;
+    resent.series.bytes.append_to(&mut messages)?;
     put_messages(&mut messages, &resent.overrides)?;
     Ok(Some(messages))
 }
@@ -65,7 +65,7 @@ fn put_messages(out: &mut Vec<u8>, items: &[&Item]) -> Result<(), NoMemory>
     ensures { OnOk result (out.new.items ≡ out.old.items ++ flat_map (λ item. item.now.bytes) items.now) }
 {
     for item in items {
-        out.extend_from_slice(item.bytes.as_slice())?;
+        item.bytes.append_to(out)?;
     }
     Ok(())
 }

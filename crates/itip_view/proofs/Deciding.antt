@@ -1,7 +1,7 @@
 -- Which answer decides, and whom the lines show, step by step.
 use Rattle.std.proofs.Common.{◌≡◌, List, [], ◌∷◌, ◌++◌, refl, sym, ap, inl, inr, Option, Some, None, append_assoc}
 use Rattle.std.specs.Prelude.{MatchOption}
-use Rattle.itip_todo.specs.declared.property.Property.{Property}
+use Rattle.itip_todo.specs.Properties.{Property}
 use Rattle.itip_items.specs.declared.item.Item.{Item}
 use Rattle.itip_view.specs.Answers.{Asked, Counts, NoneCounts, Decides, AreShown, shown_line, in_front}
 use Rattle.itip_view.specs.declared.row.ShownAttendee.{ShownAttendee}

@@ -19,6 +19,9 @@ pub mod SameAsked
 pub mod Gathering
 pub mod Leading
 pub mod OfPart
+pub mod Apart
+pub mod Cutting
+pub mod Merging
 pub mod SameRows
 pub mod Occurring
 pub mod RangeOrder

@@ -3,7 +3,7 @@ use Rattle.std.proofs.Common.{◌≡◌, ◌∙◌, List, [], ◌∷◌, refl, a
 use Rattle.std.specs.Option.{option_copied, option_map}
 use Rattle.std.proofs.lemmas.Bool.{cases_lt}
 use Rattle.itip_moment.specs.declared.moment.Moment.{Moment}
-use Rattle.itip_todo.specs.declared.property.Property.{Property}
+use Rattle.itip_todo.specs.Properties.{Property}
 use Rattle.itip_items.specs.declared.item.Item.{Item}
 use Rattle.itip_state.proofs.Best.{has_best}
 use Rattle.itip_state.specs.OfUid.{UidPart}

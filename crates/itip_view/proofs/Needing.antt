@@ -6,7 +6,7 @@ use Rattle.std.specs.Option.{option_map}
 use Rattle.itip_moment.specs.Moment.{moment_day}
 use Rattle.itip_moment.specs.declared.moment.Moment.{Moment}
 use Rattle.itip_todo.specs.Table.{attendee_key}
-use Rattle.itip_todo.specs.declared.property.Property.{Property}
+use Rattle.itip_todo.specs.Properties.{Property}
 use Rattle.itip_todo.specs.declared.todo.Todo.{Todo}
 use Rattle.itip_recur.specs.Given.{are_given}
 use Rattle.itip_recur.specs.ToDoShape.{Recurs}

@@ -2,7 +2,7 @@
 use Rattle.std.proofs.Common.{◌≡◌, ◌↔◌, ℕ, List, [], ◌∷◌, refl, sym, ◌∙◌, ap, subst, inl, inr, Option, Some, None}
 use Rattle.std.specs.List.{AllByRecursion, Contains}
 use Rattle.itip_moment.specs.declared.moment.Moment.{Moment}
-use Rattle.itip_todo.specs.declared.property.Property.{Property}
+use Rattle.itip_todo.specs.Properties.{Property}
 use Rattle.itip_items.specs.KeyParts.{uid_of}
 use Rattle.itip_items.specs.declared.item.Item.{Item}
 use Rattle.itip_items.specs.declared.key.Key.{Key}
@@ -20,11 +20,11 @@ use Rattle.itip_view.proofs.Gathering.{uid_of_row}
 abbrev pub HaveSameBest : List ℕ → List Item → List Item → Type 0
 HaveSameBest uid x y = (k : Key) → uid_of k ≡ uid → (i : Item) → IsBest x k i ↔ IsBest y k i
 
-swapped : (uid : List ℕ) (x y : List Item) → HaveSameBest uid x y → HaveSameBest uid y x
+pub swapped : (uid : List ℕ) (x y : List Item) → HaveSameBest uid x y → HaveSameBest uid y x
 swapped uid x y same = λ k about i. ((same k about i).1, (same k about i).0)
 
 -- the part of a set by its UIDs has the best items of each of them
-part_same : (P : List ℕ → Type 0) (part whole : List Item) →
+pub part_same : (P : List ℕ → Type 0) (part whole : List Item) →
     ((item : Item) → Contains part item ↔ (Contains whole item × P (uid_of item.key))) → (uid : List ℕ) → P uid →
     HaveSameBest uid part whole
 part_same P part whole are uid holds = λ k about i. (
@@ -93,7 +93,7 @@ module _ (uid : List ℕ) (x y : List Item) (same : HaveSameBest uid x y) where
   shown_there asked_of about (line ∷ lines) shown (answer, others, decides, rest, is) =
       (answer, others, decides_there (asked_of line) (about line) answer decides, shown_there asked_of about lines others rest, is)
 
-row_there : (x y : List Item) (window : Window) (row : Row) → HaveSameBest row.uid x y → IsRow x window row → IsRow y window row
+pub row_there : (x y : List Item) (window : Window) (row : Row) → HaveSameBest row.uid x y → IsRow x window row → IsRow y window row
 row_there x y window row same (inl p) = inl (record {
   item = p.item;
   at = p.at;

@@ -48,13 +48,18 @@ module _ (P : Row → Type 0) (heard : List Item) (window : Window) where
         λ h. mine.all row (theirs.each row h) (theirs.holds row h),
       ))
 
-  pub few_or_too_many : (rows : List Row) → AreRowsWhere P heard window rows → length rows ≤ row_limit → AreTooManyWhere P heard window → ⊥
-  few_or_too_many rows are few over =
+  pub rows_over : (rows : List Row) → AreRowsWhere P heard window rows → AreTooManyWhere P heard window → row_limit < length rows
+  rows_over rows are over =
       let all : length over.some ≤ length rows =
       not_longer (λ (a b : Row). row_cmp a b ≡ Less) rows_apart over.some rows over.ascend are.ascend
       (λ row h. are.all row (over.each row h) (over.holds row h)) in
       let many : row_limit < length over.some = over.many in
-      absurd (omega arith)
+      omega (arith, all, many)
+
+  pub few_or_too_many : (rows : List Row) → AreRowsWhere P heard window rows → length rows ≤ row_limit → AreTooManyWhere P heard window → ⊥
+  few_or_too_many rows are few over =
+      let many : row_limit < length rows = rows_over rows are over in
+      absurd (omega (arith, few, many))
 
 module _ (address : List ℕ) (heard : List Item) (window : Window) where
   pub one_text_for : (text other : List ℕ) → IsListTextFor address heard window text → IsListTextFor address heard window other →

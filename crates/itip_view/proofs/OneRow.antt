@@ -10,7 +10,7 @@ use Rattle.itip_moment.specs.declared.moment.Moment.{Moment}
 use Rattle.itip_moment.specs.OrderLaws.{moment_total}
 use Rattle.itip_moment.proofs.Same.{moment_equal}
 use Rattle.itip_moment.proofs.ValueLaws.{shifted-one}
-use Rattle.itip_todo.specs.declared.property.Property.{Property}
+use Rattle.itip_todo.specs.Properties.{Property}
 use Rattle.itip_recur.specs.ToDoShape.{Recurs}
 use Rattle.itip_items.specs.Later.{revision_cmp}
 use Rattle.itip_items.specs.declared.item.Item.{Item}

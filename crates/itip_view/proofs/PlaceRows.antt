@@ -1,7 +1,7 @@
 -- What has a row at a place, and where nothing has.
 use Rattle.std.proofs.Common.{◌≡◌, ℕ, List, refl, sym, ◌∙◌, ap, subst, ◌⊎◌, inl, inr, Option, Some, None}
 use Rattle.itip_moment.specs.declared.moment.Moment.{Moment}
-use Rattle.itip_todo.specs.declared.property.Property.{Property}
+use Rattle.itip_todo.specs.Properties.{Property}
 use Rattle.itip_recur.specs.ToDoShape.{Recurs, IsShape, IsSeriesOf}
 use Rattle.itip_recur.specs.declared.series.Series.{Series}
 use Rattle.itip_recur.specs.declared.series.Shape.TheVariants as shape

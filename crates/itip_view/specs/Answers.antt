@@ -5,7 +5,7 @@ use Rattle.itip_todo.specs.Participation.{partstat_of}
 use Rattle.itip_todo.specs.Table.{attendee_key}
 use Rattle.itip_todo.specs.declared.attendee.PartStat.{PartStat}
 use Rattle.itip_todo.specs.declared.attendee.PartStat.TheVariants.{NeedsAction}
-use Rattle.itip_todo.specs.declared.property.Property.{Property}
+use Rattle.itip_todo.specs.Properties.{Property}
 use Rattle.itip_items.specs.declared.item.Item.{Item}
 use Rattle.itip_items.specs.declared.key.Key.{Key}
 use Rattle.itip_items.specs.declared.key.Key.TheVariants.{Answer}

@@ -7,7 +7,7 @@ use Rattle.std.specs.List.Sorted.{IsStrictlySortedBy}
 use Rattle.itip_moment.specs.Order.{moment_cmp}
 use Rattle.itip_moment.specs.declared.moment.Moment.{Moment}
 use Rattle.itip_todo.specs.Table.{attendee_key}
-use Rattle.itip_todo.specs.declared.property.Property.{Property}
+use Rattle.itip_todo.specs.Properties.{Property}
 use Rattle.itip_recur.specs.Occurrences.{OccursIn}
 use Rattle.itip_recur.specs.ToDoShape.{IsShape, IsSeriesOf}
 use Rattle.itip_recur.specs.declared.series.Series.{Series}

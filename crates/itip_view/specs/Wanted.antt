@@ -60,6 +60,10 @@ is_due_before None due = true
 is_due_before (Some day) None = false
 is_due_before (Some day) (Some due) = int_lt (moment_day due) day
 
+-- a row is open, and its DUE is before today
+abbrev pub is_overdue : ℤ → Row → Bool
+is_overdue today row = is_due_before (Some today) row.due && not (is_over row.status)
+
 -- a row with this DUE and this STATUS is asked for, where it shows the attendee who is named
 abbrev pub takes : Wanted → Option Moment → Option Status → Bool
 takes wanted due status = is_due_before wanted.due_before due && not (wanted.is_open && is_over status)

@@ -13,7 +13,7 @@ use crate::keyed_item::AttendeeLine;
 use crate::row::ShownAttendee;
 use crate::wanted::{is_asked, is_named};
 use itip_items::{Item, Kind};
-use itip_lines::ListOf;
+use itip_lines::{ListOf, Text};
 use itip_moment::Moment;
 use itip_state::ItemsOfUid;
 use itip_todo::{PartStat, Property, attendee_key, participation};
@@ -86,7 +86,7 @@ impl<'v, 'a> AnswerSearch<'v, 'a> {
         let mut attendees = Vec::new(alloc);
         for line in lines {
             let answer = self.deciding(line.key.as_str());
-            if let Some(attendee) = shown_line(line.line, answer)? {
+            if let Some(attendee) = shown_line(alloc, line.line, answer)? {
                 attendees.push(attendee)?;
             }
         }
@@ -127,13 +127,13 @@ impl<'v, 'a> AnswerSearch<'v, 'a> {
             → Decides self.now.items.now.items (asked_by self.now.items.now.uid self.now.questions.now line.now) answer
             → is_some_asked is_open address.now (shown_line line.now answer) ≡ shows) }
     {
-        let shown = line.value.as_str();
+        let shown = line.value();
         if !is_named(shown, address) {
             return Ok(false);
         }
         let key = attendee_key(alloc, shown)?;
         let answer = self.deciding(key.as_str());
-        let Some(attendee) = shown_line(line, answer)? else {
+        let Some(attendee) = shown_line(alloc, line, answer)? else {
             return Ok(false);
         };
         Ok(is_asked(&attendee, address, is_open))
@@ -168,20 +168,24 @@ impl<'v, 'a> AnswerSearch<'v, 'a> {
 }
 
 /// What a line shows where this answer decides.
-fn shown_line(line: &Property, answer: Option<&Item>) -> Result<Option<ShownAttendee>, NoMemory>
+fn shown_line(
+    alloc: Global,
+    line: &Property,
+    answer: Option<&Item>,
+) -> Result<Option<ShownAttendee>, NoMemory>
     ensures { IfOk result (λ shown. shown ≡ shown_line line.now (option_copied answer.entry)) }
 {
     let Some(answer) = answer else {
         return Ok(Some(ShownAttendee {
-            address: line.value.clone()?,
-            partstat: participation(&line.params),
+            address: Text::copy(alloc, line.value())?,
+            partstat: participation(line),
             percent: None,
         }));
     };
     match answer.kind {
         Kind::Remove => Ok(None),
         _ => Ok(Some(ShownAttendee {
-            address: line.value.clone()?,
+            address: Text::copy(alloc, line.value())?,
             partstat: partstat_in(answer.todo.attendees.as_slice()),
             percent: answer.todo.percent,
         })),
@@ -193,7 +197,7 @@ fn partstat_in(lines: &[Property]) -> PartStat
     ensures { result ≡ partstat_in lines.now }
 {
     match lines {
-        [line, ..] => participation(&line.params),
+        [line, ..] => participation(line),
         [] => PartStat::NeedsAction,
     }
 }

@@ -40,7 +40,7 @@ fn with_keys(alloc: Global, lines: &[Property]) -> Result<Vec<AttendeeLine<'_>>,
 {
     let mut keyed = Vec::with_capacity(alloc, lines.len())?;
     for line in lines {
-        let key = attendee_key(alloc, line.value.as_str())?;
+        let key = attendee_key(alloc, line.value())?;
         keyed.push(AttendeeLine { line, key })?;
     }
     Ok(keyed)

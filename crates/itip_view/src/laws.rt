@@ -1,5 +1,5 @@
 //! The laws of views, of every finite set of items. They hold with no code: each function is empty.
-ghost use Rattle.std.specs.Prelude.{List, ℕ, Option, Some, None, ◌↔◌, ◌≡◌, ◌≤◌, length};
+ghost use Rattle.std.specs.Prelude.{List, ℕ, Option, Some, None, ◌↔◌, ◌≡◌, ◌≤◌, ◌<◌, length};
 ghost use Rattle.std.specs.List.{Contains};
 ghost use Rattle.itip_items.specs.declared.item.Item.{Item};
 ghost use Rattle.itip_state.specs.Kept.{AreKept, ArePartOf};
@@ -10,6 +10,7 @@ ghost use Rattle.itip_view.specs.OfKept.{NeedsOnlyKept, FollowsFromKept};
 ghost use Rattle.itip_view.specs.InQuestion.{IsInQuestion, NoneInQuestion, ShowsInQuestion, IsRowInQuestion};
 ghost use Rattle.itip_view.specs.Standing.{Stands, StandsFrom, Rules, NoneRules, Governs, IsLiveSeries};
 ghost use Rattle.itip_view.specs.Answers.{Counts};
+ghost use Rattle.itip_view.specs.Blocks.{Block, AreBlocksWhere, AreBlocksOfParts, AreMerged, ArePartsByUid, number_of_rows, rows_of_blocks};
 ghost use Rattle.itip_view.specs.Rows.{IsRow, AreRows, AreTooMany, ShowsGoverning, row_cmp, row_limit};
 ghost use Rattle.itip_view.specs.ListText.{IsListText};
 ghost use Rattle.itip_todo.specs.Table.{attendee_key};
@@ -128,4 +129,22 @@ pub fn rows_of_part()
         → Contains uids row.uid → IsRow part window row ↔ IsRow whole window row }
     ensures uids { (part whole : List Item) (uids : List (List ℕ)) → ArePartOf part whole uids → (window : Window) (row : Row)
         → IsRow part window row → Contains uids row.uid }
+{}
+
+/// A list is cut by UID into blocks of rows. Where no UID is in two parts of a set, the blocks of the parts' lists, sorted by UID,
+/// are the list of the whole. The whole has too many rows for a list exactly where those of the parts, added up, are too many; so
+/// it has where one part has (our own rules).
+pub fn lists_of_parts()
+    ensures blocks { (heard : List Item) (window : Window) (wanted : Wanted) (rows : List Row)
+        → AreRowsWhere (Wants wanted) heard window rows
+        → (blocks : List Block) × AreBlocksWhere (Wants wanted) window heard blocks × (rows ≡ rows_of_blocks blocks) }
+    ensures merged { (parts : List (List Item)) (whole : List Item) → ArePartsByUid parts whole → (window : Window) (wanted : Wanted)
+        (lists : List (List Block)) (merged : List Block) → AreBlocksOfParts (Wants wanted) window parts lists → AreMerged lists merged
+        → AreBlocksWhere (Wants wanted) window whole merged }
+    ensures many { (parts : List (List Item)) (whole : List Item) → ArePartsByUid parts whole → (window : Window) (wanted : Wanted)
+        (lists : List (List Block)) (merged : List Block) → AreBlocksOfParts (Wants wanted) window parts lists → AreMerged lists merged
+        → AreTooManyWhere (Wants wanted) whole window ↔ (row_limit < number_of_rows lists) }
+    ensures part { (parts : List (List Item)) (whole : List Item) → ArePartsByUid parts whole → (window : Window) (wanted : Wanted)
+        (part : List Item) → Contains parts part → AreTooManyWhere (Wants wanted) part window
+        → AreTooManyWhere (Wants wanted) whole window }
 {}

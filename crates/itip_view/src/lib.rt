@@ -16,11 +16,13 @@ mod of_uid;
 mod progress;
 mod ranges;
 mod row;
+mod row_form;
 mod row_order;
 mod row_place;
 mod row_text;
 mod shown;
 mod standing;
+mod state_rows;
 mod wanted;
 mod whole;
 mod window;
@@ -32,15 +34,17 @@ pub use error::{BadWindow, ViewError};
 pub use governs::governing;
 pub use in_question::{InQuestion, RowInQuestion};
 pub use laws::{
-    answers_of_kept, one_list, question_of_kept, rows_are_governed, rows_are_in_question,
-    rows_need_items, rows_of_part, standing_of_kept, view_of_kept,
+    answers_of_kept, lists_of_parts, one_list, question_of_kept, rows_are_governed,
+    rows_are_in_question, rows_need_items, rows_of_part, standing_of_kept, view_of_kept,
 };
 pub use most::{MostRows, RowCount};
 pub use ranges::Ranges;
 pub use row::{Row, RowId, ShownAttendee};
+pub use row_form::{PlainRows, RowForm};
 pub use row_order::sorted_uids;
-pub use row_text::write_row;
+pub use row_text::{write_list, write_row};
 pub use standing::{if_live, is_live, stands_beside};
+pub use state_rows::{rows, rows_of};
 pub use std::alloc::AllocError as NoMemory;
-pub use wanted::Wanted;
+pub use wanted::{Wanted, is_overdue};
 pub use window::Window;

@@ -1,7 +1,8 @@
 //! The text of rows.
-ghost use Rattle.std.specs.Prelude.{◌≡◌, ◌++◌, IfOk, IsErrOf, OnOk, Option, Some, None, map};
+ghost use Rattle.std.specs.Prelude.{◌≡◌, ◌++◌, IfOk, IsErrOf, OnErr, OnOk, Option, Some, None, map};
 ghost use Rattle.std.specs.Fmt.{decimal};
 ghost use Rattle.std.specs.List.{flat_map};
+ghost use Rattle.itip_lines.specs.Writing.{Extends};
 ghost use Rattle.itip_moment.specs.Shown.{shown_moment};
 ghost use Rattle.itip_todo.specs.StatusText.{status_text};
 ghost use Rattle.itip_view.specs.ListText.{list_text, row_text, attendee_text, id_text, names_text, numbers_text, dates_text};
@@ -45,22 +46,44 @@ pub(crate) fn text_by_uid(
             return Err(ViewError::TooManyRows);
         }
         number += more.len();
-        write_rows(&more, &mut text)?;
+        write_list(&more, &mut text)?;
     }
     Ok(text)
 }
 
-/// Appends the text of rows, in the order given. On an error (out of memory) a part of it may be there.
-fn write_rows(rows: &[Row], out: &mut Vec<u8>) -> Result<(), AllocError>
-    ensures { OnOk result (out.new.items ≡ out.old.items ++ list_text rows.now) }
+/// Appends the text of rows, in the order given.
+///
+/// On an error (out of memory) the vector is as before.
+pub fn write_list(rows: &[Row], out: &mut Vec<u8>) -> Result<(), AllocError>
+    ensures ok { OnOk result (out.new.items ≡ out.old.items ++ list_text rows.now) }
+    ensures err { OnErr result (out.new.items ≡ out.old.items) }
 {
+    let start = out.len();
+    let done = append_list(rows, out);
+    if done.is_err() {
+        out.truncate(start);
+    }
+    done
+}
+
+/// Appends the text of rows; where memory is refused, that of some of them.
+fn append_list(rows: &[Row], out: &mut Vec<u8>) -> Result<(), AllocError>
+    ensures text { OnOk result (out.new.items ≡ out.old.items ++ list_text rows.now) }
+    ensures extends { Extends out.old.items out.new.items }
+{
+    // A row is made apart, so that `out` has whole rows at each time, and what it had can be told from them.
+    let mut text = Vec::new(*out.allocator());
     for row in rows {
-        write_row(row, out)?;
+        text.clear();
+        write_row(row, &mut text)?;
+        out.extend_from_slice(&text)?;
     }
     Ok(())
 }
 
-/// Appends the text of a row. On an error (out of memory) a part of it may be there.
+/// Appends the text of a row.
+///
+/// On an error (out of memory) a part of the text may stand in the vector: [`write_list`] takes it back.
 pub fn write_row(row: &Row, out: &mut Vec<u8>) -> Result<(), AllocError>
     ensures { OnOk result (out.new.items ≡ out.old.items ++ row_text row.now) }
 {

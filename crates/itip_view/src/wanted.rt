@@ -5,7 +5,7 @@ ghost use Rattle.std.specs.Option.{option_copied, option_map};
 ghost use Rattle.itip_view.specs.Showing.{ShowsNamed};
 ghost use Rattle.itip_todo.specs.Participation.{same_text};
 ghost use Rattle.itip_todo.specs.Table.{attendee_key};
-ghost use Rattle.itip_view.specs.Wanted.{is_done, is_asked, shows_named, is_closed, is_over, is_due_before, takes, wants};
+ghost use Rattle.itip_view.specs.Wanted.{is_done, is_asked, shows_named, is_closed, is_over, is_due_before, is_overdue, takes, wants};
 ghost use Rattle.itip_view.specs.Wanting.{Wants};
 ghost use Rattle.itip_view.specs.declared.row.Row.{Row};
 
@@ -63,6 +63,13 @@ impl<'a> Wanted<'a> {
             && is_due_before(&row.due, self.due_before)
             && !(self.is_open && is_over(row.status))
     }
+}
+
+/// Whether a row is overdue on a day, counted from 1970-01-01: it is open, and has a DUE, whose day as written is before this one.
+pub fn is_overdue(row: &Row, today: i32) -> bool
+    ensures { result ≡ is_overdue today row.now }
+{
+    is_due_before(&row.due, Some(today)) && !is_over(row.status)
 }
 
 /// Whether one of these is the attendee who is named, where one is; where only open rows are asked for, with something left to do.

@@ -15,7 +15,7 @@ use Rattle.itip_todo.specs.Parts.{Parts}
 use Rattle.itip_todo.specs.PartsOf.{parts_of}
 use Rattle.itip_todo.specs.StatusText.{status_text}
 use Rattle.itip_todo.specs.Written.{Content, optional, plain, moment_line, rid_line, property_line, head_contents, parts_contents}
-use Rattle.itip_todo.specs.declared.property.Property.{Property}
+use Rattle.itip_todo.specs.Properties.{Property}
 use Rattle.itip_todo.specs.declared.property_name.PropertyName.TheVariants as name
 use Rattle.itip_items.specs.declared.item.Item.{Item}
 use Rattle.itip_state.proofs.Members.{none_in, cons_cases, no_pairs}

@@ -18,7 +18,7 @@ use Rattle.itip_todo.specs.PartsOf.{parts_of}
 use Rattle.itip_todo.specs.Table.{attendee_key, sequence_limit}
 use Rattle.itip_todo.specs.Written.{optional, plain, property_line, rid_line}
 use Rattle.itip_todo.specs.declared.attendee.PartStat.{PartStat}
-use Rattle.itip_todo.specs.declared.property.Property.{Property}
+use Rattle.itip_todo.specs.Properties.{Property}
 use Rattle.itip_todo.specs.declared.property_name.PropertyName.TheVariants as name
 use Rattle.itip_todo.proofs.LawfulLines.{number_lawful, stamp_lawful}
 use Rattle.itip_todo.proofs.Segments.{all_parts}

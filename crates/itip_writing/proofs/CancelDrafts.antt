@@ -8,7 +8,7 @@ use Rattle.std.specs.Option.{is_none}
 use Rattle.itip_moment.specs.declared.moment.Moment.{Moment}
 use Rattle.itip_moment.specs.declared.stamp.Stamp.{Stamp}
 use Rattle.itip_todo.specs.Parts.{Parts}
-use Rattle.itip_todo.specs.declared.property.Property.{Property}
+use Rattle.itip_todo.specs.Properties.{Property}
 use Rattle.itip_items.specs.Given.{AreItemsOf, IsItemOf}
 use Rattle.itip_items.specs.Items.{ItemDraft, drafts, drafts_of, task_draft, instance_draft, attendee_draft, instance_key, kind_of, is_task}
 use Rattle.itip_items.specs.Items.{effective_sequence, series_sequence}

@@ -23,7 +23,7 @@ use Rattle.itip_todo.specs.Parts.{Parts}
 use Rattle.itip_todo.specs.PartsOf.{parts_of}
 use Rattle.itip_todo.specs.Values.{IsMomentText}
 use Rattle.itip_todo.specs.Written.{Content, moment_line, moment_params, optional, range_params, rid_line}
-use Rattle.itip_todo.specs.declared.property.Property.{Property}
+use Rattle.itip_todo.specs.Properties.{Property}
 use Rattle.itip_todo.specs.declared.property_name.PropertyName.TheVariants as name
 use Rattle.itip_todo.proofs.LawfulLines.{moment_lawful, stamp_lawful}
 use Rattle.itip_todo.proofs.Segments.{all_append}

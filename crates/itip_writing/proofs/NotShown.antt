@@ -7,7 +7,7 @@ use Rattle.itip_moment.specs.declared.stamp.Stamp.{Stamp}
 use Rattle.itip_todo.specs.Participation.{same_text}
 use Rattle.itip_todo.specs.Parts.{Parts}
 use Rattle.itip_todo.specs.Table.{attendee_key}
-use Rattle.itip_todo.specs.declared.property.Property.{Property}
+use Rattle.itip_todo.specs.Properties.{Property}
 use Rattle.itip_recur.proofs.MappedLists.{Contains-map}
 use Rattle.itip_items.specs.Given.{AreItemsOf}
 use Rattle.itip_items.specs.Items.{drafts}

@@ -4,7 +4,7 @@ use Rattle.std.specs.List.{AllByRecursion}
 use Rattle.itip_moment.specs.declared.moment.Moment.{Moment}
 use Rattle.itip_todo.specs.Parts.{Parts}
 use Rattle.itip_todo.specs.PartsOf.{parts_of}
-use Rattle.itip_todo.specs.declared.property.Property.{Property}
+use Rattle.itip_todo.specs.Properties.{Property}
 use Rattle.itip_items.specs.Items.{ItemDraft, drafts_of, task_draft, add_drafts, attendee_draft, raised, series_sequence, kind_of}
 use Rattle.itip_items.specs.Items.{method_of}
 use Rattle.itip_items.specs.declared.item.Item.{Item}

@@ -9,7 +9,7 @@ use Rattle.itip_moment.specs.declared.stamp.Stamp.{Stamp}
 use Rattle.itip_todo.specs.Parts.{Parts}
 use Rattle.itip_todo.specs.PartsOf.{parts_of}
 use Rattle.itip_todo.specs.Table.{attendee_key}
-use Rattle.itip_todo.specs.declared.property.Property.{Property}
+use Rattle.itip_todo.specs.Properties.{Property}
 use Rattle.itip_items.specs.Given.{AreItemsOf}
 use Rattle.itip_items.specs.Items.{ItemDraft, add_drafts, attendee_draft, drafts, drafts_of, effective_sequence, instance_key, kind_of}
 use Rattle.itip_items.specs.Items.{method_of, task_draft}

@@ -15,7 +15,7 @@ use Rattle.itip_moment.specs.OrderLaws.{stamp_total}
 use Rattle.itip_moment.specs.declared.moment.Moment.{Moment}
 use Rattle.itip_moment.specs.declared.stamp.Stamp.{Stamp}
 use Rattle.itip_todo.specs.Table.{attendee_key}
-use Rattle.itip_todo.specs.declared.property.Property.{Property}
+use Rattle.itip_todo.specs.Properties.{Property}
 use Rattle.itip_items.specs.KeyParts.{uid_of}
 use Rattle.itip_items.specs.Later.{IsLater}
 use Rattle.itip_items.specs.declared.item.Item.{Item}

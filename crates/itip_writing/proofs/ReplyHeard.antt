@@ -13,7 +13,7 @@ use Rattle.itip_todo.specs.Parts.{Parts}
 use Rattle.itip_todo.specs.Table.{attendee_key}
 use Rattle.itip_todo.specs.declared.attendee.PartStat.{PartStat}
 use Rattle.itip_todo.specs.declared.attendee.PartStat.TheVariants as partstat
-use Rattle.itip_todo.specs.declared.property.Property.{Property}
+use Rattle.itip_todo.specs.Properties.{Property}
 use Rattle.itip_items.specs.Given.{AreItemsOf}
 use Rattle.itip_items.specs.Items.{drafts}
 use Rattle.itip_items.specs.KeyParts.{uid_of}

@@ -15,7 +15,7 @@ use Rattle.itip_todo.specs.PartsOf.{parts_of}
 use Rattle.itip_todo.specs.Reading.{ReadsTodo}
 use Rattle.itip_todo.specs.Table.{sequence_limit, percent_limit, priority_limit, attendee_limit, is_other}
 use Rattle.itip_todo.specs.Written.{Content, content_of, parts_contents}
-use Rattle.itip_todo.specs.declared.property.Property.{Property}
+use Rattle.itip_todo.specs.Properties.{Property}
 use Rattle.itip_todo.specs.declared.todo.Todo.{Todo}
 use Rattle.itip_todo.proofs.ContentLines.{plain_lawful}
 use Rattle.itip_todo.proofs.LawfulLines.{number_lawful}

@@ -4,7 +4,7 @@ use Rattle.std.proofs.Common.{Option, Some, None}
 use Rattle.std.specs.List.{AllByRecursion, Contains}
 use Rattle.itip_moment.specs.declared.moment.Moment.{Moment}
 use Rattle.itip_moment.specs.declared.stamp.Stamp.{Stamp}
-use Rattle.itip_todo.specs.declared.property.Property.{Property}
+use Rattle.itip_todo.specs.Properties.{Property}
 use Rattle.itip_items.specs.KeyParts.{uid_of}
 use Rattle.itip_items.specs.declared.item.Item.{Item}
 use Rattle.itip_items.specs.declared.key.Key.{Key}

@@ -10,7 +10,7 @@ use Rattle.itip_moment.specs.Order.{moment_cmp}
 use Rattle.itip_moment.specs.declared.moment.Moment.{Moment}
 use Rattle.itip_moment.specs.declared.stamp.Stamp.{Stamp}
 use Rattle.itip_todo.specs.Parts.{Parts}
-use Rattle.itip_todo.specs.declared.property.Property.{Property}
+use Rattle.itip_todo.specs.Properties.{Property}
 use Rattle.itip_todo.specs.declared.property_name.PropertyName.{PropertyName}
 use Rattle.itip_todo.specs.declared.property_name.PropertyName.TheVariants as name
 use Rattle.itip_todo.specs.declared.status.Status.{Status}

@@ -4,7 +4,7 @@ use Rattle.itip_moment.specs.declared.moment.Moment.{Moment}
 use Rattle.itip_moment.specs.declared.stamp.Stamp.{Stamp}
 use Rattle.itip_todo.specs.Parts.{Parts}
 use Rattle.itip_todo.specs.Table.{attendee_key}
-use Rattle.itip_todo.specs.declared.property.Property.{Property}
+use Rattle.itip_todo.specs.Properties.{Property}
 use Rattle.itip_items.specs.declared.item.Item.{Item}
 use Rattle.itip_items.specs.declared.key.Key.{Key}
 use Rattle.itip_items.specs.declared.key.Key.TheVariants as key

@@ -9,9 +9,9 @@ ghost use Rattle.itip_writing.specs.Sent.{brief_parts, has_sequence, sent_head, 
 
 use crate::rid::write_rid;
 use itip_items::Method;
-use itip_lines::{write_parts, write_property};
+use itip_lines::write_parts;
 use itip_moment::{Moment, Stamp, write_stamp};
-use itip_todo::{Property, SharedProperty, Status, Uid};
+use itip_todo::{Property, PropertyName, Status, Uid, write_property};
 use std::alloc::AllocError;
 
 /// A to-do of an answer, a wish for the newest revision, a cancellation or a removal, with the few properties that are written
@@ -36,7 +36,7 @@ pub(crate) struct BriefTodo<'a> {
     /// PERCENT-COMPLETE.
     pub percent: Option<u8>,
     /// ORGANIZER with its parameters.
-    pub organizer: &'a Option<SharedProperty>,
+    pub organizer: &'a Option<Property>,
     /// ATTENDEE with its parameters, in order.
     pub attendees: &'a [Property],
 }
@@ -119,15 +119,11 @@ fn write_number(name: &str, number: u32, out: &mut Vec<u8>) -> Result<(), AllocE
     write_value(name, digits.as_str().as_bytes(), out)
 }
 
-fn write_organizer(organizer: &Option<SharedProperty>, out: &mut Vec<u8>) -> Result<(), AllocError>
+fn write_organizer(organizer: &Option<Property>, out: &mut Vec<u8>) -> Result<(), AllocError>
     ensures { OnOk result (out.new.items ≡ out.old.items ++ contents_octets (optional (property_line name.Organizer) organizer.now)) }
 {
     match organizer {
-        Some(organizer) => {
-            let organizer = organizer.property();
-            let value = organizer.value.as_str().as_bytes();
-            write_property("ORGANIZER", &organizer.params, value, out)
-        }
+        Some(organizer) => write_property(PropertyName::Organizer, organizer, out),
         None => Ok(()),
     }
 }
@@ -136,16 +132,9 @@ fn write_attendees(attendees: &[Property], out: &mut Vec<u8>) -> Result<(), Allo
     ensures { OnOk result (out.new.items ≡ out.old.items ++ contents_octets (map (property_line name.Attendee) attendees.now)) }
 {
     for attendee in attendees {
-        write_attendee(attendee, out)?;
+        write_property(PropertyName::Attendee, attendee, out)?;
     }
     Ok(())
-}
-
-fn write_attendee(attendee: &Property, out: &mut Vec<u8>) -> Result<(), AllocError>
-    ensures { OnOk result (out.new.items ≡ out.old.items ++ contents_octets (property_line name.Attendee attendee.now ∷ [])) }
-{
-    let value = attendee.value.as_str().as_bytes();
-    write_property("ATTENDEE", &attendee.params, value, out)
 }
 
 /// Appends a line without parameters.

@@ -8,7 +8,7 @@ ghost use Rattle.itip_writing.specs.Lacking.{lacking_organizer, lacking_of_items
 
 use crate::NoMemory;
 use itip_items::Item;
-use itip_todo::{PropertyName, SharedProperty, Todo};
+use itip_todo::{Property, PropertyName, Todo};
 use std::alloc::Global;
 
 /// What a REQUEST wants in each to-do beside what is always written (RFC 5546 3.4.2), in canonical order.
@@ -23,7 +23,7 @@ const WANTED_IN_REQUEST: [PropertyName; 5] = [
 /// ORGANIZER, where there is none: a REPLY, a CANCEL and a REFRESH want it (RFC 5546 3.4.3, 3.4.5 and 3.4.6).
 pub(crate) fn lacking_organizer(
     alloc: Global,
-    organizer: &Option<SharedProperty>,
+    organizer: &Option<Property>,
 ) -> Result<Vec<PropertyName>, NoMemory>
     ensures { IfOk result (λ names. names.items ≡ lacking_organizer organizer.now) }
 {

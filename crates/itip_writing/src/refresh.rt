@@ -130,9 +130,8 @@ fn refresh_octets(
 fn refresh_line(alloc: Global, address: &Text) -> Result<Vec<Property>, NoMemory>
     ensures { IfOk result (λ lines. lines.items ≡ refresh_line address.now ∷ []) }
 {
-    let value = address.clone()?;
     let params = Params::new(alloc);
     let mut lines = Vec::new(alloc);
-    lines.push(Property { params, value })?;
+    lines.push(Property::new(alloc, &params, address.as_str())?)?;
     Ok(lines)
 }

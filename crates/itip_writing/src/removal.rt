@@ -166,7 +166,7 @@ fn lines_of(
 fn is_one_of(line: &Property, attendees: &[String]) -> bool
     ensures { result ≡ list_any (λ address. same_text (attendee_key line.now.value) (attendee_key (string_bytes address))) attendees.now }
 {
-    let value = line.value.as_str();
+    let value = line.value();
     attendees
         .iter()
         .any(|address| value.eq_ignore_ascii_case(address.as_str()))
@@ -191,7 +191,7 @@ fn latest_answer(
 {
     let mut latest = None;
     for line in lines {
-        let key = attendee_key(alloc, line.value.as_str())?;
+        let key = attendee_key(alloc, line.value())?;
         let answer = kept_answer(items, id, key.as_str());
         latest = with_answer(latest, answer, sequence)?;
     }

@@ -160,9 +160,8 @@ fn reply_octets(
 fn answer_line(alloc: Global, address: &Text, status: PartStat) -> Result<Vec<Property>, NoMemory>
     ensures { IfOk result (λ lines. lines.items ≡ answer_line address.now status ∷ []) }
 {
-    let value = address.clone()?;
     let params = Params::one(alloc, "PARTSTAT", status.as_str())?;
     let mut lines = Vec::new(alloc);
-    lines.push(Property { params, value })?;
+    lines.push(Property::new(alloc, &params, address.as_str())?)?;
     Ok(lines)
 }

@@ -95,7 +95,7 @@ fn copies(alloc: Global, state: &State) -> Result<Vec<u8>, CallError> {
     let mut told = Vec::new(alloc);
     for item in &state.shared_items()? {
         let copy = item.clone()?;
-        told.extend_from_slice(copy.item().bytes.as_slice())?;
+        copy.item().bytes.append_to(&mut told)?;
     }
     Ok(told)
 }

@@ -125,7 +125,7 @@ fn shown_packets(alloc: Global, packets: &[Packet]) -> Result<Vec<u8>, CallError
 fn lengths(alloc: Global, packet: &Packet) -> Result<String, CallError> {
     let mut told = String::new(alloc);
     for item in packet.batch().as_slice() {
-        let length = item.bytes.as_slice().len();
+        let length = item.bytes.len();
         told.push_str(format!(in alloc; " {length}")?.as_str())?;
     }
     Ok(told)

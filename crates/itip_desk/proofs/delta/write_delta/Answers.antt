@@ -8,9 +8,8 @@ use Rattle.itip_desk.proofs.delta.write_delta.Goals as goal
 pub loop-item-preserved : goal.loop-item-preserved
 loop-item-preserved c =
     write_more c.as_slice-item-items.result.now c.loop-item.item-index c.item-item.result c.loop-item.octets.items
-    c.extend_from_slice.new.self.items c.as_slice.result.now
-    (omega arith) c.item-item.is (c.as_slice.ensures ∙ ap (λ (i : Item). i.bytes) c.deref.ensures) c.in_ok-extend_from_slice.ensures.items
-    c.loop-item.invariant
+    c.append_to.new.out.items c.deref.result.now.bytes
+    (omega arith) c.item-item.is (ap (λ (i : Item). i.bytes) c.deref.ensures) c.in_ok-append_to.ensures.ok c.loop-item.invariant
 
 pub returns-clause-octets : goal.returns-clause-octets
 returns-clause-octets c =

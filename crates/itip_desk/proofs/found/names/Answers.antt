@@ -3,7 +3,7 @@ use Rattle.std.specs.List.{Contains}
 use Rattle.std.proofs.lemmas.List.{take_more}
 use Rattle.std.proofs.lemmas.List.Elements.{Contains-push_cases}
 use Rattle.itip_todo.specs.Table.{attendee_key}
-use Rattle.itip_todo.specs.declared.property.Property.{Property}
+use Rattle.itip_todo.specs.Properties.{Property}
 use Rattle.itip_desk.proofs.found.names.Goals as goal
 
 one_more : (xs : List Property) (i : ℕ) (x : Property) → i < length xs → x ≡ get_or xs i x → take (i + 1) xs ≡ take i xs ++ x ∷ []
@@ -19,7 +19,7 @@ loop-line-preserved c = λ line h named.
     elim (Contains-push_cases (take i c.args.item.now.todo.attendees) x line (subst (λ (xs : List Property). Contains xs line) more h)) [
       | inl before ↦ c.loop-line.invariant line before named
       | inr one ↦
-          let is : true ≡ false = sym (c.eq_ignore_ascii_case.ensures.test.1 (ap attendee_key c.as_str.ensures ∙
+          let is : true ≡ false = sym (c.eq_ignore_ascii_case.ensures.test.1 (ap attendee_key c.value.ensures ∙
           ap (λ (l : Property). attendee_key l.value) one ∙ named)) ∙ c.if-eq_ignore_ascii_case.false in
           absurd (cc)
     ]

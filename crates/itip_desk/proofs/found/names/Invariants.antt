@@ -1,7 +1,7 @@
 use Rattle.std.proofs.Common.{take}
 use Rattle.std.specs.List.{Contains}
 use Rattle.itip_todo.specs.Table.{attendee_key}
-use Rattle.itip_todo.specs.declared.property.Property.{Property}
+use Rattle.itip_todo.specs.Properties.{Property}
 use Rattle.std.proofs.Common.{◌≡◌}
 use Rattle.itip_desk.proofs.found.names.Given as goal
 

@@ -1,7 +1,7 @@
 use Rattle.std.proofs.Common.{◌≡◌, ◌∙◌, ◌||◌, ◌<◌, ◌≤◌, ℕ, List, length, take, take_all, get_or, sym, ap, subst}
 use Rattle.std.specs.Ordering.{is_eq}
 use Rattle.itip_todo.specs.Table.{attendee_key}
-use Rattle.itip_todo.specs.declared.property.Property.{Property}
+use Rattle.itip_todo.specs.Properties.{Property}
 use Rattle.itip_items.specs.declared.item.Item.{Item}
 use Rattle.itip_desk.specs.Entries.{entry_cmp, entry_of, attendee_mark}
 use Rattle.itip_desk.specs.Index.{has, is_in}
@@ -26,7 +26,7 @@ loop-line-preserved c = λ e.
     let same : c.as_slice-line-items.result.now ≡ item.todo.attendees = c.as_slice-line-items.ensures ∙
     ap (λ (j : Item). j.todo.attendees) c.item.ensures in
     let named : c.attendee_number.result ≡ text_number (attendee_key line.value) = c.attendee_number.ensures ∙
-    ap (λ (t : List ℕ). text_number (attendee_key t)) c.as_str.ensures in
+    ap (λ (t : List ℕ). text_number (attendee_key t)) c.value.ensures in
     c.in_ok-put.ensures.ok e ∙
     ap (λ (n : ℕ). has c.loop-line.index e || is_eq (entry_cmp e (entry_of item (Attendee n)))) named ∙
     grows (has c.args.index.now e) (has c.loop-line.index e) (is_eq (entry_cmp e (entry_of item (attendee_mark line.value))))

@@ -2,7 +2,7 @@ use Rattle.std.proofs.Common.{◌≡◌, ◌+◌, ◌∷◌, [], ◌++◌, ◌�
 use Rattle.std.specs.Option.{option_copied}
 use Rattle.std.proofs.lemmas.List.{take_more}
 use Rattle.itip_todo.specs.Table.{attendee_key}
-use Rattle.itip_todo.specs.declared.property.Property.{Property}
+use Rattle.itip_todo.specs.Properties.{Property}
 use Rattle.itip_items.specs.declared.key.Key.{Key}
 use Rattle.itip_explain.specs.Asking.{AddsAskings}
 use Rattle.itip_explain.specs.declared.asked.Asking.{Asking}
@@ -22,7 +22,7 @@ loop-line-preserved c =
     ap (λ (x : Property). take i lines ++ x ∷ []) (sym c.line-item.is) in
     subst (λ (after : List Asking). AddsAskings (AsksLines by (take (i + 1) lines)) before after) (sym c.in_ok-push.ensures.items)
     (subst (λ (ls : List Property). AddsAskings (AsksLines by ls) before (found ++ asking ∷ [])) (sym done)
-    (lines_more by (take i lines) line before found asking refl (c.in_ok-attendee.ensures ∙ ap attendee_key c.as_str.ensures)
+    (lines_more by (take i lines) line before found asking refl (c.in_ok-attendee.ensures ∙ ap attendee_key c.value.ensures)
     c.loop-line.invariant))
 
 pub returns : goal.returns

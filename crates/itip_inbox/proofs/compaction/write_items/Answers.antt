@@ -7,23 +7,23 @@ use Rattle.itip_inbox.specs.Compaction.{WritesSoFar}
 use Rattle.itip_streams.proofs.Writing.{front_none}
 use Rattle.itip_inbox.proofs.Outputs.{on_err, items_none, items_more, items_moved, items_front, items_end}
 use Rattle.itip_inbox.proofs.compaction.write_items.Goals as goal
-use Rattle.itip_inbox.proofs.compaction.write_items.Goals.{In_ok-extend_from_slice}
+use Rattle.itip_inbox.proofs.compaction.write_items.Goals.{In_ok-append_to}
 
 -- one item more is kept
-more : (g : _) (c : In_ok-extend_from_slice g)
+more : (g : _) (c : In_ok-append_to g)
     → WritesSoFar (g.W.Write.contents c.args.writer.now) (g.W.Write.contents c.loop-item.writer)
-    (take (c.loop-item.item-index + 1) c.args.items.now) c.extend_from_slice.new.self.items
+    (take (c.loop-item.item-index + 1) c.args.items.now) c.append_to.new.out.items
 more g c =
     items_more (g.W.Write.contents c.args.writer.now) (g.W.Write.contents c.loop-item.writer) c.args.items.now c.loop-item.item-index
-    c.item-item.result c.loop-item.kept.items c.extend_from_slice.new.self.items c.as_slice.result.now
-    c.loop-item.invariant (omega arith) c.item-item.is (c.as_slice.ensures ∙ ap (λ (i : Item). i.bytes) c.deref.ensures)
-    c.in_ok-extend_from_slice.ensures.items
+    c.item-item.result c.loop-item.kept.items c.append_to.new.out.items c.deref.result.now.bytes
+    c.loop-item.invariant (omega arith) c.item-item.is (ap (λ (i : Item). i.bytes) c.deref.ensures)
+    c.in_ok-append_to.ensures.ok
 
 pub loop-item-init : goal.loop-item-init
 loop-item-init g c = items_none (g.W.Write.contents c.args.writer.now) c.new-kept.result.items c.new-kept.ensures.items
 
-pub returns-in_err-extend_from_slice-clause-front : goal.returns-in_err-extend_from_slice-clause-front
-returns-in_err-extend_from_slice-clause-front g c =
+pub returns-in_err-append_to-clause-front : goal.returns-in_err-append_to-clause-front
+returns-in_err-append_to-clause-front g c =
     on_err c.from_residual.result
     (items_front (g.W.Write.contents c.args.writer.now) (g.W.Write.contents c.loop-item.writer) (g.W.Write.contents c.loop-item.writer)
     c.args.items.now c.loop-item.item-index c.loop-item.kept.items
@@ -33,15 +33,15 @@ pub returns-in_err-write_if_many-clause-front : goal.returns-in_err-write_if_man
 returns-in_err-write_if_many-clause-front g c =
     on_err c.from_residual-in_err-write_if_many.result
     (items_front (g.W.Write.contents c.args.writer.now) (g.W.Write.contents c.loop-item.writer)
-    (g.W.Write.contents c.write_if_many.new.writer) c.args.items.now (c.loop-item.item-index + 1) c.extend_from_slice.new.self.items
-    (more g (goal.at.returns-in_err-write_if_many-clause-front g c).In_ok-extend_from_slice) c.in_err-write_if_many.ensures.front)
+    (g.W.Write.contents c.write_if_many.new.writer) c.args.items.now (c.loop-item.item-index + 1) c.append_to.new.out.items
+    (more g (goal.at.returns-in_err-write_if_many-clause-front g c).In_ok-append_to) c.in_err-write_if_many.ensures.front)
 
 pub loop-item-preserved : goal.loop-item-preserved
 loop-item-preserved g c =
     items_moved (g.W.Write.contents c.args.writer.now) (g.W.Write.contents c.loop-item.writer)
     (g.W.Write.contents c.write_if_many.new.writer) (take (c.loop-item.item-index + 1) c.args.items.now)
-    c.extend_from_slice.new.self.items c.write_if_many.new.kept.items
-    (more g (goal.at.loop-item-preserved g c).In_ok-extend_from_slice) c.in_ok-write_if_many.ensures.moved
+    c.append_to.new.out.items c.write_if_many.new.kept.items
+    (more g (goal.at.loop-item-preserved g c).In_ok-append_to) c.in_ok-write_if_many.ensures.moved
 
 pub returns-clause-all : goal.returns-clause-all
 returns-clause-all g c =
@@ -50,7 +50,7 @@ returns-clause-all g c =
     items_end (g.W.Write.contents c.args.writer.now) (g.W.Write.contents c.loop-item.writer) (g.W.Write.contents c.write_output.new.writer)
     c.args.items.now c.loop-item.item-index c.loop-item.kept.items
     c.loop-item.invariant past (subst (λ (t : List ℕ). Appends (g.W.Write.contents c.loop-item.writer)
-    (g.W.Write.contents c.write_output.new.writer) t) c.as_slice-2.ensures.value all)) c.write_output.ensures.all
+    (g.W.Write.contents c.write_output.new.writer) t) c.as_slice.ensures.value all)) c.write_output.ensures.all
 
 pub returns-clause-front : goal.returns-clause-front
 returns-clause-front g c =
@@ -58,4 +58,4 @@ returns-clause-front g c =
     items_front (g.W.Write.contents c.args.writer.now) (g.W.Write.contents c.loop-item.writer)
     (g.W.Write.contents c.write_output.new.writer) c.args.items.now c.loop-item.item-index c.loop-item.kept.items
     c.loop-item.invariant (subst (λ (t : List ℕ). AppendsFront (g.W.Write.contents c.loop-item.writer)
-    (g.W.Write.contents c.write_output.new.writer) t) c.as_slice-2.ensures.value front)) c.write_output.ensures.front
+    (g.W.Write.contents c.write_output.new.writer) t) c.as_slice.ensures.value front)) c.write_output.ensures.front

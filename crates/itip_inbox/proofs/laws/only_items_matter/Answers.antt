@@ -7,8 +7,8 @@ returns-clause-compaction c = λ inputs others octets again refused other same.
     same_compaction inputs others same octets again refused other
 
 pub returns-clause-list : goal.returns-clause-list
-returns-clause-list c = λ inputs others wanted window text again refused other same.
-    same_list inputs others same window text again refused other (Wants wanted)
+returns-clause-list c = λ inputs others octets wanted window text again refused other same.
+    same_list inputs others same window text again refused other octets (Wants wanted)
 
 pub returns-clause-report : goal.returns-clause-report
 returns-clause-report c = λ inputs others name window text again refused other same.

@@ -15,8 +15,8 @@ returns c =
     (λ r. AreResent items uid r.series.now (map (λ item. item.now) r.overrides.items)) = c.in_ok-resent.ensures in
     let are : AreResent items uid c.in-Some.resent.series.now (map (λ item. item.now) c.in-Some.resent.overrides.items) =
     rw c.in-Some.is at found in
-    let front : c.extend_from_slice.new.self.items ≡ c.in-Some.resent.series.now.bytes =
-    c.in_ok-extend_from_slice.ensures.items ∙ (λ i. c.new-messages.ensures.items i ++ c.as_slice.ensures i) in
+    let front : c.append_to.new.out.items ≡ c.in-Some.resent.series.now.bytes =
+    c.in_ok-append_to.ensures.ok ∙ ap (λ (old : List ℕ). old ++ c.in-Some.resent.series.now.bytes) c.new-messages.ensures.items in
     let back : flat_map (λ item. item.now.bytes) c.deref.result.now ≡ flat_map (λ (item : Item). item.bytes)
     (map (λ item. item.now) c.in-Some.resent.overrides.items) =
     ap (flat_map (λ item. item.now.bytes)) c.deref.ensures.value ∙

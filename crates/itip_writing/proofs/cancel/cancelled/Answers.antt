@@ -1,6 +1,6 @@
 use Rattle.std.proofs.Common.{List, Some, ap}
 use Rattle.std.specs.Option.{option_copied}
-use Rattle.itip_todo.specs.declared.property.Property.{Property}
+use Rattle.itip_todo.specs.Properties.{Property}
 use Rattle.itip_todo.specs.declared.status.Status.TheVariants as status
 use Rattle.itip_writing.specs.Cancelling.{notice}
 use Rattle.itip_writing.proofs.cancel.cancelled.Goals as goal

@@ -4,7 +4,7 @@ use Rattle.std.proofs.lemmas.Result.{err_from_is_err_and}
 use Rattle.itip_moment.specs.declared.moment.Moment.{Moment}
 use Rattle.itip_moment.specs.declared.stamp.Stamp.{Stamp}
 use Rattle.itip_todo.specs.Table.{attendee_key}
-use Rattle.itip_todo.specs.declared.property.Property.{Property}
+use Rattle.itip_todo.specs.Properties.{Property}
 use Rattle.itip_items.specs.declared.item.Item.{Item}
 use Rattle.itip_items.specs.declared.key.Key.{Key}
 use Rattle.itip_items.specs.declared.key.Key.TheVariants as keys
@@ -32,8 +32,8 @@ loop-line-preserved c =
     let so_far : List Property = take (c.loop-line.line-index + 1) c.args.lines.now in
     let key : Key = answer_key uid id c.line-item.result in
     let answer : Option Item = option_copied c.kept_answer-answer.result in
-    let same : keys.Answer uid id c.as_str-in-loop-line.result.now ≡ key =
-    ap (keys.Answer uid id) (c.as_str-in-loop-line.ensures ∙ c.in_ok-key.ensures ∙ ap attendee_key c.as_str.ensures) in
+    let same : keys.Answer uid id c.as_str.result.now ≡ key =
+    ap (keys.Answer uid id) (c.as_str.ensures ∙ c.in_ok-key.ensures ∙ ap attendee_key c.value.ensures) in
     let kept : IsKeptOf items key answer = subst (λ (k : Key). IsKeptOf items k answer) same c.kept_answer-answer.ensures in
     let more = keys_more uid id c.args.lines.now c.loop-line.line-index c.line-item.result c.loop-line-test.true c.line-item.is in record {
       latest = subst (λ (o : Option Stamp). IsLatestOf (IsEqualRevision items (removed_keys uid id so_far) n) o)
@@ -52,8 +52,8 @@ returns-in_err-latest-clause-overtaken c =
     let id : Option Moment = option_copied c.args.id in
     let key : Key = answer_key uid id c.line-item.result in
     let answer : Option Item = option_copied c.kept_answer-answer.result in
-    let same : keys.Answer uid id c.as_str-in-loop-line.result.now ≡ key =
-    ap (keys.Answer uid id) (c.as_str-in-loop-line.ensures ∙ c.in_ok-key.ensures ∙ ap attendee_key c.as_str.ensures) in
+    let same : keys.Answer uid id c.as_str.result.now ≡ key =
+    ap (keys.Answer uid id) (c.as_str.ensures ∙ c.in_ok-key.ensures ∙ ap attendee_key c.value.ensures) in
     let kept : IsKeptOf items key answer = subst (λ (k : Key). IsKeptOf items k answer) same c.kept_answer-answer.ensures in
     let p = err_from_is_err_and c.from_residual-in_err-latest.result c.from_residual-in_err-latest.ensures.1 in
     rw (p.1, p.2) (if_overtaken items (removed_keys uid id c.args.lines.now) c.args.sequence answer

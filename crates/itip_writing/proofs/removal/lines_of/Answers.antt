@@ -2,7 +2,7 @@ use Rattle.std.proofs.Common.{◌≡◌, ◌∙◌, ◌++◌, ◌∷◌, [], Lis
 use Rattle.std.specs.String.{string_bytes}
 use Rattle.itip_todo.specs.Participation.{same_text}
 use Rattle.itip_todo.specs.Table.{attendee_key}
-use Rattle.itip_todo.specs.declared.property.Property.{Property}
+use Rattle.itip_todo.specs.Properties.{Property}
 use Rattle.itip_writing.specs.Removing.{is_one_of, lines_of}
 use Rattle.itip_writing.proofs.MappedTests.{any_mapped, filter_fail, filter_pass}
 use Rattle.itip_writing.proofs.removal.lines_of.Goals as goal

@@ -5,7 +5,7 @@ use Rattle.std.proofs.lemmas.Result.{err_from_is_err_and}
 use Rattle.itip_moment.specs.declared.moment.Moment.{Moment}
 use Rattle.itip_moment.specs.declared.stamp.Stamp.{Stamp}
 use Rattle.itip_todo.specs.Parts.{Parts}
-use Rattle.itip_todo.specs.declared.property.Property.{Property}
+use Rattle.itip_todo.specs.Properties.{Property}
 use Rattle.itip_items.specs.declared.item.Item.{Item}
 use Rattle.itip_report.specs.Organizing.{IsNext}
 use Rattle.itip_view.proofs.Asking.{shows_is}

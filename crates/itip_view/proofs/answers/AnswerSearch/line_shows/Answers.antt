@@ -2,7 +2,7 @@ use Rattle.std.proofs.Common.{◌≡◌, ◌∙◌, ℕ, List, sym, ap, subst, f
 use Rattle.std.specs.Option.{option_copied}
 use Rattle.itip_todo.specs.Participation.{same_text}
 use Rattle.itip_todo.specs.Table.{attendee_key}
-use Rattle.itip_todo.specs.declared.property.Property.{Property}
+use Rattle.itip_todo.specs.Properties.{Property}
 use Rattle.itip_items.specs.declared.item.Item.{Item}
 use Rattle.itip_view.specs.Answers.{Asked, Decides}
 use Rattle.itip_view.specs.OfUid.{asked_by, asked_of}
@@ -14,7 +14,7 @@ pub returns-then-not-is_named : goal.returns-then-not-is_named
 returns-then-not-is_named c = λ answer decides.
     let off : c.is_named.result ≡ false = search rules in
     other_line c.args.is_open c.args.address.now c.args.line.now answer
-    (ap (λ (shown : List ℕ). same_text (attendee_key shown) (attendee_key c.args.address.now)) (sym c.as_str-shown.ensures) ∙
+    (ap (λ (shown : List ℕ). same_text (attendee_key shown) (attendee_key c.args.address.now)) (sym c.value-shown.ensures) ∙
     sym c.is_named.ensures ∙ off)
 
 pub returns-in_default : goal.returns-in_default
@@ -24,7 +24,7 @@ returns-in_default c = λ answer decides.
     let line : Property = c.args.line.now in
     let found : Option Item = option_copied c.deciding-answer.result in
     let same : c.as_str.result.now ≡ attendee_key line.value =
-    c.as_str.ensures ∙ c.in_ok-key.ensures ∙ ap attendee_key c.as_str-shown.ensures in
+    c.as_str.ensures ∙ c.in_ok-key.ensures ∙ ap attendee_key c.value-shown.ensures in
     let is : Decides items (asked line) found =
     subst (λ (key : List ℕ). Decides items (asked_of c.args.self.now.items.now.uid c.args.self.now.questions.now key) found) same
     c.deciding-answer.ensures in
@@ -38,7 +38,7 @@ returns c = λ answer decides.
     let line : Property = c.args.line.now in
     let found : Option Item = option_copied c.deciding-answer.result in
     let same : c.as_str.result.now ≡ attendee_key line.value =
-    c.as_str.ensures ∙ c.in_ok-key.ensures ∙ ap attendee_key c.as_str-shown.ensures in
+    c.as_str.ensures ∙ c.in_ok-key.ensures ∙ ap attendee_key c.value-shown.ensures in
     let is : Decides items (asked line) found =
     subst (λ (key : List ℕ). Decides items (asked_of c.args.self.now.items.now.uid c.args.self.now.questions.now key) found) same
     c.deciding-answer.ensures in

@@ -7,12 +7,13 @@ use Rattle.itip_view.specs.ByUid.{AreLeft}
 use Rattle.itip_view.specs.ListText.{list_text}
 use Rattle.itip_view.specs.declared.row.Row.{Row}
 use Rattle.itip_inbox.proofs.Outputs.{on_err}
-use Rattle.itip_inbox.proofs.tasks.write_texts.Given.{Over}
-use Rattle.itip_inbox.proofs.tasks.write_texts.Goals as goal
-use Rattle.itip_inbox.proofs.tasks.write_texts.Goals.{In_ok-write_rows}
+use Rattle.itip_inbox.proofs.list_form.TextListListForm.write.Given.{Over}
+use Rattle.itip_inbox.proofs.list_form.TextListListForm.write.Goals as goal
+use Rattle.itip_inbox.proofs.list_form.TextListListForm.write.Goals.{In_ok-write_rows}
 
 -- what was written of the rows, and what is kept
-moved : (g : Over) (c : In_ok-write_rows g) (all : List Row) (are : AreLeft c.args.rows all) → MovesOut (g.W.Write.contents c.args.writer.now)
+moved : (g : Over) (c : In_ok-write_rows g) (all : List Row) (are : AreLeft c.args.rows all) →
+    MovesOut (g.W.Write.contents c.args.writer.now)
     (g.W.Write.contents c.write_rows.new.writer) (list_text all) c.write_rows.new.kept.items
 moved g c all are =
     subst (λ (t : List ℕ). MovesOut (g.W.Write.contents c.args.writer.now) (g.W.Write.contents c.write_rows.new.writer)
@@ -20,22 +21,22 @@ moved g c all are =
 
 pub returns-in_err-write_rows-clause-front : goal.returns-in_err-write_rows-clause-front
 returns-in_err-write_rows-clause-front g c =
-    on_err c.from_residual.result (λ all are.
+    on_err c.from_residual.result (λ few.
     subst (λ (t : List ℕ). AppendsFront (g.W.Write.contents c.args.writer.now) (g.W.Write.contents c.write_rows.new.writer)
-    (t ++ list_text all)) c.new-kept.ensures.items (c.in_err-write_rows.ensures.front all are))
+    (t ++ list_text few.rows)) c.new-kept.ensures.items (c.in_err-write_rows.ensures.front few.rows few.are_left))
 
 pub returns-clause-all : goal.returns-clause-all
 returns-clause-all g c =
-    on_ok_weaker c.write_output.result (λ appended all are.
-    all_moved _ _ (list_text all) c.write_rows.new.kept.items
-    (moved g (goal.at.returns-clause-all g c).In_ok-write_rows all are) _
+    on_ok_weaker c.write_output.result (λ appended few.
+    all_moved _ _ (list_text few.rows) c.write_rows.new.kept.items
+    (moved g (goal.at.returns-clause-all g c).In_ok-write_rows few.rows few.are_left) _
     (subst (λ (t : List ℕ). Appends (g.W.Write.contents c.write_rows.new.writer) (g.W.Write.contents c.write_output.new.writer) t)
     c.as_slice.ensures.value appended)) c.write_output.ensures.all
 
 pub returns-clause-front : goal.returns-clause-front
 returns-clause-front g c =
-    on_err_weaker c.write_output.result (λ front all are.
-    front_moved _ _ (list_text all) c.write_rows.new.kept.items
-    (moved g (goal.at.returns-clause-front g c).In_ok-write_rows all are) _
+    on_err_weaker c.write_output.result (λ front few.
+    front_moved _ _ (list_text few.rows) c.write_rows.new.kept.items
+    (moved g (goal.at.returns-clause-front g c).In_ok-write_rows few.rows few.are_left) _
     (subst (λ (t : List ℕ). AppendsFront (g.W.Write.contents c.write_rows.new.writer) (g.W.Write.contents c.write_output.new.writer) t)
     c.as_slice.ensures.value front)) c.write_output.ensures.front
