@@ -4,8 +4,13 @@ import random
 import runpy
 
 TOP = os.path.dirname(os.path.dirname(os.path.dirname(os.path.dirname(os.path.realpath(__file__)))))
-MESSAGE = runpy.run_path(os.path.join(TOP, "bench", "many-messages"), run_name="many-messages")["message"]
+MANY_MESSAGES = runpy.run_path(os.path.join(TOP, "bench", "many-messages"), run_name="many-messages")
+MESSAGE = MANY_MESSAGES["message"]
+# About so many to-dos they are, chosen at random.
+TODOS = MANY_MESSAGES["TODOS"]
 BEGIN, END = b"BEGIN:VCALENDAR\r\n", b"\r\nEND:VCALENDAR\r\n"
+# Three days, so that the list of a million messages has fewer than 100,000 rows.
+DAYS = ["--from", "20260105", "--to", "20260108"]
 # One message of so many is cut off on its way.
 CUT_OFF = 1_000
 

@@ -2,6 +2,9 @@
 
 A compaction has one to-do in each message, so a message goes to a part as a whole. A message of another hand may have to-dos of
 several UIDs, and is refused for the first bad one of them: who cuts it up changes what is refused, so it is compacted first.
+
+Why it is right: the laws `lists_of_parts` of itip_view and `outputs_of_parts` of itip_inbox, of rows and of items. That texts are
+cut here as these say is compared by tools/cluster/test.
 """
 import heapq
 import itertools
