@@ -12,4 +12,6 @@ pub mod Following
 pub mod Explaining
 pub mod Sending
 pub mod Shown
+pub mod ShardOf
+pub mod Shards
 pub mod Streaming
