@@ -3,29 +3,29 @@ use Rattle.std.proofs.Common.{◌≡◌, ◌∙◌, ◌<◌, ◌+◌, ℕ, List,
 use Rattle.std.specs.Char.{to_ascii_lowercase}
 use Rattle.std.proofs.lemmas.List.{take_more, take-map, map_more}
 use Rattle.itip_todo.specs.Table.{attendee_key}
-use Rattle.itip_desk.specs.Numbers.{with_octet, with_text, text_number}
+use Rattle.itip_desk.specs.Numbers.{number_with, with_text, text_number}
 
-with_more : (n : ℕ) (text : List ℕ) (octet : ℕ) → with_text n (text ++ octet ∷ []) ≡ with_octet (with_text n text) octet
+with_more : (n : ℕ) (text : List ℕ) (octet : ℕ) → with_text n (text ++ octet ∷ []) ≡ number_with (with_text n text) octet
 with_more n [] octet = refl
-with_more n (o ∷ text) octet = with_more (with_octet n o) text octet
+with_more n (o ∷ text) octet = with_more (number_with n o) text octet
 
-one_more : (before now : List ℕ) (octet n : ℕ) → now ≡ before ++ octet ∷ [] → n ≡ text_number before → with_octet n octet ≡ text_number now
+one_more : (before now : List ℕ) (octet n : ℕ) → now ≡ before ++ octet ∷ [] → n ≡ text_number before → number_with n octet ≡ text_number now
 one_more before now octet n is so =
-    ap (λ m. with_octet m octet) so ∙ sym (with_more 0 before octet) ∙ ap text_number (sym is)
+    ap (λ m. number_with m octet) so ∙ sym (with_more 0 before octet) ∙ ap text_number (sym is)
 
 -- the number of the first octets, with one more
 pub number_more : (octets text : List ℕ) → octets ≡ text → (i n d : ℕ) → i < length octets → n ≡ text_number (take i text) →
-    with_octet n (get_or octets i d) ≡ text_number (take (i + 1) text)
-number_more octets text same i n d below so = subst (λ (t : List ℕ). with_octet n (get_or octets i d) ≡ text_number (take (i + 1) t)) same
+    number_with n (get_or octets i d) ≡ text_number (take (i + 1) text)
+number_more octets text same i n d below so = subst (λ (t : List ℕ). number_with n (get_or octets i d) ≡ text_number (take (i + 1) t)) same
     (one_more (take i octets) (take (i + 1) octets) (get_or octets i d) n (take_more octets i d below)
     (so ∙ ap (λ (t : List ℕ). text_number (take i t)) (sym same)))
 
 -- the same of an address in small letters
 pub key_more : (octets address : List ℕ) → octets ≡ address → (i n d : ℕ) → i < length octets →
     n ≡ text_number (take i (attendee_key address)) →
-    with_octet n (to_ascii_lowercase (get_or octets i d)) ≡ text_number (take (i + 1) (attendee_key address))
+    number_with n (to_ascii_lowercase (get_or octets i d)) ≡ text_number (take (i + 1) (attendee_key address))
 key_more octets address same i n d below so =
-    subst (λ (t : List ℕ). with_octet n (to_ascii_lowercase (get_or octets i d)) ≡ text_number (take (i + 1) (attendee_key t))) same
+    subst (λ (t : List ℕ). number_with n (to_ascii_lowercase (get_or octets i d)) ≡ text_number (take (i + 1) (attendee_key t))) same
     (one_more (map to_ascii_lowercase (take i octets)) (take (i + 1) (attendee_key octets)) (to_ascii_lowercase (get_or octets i d)) n
     (take-map to_ascii_lowercase (i + 1) octets ∙ map_more to_ascii_lowercase octets i d below)
     (so ∙ ap (λ (t : List ℕ). text_number (take i (attendee_key t))) (sym same) ∙ ap text_number (take-map to_ascii_lowercase i octets)))

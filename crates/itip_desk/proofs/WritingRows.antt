@@ -69,10 +69,10 @@ module _ (asked : RowsByUid) (all : List Row) (old mid : Option (List ℕ)) (kep
   stays_written = front_of_all mid (front_none mid rest)
 
   -- no UID is left
-  pub all_so_far : IsDone asked → MovesOut old mid (kept ++ list_text all) rest
-  all_so_far none =
+  pub all_so_far : (next : RowsByUid) → IsDone asked next → MovesOut old mid (kept ++ list_text all) rest
+  all_so_far next none =
       let same : all ≡ so_far.done =
-      so_far.whole ∙ ap (λ (rows : List Row). so_far.done ++ rows) ((none so_far.left).0 so_far.are_left) ∙ append-nil so_far.done in
+      so_far.whole ∙ ap (λ (rows : List Row). so_far.done ++ rows) ((none.no_row so_far.left).0 so_far.are_left) ∙ append-nil so_far.done in
       subst (λ (rows : List Row). MovesOut old mid (kept ++ list_text rows) rest) (sym same) so_far.moved
 
   module _ (next : RowsByUid) (rows : List Row) (part : IsPart asked next rows) (new : Option (List ℕ)) where

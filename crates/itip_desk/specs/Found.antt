@@ -14,7 +14,7 @@ pub record NamesLine (address : List ℕ) (item : Item) : Type 0 where
   pub there : Contains item.todo.attendees line
   pub named : attendee_key line.value ≡ attendee_key address
 
--- the UIDs of those of the items with these entries of which P holds were added
+-- The UIDs that were there are still there, and so are those of the items with these entries of which P holds; others may be too.
 pub record AddsFound (P : Item → Type 0) (entries : List IndexEntry) (old new : List (List ℕ)) : Type 0 where
   pub keeps : (uid : List ℕ) → Contains old uid → Contains new uid
   pub adds : (item : Item) (entry : IndexEntry) → Contains entries entry → item_of entry.owner ≡ Some item → P item →

@@ -3,13 +3,13 @@
 use Rattle.std.specs.Prelude.{ℕ, ◌+◌, ◌*◌, ◌%◌, List, [], ◌∷◌}
 
 -- a number with an octet more
-abbrev pub with_octet : ℕ → ℕ → ℕ
-with_octet number octet = (number * 16777619 + octet) % 4294967291
+abbrev pub number_with : ℕ → ℕ → ℕ
+number_with number octet = (number * 16777619 + octet) % 4294967291
 
 -- a number with the octets of a text more
 abbrev pub with_text : ℕ → List ℕ → ℕ
 with_text number [] = number
-with_text number (octet ∷ octets) = with_text (with_octet number octet) octets
+with_text number (octet ∷ octets) = with_text (number_with number octet) octets
 
 abbrev pub text_number : List ℕ → ℕ
 text_number text = with_text 0 text

@@ -18,15 +18,15 @@ pub record HasHeadedText (word : List ℕ) (desk : ℕ) (asked : RowsByUid) (tex
   pub text_is : text ≡ headed_text word desk rows
 
 -- That text; or `refused 31` where there are too many rows, and the to-do that has the most of them.
-abbrev pub IsListed : List ℕ → ℕ → RowsByUid → Option MostRows → List ℕ → Type 0
-IsListed word desk asked None text = HasHeadedText word desk asked text
-IsListed word desk asked (Some most) text = IsCountOf asked (TooMany most) × (text ≡ refused_text 31)
+abbrev pub IsHeadedList : List ℕ → ℕ → RowsByUid → Option MostRows → List ℕ → Type 0
+IsHeadedList word desk asked None text = HasHeadedText word desk asked text
+IsHeadedList word desk asked (Some most) text = IsCountOf asked (TooMany most) × (text ≡ refused_text 31)
 
 -- Such a text is behind what is kept to be written, and a front of both was written.
 pub record WritesListed (word : List ℕ) (desk : ℕ) (asked : RowsByUid) (old new : Option (List ℕ)) (kept rest : List ℕ)
     (most : Option MostRows) : Type 0 where
   pub text : List ℕ
-  pub is_listed : IsListed word desk asked most text
+  pub is_listed : IsHeadedList word desk asked most text
   pub moved : MovesOut old new (kept ++ text) rest
 
 -- A front of what is kept was written, or of that and the rows behind it.

@@ -1,7 +1,7 @@
 //! Numbers that stand for texts in an index: they take no memory of their own, and are compared at once.
 ghost use Rattle.std.specs.Prelude.{◌≡◌};
 ghost use Rattle.itip_todo.specs.Table.{attendee_key};
-ghost use Rattle.itip_desk.specs.Numbers.{with_octet, text_number};
+ghost use Rattle.itip_desk.specs.Numbers.{number_with, text_number};
 
 /// The number of a UID.
 pub(crate) fn uid_number(uid: &str) -> u32
@@ -9,7 +9,7 @@ pub(crate) fn uid_number(uid: &str) -> u32
 {
     let mut number = 0;
     for octet in uid.as_bytes() {
-        number = with_octet(number, *octet);
+        number = number_with(number, *octet);
     }
     number
 }
@@ -20,13 +20,13 @@ pub(crate) fn attendee_number(address: &str) -> u32
 {
     let mut number = 0;
     for octet in address.as_bytes() {
-        number = with_octet(number, octet.to_ascii_lowercase());
+        number = number_with(number, octet.to_ascii_lowercase());
     }
     number
 }
 
-fn with_octet(number: u32, octet: u8) -> u32
-    ensures { result ≡ with_octet number octet }
+fn number_with(number: u32, octet: u8) -> u32
+    ensures { result ≡ number_with number octet }
 {
     ((u64::from(number) * 16_777_619 + u64::from(octet)) % 4_294_967_291) as u32
 }

@@ -4,7 +4,7 @@ use Rattle.std.proofs.Common.{append-nil, ltb, Option, Bor, map, take, drop, ◌
 use Rattle.std.proofs.lemmas.Bool.{ltb-true}
 use Rattle.std.proofs.lemmas.List.{take_all}
 use Rattle.itip_lines.specs.Reading.{text_limit}
-use Rattle.itip_message.specs.Begun.{DifferInFirst, StandsFor}
+use Rattle.itip_message.specs.Begun.{DifferInFirst, StandsIn}
 use Rattle.itip_message.specs.Scanned.{messages_of}
 use Rattle.itip_inbox.specs.declared.inbox.Inbox.{Inbox}
 use Rattle.itip_inbox.specs.declared.messages.Held.{Held}
@@ -105,7 +105,7 @@ differ_then least some (x ∷ xs) (y ∷ ys) (z ∷ zs) a b = (a.0, a.1 ∙ b.1)
 -- what is held of what is left, by whether that is too long
 abbrev pub HoldsLeft : Bool → List ℕ → Held → Type 0
 HoldsLeft false left next = (next.is_long ≡ false) × (next.octets.items ≡ left)
-HoldsLeft true left next = (next.is_long ≡ true) × StandsFor left next.octets.items
+HoldsLeft true left next = (next.is_long ≡ true) × StandsIn left next.octets.items
 
 -- what has come to be too long, or is held as it is
 left_held : (over : Bool) (left : List ℕ) (next : Held) → over ≡ ltb text_limit (length left) → HoldsLeft over left next →

@@ -1,6 +1,6 @@
 //! Messages in, what counts out: sources of messages, read one after another, of which all are heard.
 //!
-//! Each source is cut into messages by itself, by `itip_message`: `whole_message` cuts them off while more octets may come,
+//! Each source is cut into messages by itself, by `itip_message`: `cut_message` cuts them off while more octets may come,
 //! `next_message` once the source is at its end. Each is read by `read_message`, many side by side, and a state hears its items; a
 //! refused message is not heard, and the others are. What is kept of all is a batch, by canonical octets and each once, and is
 //! written as `itip_desk` writes a delta. There a refused message refuses all octets (`read_delta`); here it does not.

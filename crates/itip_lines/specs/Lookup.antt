@@ -1,4 +1,4 @@
--- What the parameters of a line have under a name: the first value of the first parameter of that name (RFC 5545 3.2).
+-- What the parameters of a line have under a name: the first value of the first parameter of that name (our own rule).
 use Rattle.std.specs.Prelude.{◌≡◌, ℕ, nat_eq, Bool, true, false, cond, not, ◌&&◌, ◌==◌, List, [], ◌∷◌, ◌++◌}
 use Rattle.std.specs.Cmp.Lexicographic.{pointwise}
 use Rattle.std.specs.List.{AllByRecursion, list_any}

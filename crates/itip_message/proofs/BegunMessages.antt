@@ -10,8 +10,8 @@ use Rattle.itip_lines.specs.Cutting.{is_blank}
 use Rattle.itip_message.specs.Scanned.{begins_blank, ends_line, line_length, lines_of, is_return, said, said_behind, is_empty, ends_calendar}
 use Rattle.itip_message.specs.Scanned.{groups_of, texts_of, messages_of}
 use Rattle.itip_message.specs.Passing.{is_left_out, Passes}
-use Rattle.itip_message.specs.Begun.{IsBegun, DifferInFirst, StandsFor, SaysTheSame, something_else, IsSaid, PassesLine}
-use Rattle.itip_message.specs.Begun.{begun_line, break_before, few_octets}
+use Rattle.itip_message.specs.Begun.{IsBegun, DifferInFirst, StandsIn, SaysTheSame, something_else, IsSaid, PassesLine}
+use Rattle.itip_message.specs.Begun.{begun_line, break_before, few_octets, stand_in_limit}
 use Rattle.itip_message.specs.declared.begun.BegunMessage.{BegunMessage}
 use Rattle.itip_message.specs.declared.begun.LineFront.{LineFront}
 use Rattle.itip_message.proofs.Messages.{concat_push, groups_none, none_ends_more, start_passing, texts_end}
@@ -357,7 +357,7 @@ module _ (octets line text : List ℕ) (all_empty behind : Bool) (last : ℕ) (b
       let h : length (octets ++ more) ≡ length (concat passed ++ (line ++ more)) = ap length is in
       omega (arith, a, b, d, e, f, g, h)
 
-  pub stands_for : StandsFor octets (((begun_line all_empty ++ text) ++ break_before behind) ++ last ∷ [])
+  pub stands_for : StandsIn octets (((begun_line all_empty ++ text) ++ break_before behind) ++ last ∷ [])
   unfolding messages_of
   stands_for = λ more.
       let first = first_line_of last more in
@@ -387,15 +387,42 @@ differ_itself : (texts : List (List ℕ)) → DifferInFirst 0 texts texts
 differ_itself [] = tt
 differ_itself (text ∷ texts) = let e : 0 ≤ length text = omega arith in (e, refl)
 
-pub none_for_none : (octets few : List ℕ) → octets ≡ [] → few ≡ [] → StandsFor octets few
+pub none_for_none : (octets few : List ℕ) → octets ≡ [] → few ≡ [] → StandsIn octets few
 none_for_none octets few none nothing = λ more.
     subst (λ (t : List ℕ). DifferInFirst (length t) (messages_of (t ++ more)) (messages_of (few ++ more))) (sym none)
     (subst (λ (t : List ℕ). DifferInFirst 0 (messages_of more) (messages_of (t ++ more))) (sym nothing) (differ_itself (messages_of more)))
 
 pub message_stands : (message : BegunMessage) (front : LineFront) (few : List ℕ) → IsBegun message →
     PassesLine message.line.now front.said.now front.is_behind (front.last ∷ []) → few ≡ few_octets message.all_empty front
-    → StandsFor message.octets.now few
+    → StandsIn message.octets.now few
 message_stands message front few begun passes is =
-    subst (λ (t : List ℕ). StandsFor message.octets.now t) (sym is)
+    subst (λ (t : List ℕ). StandsIn message.octets.now t) (sym is)
     (stands_for message.octets.now message.line.now front.said.now message.all_empty front.is_behind front.last begun.passes begun.goes_on
     passes)
+
+-- ---- how many octets stand for a message
+
+short_said : (text : List ℕ) → IsSaid text → length text ≤ 14
+short_said text (inl is) = let long : length text ≡ 14 = ap length is in omega (arith, long)
+short_said text (inr rest) =
+    let long : 13 ≡ length text + length rest.0 = ap length rest.1 ∙ length-append text rest.0 in
+    omega (arith, long)
+
+short_begun : (all_empty : Bool) → length (begun_line all_empty) ≤ 4
+short_begun true = omega arith
+short_begun false = omega arith
+
+short_break : (behind : Bool) → length (break_before behind) ≤ 1
+short_break true = omega arith
+short_break false = omega arith
+
+pub few_are_few : (all_empty : Bool) (front : LineFront) → IsSaid front.said.now → length (few_octets all_empty front) ≤ stand_in_limit
+few_are_few all_empty front said_is =
+    let begun : List ℕ = begun_line all_empty in
+    let text : List ℕ = front.said.now in
+    let mark : List ℕ = break_before front.is_behind in
+    let all : length (((begun ++ text) ++ mark) ++ front.last ∷ []) ≡ length ((begun ++ text) ++ mark) + 1 =
+    length-append ((begun ++ text) ++ mark) (front.last ∷ []) in
+    let before : length ((begun ++ text) ++ mark) ≡ length (begun ++ text) + length mark = length-append (begun ++ text) mark in
+    let first : length (begun ++ text) ≡ length begun + length text = length-append begun text in
+    omega (arith, all, before, first, short_begun all_empty, short_said text said_is, short_break front.is_behind)

@@ -20,9 +20,14 @@ DifferInFirst least [] (other ∷ others) = ⊥
 DifferInFirst least (text ∷ texts) [] = ⊥
 DifferInFirst least (text ∷ texts) (other ∷ others) = (least ≤ length text) × (texts ≡ others)
 
--- Whatever follows, a few octets are cut as these are, but that the first message is another, which of these has all of them.
-abbrev pub StandsFor : List ℕ → List ℕ → Type 0
-StandsFor octets few = (more : List ℕ) → DifferInFirst (length octets) (messages_of (octets ++ more)) (messages_of (few ++ more))
+-- Whatever follows them, a few octets are cut into the same messages as these octets are, but for the first; and the first message of
+-- these octets has all of them.
+abbrev pub StandsIn : List ℕ → List ℕ → Type 0
+StandsIn octets few = (more : List ℕ) → DifferInFirst (length octets) (messages_of (octets ++ more)) (messages_of (few ++ more))
+
+-- the most octets that stand for a message
+abbrev pub stand_in_limit : ℕ
+stand_in_limit = 20
 
 -- ---- what a line says
 

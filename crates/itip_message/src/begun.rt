@@ -1,6 +1,7 @@
 //! A message of which only the beginning came, and the few octets that stand for a long one.
-ghost use Rattle.std.specs.Prelude.{◌≡◌, ◌∷◌, ◌++◌, [], ℕ, List, true, false, MatchOption, IfOk};
-ghost use Rattle.itip_message.specs.Begun.{begun_line, break_before, few_octets, IsBegun, IsSaid, PassesLine, SaysTheSame, StandsFor};
+ghost use Rattle.std.specs.Prelude.{◌≡◌, ◌≤◌, ◌∷◌, ◌++◌, [], ℕ, List, true, false, length, MatchOption, IfOk};
+ghost use Rattle.itip_message.specs.Begun.{begun_line, break_before, few_octets, stand_in_limit};
+ghost use Rattle.itip_message.specs.Begun.{IsBegun, IsSaid, PassesLine, SaysTheSame, StandsIn};
 
 use crate::cutting::{LF, is_left_out};
 use std::alloc::{AllocError, Global};
@@ -26,10 +27,11 @@ pub(crate) struct LineFront {
     pub last: u8,
 }
 
-/// A few octets that stand for those of a message that has begun: whatever follows, they are cut as these are, into the same
-/// messages but for the first.
+/// A few octets, at most 20, that stand for those of a message that has begun: whatever follows, they are cut as these are, into
+/// the same messages but for the first.
 pub fn stand_in(alloc: Global, message: &BegunMessage<'_>) -> Result<Vec<u8>, AllocError>
-    ensures { IfOk result (λ few. IsBegun message.now → StandsFor message.now.octets.now few.items) }
+    ensures stands { IfOk result (λ few. IsBegun message.now → StandsIn message.now.octets.now few.items) }
+    ensures few { IfOk result (λ few. length few.items ≤ stand_in_limit) }
 {
     match line_front(message.line) {
         Some(front) => few_octets(alloc, message.all_empty, front),

@@ -31,19 +31,9 @@ pub fn next_message(bytes: &[u8]) -> Option<(&[u8], &[u8])>
     if all_empty { None } else { Some((bytes, &[])) }
 }
 
-/// The first message of some octets that others may follow, and what stands behind it. `None` where it is not known yet
-/// where the first message ends: a line is at its end only where an octet behind it shows that no fold goes on.
-pub fn whole_message(bytes: &[u8]) -> Option<(&[u8], &[u8])>
-    ensures { IfSome result (λ cut. StaysCut bytes.now cut.0.now cut.1.now) }
-{
-    match cut_message(bytes) {
-        Ok(cut) => Some(cut),
-        Err(_) => None,
-    }
-}
-
-/// The first message of some octets that others may follow, and what stands behind it, as [`whole_message`] finds them; or else what
-/// is known of the message that these octets begin.
+/// The first message of some octets that others may follow, and what stands behind it; or else what is known of the message that
+/// these octets begin, where it is not known yet where it ends: a line is at its end only where an octet behind it shows that no
+/// fold goes on.
 pub fn cut_message(bytes: &[u8]) -> Result<(&[u8], &[u8]), BegunMessage<'_>>
     ensures cut { IfOk result (λ cut. StaysCut bytes.now cut.0.now cut.1.now) }
     ensures begun { IfErr result IsBegun }

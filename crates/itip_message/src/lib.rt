@@ -16,7 +16,7 @@ mod read;
 mod sort;
 
 pub use begun::{BegunMessage, stand_in};
-pub use cutting::{cut_message, next_message, whole_message};
+pub use cutting::{cut_message, next_message};
 pub use draft::read_draft;
 pub use error::{MessageCause, MessageRefusal, ReadError};
 pub use frame::Placed;

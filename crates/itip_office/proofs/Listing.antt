@@ -14,7 +14,7 @@ use Rattle.itip_view.specs.declared.window.Window.{Window}
 use Rattle.itip_view.proofs.Left.{left_where, too_many_where}
 use Rattle.itip_view.proofs.SameAsked.{rows_of_all, many_of_all}
 use Rattle.itip_desk.specs.Desk.{Shown}
-use Rattle.itip_desk.specs.WrittenRows.{IsListed, WritesListed, WritesListedFront}
+use Rattle.itip_desk.specs.WrittenRows.{IsHeadedList, WritesListed, WritesListedFront}
 use Rattle.itip_desk.specs.declared.refusal.Refusal.{Refusal}
 use Rattle.itip_streams.specs.Written.{AppendsFront, MovesOut, WritesOutput}
 use Rattle.itip_streams.proofs.Writing.{front_none, front_behind}
@@ -27,7 +27,7 @@ use Rattle.itip_office.specs.Scripts.ListsDesk.{lists_rows, lists_too_many}
 module _ (window : Window) (number : ℕ) (desk : Shown) (asked : RowsByUid) (are : AreAsked (λ (row : Row). Unit {0}) desk.kept window asked)
     (old new : Option (List ℕ)) (kept : List ℕ) where
   -- what is written of its rows is its list
-  lists_text : (most : Option MostRows) (text : List ℕ) → IsListed (codes "list") number asked most text →
+  lists_text : (most : Option MostRows) (text : List ℕ) → IsHeadedList (codes "list") number asked most text →
       ListsDesk window number desk kept (kept ++ text) (is_some most)
   lists_text None text is =
       lists_rows is.rows (kept ++ text)

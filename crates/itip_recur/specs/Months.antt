@@ -10,7 +10,7 @@ use Rattle.itip_recur.specs.declared.rule.YearDays.TheVariants as year
 use Rattle.itip_recur.specs.Calendar.{weekday_number, year_number, month_of_year, month_number, day_of_month, month_length}
 use Rattle.itip_recur.specs.Counting.{Walked}
 
--- whole months are in the pattern or not
+-- the rule repeats by the month or by the year
 abbrev pub IsByMonths : Frequency → Type 0
 IsByMonths Daily = ⊥
 IsByMonths (Weekly days) = ⊥

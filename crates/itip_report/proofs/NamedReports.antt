@@ -109,6 +109,18 @@ told_by (Ok a) lines_of named other items asked same are = λ window rows left.
     (subst (λ (n : ReportName). AreLinesFor n items rows (lines_of a)) (sym same) (are rows left)) window
 told_by (Err e) lines_of named other items asked same are = tt
 
+-- and where it makes them of as many rows as a list may have
+pub told_if_few : {A E : Type 0} (r : Result A E) (lines_of : A → List (List ℕ)) (named other : ReportName) (items : List Item)
+    (asked : RowsByUid) → named ≡ other → IsOfRows other →
+    IfOk r (λ a. (rows : List Row) → AreLeft asked rows → length rows ≤ row_limit → AreLinesFor other items rows (lines_of a)) →
+    IfOk r (λ a. (window : Window) (rows : List Row) → AreLeft asked rows → HasRowsFor named items window rows →
+    IsReportOf named items window (lines_of a))
+told_if_few (Ok a) lines_of named other items asked same of_rows are = λ window rows left has.
+    told_of named items rows (lines_of a)
+    (subst (λ (n : ReportName). AreLinesFor n items rows (lines_of a)) (sym same)
+    (are rows left (has.few (subst (λ (n : ReportName). IsOfRows n) (sym same) of_rows)))) window has
+told_if_few (Err e) lines_of named other items asked same of_rows are = tt
+
 -- and of one that tells of no rows
 pub told_of_kept : {A E : Type 0} (r : Result A E) (lines_of : A → List (List ℕ)) (named other : ReportName) (items : List Item)
     (asked : RowsByUid) → named ≡ other → (¬ IsOfRows other) → IfOk r (λ a. AreLinesFor other items [] (lines_of a)) →

@@ -1,10 +1,14 @@
 -- A report of rows that are made a UID at a time.
-use Rattle.std.proofs.Common.{◌≡◌, ◌∙◌, ℕ, List, [], ◌++◌, refl, sym, ap, append_assoc, append-nil}
+use Rattle.std.proofs.Common.{◌≡◌, ◌≤◌, ◌+◌, ◌∙◌, ℕ, List, [], ◌++◌, refl, sym, ap, length, length-append, append_assoc, append-nil, arith}
 use Rattle.std.proofs.lemmas.List.Concat.{flat_map-append}
 use Rattle.itip_view.specs.ByUid.{AreLeft, IsDone, IsPart}
+use Rattle.itip_view.specs.Rows.{row_limit}
 use Rattle.itip_view.specs.declared.by_uid.RowsByUid.{RowsByUid}
 use Rattle.itip_view.specs.declared.row.Row.{Row}
+use Rattle.itip_report.specs.Load.{load_lines}
 use Rattle.itip_report.specs.Progress.{progress_line, progress_lines}
+use Rattle.itip_report.specs.Tally.{AreTallied}
+use Rattle.itip_report.specs.declared.load.Tally.{Tally}
 
 -- Of these rows some were told of, and others are left.
 pub record TellsSoFar (asked : RowsByUid) (all : List Row) (lines : List (List ℕ)) : Type 0 where
@@ -31,7 +35,43 @@ module _ (asked : RowsByUid) (all : List Row) (lines : List (List ℕ)) (so_far 
             sym (flat_map-append progress_line so_far.done rows);
       }
 
-  pub all_told : IsDone asked → lines ≡ progress_lines all
-  all_told none =
+  pub all_told : (next : RowsByUid) → IsDone asked next → lines ≡ progress_lines all
+  all_told next none =
       so_far.told ∙ ap progress_lines (sym (so_far.whole ∙
-      ap (λ (rows : List Row). so_far.done ++ rows) ((none so_far.left).0 so_far.are_left) ∙ append-nil so_far.done))
+      ap (λ (rows : List Row). so_far.done ++ rows) ((none.no_row so_far.left).0 so_far.are_left) ∙ append-nil so_far.done))
+
+-- Of these rows some were counted, and others are left.
+pub record CountsSoFar (asked : RowsByUid) (all : List Row) (tally : Tally) : Type 0 where
+  pub done : List Row
+  pub left : List Row
+  pub are_left : AreLeft asked left
+  pub whole : all ≡ done ++ left
+  pub counted : AreTallied done tally
+
+pub none_counted : (asked : RowsByUid) (all : List Row) (tally : Tally) → AreLeft asked all → AreTallied [] tally →
+    CountsSoFar asked all tally
+none_counted asked all tally are none = record { done = []; left = all; are_left = are; whole = refl; counted = none }
+
+module _ (asked : RowsByUid) (all : List Row) (tally : Tally) (so_far : CountsSoFar asked all tally) where
+  pub one_counted : length all ≤ row_limit → (next : RowsByUid) (rows : List Row) → IsPart asked next rows → (grown : Tally) →
+      ((done : List Row) → length done + length rows ≤ 18446744073709551615 → AreTallied done tally → AreTallied (done ++ rows) grown) →
+      CountsSoFar next all grown
+  one_counted few next rows part grown counts =
+      let split = part.splits so_far.left so_far.are_left in
+      let is : all ≡ so_far.done ++ (rows ++ split.0) =
+      so_far.whole ∙ ap (λ (t : List Row). so_far.done ++ t) split.2 in
+      let long : length all ≡ length so_far.done + length (rows ++ split.0) = ap length is ∙ length-append so_far.done (rows ++ split.0) in
+      let behind : length (rows ++ split.0) ≡ length rows + length split.0 = length-append rows split.0 in
+      record {
+        done = so_far.done ++ rows;
+        left = split.0;
+        are_left = split.1;
+        whole = is ∙ sym (append_assoc so_far.done rows split.0);
+        counted = counts so_far.done (omega (arith, few, long, behind)) so_far.counted;
+      }
+
+  pub all_counted : (next : RowsByUid) → IsDone asked next → (lines : List (List ℕ)) →
+      ((done : List Row) → AreTallied done tally → lines ≡ load_lines done) → lines ≡ load_lines all
+  all_counted next none lines told =
+      told so_far.done so_far.counted ∙ ap load_lines (sym (so_far.whole ∙
+      ap (λ (rows : List Row). so_far.done ++ rows) ((none.no_row so_far.left).0 so_far.are_left) ∙ append-nil so_far.done))

@@ -14,8 +14,9 @@ use Rattle.std.proofs.lemmas.List.Folds.{list_any-append}
 use Rattle.itip_state.proofs.Members.{by_bool}
 use Rattle.itip_view.specs.declared.row.Row.{Row}
 use Rattle.itip_report.specs.Load.{same_text, keys_in, firsts, rows_with, load_line, load_lines}
-use Rattle.itip_report.specs.Tally.{one_if, IsCounted, IsTally, rows_before, rows_of}
+use Rattle.itip_report.specs.Tally.{one_if, AreTallied, IsCounted, IsTally, rows_before, rows_of}
 use Rattle.itip_report.specs.declared.load.Tallied.{Tallied}
+use Rattle.itip_report.specs.declared.load.Tally.{Tally}
 use Rattle.itip_report.proofs.Firsts.{same_is, same_itself, same_back, any_push, neither, firsts_new, firsts_old, any_firsts}
 
 abbrev pub Counts : Type 0
@@ -307,6 +308,15 @@ no_tally keys counts no_keys none = record {
   counted = λ q h. let x : false ≡ true = sym (ap (list_any (same_text q)) no_keys) ∙ h in absurd (cc);
   only = λ q s e. absurd (none_some s (sym (ap (lookup (same_text q)) none) ∙ e));
 }
+
+-- a row is counted behind those that were counted
+pub row_tallied : (done : List Row) (row : Row) (tally next : Tally) → AreTallied done tally →
+    ((rows : List Row) → length rows ≡ tally.rows → IsTally rows [] tally.keys.items tally.counts →
+    IsTally (rows ++ row ∷ []) [] next.keys.items next.counts) → next.rows ≡ tally.rows + 1 → AreTallied (done ++ row ∷ []) next
+row_tallied done row tally next are counts one_more =
+    let place : tally.rows ≡ length done = are.rows_are in
+    let long : length (done ++ row ∷ []) ≡ length done + 1 = length-append done (row ∷ []) in
+    record { rows_are = omega (arith, one_more, place, long); counted = counts done (sym place) are.counted }
 
 -- ---- the lines
 -- the rows counted for one of the attendees

@@ -1,5 +1,5 @@
 -- The rows that show each attendee, counted one after the other (our own form).
-use Rattle.std.specs.Prelude.{◌≡◌, ◌+◌, ◌<◌, ◌==◌, ℕ, List, ◌++◌, Bool, true, false, Option, Some, None, length, if◌then◌else◌}
+use Rattle.std.specs.Prelude.{◌≡◌, ◌+◌, ◌<◌, ◌==◌, ℕ, List, [], ◌++◌, Bool, true, false, Option, Some, None, length, if◌then◌else◌}
 use Rattle.std.specs.List.{flat_map, list_any}
 use Rattle.std.specs.BTreeMap.{BTreeMap, get}
 use Rattle.std.specs.Ordering.{nat_cmp}
@@ -7,6 +7,7 @@ use Rattle.std.specs.Cmp.Lexicographic.{slice_cmp}
 use Rattle.itip_view.specs.declared.row.Row.{Row}
 use Rattle.itip_report.specs.Load.{same_text, keys_in, firsts, rows_with}
 use Rattle.itip_report.specs.declared.load.Tallied.{Tallied}
+use Rattle.itip_report.specs.declared.load.Tally.{Tally}
 
 abbrev pub one_if : Bool → ℕ
 one_if true = 1
@@ -26,6 +27,11 @@ pub record IsTally (done : List Row) (before keys : List (List ℕ)) (counts : B
   pub counted : (key : List ℕ) → list_any (same_text key) keys ≡ true →
       (seen : Tallied) × (get (slice_cmp nat_cmp) counts key ≡ Some seen) × IsCounted done before key seen
   pub only : (key : List ℕ) (seen : Tallied) → get (slice_cmp nat_cmp) counts key ≡ Some seen → list_any (same_text key) keys ≡ true
+
+-- these rows were counted, and no others
+pub record AreTallied (done : List Row) (tally : Tally) : Type 0 where
+  pub rows_are : tally.rows ≡ length done
+  pub counted : IsTally done [] tally.keys.items tally.counts
 
 -- the rows counted so far, or that the row at this place was counted already
 abbrev pub rows_before : ℕ → Option Tallied → Option ℕ

@@ -1,5 +1,5 @@
 //! How many rows show each attendee.
-ghost use Rattle.std.specs.Prelude.{◌≡◌, ◌<◌, ◌++◌, ◌∷◌, [], ℕ, List, IfOk, OnOk, codes, length, map};
+ghost use Rattle.std.specs.Prelude.{◌≡◌, ◌<◌, ◌≤◌, ◌+◌, ◌++◌, ◌∷◌, [], ℕ, List, IfOk, OnOk, codes, length, map};
 ghost use Rattle.std.specs.Fmt.{decimal};
 ghost use Rattle.std.specs.BTreeMap.{get};
 ghost use Rattle.std.specs.Ordering.{nat_cmp};
@@ -7,7 +7,7 @@ ghost use Rattle.std.specs.Cmp.Lexicographic.{slice_cmp};
 ghost use Rattle.std.specs.String.{string_bytes};
 ghost use Rattle.itip_view.specs.declared.row.Row.{Row};
 ghost use Rattle.itip_report.specs.Load.{load_lines};
-ghost use Rattle.itip_report.specs.Tally.{IsTally, rows_before, rows_of};
+ghost use Rattle.itip_report.specs.Tally.{AreTallied, IsTally, rows_before, rows_of};
 
 use crate::NoMemory;
 use itip_lines::Text;
@@ -23,12 +23,27 @@ struct Tallied {
     last: usize,
 }
 
-/// The attendees that rows show, each counted.
+/// The attendees that rows show, each counted. Rows are counted one after the other, and none of them is held.
 #[derive(Debug, Drop)]
-struct Tally {
+pub(crate) struct Tally {
     /// In the order of first appearance.
     keys: Vec<Text>,
     counts: BTreeMap<Text, Tallied>,
+    /// How many rows were counted.
+    rows: usize,
+}
+
+impl Tally {
+    /// Of no rows.
+    pub(crate) fn new(alloc: Global) -> Tally
+        ensures { AreTallied [] result }
+    {
+        Tally {
+            keys: Vec::new(alloc),
+            counts: BTreeMap::new(alloc),
+            rows: 0,
+        }
+    }
 }
 
 /// `address count` for each attendee whom rows show: the address with ASCII letters in lower case, and the number of rows that
@@ -36,10 +51,18 @@ struct Tally {
 pub fn load_by_attendee(alloc: Global, rows: &[Row]) -> Result<Vec<String>, NoMemory>
     ensures { IfOk result (λ lines. map string_bytes lines.items ≡ load_lines rows.now) }
 {
-    let Tally { keys, counts } = count_rows(alloc, rows)?;
+    let mut tally = Tally::new(alloc);
+    count_rows(alloc, &mut tally, rows)?;
+    tallied_lines(alloc, &tally)
+}
+
+/// The lines of [`load_by_attendee`] for the rows that were counted.
+pub(crate) fn tallied_lines(alloc: Global, tally: &Tally) -> Result<Vec<String>, NoMemory>
+    ensures { IfOk result (λ lines. (done : List Row) → AreTallied done tally.now → map string_bytes lines.items ≡ load_lines done) }
+{
     let mut lines = Vec::new(alloc);
-    for key in &keys {
-        lines.push(load_line(alloc, key, rows_of(&counts, key))?)?;
+    for key in &tally.keys {
+        lines.push(load_line(alloc, key, rows_of(&tally.counts, key))?)?;
     }
     Ok(lines)
 }
@@ -65,24 +88,38 @@ fn load_line(alloc: Global, key: &Text, rows: usize) -> Result<String, NoMemory>
     Ok(line)
 }
 
-/// Counts the rows.
-fn count_rows(alloc: Global, rows: &[Row]) -> Result<Tally, NoMemory>
-    ensures { IfOk result (λ tally. IsTally rows.now [] tally.keys.items tally.counts) }
+/// Counts rows, behind those that were counted.
+pub(crate) fn count_rows(alloc: Global, tally: &mut Tally, rows: &[Row]) -> Result<(), NoMemory>
+    ensures { OnOk result ((done : List Row) → length done + length rows.now ≤ usize.MAX
+        → AreTallied done tally.old → AreTallied (done ++ rows.now) tally.new) }
 {
-    let mut tally = Tally {
-        keys: Vec::new(alloc),
-        counts: BTreeMap::new(alloc),
-    };
-    let mut place = 0;
     for row in rows {
-        count_row(alloc, &mut tally, row, place)?;
-        place += 1;
+        count_row(alloc, tally, row)?;
     }
-    Ok(tally)
+    Ok(())
+}
+
+/// Counts a row, behind those that were counted, where a place is left for it.
+fn count_row(alloc: Global, tally: &mut Tally, row: &Row) -> Result<(), NoMemory>
+    ensures { OnOk result ((done : List Row) → length done < usize.MAX
+        → AreTallied done tally.old → AreTallied (done ++ row.now ∷ []) tally.new) }
+{
+    let place = tally.rows;
+    let Some(rows) = place.checked_add(1) else {
+        return Ok(());
+    };
+    count_attendees(alloc, tally, row, place)?;
+    tally.rows = rows;
+    Ok(())
 }
 
 /// Counts the row at a place, once for each attendee that it shows.
-fn count_row(alloc: Global, tally: &mut Tally, row: &Row, place: usize) -> Result<(), NoMemory>
+fn count_attendees(
+    alloc: Global,
+    tally: &mut Tally,
+    row: &Row,
+    place: usize,
+) -> Result<(), NoMemory>
     requires { place < usize.MAX }
     ensures { OnOk result ((done : List Row) → length done ≡ place
         → IsTally done [] tally.old.keys.items tally.old.counts → IsTally (done ++ row.now ∷ []) [] tally.new.keys.items tally.new.counts) }

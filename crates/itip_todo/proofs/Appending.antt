@@ -1,16 +1,49 @@
 -- Lines that are written as far as a limit of octets allows, one part after the other.
 use Rattle.std.proofs.Common.{◌≡◌, ◌∙◌, sym, ap, refl, subst, ℕ, ◌<◌, ◌≤◌, List, [], ◌∷◌, ◌++◌, length, take, drop, map, arith, inl, inr}
+use Rattle.std.proofs.Common.{◌+◌, append-nil, append_assoc}
 use Rattle.std.proofs.lemmas.Bool.{cases_lt}
 use Rattle.std.proofs.lemmas.List.{length-append, map-append, take-append-drop, take_all}
 use Rattle.std.specs.Prelude.{◌⊎◌, codes}
 use Rattle.itip_todo.specs.Parts.{Parts}
-use Rattle.itip_todo.specs.UpTo.{AppendsUpTo}
-use Rattle.itip_todo.specs.Written.{Content, contents_octets, head_contents, parts_contents, todo_contents, bare}
+use Rattle.itip_todo.specs.UpTo.{AppendsEach, AppendsUpTo}
+use Rattle.itip_todo.specs.Written.{Content, content_octets, contents_octets, head_contents, parts_contents, todo_contents, bare}
 use Rattle.itip_todo.proofs.Contents.{then_lines}
 use Rattle.itip_todo.proofs.Segments.{base_lines, base_on, rid_lines, rid_on, start_lines, start_on, due_lines, due_on, status_lines}
 use Rattle.itip_todo.proofs.Segments.{status_on, percent_lines, percent_on, priority_lines, priority_on, summary_lines, summary_on}
 use Rattle.itip_todo.proofs.Segments.{organizer_lines, organizer_on, attendee_lines, attendee_on, rule_lines, rule_on, rdate_lines}
 use Rattle.itip_todo.proofs.Segments.{rdate_on, exdate_lines, exdate_on, other_lines, other_on}
+
+-- ---- each line is appended, or left out above the limit
+
+each_all : (limit : ℕ) (lines : List Content) (old : List ℕ) → AppendsEach limit lines old (old ++ contents_octets lines)
+each_all limit [] old = append-nil old
+each_all limit (line ∷ lines) old =
+    inl (subst (λ (new : List ℕ). AppendsEach limit lines (old ++ content_octets line) new)
+    (append_assoc old (content_octets line) (contents_octets lines)) (each_all limit lines (old ++ content_octets line)))
+
+each_left_out : (limit : ℕ) (lines : List Content) (old : List ℕ) → limit < length old → AppendsEach limit lines old old
+each_left_out limit [] old long = refl
+each_left_out limit (line ∷ lines) old long = inr (long, each_left_out limit lines old long)
+
+each_then : (limit : ℕ) (xs ys : List Content) (old mid new : List ℕ) → AppendsEach limit xs old mid → AppendsEach limit ys mid new →
+    AppendsEach limit (xs ++ ys) old new
+each_then limit [] ys old mid new first second = subst (λ (o : List ℕ). AppendsEach limit ys o new) first second
+each_then limit (x ∷ xs) ys old mid new (inl on) second = inl (each_then limit xs ys (old ++ content_octets x) mid new on second)
+each_then limit (x ∷ xs) ys old mid new (inr out) second = inr (out.0, each_then limit xs ys old mid new out.1 second)
+
+-- with octets in front of what stood there, and as many more in the limit
+pub each_behind : (limit room : ℕ) (front : List ℕ) → room + length front ≡ limit → (lines : List Content) (old new : List ℕ) →
+    AppendsEach room lines old new → AppendsEach limit lines (front ++ old) (front ++ new)
+each_behind limit room front sum [] old new same = ap (λ (octets : List ℕ). front ++ octets) same
+each_behind limit room front sum (line ∷ lines) old new (inl on) =
+    inl (subst (λ (o : List ℕ). AppendsEach limit lines o (front ++ new)) (sym (append_assoc front old (content_octets line)))
+    (each_behind limit room front sum lines (old ++ content_octets line) new on))
+each_behind limit room front sum (line ∷ lines) old new (inr out) =
+    let both = length-append front old in
+    let long : room < length old = out.0 in
+    inr (omega (arith, sum, both, long), each_behind limit room front sum lines old new out.1)
+
+-- ---- and what follows
 
 -- all lines are written
 pub appends_all : (limit : ℕ) (contents : List Content) (old new : List ℕ) → new ≡ old ++ contents_octets contents →
@@ -19,6 +52,7 @@ appends_all limit contents old new is =
     let same = ap length is in
     let both = length-append old (contents_octets contents) in
     record {
+      lines = subst (λ (octets : List ℕ). AppendsEach limit contents old octets) (sym is) (each_all limit contents old);
       grows = omega (arith, same, both);
       whole = λ short. is;
       over = λ long. subst (λ (octets : List ℕ). limit < length octets) is long;
@@ -37,6 +71,7 @@ over_behind limit xs ys old long =
 pub then_up_to : (limit : ℕ) (xs ys : List Content) (old mid new : List ℕ) → AppendsUpTo limit xs old mid → AppendsUpTo limit ys mid new →
     AppendsUpTo limit (xs ++ ys) old new
 then_up_to limit xs ys old mid new first second = record {
+  lines = each_then limit xs ys old mid new first.lines second.lines;
   grows = omega (arith, first.grows, second.grows);
   whole = λ short. then_lines old mid new xs ys (first.whole (omega (arith, second.grows, short))) (second.whole short);
   over = λ long. each long (cases_lt limit (length mid));
@@ -57,7 +92,11 @@ stopped {A} f xs limit i old now is long =
     let all : done ++ left ≡ map f xs = sym (map-append f (take i xs) (drop i xs)) ∙ ap (map f) (take-append-drop i xs) in
     let same = ap length is in
     let both = length-append old (contents_octets done) in
+    let front : AppendsEach limit done old now =
+    subst (λ (octets : List ℕ). AppendsEach limit done old octets) (sym is) (each_all limit done old) in
     record {
+      lines = subst (λ (cs : List Content). AppendsEach limit cs old now) all
+          (each_then limit done left old now now front (each_left_out limit left now long));
       grows = omega (arith, same, both);
       whole = λ short. absurd (omega (arith, short, long));
       over = λ more. subst (λ (cs : List Content). limit < length (old ++ contents_octets cs)) all

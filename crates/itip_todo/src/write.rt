@@ -38,8 +38,8 @@ pub fn write_todo(todo: &Todo, out: &mut Vec<u8>) -> Result<(), AllocError>
 
 /// Appends the canonical lines of a to-do, as [`write_todo`] does, as far as a limit allows.
 ///
-/// Where `out` would have more than `limit` octets with all of them, it has more, and maybe not all lines: once it has more, no
-/// line of a list is written. On an error, when memory was refused, a part of the lines may stand in `out`.
+/// Where `out` would have more than `limit` octets with all of them, it has more, and maybe not all lines, in their order: once it
+/// has more, no line of a list is written. On an error, when memory was refused, a part of the lines may stand in `out`.
 pub fn write_todo_up_to(todo: &Todo, limit: usize, out: &mut Vec<u8>) -> Result<(), AllocError>
     ensures { OnOk result (AppendsUpTo limit (todo_contents (parts_of todo.now)) out.old.items out.new.items) }
 {

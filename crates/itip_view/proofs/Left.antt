@@ -1,6 +1,6 @@
 -- The rows that are left, a UID at a time.
-use Rattle.std.proofs.Common.{◌≡◌, ◌↔◌, ◌<◌, ◌∙◌, ℕ, List, [], ◌∷◌, ◌++◌, refl, sym, ap, subst, ◌⊎◌, inl, inr, length, map, drop, arith}
-use Rattle.std.proofs.Common.{zero, suc, true, not}
+use Rattle.std.proofs.Common.{◌≡◌, ◌↔◌, ◌<◌, ◌≤◌, ◌∙◌, ℕ, List, [], ◌∷◌, ◌++◌, refl, sym, ap, subst, ◌⊎◌, inl, inr, length, map, drop}
+use Rattle.std.proofs.Common.{arith, zero, suc, true, not}
 use Rattle.std.specs.List.{Contains, AllPairs, AllByRecursion, filter}
 use Rattle.std.specs.List.Sorted.{IsStrictlySortedBy}
 use Rattle.std.specs.Option.{option_cmp}
@@ -19,9 +19,9 @@ use Rattle.itip_items.specs.declared.item.Item.{Item}
 use Rattle.itip_state.specs.Kept.{AscendTexts}
 use Rattle.itip_state.proofs.Members.{by_bool, cons_cases, cons_first, cons_later, pairs_append}
 use Rattle.itip_state.proofs.OfKey.{head_pair, tail_pairs}
-use Rattle.itip_view.specs.ByUid.{uids_of, IsAskedFor, AreLeft, AreAsked, AreTooManyLeft, IsCountOf}
+use Rattle.itip_view.specs.ByUid.{uids_of, IsAskedFor, AreFewLeft, AreLeft, AreAsked, AreTooManyLeft, IsCountOf}
 use Rattle.itip_view.specs.Most.{HasRows, HasMost, HasMostAmong, IsCountAmong}
-use Rattle.itip_view.specs.Rows.{IsRow, moment_of, row_cmp}
+use Rattle.itip_view.specs.Rows.{IsRow, moment_of, row_cmp, row_limit}
 use Rattle.itip_view.specs.Showing.{AreRowsWhere, AreTooManyWhere, IsAmong, IsOf}
 use Rattle.itip_view.specs.Wanting.{Wants}
 use Rattle.itip_view.specs.declared.by_uid.RowsByUid.{RowsByUid}
@@ -245,3 +245,12 @@ count_left asked uids same count is =
     by (Few number) are = record { rows = are.rows; are_left = are.are_rows; number_is = are.number_is; few = are.few }
     by (TooMany most) (over, is) =
         (over, most_of_these (Wants asked.wanted) asked.state.now asked.window (uids_of asked) most is)
+
+-- where they were counted and are few, the rows that are left are no more than a list may have
+pub few_left : (asked : RowsByUid) (number : ℕ) → AreFewLeft asked number → (rows : List Row) → AreLeft asked rows → length rows ≤ row_limit
+few_left asked number few rows are =
+    let same : length few.rows ≡ length rows = ap length
+    (one_where (IsAskedFor asked) asked.state.now asked.window few.rows rows few.are_left are) in
+    let counted : length few.rows ≡ number = few.number_is in
+    let within : number ≤ row_limit = few.few in
+    omega (arith, same, counted, within)

@@ -31,7 +31,7 @@ pub record IsRangeBy (series : Option Item) (id : Moment) (item : Item) : Type 0
   pub beside : StandsBesideOf series item
 
 -- one of those found
-pub record IsFound (found : List RangeFrom) (id : Moment) (item : Item) : Type 0 where
+pub record IsFoundFrom (found : List RangeFrom) (id : Moment) (item : Item) : Type 0 where
   pub range : RangeFrom
   pub is_in : Contains found range
   pub id_is : range.id.now ≡ id
@@ -40,7 +40,7 @@ pub record IsFound (found : List RangeFrom) (id : Moment) (item : Item) : Type 0
 -- the ones found among the items that were looked at
 pub record FoundIn (series : Option Item) (done : List Item) (found : List RangeFrom) : Type 0 where
   pub each : (range : RangeFrom) → Contains found range → Contains done range.item.now × IsRangeBy series range.id.now range.item.now
-  pub all : (id : Moment) (item : Item) → Contains done item → IsRangeBy series id item → IsFound found id item
+  pub all : (id : Moment) (item : Item) → Contains done item → IsRangeBy series id item → IsFoundFrom found id item
 
 module _ (series : Option Item) where
   pub found_none : FoundIn series [] []

@@ -1,10 +1,10 @@
 -- Rows a UID at a time (our own form): those that are left of what was asked for, and how many they are.
-use Rattle.std.specs.Prelude.{◌≡◌, ◌↔◌, ◌≤◌, ℕ, List, [], ◌++◌, length, drop, map, Option, Some, None}
+use Rattle.std.specs.Prelude.{◌≡◌, ◌↔◌, ◌≤◌, ℕ, List, [], ◌∷◌, ◌++◌, length, drop, map, Option, Some, None}
 use Rattle.itip_items.specs.declared.item.Item.{Item}
 use Rattle.itip_view.specs.ListText.{list_text}
 use Rattle.itip_view.specs.Most.{HasMost}
 use Rattle.itip_view.specs.Rows.{IsRow, row_limit}
-use Rattle.itip_view.specs.Showing.{AreRowsWhere, AreTooManyWhere, IsAmong}
+use Rattle.itip_view.specs.Showing.{AreRowsWhere, AreTooManyWhere, IsAmong, IsOf}
 use Rattle.itip_view.specs.Wanting.{Wants}
 use Rattle.itip_view.specs.declared.by_uid.RowsByUid.{RowsByUid}
 use Rattle.itip_view.specs.declared.most.RowCount.{RowCount}
@@ -34,18 +34,27 @@ pub record AreAsked (P : Row → Type 0) (heard : List Item) (window : Window) (
   pub window_is : asked.window ≡ window
   pub alike : (row : Row) → IsRow heard window row → IsAskedFor asked row ↔ P row
 
--- these rows are in front of those that are left
+-- These are the rows of the first UID that is left, all that are wanted, and the other UIDs are left. So they are in front of the
+-- rows that are left.
 pub record IsPart (old new : RowsByUid) (rows : List Row) : Type 0 where
+  pub uid : List ℕ
+  pub uids_are : uids_of old ≡ uid ∷ uids_of new
+  pub state_is : new.state ≡ old.state
+  pub window_is : new.window ≡ old.window
+  pub wanted_is : new.wanted ≡ old.wanted
+  pub are_rows : AreRowsWhere (IsOf uid (Wants old.wanted)) old.state.now old.window rows
   pub joins : (rest : List Row) → AreLeft new rest → AreLeft old (rows ++ rest)
   pub splits : (all : List Row) → AreLeft old all → (rest : List Row) × AreLeft new rest × (all ≡ rows ++ rest)
 
--- no row is left
-abbrev pub IsDone : RowsByUid → Type 0
-IsDone asked = (rows : List Row) → AreLeft asked rows ↔ (rows ≡ [])
+-- no UID is left, so no row; and nothing has changed, so it stays so
+pub record IsDone (old new : RowsByUid) : Type 0 where
+  pub no_uid : uids_of old ≡ []
+  pub no_row : (rows : List Row) → AreLeft old rows ↔ (rows ≡ [])
+  pub same : new ≡ old
 
 -- the rows of the next UID, or that none is left
 abbrev pub IsNextOf : RowsByUid → RowsByUid → Option (List Row) → Type 0
-IsNextOf old new None = IsDone old
+IsNextOf old new None = IsDone old new
 IsNextOf old new (Some rows) = IsPart old new rows
 
 -- so many rows are left, and they are no more than a list may have

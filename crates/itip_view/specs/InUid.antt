@@ -19,8 +19,8 @@ module _ (view : UidView) where
   abbrev pub HasBetween : Type 0
   HasBetween = IsBetween view.items.now view.window view.between
 
-  abbrev pub HasRows : List Row → Type 0
-  HasRows rows = AreRowsOf view.items.now.items view.window view.items.now.uid rows
+  abbrev pub HasItsRows : List Row → Type 0
+  HasItsRows rows = AreRowsOf view.items.now.items view.window view.items.now.uid rows
 
   -- its rows may stand at these moments
   abbrev pub HasPlaces : Type 0
@@ -50,7 +50,7 @@ module _ (view : UidView) where
   HasNoneAtStart series = NoneStandsAtStart view.items.now.items view.items.now.uid series.todo.start
 
 -- what a view has of its UID is what its kept items tell
-pub record IsFound (view : UidView) : Type 0 where
+pub record HasAll (view : UidView) : Type 0 where
   pub whole : HasWhole view
   pub between : HasBetween view
   pub places : HasPlaces view
@@ -59,4 +59,4 @@ pub record IsFound (view : UidView) : Type 0 where
 pub record IsViewOf (part : UidPart) (window : Window) (view : UidView) : Type 0 where
   pub items_are : view.items.now ≡ part
   pub window_is : view.window ≡ window
-  pub found : IsFound view
+  pub found : HasAll view

@@ -6,7 +6,7 @@ ghost use Rattle.itip_todo.specs.declared.property.Property.{Property};
 ghost use Rattle.itip_view.specs.Answers.{AreShown};
 ghost use Rattle.itip_view.specs.OfUid.{AreOccurrencesOf, ArePlaces, AreRowsOf, asked_by};
 ghost use Rattle.itip_view.specs.Places.{AreWanted, IsMade, IsPlaceAt, IsShownAt, IsWanted, governing_item, questions_of};
-ghost use Rattle.itip_view.specs.InUid.{HasWhole, HasBetween, HasRows, HasOccurrence, IsFound, IsViewOf};
+ghost use Rattle.itip_view.specs.InUid.{HasWhole, HasBetween, HasItsRows, HasOccurrence, HasAll, IsViewOf};
 ghost use Rattle.itip_view.specs.InUid.{HasStanding, HasNoStanding, HasRuling, HasNoRuling, HasNoneAtStart, HasLiveSeries};
 ghost use Rattle.itip_view.specs.Wanted.{shows_named};
 ghost use Rattle.itip_view.specs.declared.row.ShownAttendee.{ShownAttendee};
@@ -111,8 +111,8 @@ impl<'v, 'a> UidView<'v, 'a> {
 
     /// The rows, in their order.
     fn rows(&self) -> Result<Vec<Row>, NoMemory>
-        requires { IsFound self.now }
-        ensures { IfOk result (λ rows. HasRows self.now rows.items) }
+        requires { HasAll self.now }
+        ensures { IfOk result (λ rows. HasItsRows self.now rows.items) }
     {
         let mut rows = Vec::with_capacity(self.alloc, self.places.len().saturating_add(1))?;
         let row = self.made(&self.whole_place())?;
@@ -126,7 +126,7 @@ impl<'v, 'a> UidView<'v, 'a> {
 
     /// How many of the rows are asked for.
     fn count(&self, wanted: &Wanted<'_>) -> Result<usize, NoMemory>
-        requires { IsFound self.now }
+        requires { HasAll self.now }
         ensures { IfOk result (AreWanted wanted.now self.now.items.now self.now.window) }
     {
         let is_wanted = self.is_wanted(&self.whole_place(), wanted)?;

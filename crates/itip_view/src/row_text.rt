@@ -1,7 +1,8 @@
 //! The text of rows.
-ghost use Rattle.std.specs.Prelude.{◌≡◌, ◌++◌, IfOk, IsErrOf, OnOk, Option, Some, None, map};
+ghost use Rattle.std.specs.Prelude.{◌≡◌, ◌++◌, IfOk, IsErrOf, OnErr, OnOk, Option, Some, None, map};
 ghost use Rattle.std.specs.Fmt.{decimal};
 ghost use Rattle.std.specs.List.{flat_map};
+ghost use Rattle.itip_lines.specs.Writing.{Extends};
 ghost use Rattle.itip_moment.specs.Shown.{shown_moment};
 ghost use Rattle.itip_todo.specs.StatusText.{status_text};
 ghost use Rattle.itip_view.specs.ListText.{list_text, row_text, attendee_text, id_text, names_text, numbers_text, dates_text};
@@ -22,6 +23,9 @@ use itip_state::State;
 use itip_todo::{Status, Uid};
 use itoa::Buffer;
 use std::alloc::{AllocError, Global};
+
+/// How long the text of a row usually is, in octets.
+const USUAL: usize = 512;
 
 /// The text of the rows of these UIDs in a window that are asked for, at most 100,000. The rows of one UID at a time are held.
 pub(crate) fn text_by_uid(
@@ -45,14 +49,30 @@ pub(crate) fn text_by_uid(
             return Err(ViewError::TooManyRows);
         }
         number += more.len();
-        write_rows(&more, &mut text)?;
+        write_list(&more, &mut text)?;
     }
     Ok(text)
 }
 
-/// Appends the text of rows, in the order given. On an error (out of memory) a part of it may be there.
-fn write_rows(rows: &[Row], out: &mut Vec<u8>) -> Result<(), AllocError>
-    ensures { OnOk result (out.new.items ≡ out.old.items ++ list_text rows.now) }
+/// Appends the text of rows, in the order given.
+///
+/// On an error (out of memory) the vector is as before.
+pub fn write_list(rows: &[Row], out: &mut Vec<u8>) -> Result<(), AllocError>
+    ensures ok { OnOk result (out.new.items ≡ out.old.items ++ list_text rows.now) }
+    ensures err { OnErr result (out.new.items ≡ out.old.items) }
+{
+    let start = out.len();
+    let done = append_list(rows, out);
+    if done.is_err() {
+        out.truncate(start);
+    }
+    done
+}
+
+/// Appends the text of rows; where memory is refused, that of some of them.
+fn append_list(rows: &[Row], out: &mut Vec<u8>) -> Result<(), AllocError>
+    ensures text { OnOk result (out.new.items ≡ out.old.items ++ list_text rows.now) }
+    ensures extends { Extends out.old.items out.new.items }
 {
     for row in rows {
         write_row(row, out)?;
@@ -60,8 +80,21 @@ fn write_rows(rows: &[Row], out: &mut Vec<u8>) -> Result<(), AllocError>
     Ok(())
 }
 
-/// Appends the text of a row. On an error (out of memory) a part of it may be there.
+/// Appends the text of a row.
+///
+/// On an error (out of memory) the vector is as before.
 pub fn write_row(row: &Row, out: &mut Vec<u8>) -> Result<(), AllocError>
+    ensures ok { OnOk result (out.new.items ≡ out.old.items ++ row_text row.now) }
+    ensures err { OnErr result (out.new.items ≡ out.old.items) }
+{
+    // The row is made apart, so that no part of it is left where memory is refused.
+    let mut text = Vec::with_capacity(*out.allocator(), USUAL)?;
+    put_row(&mut text, row)?;
+    out.extend_from_slice(text.as_slice())?;
+    Ok(())
+}
+
+fn put_row(out: &mut Vec<u8>, row: &Row) -> Result<(), AllocError>
     ensures { OnOk result (out.new.items ≡ out.old.items ++ row_text row.now) }
 {
     put_names(out, row)?;

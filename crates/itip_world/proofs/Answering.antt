@@ -22,7 +22,7 @@ use Rattle.itip_desk.specs.Heard.{heard}
 use Rattle.itip_desk.specs.declared.refusal.Refusal.{Refusal}
 use Rattle.itip_desk.specs.declared.refusal.Refusal.TheVariants as refusal
 use Rattle.itip_desk.specs.Desk.{Shown}
-use Rattle.itip_desk.specs.WrittenRows.{IsListed, WritesListed, WritesListedFront}
+use Rattle.itip_desk.specs.WrittenRows.{IsHeadedList, WritesListed, WritesListedFront}
 use Rattle.itip_streams.specs.Written.{AppendsFront, MovesOut}
 use Rattle.itip_streams.proofs.Writing.{moves_none, moves_more}
 use Rattle.itip_world.specs.Worlds.{Histories, AreDesksOf, Past, ShownWorld, IsWorldOf, IsEntriesOf, LacksOnlyPacket, RefusesEvent, desk_of}
@@ -154,7 +154,7 @@ pub record GivesText (window : Window) (world : ShownWorld) (order : Order) (mos
 module _ (window : Window) (world : ShownWorld) (desk : ℕ) (shown : Shown) (at : slice_get world.desks desk ≡ Some shown) (asked : RowsByUid)
   where
     pub gives_list : AreAsked (λ (row : Row). Unit {0}) shown.kept window asked → (most : Option MostRows) (text : List ℕ) →
-        IsListed (codes "list") desk asked most text → GivesText window world (lists desk) most text
+        IsHeadedList (codes "list") desk asked most text → GivesText window world (lists desk) most text
     gives_list are None text is = record {
       answer = listed desk is.rows;
       answers = answers_list window world desk shown at is.rows (record {
@@ -174,7 +174,7 @@ module _ (window : Window) (world : ShownWorld) (desk : ℕ) (shown : Shown) (at
     }
 
     pub gives_list_for : (address : List ℕ) → AreAsked (Shows address) shown.kept window asked → (most : Option MostRows)
-        (text : List ℕ) → IsListed (codes "mine") desk asked most text → GivesText window world (lists_for desk address) most text
+        (text : List ℕ) → IsHeadedList (codes "mine") desk asked most text → GivesText window world (lists_for desk address) most text
     gives_list_for address are None text is = record {
       answer = listed_for desk is.rows;
       answers = answers_list_for window world desk shown at address is.rows
@@ -191,7 +191,7 @@ module _ (window : Window) (world : ShownWorld) (desk : ℕ) (shown : Shown) (at
     }
 
 module _ (window : Window) (world : ShownWorld) (order : Order) (word : List ℕ) (desk : ℕ) (asked : RowsByUid)
-    (gives : (most : Option MostRows) (text : List ℕ) → IsListed word desk asked most text → GivesText window world order most text)
+    (gives : (most : Option MostRows) (text : List ℕ) → IsHeadedList word desk asked most text → GivesText window world order most text)
     (old new : Option (List ℕ)) (kept : List ℕ) where
   pub replies_list : (rest : List ℕ) (most : Option MostRows) (why : Option RefusedAs) → WritesListed word desk asked old new kept rest most →
       option_map (λ (r : RefusedAs). r.refusal) why ≡ option_map (λ (m : MostRows). refusal.TooManyRows) most

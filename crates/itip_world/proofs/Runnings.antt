@@ -18,7 +18,7 @@ use Rattle.itip_desk.specs.Refusals.{refused_text}
 use Rattle.itip_script.specs.Script.{orders_of}
 use Rattle.itip_streams.specs.Written.{AppendsFront, MovesOut, WritesOutput}
 use Rattle.itip_streams.proofs.Writing.{front_none, front_behind}
-use Rattle.itip_world.specs.Running.{Answer, answer_text, is_refusal, refusal_of, Step, Runs, Writes, WritesSome, WritesFront, RunsSoFar}
+use Rattle.itip_world.specs.Running.{Answer, answer_text, is_refusal, refusal_of, Step, Runs, Writes, WritesSome, WritesRunFront, RunsSoFar}
 use Rattle.itip_world.specs.Running.{Answers, Replies, RepliesFront, refused, took, posted, arrived, listed, listed_for, counted, reported}
 use Rattle.itip_world.specs.Running.{resent, next_is}
 use Rattle.itip_world.specs.declared.watch.Refused.{Refused as RefusedAs}
@@ -187,7 +187,7 @@ not_started window desks old orders = record {
   appended = front_none old [];
 }
 
-pub nothing_read : (window : Window) (desks : ℕ) (old : Option (List ℕ)) (script : List ℕ) → WritesFront window desks old old script
+pub nothing_read : (window : Window) (desks : ℕ) (old : Option (List ℕ)) (script : List ℕ) → WritesRunFront window desks old old script
 nothing_read window desks old script =
     elim (cases_lt 16777216 (length script)) [
       | inl long ↦ inr (long, front_none old (refused_text 61))

@@ -239,8 +239,8 @@ IsOutput window desks script output refusal =
     ⊎ ((16777216 < length script) × (output ≡ refused_text 61) × (refusal ≡ true))
 
 -- A front was written of what a script writes; where it was not run to its end, of what the commands write that were done.
-abbrev pub WritesFront : Window → ℕ → Option (List ℕ) → Option (List ℕ) → List ℕ → Type 0
-WritesFront window desks old new script =
+abbrev pub WritesRunFront : Window → ℕ → Option (List ℕ) → Option (List ℕ) → List ℕ → Type 0
+WritesRunFront window desks old new script =
     ((length script ≤ 16777216) × WritesSome window desks old new (orders_of script))
     ⊎ ((16777216 < length script) × AppendsFront old new (refused_text 61))
 

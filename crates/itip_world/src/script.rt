@@ -2,7 +2,7 @@
 ghost use Rattle.std.specs.Prelude.{ℕ, ◌≡◌, ◌≢◌, ◌≤◌, true, IfOk, IfErr, OnOk, OnErr, IsErrOf, IfSome};
 ghost use Rattle.std.specs.Io.KnownBytes.{Keeps, Appends};
 ghost use Rattle.itip_world.specs.Worlds.{no_past, IsWorldOf};
-ghost use Rattle.itip_world.specs.Running.{IsOutput, Writes, WritesFront, WritesSome};
+ghost use Rattle.itip_world.specs.Running.{IsOutput, Writes, WritesRunFront, WritesSome};
 ghost use Rattle.itip_desk.specs.Refusals.{refused_text};
 ghost use Rattle.itip_script.specs.Script.{orders_of};
 ghost use Rattle.itip_streams.specs.Written.{AppendsFront, WritesOutput};
@@ -32,7 +32,7 @@ pub fn run_script<R: Read, W: Write>(
     ensures output { IfOk result (λ refusal. IfSome (R.remaining reader.old) (λ script.
         WritesOutput (IsOutput window desks script) (W.contents writer.old) (W.contents writer.new) refusal)) }
     ensures front { OnErr result (IfSome (R.remaining reader.old) (λ script.
-        WritesFront window desks (W.contents writer.old) (W.contents writer.new) script)) }
+        WritesRunFront window desks (W.contents writer.old) (W.contents writer.new) script)) }
     ensures unread { IsErrOf result StreamFault.Read → Keeps (W.contents writer.old) (W.contents writer.new) }
 {
     run_script_watched(alloc, reader, writer, desks, window, &mut ())
@@ -53,7 +53,7 @@ pub fn run_script_watched<R: Read, W: Write, T: Watch>(
     ensures output { IfOk result (λ refusal. IfSome (R.remaining reader.old) (λ script.
         WritesOutput (IsOutput window desks script) (W.contents writer.old) (W.contents writer.new) refusal)) }
     ensures front { OnErr result (IfSome (R.remaining reader.old) (λ script.
-        WritesFront window desks (W.contents writer.old) (W.contents writer.new) script)) }
+        WritesRunFront window desks (W.contents writer.old) (W.contents writer.new) script)) }
     ensures unread { IsErrOf result StreamFault.Read → Keeps (W.contents writer.old) (W.contents writer.new) }
     ensures untold { IsErrOf result StreamFault.Read → watch.new ≡ watch.old }
 {

@@ -37,7 +37,7 @@ lacking_in_request draft = filter (λ p. list_any (λ (todo : Todo). lacks p (pa
 abbrev pub lacking_of_items : List Item → List PropertyName
 lacking_of_items items = cond (list_any (λ (item : Item). is_none item.todo.organizer) items) (name.Organizer ∷ []) []
 
--- what RFC 5546 3.4.2 wants in each message that is sent again, and one of them lacks
+-- What a message that is sent again may lack. Only ORGANIZER is looked for there (our own rule; a REQUEST wants more, RFC 5546 3.4.2).
 pub record IsResendLacking (heard : List Item) (uid : List ℕ) (lacking : List PropertyName) : Type 0 where
   pub series : Item
   pub overrides : List Item

@@ -66,7 +66,8 @@ pub enum Errand<'a> {
 pub struct Message {
     /// The octets.
     pub octets: Vec<u8>,
-    /// The properties that RFC 5546 3.4 wants in such a message and that are not there, each once, in canonical order.
+    /// The properties that RFC 5546 3.4 wants in such a message and that are not there, each once, in canonical order. In a message
+    /// that is sent again ORGANIZER alone is looked for.
     pub lacking: Vec<PropertyName>,
 }
 

@@ -3,7 +3,7 @@
 use crate::error::CallError;
 use crate::texts::{day, items, state, text};
 use itip_todo::Uid;
-use itip_view::{Row, RowCount, RowsByUid, ViewError, Wanted, Window, write_row};
+use itip_view::{Row, Window, write_list};
 use std::alloc::Global;
 
 pub(crate) fn answer(
@@ -35,11 +35,7 @@ pub(crate) fn rows_of(
     texts: &[Vec<u8>],
 ) -> Result<Vec<Row>, CallError> {
     let state = state(alloc, texts)?;
-    let rows = RowsByUid::of(alloc, &state, window, &Wanted::all())?;
-    match rows.count()? {
-        RowCount::Few(_) => Ok(rows.to_vec()?),
-        RowCount::TooMany(_) => Err(CallError::from(ViewError::TooManyRows)),
-    }
+    Ok(itip_view::rows(alloc, &state, window)?)
 }
 
 fn count(alloc: Global, count: usize) -> Result<Vec<u8>, CallError> {
@@ -79,10 +75,10 @@ fn list_of(
         address => Some(address),
     };
     let state = state(alloc, texts)?;
-    let mut uids = Vec::new(alloc);
-    uids.push(&uid)?;
-    let rows = RowsByUid::among(alloc, &state, uids, window, &Wanted::showing(shown))?;
-    Ok(rows.text()?)
+    let rows = itip_view::rows_of(alloc, &state, &uid, window, shown)?;
+    let mut out = Vec::new(alloc);
+    write_list(&rows, &mut out)?;
+    Ok(out)
 }
 
 /// A list after what was there before.
@@ -94,8 +90,6 @@ fn list(
 ) -> Result<Vec<u8>, CallError> {
     let mut out = Vec::from_slice(alloc, front)?;
     let rows = rows_of(alloc, window, texts)?;
-    for row in &rows {
-        write_row(row, &mut out)?;
-    }
+    write_list(&rows, &mut out)?;
     Ok(out)
 }

@@ -21,7 +21,7 @@ more g c =
     (c.args.kept.now.items ++ list_text rows) c.write_row.new.out.items) (sym grown)
     (texts_more _ _ c.args.kept.now.items c.loop-row.kept.items (take c.loop-row.row-index c.args.rows.now) c.loop-row.invariant (row ∷ [])
     c.write_row.new.out.items
-    (c.in_ok-write_row.ensures ∙ ap (λ t. c.loop-row.kept.items ++ t) (sym (append-nil (row_text row)))))
+    (c.in_ok-write_row.ensures.ok ∙ ap (λ t. c.loop-row.kept.items ++ t) (sym (append-nil (row_text row)))))
 
 -- all rows, those up to this one and those behind it
 cut : (n : _) (rows : List Row) → take n rows ++ drop n rows ≡ rows

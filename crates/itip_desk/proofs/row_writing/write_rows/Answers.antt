@@ -33,6 +33,6 @@ returns-in_err-done-clause-front g c =
 
 pub returns-clause-moved : goal.returns-clause-moved
 returns-clause-moved g c = λ all are.
-    all_so_far _ all _ _ _ _ (c.loop-rows.invariant all are)
+    all_so_far _ all _ _ _ _ (c.loop-rows.invariant all are) c.next.new.self
     (subst (λ (o : Option (List Row)). IsNextOf c.loop-rows.rows c.next.new.self o) (ap (option_map (λ r. r.items)) c.in_default.is)
     c.in_ok-some.ensures.rows)

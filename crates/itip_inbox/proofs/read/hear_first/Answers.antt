@@ -17,7 +17,7 @@ returns-then-is_left_long-clause-hears g c = λ came more is.
     c.args.inbox.now c.hear_texts.new.inbox c.args.held.now.is_long true texts cut
     (c.in_ok-hear_texts.ensures.count ∙ ap (λ (n : ℕ). c.args.inbox.now.messages + n)
     (sym (length-map c.as_slice-texts.result.now (λ (t : Bor (List ℕ)). t.now)))) c.in_ok-hear_texts.ensures.hears
-    (sym c.if-is_left_long.true ∙ c.is_left_long.ensures) (refl, c.in_ok-stand_in.ensures c.in_ok-share.ensures.begun) is
+    (sym c.if-is_left_long.true ∙ c.is_left_long.ensures) (refl, c.in_ok-stand_in.ensures.stands c.in_ok-share.ensures.begun) is
 
 pub returns-clause-hears : goal.returns-clause-hears
 returns-clause-hears g c = λ came more is.

@@ -1,14 +1,10 @@
-use Rattle.std.proofs.Common.{◌∙◌, map, take_all, subst}
-use Rattle.itip_todo.specs.Table.{attendee_key}
-use Rattle.itip_view.specs.declared.row.ShownAttendee.{ShownAttendee}
-use Rattle.itip_report.specs.Tally.{IsTally}
-use Rattle.itip_report.proofs.Tallying.{end_row}
+use Rattle.std.proofs.Common.{arith}
+use Rattle.itip_report.proofs.Tallying.{row_tallied}
 use Rattle.itip_report.proofs.load.count_row.Goals as goal
 
+pub returns-in_default : goal.returns-in_default
+returns-in_default c = λ done few are. absurd (c.in_default.ensures (omega (arith, few, are.rows_are)))
+
 pub returns : goal.returns
-returns c = λ done long tally.
-    let all = take_all c.loop-attendee.attendee-index c.as_slice-attendee-items.result.now c.loop-attendee-test.false ∙
-    c.as_slice-attendee-items.ensures in
-    end_row done c.args.row.now c.loop-attendee.tally.keys.items c.loop-attendee.tally.counts
-    (subst (λ xs. IsTally done (map (λ (a : ShownAttendee). attendee_key a.address) xs) c.loop-attendee.tally.keys.items
-    c.loop-attendee.tally.counts) all (c.loop-attendee.invariant done long tally))
+returns c = λ done few are.
+    row_tallied done c.args.row.now c.args.tally.now _ are c.in_ok-count_attendees.ensures c.in-Some.ensures.1

@@ -1,13 +1,13 @@
 use Rattle.std.proofs.Common.{map}
 use Rattle.std.specs.String.{string_bytes}
 use Rattle.itip_report.specs.declared.report_name.ReportName.TheVariants as name
-use Rattle.itip_report.proofs.NamedReports.{told_by, told_of_kept}
+use Rattle.itip_report.proofs.NamedReports.{told_by, told_if_few, told_of_kept}
 use Rattle.itip_report.proofs.named.report_lines.Goals as goal
 
 pub returns-in-Load : goal.returns-in-Load
 returns-in-Load c =
-    told_by c.load_of.result (λ lines. map string_bytes lines.items) c.args.name name.Load c.args.state.now c.args.rows c.in-Load.is
-    c.load_of.ensures
+    told_if_few c.load_of.result (λ lines. map string_bytes lines.items) c.args.name name.Load c.args.state.now c.args.rows c.in-Load.is
+    tt c.load_of.ensures
 
 pub returns-in-Progress : goal.returns-in-Progress
 returns-in-Progress c =

@@ -24,6 +24,6 @@ loop-lines-preserved c = λ all are.
 
 pub returns : goal.returns
 returns c = λ all are.
-    all_told c.loop-lines.rows all (map string_bytes c.loop-lines.lines.items) (c.loop-lines.invariant all are)
+    all_told c.loop-lines.rows all (map string_bytes c.loop-lines.lines.items) (c.loop-lines.invariant all are) c.next.new.self
     (subst (λ (o : Option (List Row)). IsNextOf c.loop-lines.rows c.next.new.self o) (ap (option_map (λ r. r.items)) c.in_default.is)
     c.in_ok-some.ensures.rows)

@@ -57,12 +57,12 @@ loop-uid-preserved c =
     ap (λ (u : List ℕ). take i uids ++ u ∷ []) (sym here) in
     let sum : c.loop-uid.number + c.len-number.result ≡ c.loop-uid.number + length more = grind arith in
     let few : c.loop-uid.number + c.len-number.result ≤ row_limit = grind arith in
-    let text : c.write_rows.new.out.items ≡ c.loop-uid.text.items ++ list_text more = c.in_ok-write_rows.ensures ∙
+    let text : c.write_list.new.out.items ≡ c.loop-uid.text.items ++ list_text more = c.in_ok-write_list.ensures.ok ∙
     ap (λ (rows : List Row). c.loop-uid.text.items ++ list_text rows) c.deref.ensures.value in
     subst (λ (us : List (List ℕ)). TextSoFar (Wants wanted) c.args.state.now c.args.window us (c.loop-uid.number + c.len-number.result)
-    c.write_rows.new.out.items) (sym done)
+    c.write_list.new.out.items) (sym done)
     (text_more (Wants wanted) c.args.state.now c.args.window (take i uids) c.loop-uid.number c.loop-uid.text.items c.loop-uid.invariant
-    uid more later c.in_ok-more.ensures (c.loop-uid.number + c.len-number.result) sum few c.write_rows.new.out.items text)
+    uid more later c.in_ok-more.ensures (c.loop-uid.number + c.len-number.result) sum few c.write_list.new.out.items text)
 
 pub returns-clause-text : goal.returns-clause-text
 returns-clause-text c =

@@ -9,13 +9,13 @@ use Rattle.itip_explain.proofs.Becoming.{question_up, no_question_up}
 use Rattle.itip_explain.proofs.fates.Fates.answer_fate.Goals as goal
 
 -- what is found, or that nothing is
-abbrev IsFound : List Item → List ℕ → Option Moment → Option (Bor Item) → Type 0
-IsFound items uid id found = MatchOption (option_copied found) (NoneInQuestion items uid id) (IsInQuestion items uid id)
+abbrev IsItemInQuestion : List Item → List ℕ → Option Moment → Option (Bor Item) → Type 0
+IsItemInQuestion items uid id found = MatchOption (option_copied found) (NoneInQuestion items uid id) (IsInQuestion items uid id)
 
 at_id : (items : List Item) (uid : List ℕ) (id other : Option Moment) (found answer : Option (Bor Item)) → id ≡ other → found ≡ answer →
-    IsFound items uid id found → IsFound items uid other answer
+    IsItemInQuestion items uid id found → IsItemInQuestion items uid other answer
 at_id items uid id other found answer p q is =
-    subst (λ (m : Option Moment). IsFound items uid m answer) p (subst (IsFound items uid id) q is)
+    subst (λ (m : Option Moment). IsItemInQuestion items uid m answer) p (subst (IsItemInQuestion items uid id) q is)
 
 pub fate_under-requires-clause-in_question : goal.fate_under-requires-clause-in_question
 fate_under-requires-clause-in_question c =

@@ -1,4 +1,4 @@
-use Rattle.std.proofs.Common.{◌≡◌, ◌≤◌, ◌<◌, ◌+◌, ◌++◌, ◌∙◌, ◌∷◌, ℕ, List, length, map, drop, get_or, sym, ap, subst, arith}
+use Rattle.std.proofs.Common.{◌≡◌, ◌≤◌, ◌<◌, ◌+◌, ◌++◌, ◌∙◌, ◌∷◌, ℕ, List, length, map, drop, get_or, refl, sym, ap, subst, arith}
 use Rattle.std.specs.Ordering.{nat_cmp}
 use Rattle.std.specs.Cmp.Lexicographic.{slice_cmp}
 use Rattle.std.specs.declared.cmp.Ordering.TheVariants.{Less}
@@ -14,12 +14,16 @@ use Rattle.itip_view.proofs.Left.{none_left, pairs_dropped, rows_joined, rows_sp
 use Rattle.itip_view.proofs.by_uid.RowsByUid.next.Goals as goal
 
 pub returns-then-self-len-clause-rows : goal.returns-then-self-len-clause-rows
-returns-then-self-len-clause-rows c = λ rows.
+returns-then-self-len-clause-rows c =
     let asked : RowsByUid = c.args.self.now in
     let all : List (List ℕ) = map (λ uid. uid.now) asked.uids.items in
     let long : length all ≡ length asked.uids.items = length-map asked.uids.items (λ uid. uid.now) in
     let over : length all ≤ asked.done = grind (arith, long) in
-    none_left asked.state.now asked.window (Wants asked.wanted) (drop asked.done all) (drop_all asked.done all over) rows
+    record {
+      no_uid = drop_all asked.done all over;
+      no_row = none_left asked.state.now asked.window (Wants asked.wanted) (drop asked.done all) (drop_all asked.done all over);
+      same = refl;
+    }
 
 pub returns-clause-rows : goal.returns-clause-rows
 returns-clause-rows c =
@@ -38,6 +42,12 @@ returns-clause-rows c =
     subst AscendTexts split
     (pairs_dropped (λ (a b : List ℕ). slice_cmp nat_cmp a b ≡ Less) i all (pairs_ascend (slice_cmp nat_cmp) all asked.ascend)) in
     record {
+      uid = uid;
+      uids_are = split;
+      state_is = refl;
+      window_is = refl;
+      wanted_is = refl;
+      are_rows = c.in_ok-rows.ensures;
       joins = λ rest are. subst (λ (us : List (List ℕ)). AreRowsWhere (IsAmong us P) asked.state.now asked.window (rows ++ rest))
           (sym split) (rows_joined asked.state.now asked.window P uid (drop (i + 1) all) ascend rows c.in_ok-rows.ensures rest are);
       splits = λ every are. rows_split asked.state.now asked.window P uid (drop (i + 1) all) ascend rows c.in_ok-rows.ensures every

@@ -11,12 +11,12 @@ use Rattle.itip_view.proofs.Governed.{live_series}
 use Rattle.itip_view.proofs.in_question.InQuestion.governing.Goals as goal
 
 -- the item in question, or that none is
-abbrev IsFound : List Item → List ℕ → Option Moment → Option Item → Type 0
-IsFound items uid id found = MatchOption found (NoneInQuestion items uid id) (IsInQuestion items uid id)
+abbrev IsItemInQuestion : List Item → List ℕ → Option Moment → Option Item → Type 0
+IsItemInQuestion items uid id found = MatchOption found (NoneInQuestion items uid id) (IsInQuestion items uid id)
 
 pub returns-in-Some : goal.returns-in-Some
 returns-in-Some c =
-    subst (λ (id : Option Moment). IfOk c.governing_at.result (λ found. IsFound c.args.self.now.items c.args.self.now.uid id
+    subst (λ (id : Option Moment). IfOk c.governing_at.result (λ found. IsItemInQuestion c.args.self.now.items c.args.self.now.uid id
     (option_copied found))) (ap option_copied (sym c.in-Some.is)) c.governing_at.ensures
 
 pub returns-in-None : goal.returns-in-None
@@ -25,5 +25,5 @@ returns-in-None c =
     let uid : List ℕ = c.args.self.now.uid in
     let best : IsBestOf items (Series uid) (option_copied c.series.result) =
     subst (λ (p : UidPart). IsBestOf p.items (Series p.uid) (option_copied c.series.result)) c.self.view_is c.series.ensures in
-    subst (λ (id : Option Moment). IsFound items uid id (option_copied c.if_live.result)) (ap option_copied (sym c.in-None.is))
-    (subst (IsFound items uid None) (sym c.if_live.ensures) (live_series items uid (option_copied c.series.result) best))
+    subst (λ (id : Option Moment). IsItemInQuestion items uid id (option_copied c.if_live.result)) (ap option_copied (sym c.in-None.is))
+    (subst (IsItemInQuestion items uid None) (sym c.if_live.ensures) (live_series items uid (option_copied c.series.result) best))

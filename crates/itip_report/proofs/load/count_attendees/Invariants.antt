@@ -3,7 +3,7 @@ use Rattle.itip_todo.specs.Table.{attendee_key}
 use Rattle.itip_view.specs.declared.row.Row.{Row}
 use Rattle.itip_view.specs.declared.row.ShownAttendee.{ShownAttendee}
 use Rattle.itip_report.specs.Tally.{IsTally}
-use Rattle.itip_report.proofs.load.count_row.Given as goal
+use Rattle.itip_report.proofs.load.count_attendees.Given as goal
 
 abbrev pub invariant-loop-attendee : goal.invariant-loop-attendee
 invariant-loop-attendee l =
