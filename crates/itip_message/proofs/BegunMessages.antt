@@ -519,8 +519,8 @@ module _ (octets line : List ℕ) (all_empty : Bool) (begun : StaysPassing octet
     -- no message is cut off that is the same whatever follows: with an octet more the first has one more
     pub not_cut : (cut after : List ℕ) → StaysCut octets cut after → ⊥
     not_cut cut after stays =
-        let one = ap length (first_is (32 ∷ []) cut after refl refl stays) in
-        let two = ap length (first_is (32 ∷ (88 ∷ [])) cut after refl refl stays) in
+        let one : length (octets ++ 32 ∷ (88 ∷ [])) ≡ length cut = ap length (first_is (32 ∷ []) cut after refl refl stays) in
+        let two : length (octets ++ 32 ∷ (88 ∷ (88 ∷ []))) ≡ length cut = ap length (first_is (32 ∷ (88 ∷ [])) cut after refl refl stays) in
         let short = length-append octets (32 ∷ (88 ∷ [])) in
         let long = length-append octets (32 ∷ (88 ∷ (88 ∷ []))) in
         omega (arith, one, two, short, long)
