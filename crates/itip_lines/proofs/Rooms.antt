@@ -4,6 +4,9 @@ use Rattle.std.proofs.Common.{vec_len, vec_capacity, length-append, append-nil, 
 use Rattle.std.proofs.lemmas.Bool.Decides.{nat_tests}
 use Rattle.std.proofs.lemmas.List.{take-append-drop, at_drop_more}
 use Rattle.std.specs.declared.vec.Vec.{Vec}
+use Rattle.std.specs.List.{list_any}
+use Rattle.itip_lines.specs.Lawful.{value_text, params_text}
+use Rattle.itip_lines.specs.Octets.{is_separator}
 use Rattle.itip_lines.specs.Room.{HasRoomFor, KeepsRoom}
 use Rattle.itip_lines.specs.Writing.{following, fits, folded, Writes}
 
@@ -56,6 +59,25 @@ folded_apart used b over = rw does_not (omega arith)
   where
     does_not : fits used b ≡ false
     does_not = grind (arith, nat_tests)
+
+-- ---- and a parameter
+
+pub plain_long : (value : List ℕ) → list_any is_separator value ≡ false → length (value_text value) ≡ length value
+plain_long value plain = ap (λ (t : Bool). length (cond t (34 ∷ (value ++ 34 ∷ [])) value)) plain
+
+pub quoted_long : (value : List ℕ) → list_any is_separator value ≡ true → length (value_text value) ≡ length value + 2
+quoted_long value needs =
+    let both = length-append value (34 ∷ []) in
+    let long : length (34 ∷ (value ++ 34 ∷ [])) ≡ length value + 2 = omega (arith, both) in
+    ap (λ (t : Bool). length (cond t (34 ∷ (value ++ 34 ∷ [])) value)) needs ∙ long
+
+pub param_long : (name value : List ℕ) → length (params_text ((record { name = name; values = value ∷ [] }) ∷ [])) ≡
+    length name + length (value_text value) + 2
+param_long name value =
+    let end : length (params_text ((record { name = name; values = value ∷ [] }) ∷ [])) ≡ length (59 ∷ (name ++ 61 ∷ value_text value)) =
+    ap length (append-nil (59 ∷ (name ++ 61 ∷ value_text value))) in
+    let both = length-append name (61 ∷ value_text value) in
+    omega (arith, end, both)
 
 -- ---- and where there is room
 

@@ -88,9 +88,11 @@ fn write_all(name: &str, params: &[u8], value: &[u8], out: &mut Vec<u8>) -> Resu
 
 /// Appends a line with its breaks, where `text` is the line without them and without folds.
 ///
-/// Where memory is refused, perhaps a part of it is appended.
+/// Where memory is refused, perhaps a part of it is appended. It is asked for only where `out` has no room for the line.
 pub fn write_text(text: &str, out: &mut Vec<u8>) -> Result<(), AllocError>
-    ensures { OnOk result (out.new.items ≡ out.old.items ++ folded 0 text.now) }
+    ensures appended { OnOk result (out.new.items ≡ out.old.items ++ folded 0 text.now) }
+    ensures room { HasRoomFor out.old (folded 0 text.now) → IsOk result }
+    ensures keeps { KeepsRoom out.old out.new }
 {
     write_octets(text.as_bytes(), 0, out)?;
     out.extend_from_slice(b"\r\n")
@@ -99,10 +101,12 @@ pub fn write_text(text: &str, out: &mut Vec<u8>) -> Result<(), AllocError>
 /// Appends the text of a parameter with one value, without folds: `;`, its name, `=`, and the value, in quotes where it
 /// has `;`, `:` or `,`.
 ///
-/// Where memory is refused, perhaps a part of it is appended.
+/// Where memory is refused, perhaps a part of it is appended. It is asked for only where `out` has no room for the parameter.
 pub fn write_param(name: &str, value: &str, out: &mut Vec<u8>) -> Result<(), AllocError>
-    ensures { OnOk result (out.new.items
+    ensures appended { OnOk result (out.new.items
         ≡ out.old.items ++ params_text ((record { name = name.now; values = value.now ∷ [] }) ∷ [])) }
+    ensures room { HasRoomFor out.old (params_text ((record { name = name.now; values = value.now ∷ [] }) ∷ [])) → IsOk result }
+    ensures keeps { KeepsRoom out.old out.new }
 {
     out.push(b';')?;
     out.extend_from_slice(name.as_bytes())?;
@@ -112,7 +116,9 @@ pub fn write_param(name: &str, value: &str, out: &mut Vec<u8>) -> Result<(), All
 
 /// Appends a value of a parameter without folds, in quotes where it needs them.
 pub(crate) fn push_value(value: &[u8], out: &mut Vec<u8>) -> Result<(), AllocError>
-    ensures { OnOk result (out.new.items ≡ out.old.items ++ value_text value.now) }
+    ensures appended { OnOk result (out.new.items ≡ out.old.items ++ value_text value.now) }
+    ensures room { HasRoomFor out.old (value_text value.now) → IsOk result }
+    ensures keeps { KeepsRoom out.old out.new }
 {
     if !has_separator(value) {
         return out.extend_from_slice(value);

@@ -15,7 +15,7 @@ loop-text-preserved c = (
   tt,
   tt,
   texts_less c.args.lines.now c.args.out.now.items c.loop-text.out.items c.write_text.new.out.items (texts_left c.loop-text.text-iterator)
-      c.in-Some.text.now (texts_left c.next.new.self) c.loop-text.invariant.2 c.in-Some.ensures.steps c.in_ok-write_text.ensures,
+      c.in-Some.text.now (texts_left c.next.new.self) c.loop-text.invariant.2 c.in-Some.ensures.steps c.in_ok-write_text.ensures.appended,
 )
 
 pub returns-then-len-limit : goal.returns-then-len-limit
