@@ -24,7 +24,7 @@ pub fn reading_laws()
         → RefusesTodo lines refusal → RefusesTodo lines other → refusal ≡ other }
     ensures place { (lines : List NumberedLine) (refusal : TodoRefusal) → RefusesTodo lines refusal
         → (refusal.line ≡ None) ↔ ((p : PropertyName) × (refusal.cause ≡ cause.Missing p)) }
-    ensures before_ranges { (lines : List Line) (todo : Todo) → ReadsTodoWithin before_ranges lines todo → ReadsTodo lines todo }
+    ensures as_before { (lines : List Line) (todo : Todo) → ReadsTodoWithin before_ranges lines todo → ReadsTodo lines todo }
 {}
 
 /// The lines that a to-do is written as, between BEGIN and END, are read as this to-do.

@@ -10,6 +10,6 @@ returns c = record {
   read_or_refused = read_or_refused;
   one_refusal = one_refusal;
   place = refusal_place;
-  before_ranges =
+  as_before =
       todo_now;
 }
