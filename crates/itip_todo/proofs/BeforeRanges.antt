@@ -1,13 +1,16 @@
 -- Lines that were a to-do before instances had ranges are the same to-do.
-use Rattle.std.proofs.Common.{◌≡◌, refl, ℕ, Bool, true, false, ◌&&◌, not, List, [], ◌∷◌, ◌++◌, length, arith}
+use Rattle.std.proofs.Common.{◌≡◌, ◌∙◌, refl, ap, subst, ℕ, Bool, true, false, cond, ◌&&◌, not, List, [], ◌∷◌, ◌++◌, length, arith}
 use Rattle.std.specs.Prelude.{nat_le, codes}
 use Rattle.std.specs.List.{list_any}
+use Rattle.std.specs.Str.{str_eq_ignore_ascii_case}
+use Rattle.std.proofs.lemmas.Bool.{or_parts}
 use Rattle.std.proofs.lemmas.Bool.Decides.{nat_tests}
 use Rattle.itip_lines.specs.declared.line.Line.{Line}
 use Rattle.itip_lines.specs.declared.line.Param.{Param}
 use Rattle.itip_todo.specs.Limits.{before_ranges}
-use Rattle.itip_todo.specs.Participation.{same_text}
-use Rattle.itip_todo.specs.Reading.{IsGoodWithin, IsGoodAs, AreGoodWithin, AreGood, ReadsTodoWithin, ReadsTodo, has_range, lines_of}
+use Rattle.itip_todo.specs.Participation.{same_text, first_value, param_value}
+use Rattle.itip_todo.specs.Reading.{IsGoodWithin, IsGoodAs, AreGoodWithin, AreGood, ReadsTodoWithin, ReadsTodo, has_range, range_of, lines_of}
+use Rattle.itip_todo.specs.Reading.{first_of}
 use Rattle.itip_todo.specs.Table.{property_of, is_same}
 use Rattle.itip_todo.specs.declared.property_name.PropertyName.{PropertyName}
 use Rattle.itip_todo.specs.declared.property_name.PropertyName.TheVariants as name
@@ -67,3 +70,37 @@ todo_now lines todo read = record {
   exdates = read.exdates;
   others = read.others;
 }
+
+-- ---- and none of them had a range
+
+abbrev has_any_range : Line → Bool
+has_any_range line = list_any (λ (param : Param). same_text param.name (codes "RANGE")) line.params
+
+-- of parameters of which none is RANGE, none has a value of it
+no_value : (params : List Param) → list_any (λ (param : Param). same_text param.name (codes "RANGE")) params ≡ false →
+    param_value (codes "RANGE") params ≡ []
+no_value [] none = refl
+no_value (param ∷ params) none =
+    let parts = or_parts (same_text param.name (codes "RANGE")) (list_any (λ (param : Param). same_text param.name (codes "RANGE")) params) none in
+    ap (λ (b : Bool). cond b (first_value param.values) (param_value (codes "RANGE") params)) parts.0 ∙ no_value params parts.1
+
+no_range_in : (line : Line) → has_any_range line ≡ false → has_range line ≡ false
+no_range_in line none = ap (λ (value : List ℕ). str_eq_ignore_ascii_case value (codes "THISANDFUTURE")) (no_value line.params none)
+
+not_any : (b : Bool) → (b && true) ≡ false → b ≡ false
+not_any true e = e
+not_any false e = refl
+
+no_range_among : (above lines : List Line) → AreGoodWithin before_ranges above lines →
+    range_of (first_of (lines_of lines name.RecurrenceId)) ≡ false
+no_range_among above [] good = refl
+no_range_among above (line ∷ lines) good =
+    elim (is_same (property_of line) name.RecurrenceId) as (λ (b : Bool). is_same (property_of line) name.RecurrenceId ≡ b →
+    range_of (first_of (cond b (line ∷ lines_of lines name.RecurrenceId) (lines_of lines name.RecurrenceId))) ≡ false) [
+      | true ↦ λ is. no_range_in line (not_any (has_any_range line)
+          (subst (λ (b : Bool). (b && (has_any_range line && true)) ≡ false) is good.0.range))
+      | false ↦ λ other. no_range_among (above ++ line ∷ []) lines good.1
+    ] refl
+
+pub no_range_before : (lines : List Line) (todo : Todo) → ReadsTodoWithin before_ranges lines todo → todo.range ≡ false
+no_range_before lines todo read = read.range ∙ no_range_among [] lines read.good

@@ -1,5 +1,5 @@
 //! What holds of reading and writing. The functions do nothing: their contracts are the laws.
-ghost use Rattle.std.specs.Prelude.{◌≡◌, ◌⊎◌, ◌↔◌, List, map, None};
+ghost use Rattle.std.specs.Prelude.{◌≡◌, ◌⊎◌, ◌↔◌, false, List, map, None};
 ghost use Rattle.itip_lines.specs.Reading.{plain_lines};
 ghost use Rattle.itip_lines.specs.declared.line.Line.{Line};
 ghost use Rattle.itip_lines.specs.declared.line.NumberedLine.{NumberedLine};
@@ -13,7 +13,7 @@ ghost use Rattle.itip_todo.specs.declared.property_name.PropertyName.{PropertyNa
 ghost use Rattle.itip_todo.specs.declared.todo.Todo.{Todo};
 
 /// Lines are read as one to-do, or they are refused for one cause in one place, and not both. What was read before instances had
-/// ranges is read as the same to-do.
+/// ranges is read as the same to-do, which has none.
 pub fn reading_laws()
     ensures some { (lines : List NumberedLine)
         → ((todo : Todo) × ReadsTodo (plain_lines lines) todo) ⊎ ((refusal : TodoRefusal) × RefusesTodo lines refusal) }
@@ -25,6 +25,7 @@ pub fn reading_laws()
     ensures place { (lines : List NumberedLine) (refusal : TodoRefusal) → RefusesTodo lines refusal
         → (refusal.line ≡ None) ↔ ((p : PropertyName) × (refusal.cause ≡ cause.Missing p)) }
     ensures as_before { (lines : List Line) (todo : Todo) → ReadsTodoWithin before_ranges lines todo → ReadsTodo lines todo }
+    ensures no_range { (lines : List Line) (todo : Todo) → ReadsTodoWithin before_ranges lines todo → todo.range ≡ false }
 {}
 
 /// The lines that a to-do is written as, between BEGIN and END, are read as this to-do.
