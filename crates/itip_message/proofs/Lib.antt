@@ -23,3 +23,4 @@ pub mod SomeMessage
 pub mod Stages
 pub mod StaysPassing
 pub mod Unfolding
+pub mod BeforeRanges

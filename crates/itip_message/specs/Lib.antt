@@ -4,6 +4,7 @@ pub mod Head
 pub mod Sorting
 pub mod CauseLines
 pub mod Message
+pub mod Several
 pub mod Drafts
 pub mod RefusalNumbers
 pub mod Cutting

@@ -1,5 +1,5 @@
 //! Cutting a text of many messages, such as a delta, into messages. Nothing is copied: each is a slice of the text.
-ghost use Rattle.std.specs.Prelude.{◌≡◌, ◌<◌, ◌≤◌, [], length, MatchOption, IfSome, IfNone, IfOk, IfErr};
+ghost use Rattle.std.specs.Prelude.{◌≡◌, ◌<◌, ◌≤◌, ℕ, List, [], length, MatchOption, IfSome, IfNone, IfOk, IfErr, IsOk};
 ghost use Rattle.itip_message.specs.Begun.{IsBegun};
 ghost use Rattle.itip_message.specs.Scanned.{begins_blank, ends_line, line_length, is_return, says, said, is_empty, ends_calendar};
 ghost use Rattle.itip_message.specs.Scanned.{messages_of, CutsMessage, StaysCut};
@@ -34,8 +34,11 @@ pub fn next_message(bytes: &[u8]) -> Option<(&[u8], &[u8])>
 /// The first message of some octets that others may follow, and what stands behind it; or else what is known of the message that
 /// these octets begin, where it is not known yet where it ends: a line is at its end only where an octet behind it shows that no
 /// fold goes on.
+///
+/// A message is cut off wherever there is one that is the same whatever follows.
 pub fn cut_message(bytes: &[u8]) -> Result<(&[u8], &[u8]), BegunMessage<'_>>
     ensures cut { IfOk result (λ cut. StaysCut bytes.now cut.0.now cut.1.now) }
+    ensures finds { (message after : List ℕ) → StaysCut bytes.now message after → IsOk result }
     ensures begun { IfErr result IsBegun }
     ensures octets { IfErr result (λ message. message.octets.now ≡ bytes.now) }
 {

@@ -20,7 +20,7 @@ pub use cutting::{cut_message, next_message};
 pub use draft::read_draft;
 pub use error::{MessageCause, MessageRefusal, ReadError};
 pub use frame::Placed;
-pub use laws::{message_cutting, one_draft, one_reading, read_again};
+pub use laws::{message_cutting, one_draft, one_reading, read_again, read_as_before};
 pub use parallel::read_all;
 pub use read::read_message;
 pub use sort::Component;
