@@ -1,5 +1,5 @@
 //! A desk.
-ghost use Rattle.std.specs.Prelude.{◌≡◌, ◌↔◌, [], ◌++◌, ◌∷◌, IfOk, OnOk, OnErr, length, map, min, List, ℕ, IsErrOf};
+ghost use Rattle.std.specs.Prelude.{◌≡◌, ◌≤◌, ◌↔◌, [], ◌++◌, ◌∷◌, IfOk, OnOk, OnErr, IsOk, length, map, min, List, ℕ, IsErrOf};
 ghost use Rattle.itip_items.specs.declared.item.Item.{Item};
 ghost use Rattle.itip_state.specs.Kept.{AreUidsOf};
 ghost use Rattle.itip_view.specs.declared.row.Row.{Row};
@@ -22,16 +22,18 @@ pub struct Changed {
     pub uids: Vec<Uid>,
 }
 
-/// Copies of the UIDs that items are about, by octets, each once.
+/// Copies of the UIDs that items are about, by octets, each once. Of no item it takes no memory.
 fn copies_of_uids(alloc: Global, items: &[&SharedItem]) -> Result<Vec<Uid>, AllocError>
-    ensures { IfOk result (λ copies. AreUidsOf copies.items (map (λ item. item.now) items.now)) }
+    ensures uids { IfOk result (λ copies. AreUidsOf copies.items (map (λ item. item.now) items.now)) }
+    ensures succeeds { items.now ≡ [] → IsOk result }
 {
     let uids = uids(alloc, items)?;
     copies(alloc, &uids)
 }
 
 fn copies(alloc: Global, uids: &[&Uid]) -> Result<Vec<Uid>, AllocError>
-    ensures { IfOk result (λ copies. copies.items ≡ map (λ uid. uid.now) uids.now) }
+    ensures copies { IfOk result (λ copies. copies.items ≡ map (λ uid. uid.now) uids.now) }
+    ensures succeeds { uids.now ≡ [] → IsOk result }
 {
     let mut copies = Vec::with_capacity(alloc, uids.len())?;
     for uid in uids {
@@ -51,7 +53,7 @@ pub struct Desk {
 
 impl Model for Desk {
     ghost use Rattle.itip_desk.specs.Desk.{Shown, shown_code};
-    ghost use Rattle.itip_desk.specs.Moves.{AreTicks};
+    ghost use Rattle.itip_desk.specs.Moves.{AreTicks, AreUpTo};
 
     ghost Value = { Shown };
 
@@ -59,13 +61,14 @@ impl Model for Desk {
 
     ghost view = { λ d. record { kept = d.kept; tick = d.tick; changed = d.moves.carried } };
 
-    ghost invariant = { λ d. AreTicks d.moves.carried };
+    ghost invariant = { λ d. AreTicks d.moves.carried × AreUpTo d.tick d.moves.carried };
 }
 
 impl Desk {
     ghost use Rattle.itip_state.specs.Kept.{AreKept, AreMoved, ArePartOf, Moves, HasEachOnce};
     ghost use Rattle.itip_desk.specs.Desk.{IsDeskOf, IsDeltaOf, IsCarriedOn};
     ghost use Rattle.itip_desk.specs.Heard.{TickStep};
+    ghost use Rattle.itip_state.specs.Order.{IsBelow};
     ghost use Rattle.std.specs.List.{Contains};
     ghost use Rattle.itip_view.specs.ByUid.{AreAsked, AreLeft};
     ghost use Rattle.itip_view.specs.Rows.{IsRow, AreRows, AreTooMany};
@@ -108,7 +111,8 @@ impl Desk {
 
     /// Hears a batch. Where UIDs move the tick rises by one, and they carry it.
     ///
-    /// Refused when out of memory, or where a UID would move at the last tick; a refusal changes nothing.
+    /// Refused when out of memory, or where a UID would move at the last tick; a refusal changes nothing. A batch of which nothing is
+    /// news, as one that was heard before, is never refused.
     pub fn take(&mut self, batch: &Batch) -> Result<Changed, DeskError>
         ensures kept { OnOk result (AreKept self.new.kept (self.old.kept ++ batch.now)) }
         ensures uids { IfOk result (λ changed. AreMoved changed.uids.items self.old.kept batch.now) }
@@ -119,6 +123,7 @@ impl Desk {
             → IsDeskOf steps start self.old → IsDeskOf (steps ++ batch.now ∷ []) start self.new) }
         ensures spent { IsErrOf result DeskError.TicksSpent
             → (self.old.tick ≡ u64.MAX) × ((uid : List ℕ) × Moves self.old.kept batch.now uid) }
+        ensures succeeds { IsBelow batch.now self.old.kept → IsOk result }
         ensures err { OnErr result (self.new ≡ self.old) }
     {
         let news = self.kept.state().news(batch.as_slice())?;
@@ -146,9 +151,16 @@ impl Desk {
 
     /// The kept items of the UIDs that carry a tick above this one: what a desk that was at this tick lacks. At most
     /// one other UID is looked at.
+    ///
+    /// Refused when out of memory. From the tick of this desk on nothing has moved, and it is not refused.
     pub fn delta_since(&self, tick: u64) -> Result<Batch, AllocError>
-        ensures { IfOk result (IsDeltaOf self.now tick) }
+        ensures delta { IfOk result (IsDeltaOf self.now tick) }
+        ensures succeeds { self.now.tick ≤ tick → IsOk result }
     {
+        let is_up_to_date = tick >= self.tick;
+        if is_up_to_date {
+            return Batch::of_shared(Vec::new(self.alloc));
+        }
         let uids = self.moves.after(tick)?;
         Batch::of_shared(self.kept.state().shared_of(&uids)?)
     }

@@ -181,10 +181,11 @@ impl Held {
         Ok(items)
     }
 
-    /// All items, shared with this map.
+    /// All items, shared with this map. Of an empty map it takes no memory.
     pub(crate) fn shared_items(&self, alloc: Global) -> Result<Vec<SharedItem>, NoMemory>
         requires { AreSound self.now }
-        ensures { IfOk result (λ items. items.items ≡ items_of self.now) }
+        ensures items { IfOk result (λ items. items.items ≡ items_of self.now) }
+        ensures succeeds { items_of self.now ≡ [] → IsOk result }
     {
         let mut items = Vec::new(alloc);
         for (_, series) in self.map.map.iter() {

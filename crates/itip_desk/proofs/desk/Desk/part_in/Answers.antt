@@ -30,7 +30,7 @@ returns-clause-part c =
     let at = (goal.at.returns-clause-part c).After-part in
     if_ok_then (λ part. ArePartOf part c.state.result.now (map (λ u. u.now) c.deref.result.now)) (λ part. (uids : List (List ℕ)) ×
     ArePartOf part c.args.self.now.kept uids) c.part.result
-    (λ part are. (map (λ u. u.now) c.in_ok-there.there.items, part_of at part are)) c.part.ensures
+    (λ part are. (map (λ u. u.now) c.in_ok-there.there.items, part_of at part are)) c.part.ensures.part
 
 pub returns-clause-rows : goal.returns-clause-rows
 returns-clause-rows c =
@@ -39,4 +39,4 @@ returns-clause-rows c =
     IsRow part c.args.window row ↔ IsRow c.args.self.now.kept c.args.window row) c.part.result
     (λ part are. rows_in part c.args.self.now.kept (map (λ u. u.now) c.in_ok-there.there.items) (part_of at part are) c.args.window
     (found at))
-    c.part.ensures
+    c.part.ensures.part

@@ -33,7 +33,7 @@ returns-clause-part c =
     let at = (goal.at.returns-clause-part c).After-part in
     if_ok_then (λ part. ArePartOf part c.state.result.now (map (λ u. u.now) c.deref.result.now)) (λ part. (uids : List (List ℕ)) ×
     ArePartOf part c.args.self.now.kept uids) c.part.result
-    (λ part are. (map (λ u. u.now) c.in_ok-naming.naming.items, part_of at part are)) c.part.ensures
+    (λ part are. (map (λ u. u.now) c.in_ok-naming.naming.items, part_of at part are)) c.part.ensures.part
 
 pub returns-clause-rows : goal.returns-clause-rows
 returns-clause-rows c =
@@ -42,4 +42,4 @@ returns-clause-rows c =
     Shows c.args.address.now row → IsRow part window row ↔ IsRow c.args.self.now.kept window row) c.part.result
     (λ part are window. rows_showing part c.args.self.now.kept (map (λ u. u.now) c.in_ok-naming.naming.items) (part_of at part are) window
     c.args.address.now (found at))
-    c.part.ensures
+    c.part.ensures.part

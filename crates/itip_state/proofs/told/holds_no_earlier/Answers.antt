@@ -5,7 +5,7 @@ use Rattle.itip_items.specs.declared.item.Item.{Item}
 use Rattle.itip_state.specs.Slots.{slot_cmp}
 use Rattle.itip_state.specs.UidStates.{uid_state}
 use Rattle.itip_state.proofs.News.{known_holds, entry_holds}
-use Rattle.itip_state.proofs.state.holds_no_earlier.Goals as goal
+use Rattle.itip_state.proofs.told.holds_no_earlier.Goals as goal
 
 pub returns-in-Known : goal.returns-in-Known
 returns-in-Known c =

@@ -2,7 +2,7 @@ use Rattle.std.proofs.Common.{◌≡◌, sym, ◌∙◌, ap, inl, inr, true, fal
 use Rattle.itip_state.specs.Held.{at, kills}
 use Rattle.itip_state.specs.UidStates.{uid_state}
 use Rattle.itip_state.proofs.News.{not_outdone, told_here, dead_here, outdone_here}
-use Rattle.itip_state.proofs.state.outdoes.Goals as goal
+use Rattle.itip_state.proofs.told.outdoes.Goals as goal
 
 pub returns-in_default : goal.returns-in_default
 returns-in_default c = λ is. (

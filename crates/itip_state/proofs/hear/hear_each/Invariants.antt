@@ -1,7 +1,7 @@
 use Rattle.std.proofs.Common.{map, take}
 use Rattle.itip_state.specs.Undone.{AreUndone}
 use Rattle.itip_state.specs.Newer.{AreTakenIn}
-use Rattle.itip_state.proofs.hear.hear_all.Given as goal
+use Rattle.itip_state.proofs.hear.hear_each.Given as goal
 
 abbrev pub invariant-loop-item : goal.invariant-loop-item
 invariant-loop-item l = record {
