@@ -1,34 +1,40 @@
-use Rattle.std.proofs.Common.{◌≡◌, ◌∙◌, ℕ, ap, sym, subst, refl, true}
+use Rattle.std.proofs.Common.{◌≡◌, ◌∙◌, ℕ, [], ap, sym, subst, refl, true, arith}
 use Rattle.std.specs.BTreeMap.Range.{IsLeBy, range_contains}
 use Rattle.std.specs.declared.ops.Bound.TheVariants.{Included, Excluded}
-use Rattle.itip_desk.specs.Entries.{entry_cmp, entry_of, attendee_mark, before_all, after_all}
-use Rattle.itip_desk.specs.declared.entry.IndexEntry.{IndexEntry}
-use Rattle.itip_desk.specs.declared.entry.Mark.{Mark}
-use Rattle.itip_desk.specs.declared.entry.Mark.TheVariants.{Attendee}
-use Rattle.itip_desk.proofs.Between.{found_between, mark_inside, mark_forward}
+use Rattle.std.proofs.lemmas.List.{nil_from_length}
+use Rattle.itip_items.specs.declared.item.Item.{Item}
+use Rattle.itip_desk.specs.Entries.{name_cmp, name_exact, name_entry, name_bound, address_number}
+use Rattle.itip_desk.specs.declared.entry.NameEntry.{NameEntry}
+use Rattle.itip_desk.proofs.Between.{found_between, name_inside, names_forward}
+use Rattle.itip_desk.proofs.Finding.{none_there}
 use Rattle.itip_desk.proofs.found.find_named.Goals as goal
+
+pub returns-in_default-clause-names : goal.returns-in_default-clause-names
+returns-in_default-clause-names c = λ item names there.
+    let none : c.args.names.now.keys ≡ [] = nil_from_length _ (omega (arith, c.in_default.ensures.variant)) in
+    absurd (none_there name_cmp c.args.names.now (name_entry item (address_number c.args.address.now)) none there)
 
 pub find_naming-requires : goal.find_naming-requires
 find_naming-requires c =
-    let mark : Mark = attendee_mark c.args.address.now in
-    let from : c.before_all-from.result ≡ before_all mark = c.before_all-from.ensures ∙
-    ap (λ (n : ℕ). before_all (Attendee n)) c.attendee_number.ensures in
-    let to : c.after_all-to.result ≡ after_all mark = c.after_all-to.ensures ∙
-    ap (λ (n : ℕ). after_all (Attendee n)) c.attendee_number.ensures in
-    subst (λ (low : IndexEntry). IsLeBy entry_cmp low c.after_all-to.result) (sym from)
-    (subst (λ (high : IndexEntry). IsLeBy entry_cmp (before_all mark) high) (sym to) (mark_forward mark))
+    let any : Item = c.in-Some.any.now.item in
+    let n : ℕ = address_number c.args.address.now in
+    let from : c.in_ok-from.from ≡ name_bound n 0 any = c.in_ok-from.ensures ∙ ap (λ (m : ℕ). name_bound m 0 any) c.attendee_number.ensures in
+    let to : c.in_ok-to.to ≡ name_bound n 4294967295 any = c.in_ok-to.ensures ∙
+    ap (λ (m : ℕ). name_bound m 4294967295 any) c.attendee_number.ensures in
+    subst (λ (low : NameEntry). IsLeBy name_cmp low c.in_ok-to.to) (sym from)
+    (subst (λ (high : NameEntry). IsLeBy name_cmp (name_bound n 0 any) high) (sym to) (names_forward any n))
 
-pub returns : goal.returns
-returns c = λ item names there.
-    let mark : Mark = attendee_mark c.args.address.now in
-    let from : c.before_all-from.result ≡ before_all mark = c.before_all-from.ensures ∙
-    ap (λ (n : ℕ). before_all (Attendee n)) c.attendee_number.ensures in
-    let to : c.after_all-to.result ≡ after_all mark = c.after_all-to.ensures ∙
-    ap (λ (n : ℕ). after_all (Attendee n)) c.attendee_number.ensures in
-    let e : IndexEntry = entry_of item mark in
-    let inside : range_contains entry_cmp (Included c.before_all-from.result) (Excluded c.after_all-to.result) e ≡ true =
-    subst (λ (l : IndexEntry). range_contains entry_cmp (Included l) (Excluded c.after_all-to.result) e ≡ true) (sym from)
-    (subst (λ (h : IndexEntry). range_contains entry_cmp (Included (before_all mark)) (Excluded h) e ≡ true) (sym to)
-    (mark_inside mark item)) in
-    c.in_ok-find_naming.ensures.adds item e
-    (found_between c.args.index.now c.before_all-from.result c.after_all-to.result e there inside) refl names
+pub returns-clause-names : goal.returns-clause-names
+returns-clause-names c = λ item names there.
+    let any : Item = c.in-Some.any.now.item in
+    let n : ℕ = address_number c.args.address.now in
+    let from : c.in_ok-from.from ≡ name_bound n 0 any = c.in_ok-from.ensures ∙ ap (λ (m : ℕ). name_bound m 0 any) c.attendee_number.ensures in
+    let to : c.in_ok-to.to ≡ name_bound n 4294967295 any = c.in_ok-to.ensures ∙
+    ap (λ (m : ℕ). name_bound m 4294967295 any) c.attendee_number.ensures in
+    let e : NameEntry = name_entry item n in
+    let inside : range_contains name_cmp (Included c.in_ok-from.from) (Excluded c.in_ok-to.to) e ≡ true =
+    subst (λ (l : NameEntry). range_contains name_cmp (Included l) (Excluded c.in_ok-to.to) e ≡ true) (sym from)
+    (subst (λ (h : NameEntry). range_contains name_cmp (Included (name_bound n 0 any)) (Excluded h) e ≡ true) (sym to)
+    (name_inside any n item)) in
+    c.in_ok-find_naming.ensures.adds e
+    (found_between name_cmp name_exact c.args.names.now c.in_ok-from.from c.in_ok-to.to e there inside) names

@@ -15,7 +15,7 @@ use Rattle.itip_desk.proofs.desk.Desk.part_in.Goals.{After-part}
 found : (c : After-part) → (uid : List ℕ) → HasRowsIn c.args.self.now.kept c.args.window uid →
     Contains (map (λ u. u.now) c.in_ok-there.there.items) uid
 found c uid has = (c.in_ok-there.ensures.same uid).1
-    (c.in_ok-uids_in.ensures uid (subst (λ (k : List Item). HasRowsIn k c.args.window uid)
+    (c.in_ok-uids_in.ensures.uids uid (subst (λ (k : List Item). HasRowsIn k c.args.window uid)
     (sym (ap (λ (d : Shown). d.kept) c.self.view_is)) has))
 
 part_of : (c : After-part) (part : List Item) → ArePartOf part c.state.result.now (map (λ u. u.now) c.deref.result.now) →

@@ -18,7 +18,7 @@ use Rattle.itip_desk.proofs.desk.Desk.part_naming.Goals.{After-part}
 found : (c : After-part) → (uid : List ℕ) → NamesIn c.args.self.now.kept (attendee_key c.args.address.now) uid →
     Contains (map (λ u. u.now) c.in_ok-naming.naming.items) uid
 found c uid names = (c.in_ok-naming.ensures.same uid).1
-    (c.in_ok-uids_naming.ensures uid (subst (λ (k : List Item). NamesIn k (attendee_key c.args.address.now) uid)
+    (c.in_ok-uids_naming.ensures.uids uid (subst (λ (k : List Item). NamesIn k (attendee_key c.args.address.now) uid)
     (sym (ap (λ (d : Shown). d.kept) c.self.view_is)) names))
 
 part_of : (c : After-part) (part : List Item) → ArePartOf part c.state.result.now (map (λ u. u.now) c.deref.result.now) →

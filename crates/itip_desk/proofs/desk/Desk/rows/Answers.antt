@@ -18,7 +18,7 @@ use Rattle.itip_desk.proofs.desk.Desk.rows.Goals.{After-among}
 found : (c : After-among) → (uid : List ℕ) → HasRowsIn c.args.self.now.kept c.args.window uid →
     Contains (map (λ u. u.now) c.in_ok-uids.uids.items) uid
 found c = subst (λ (k : List Item). (uid : List ℕ) → HasRowsIn k c.args.window uid →
-    Contains (map (λ u. u.now) c.in_ok-uids.uids.items) uid) (ap (λ (d : Shown). d.kept) c.self.view_is) c.in_ok-uids.ensures
+    Contains (map (λ u. u.now) c.in_ok-uids.uids.items) uid) (ap (λ (d : Shown). d.kept) c.self.view_is) c.in_ok-uids.ensures.uids
 
 asked_is : (c : After-among) (asked : RowsByUid) →
     AreAsked (IsAmong (map (λ u. u.now) c.in_ok-uids.uids.items) (Wants c.all.result)) c.state.result.now c.args.window asked →

@@ -18,7 +18,7 @@ use Rattle.itip_desk.proofs.desk.Desk.rows_for.Goals.{After-among}
 found : (c : After-among) → (uid : List ℕ) → NamesIn c.args.self.now.kept (attendee_key c.args.address.now) uid →
     Contains (map (λ u. u.now) c.in_ok-uids.uids.items) uid
 found c = subst (λ (k : List Item). (uid : List ℕ) → NamesIn k (attendee_key c.args.address.now) uid →
-    Contains (map (λ u. u.now) c.in_ok-uids.uids.items) uid) (ap (λ (d : Shown). d.kept) c.self.view_is) c.in_ok-uids.ensures
+    Contains (map (λ u. u.now) c.in_ok-uids.uids.items) uid) (ap (λ (d : Shown). d.kept) c.self.view_is) c.in_ok-uids.ensures.uids
 
 asked_is : (c : After-among) (asked : RowsByUid) →
     AreAsked (IsAmong (map (λ u. u.now) c.in_ok-uids.uids.items) (Wants c.showing.result)) c.state.result.now c.args.window asked →

@@ -4,7 +4,7 @@ use Rattle.std.proofs.lemmas.List.{take_more}
 use Rattle.std.proofs.lemmas.List.Elements.{Contains-push_cases}
 use Rattle.itip_todo.specs.Table.{attendee_key}
 use Rattle.itip_todo.specs.Properties.{Property}
-use Rattle.itip_desk.proofs.found.names.Goals as goal
+use Rattle.itip_desk.proofs.found.names_attendee.Goals as goal
 
 one_more : (xs : List Property) (i : ℕ) (x : Property) → i < length xs → x ≡ get_or xs i x → take (i + 1) xs ≡ take i xs ++ x ∷ []
 one_more xs i x below is = take_more xs i x below ∙ ap (λ (y : Property). take i xs ++ y ∷ []) (sym is)
