@@ -1,6 +1,5 @@
 -- Where nothing is news, or nothing is there.
 use Rattle.std.proofs.Common.{◌≡◌, ◌↔◌, ℕ, List, [], ◌∷◌, ◌++◌, ◌<◌, ◌≤◌, ◌⊎◌, inl, inr, refl, sym, ◌∙◌, ap, subst, true, false, nat_lt, length, map, get_or, arith, append-nil}
-use Rattle.std.specs.Prelude.{Result, Err, OnErr}
 use Rattle.std.specs.List.{Contains}
 use Rattle.std.proofs.Math.ListN.{get_or-map}
 use Rattle.std.proofs.lemmas.List.{length-map}
@@ -91,10 +90,6 @@ outdone_hold es heard items outdone hold = record { held = hold.held; kept = kep
           λ k. state.1 (subst (λ (xs : List Item). IsKept xs i) (append-nil set) (alone.1 (beside.1 k))),
         )
 
--- a fact of a call that failed
-pub when_err : {A E P : Type 0} (r : Result A E) (e : E) → r ≡ Err e → OnErr r P → P
-when_err r e is h = subst (λ s. OnErr s _) is h
-
 -- ---- lists
 pub nothing_of_none : (items : List Item) → IsItemsOf items [] → items ≡ []
 nothing_of_none [] is = refl
@@ -116,6 +111,13 @@ map_has f xs k x below is = (k, rw (length-map xs f) below, get_or-map f xs k x 
 pub no_uids : (uids : List (List ℕ)) → AreUidsOf uids [] → uids ≡ []
 no_uids [] are = refl
 no_uids (u ∷ uids) are = let some = are.each u (cons_first u uids) in absurd (none_in some.0 some.1)
+
+-- what has the members of nothing is nothing
+module _ {A : Type 0} where
+  pub no_texts : (xs ys : List A) → ((x : A) → Contains xs x ↔ Contains ys x) → ys ≡ [] → xs ≡ []
+  no_texts [] ys same none = refl
+  no_texts (x ∷ xs) ys same none =
+      absurd (none_in x (subst (λ (zs : List A). Contains zs x) none ((same x).0 (cons_first x xs))))
 
 pub no_view : {A B : Type 0} (f : A → B) (xs : List A) → map f xs ≡ [] → xs ≡ []
 no_view f [] none = refl

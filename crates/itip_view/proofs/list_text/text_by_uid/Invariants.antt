@@ -1,7 +1,7 @@
 use Rattle.std.proofs.Common.{map, take}
 use Rattle.itip_view.specs.Wanting.{Wants}
 use Rattle.itip_view.proofs.Texts.{TextSoFar}
-use Rattle.itip_view.proofs.row_text.text_by_uid.Given as goal
+use Rattle.itip_view.proofs.list_text.text_by_uid.Given as goal
 
 abbrev pub invariant-loop-uid : goal.invariant-loop-uid
 invariant-loop-uid l =
