@@ -70,7 +70,7 @@ impl Desk {
     ghost use Rattle.itip_desk.specs.Heard.{TickStep};
     ghost use Rattle.itip_state.specs.Order.{IsBelow};
     ghost use Rattle.std.specs.List.{Contains};
-    ghost use Rattle.itip_view.specs.ByUid.{AreAsked, AreLeft};
+    ghost use Rattle.itip_view.specs.ByUid.{AreAsked, AreLeft, uids_of};
     ghost use Rattle.itip_view.specs.Rows.{IsRow, AreRows, AreTooMany};
     ghost use Rattle.itip_view.specs.Showing.{Shows, AreRowsWhere, AreTooManyWhere, IsListTextFor};
     ghost use Rattle.itip_view.specs.ListText.{IsListText};
@@ -212,10 +212,12 @@ impl Desk {
 
     /// The rows of the task list in a window, a UID at a time. No UID is looked at whose rows can't stand in it.
     ///
-    /// Refused when out of memory.
+    /// Refused when out of memory. Where nothing is kept, no memory is asked for.
     pub fn rows(&self, window: Window) -> Result<RowsByUid<'_, '_>, AllocError>
         ensures rows { IfOk result (λ asked. (rows : List Row) → AreLeft asked rows ↔ AreRows self.now.kept window rows) }
         ensures asked { IfOk result (AreAsked (λ row. Unit {0}) self.now.kept window) }
+        ensures none { self.now.kept ≡ [] → IfOk result (λ asked. uids_of asked ≡ []) }
+        ensures succeeds { self.now.kept ≡ [] → IsOk result }
     {
         let uids = self.kept.uids_in(window)?;
         RowsByUid::among(self.alloc, self.kept.state(), uids, window, &Wanted::all())
@@ -224,7 +226,7 @@ impl Desk {
     /// The rows in a window that show the attendee of an address, a UID at a time. No UID is looked at whose items don't name
     /// the attendee.
     ///
-    /// Refused when out of memory.
+    /// Refused when out of memory. Where nothing is kept, no memory is asked for.
     pub fn rows_for<'a>(
         &'a self,
         window: Window,
@@ -233,6 +235,8 @@ impl Desk {
         ensures rows { IfOk result (λ asked. (rows : List Row)
             → AreLeft asked rows ↔ AreRowsWhere (Shows address.now) self.now.kept window rows) }
         ensures asked { IfOk result (AreAsked (Shows address.now) self.now.kept window) }
+        ensures none { self.now.kept ≡ [] → IfOk result (λ asked. uids_of asked ≡ []) }
+        ensures succeeds { self.now.kept ≡ [] → IsOk result }
     {
         let uids = self.kept.uids_naming(address)?;
         RowsByUid::among(
@@ -246,10 +250,11 @@ impl Desk {
 
     /// The text of the task list in a window. No UID is looked at whose rows can't stand in it.
     ///
-    /// Refused where more than 100,000 rows stand there (31), or when out of memory (32).
+    /// Refused where more than 100,000 rows stand there (31), or when out of memory (32). Where nothing is kept, it is not refused.
     pub fn list(&self, window: Window) -> Result<Vec<u8>, ViewError>
         ensures text { IfOk result (λ text. (heard : List Item) → AreKept self.now.kept heard → IsListText heard window text.items) }
         ensures many { IsErrOf result ViewError.TooManyRows → (heard : List Item) → AreKept self.now.kept heard → AreTooMany heard window }
+        ensures succeeds { self.now.kept ≡ [] → IsOk result }
     {
         let rows = self.rows(window)?;
         rows.text()
@@ -257,12 +262,14 @@ impl Desk {
 
     /// The text of the rows in a window that show the attendee of an address. No UID is looked at whose items don't name the attendee.
     ///
-    /// Refused where more than 100,000 rows there show the attendee (31), or when out of memory (32).
+    /// Refused where more than 100,000 rows there show the attendee (31), or when out of memory (32). Where nothing is kept, it is not
+    /// refused.
     pub fn list_for(&self, window: Window, address: &str) -> Result<Vec<u8>, ViewError>
         ensures text { IfOk result (λ text. (heard : List Item)
             → AreKept self.now.kept heard → IsListTextFor address.now heard window text.items) }
         ensures many { IsErrOf result ViewError.TooManyRows
             → (heard : List Item) → AreKept self.now.kept heard → AreTooManyWhere (Shows address.now) heard window }
+        ensures succeeds { self.now.kept ≡ [] → IsOk result }
     {
         let shown = self.rows_for(window, address)?;
         shown.text()

@@ -43,3 +43,14 @@ returns-clause-asked c =
     let at = (goal.at.returns-clause-asked c).After-among in
     if_ok_then (AreAsked (IsAmong (map (λ u. u.now) c.in_ok-uids.uids.items) (Wants c.all.result)) c.state.result.now c.args.window)
     (AreAsked (λ row. Unit {0}) c.args.self.now.kept c.args.window) c.among.result (asked_is at) c.among.ensures.asked
+
+pub returns-in_err-uids-clause-succeeds : goal.returns-in_err-uids-clause-succeeds
+returns-in_err-uids-clause-succeeds c = λ none. c.in_err-uids.ensures.succeeds (ap (λ (d : Shown). d.kept) c.self.view_is ∙ none)
+
+pub returns-clause-none : goal.returns-clause-none
+returns-clause-none c = λ none.
+    c.among.ensures.none (c.in_ok-uids.ensures.none (ap (λ (d : Shown). d.kept) c.self.view_is ∙ none))
+
+pub returns-clause-succeeds : goal.returns-clause-succeeds
+returns-clause-succeeds c = λ none.
+    c.among.ensures.succeeds (c.in_ok-uids.ensures.none (ap (λ (d : Shown). d.kept) c.self.view_is ∙ none))
