@@ -150,6 +150,12 @@ address_number address = text_number (attendee_key address)
 abbrev pub IndexEntry : Type 0
 IndexEntry = DayEntry ⊎ NameEntry
 
+abbrev pub of_day : DayEntry → IndexEntry
+of_day entry = inl entry
+
+abbrev pub of_name : NameEntry → IndexEntry
+of_name entry = inr entry
+
 -- whether two entries are the same
 abbrev pub same_entry : IndexEntry → IndexEntry → Bool
 same_entry (inl a) (inl b) = is_eq (day_cmp a b)
@@ -164,10 +170,10 @@ item_of (inr e) = e.item
 
 -- the entries of an item: of the days on which the rows can stand for which it is needed, and of its ATTENDEE lines
 abbrev pub days_entry : Item → RowDays → IndexEntry
-days_entry item days = inl (day_entry item (mark_of days))
+days_entry item days = of_day (day_entry item (mark_of days))
 
 abbrev pub line_entry : Item → Property → IndexEntry
-line_entry item line = inr (name_entry item (address_number line.value))
+line_entry item line = of_name (name_entry item (address_number line.value))
 
 abbrev pub day_entries : Item → List IndexEntry
 day_entries item = map (days_entry item) (option_to_list (row_days item))

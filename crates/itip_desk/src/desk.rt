@@ -157,8 +157,7 @@ impl Desk {
         ensures delta { IfOk result (IsDeltaOf self.now tick) }
         ensures succeeds { self.now.tick ≤ tick → IsOk result }
     {
-        let is_up_to_date = tick >= self.tick;
-        if is_up_to_date {
+        if tick >= self.tick {
             return Batch::of_shared(Vec::new(self.alloc));
         }
         let uids = self.moves.after(tick)?;

@@ -1,8 +1,9 @@
 //! An index of kept items, and how the entries of items come and go.
-ghost use Rattle.std.specs.Prelude.{◌≡◌, ◌||◌, ◌&&◌, not, inl, inr, OnOk, OnErr, IfOk};
+ghost use Rattle.std.specs.Prelude.{◌≡◌, ◌||◌, ◌&&◌, not, OnOk, OnErr, IfOk};
 ghost use Rattle.itip_items.specs.KeyParts.{uid_of};
 ghost use Rattle.itip_items.specs.declared.item.Item.{Item};
-ghost use Rattle.itip_desk.specs.Entries.{IndexEntry, same_entry, day_entry, name_entry, owner_of, day_entries, line_entries, entries_of};
+ghost use Rattle.itip_desk.specs.Entries.{IndexEntry, same_entry, of_day, of_name, day_entry, name_entry, owner_of, day_entries};
+ghost use Rattle.itip_desk.specs.Entries.{line_entries, entries_of};
 ghost use Rattle.itip_desk.specs.Index.{has, is_in, Widens, IsEmptyIndex};
 ghost use Rattle.itip_desk.specs.Numbers.{uid_number};
 
@@ -72,7 +73,7 @@ fn put_day(index: &mut Index, item: &SharedItem, uid: u32) -> Result<(), AllocEr
 
 fn put_mark(index: &mut Index, item: &SharedItem, uid: u32, mark: Mark) -> Result<(), AllocError>
     requires { uid ≡ uid_number (uid_of item.now.key) }
-    ensures ok { OnOk result ((e : IndexEntry) → has index.new e ≡ (has index.old e || same_entry e (inl (day_entry item.now mark)))) }
+    ensures ok { OnOk result ((e : IndexEntry) → has index.new e ≡ (has index.old e || same_entry e (of_day (day_entry item.now mark)))) }
     ensures err { OnErr result ((e : IndexEntry) → has index.new e ≡ has index.old e) }
 {
     let item = item.revision().copy()?;
@@ -96,7 +97,7 @@ fn put_lines(index: &mut Index, item: &SharedItem, uid: u32) -> Result<(), Alloc
 
 fn put_name(index: &mut Index, item: &SharedItem, uid: u32, attendee: u32) -> Result<(), AllocError>
     requires { uid ≡ uid_number (uid_of item.now.key) }
-    ensures ok { OnOk result ((e : IndexEntry) → has index.new e ≡ (has index.old e || same_entry e (inr (name_entry item.now attendee)))) }
+    ensures ok { OnOk result ((e : IndexEntry) → has index.new e ≡ (has index.old e || same_entry e (of_name (name_entry item.now attendee)))) }
     ensures err { OnErr result ((e : IndexEntry) → has index.new e ≡ has index.old e) }
 {
     let item = item.revision().copy()?;
@@ -161,13 +162,13 @@ fn take_lines_out(index: &mut Index, item: &Item, owner: Owner)
 }
 
 fn drop_day(index: &mut Index, entry: &DayEntry)
-    ensures { (e : IndexEntry) → has index.new e ≡ (has index.old e && not (same_entry e (inl entry.now))) }
+    ensures { (e : IndexEntry) → has index.new e ≡ (has index.old e && not (same_entry e (of_day entry.now))) }
 {
     index.days.remove(entry);
 }
 
 fn drop_name(index: &mut Index, entry: &NameEntry)
-    ensures { (e : IndexEntry) → has index.new e ≡ (has index.old e && not (same_entry e (inr entry.now))) }
+    ensures { (e : IndexEntry) → has index.new e ≡ (has index.old e && not (same_entry e (of_name entry.now))) }
 {
     index.names.remove(entry);
 }

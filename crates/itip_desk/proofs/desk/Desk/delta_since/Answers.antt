@@ -9,8 +9,8 @@ use Rattle.itip_desk.proofs.Ticking.{delta_is, nothing_since}
 use Rattle.itip_desk.proofs.desk.Desk.delta_since.Goals as goal
 
 -- from the tick of the desk on nothing moved
-pub returns-then-is_up_to_date-clause-delta : goal.returns-then-is_up_to_date-clause-delta
-returns-then-is_up_to_date-clause-delta c =
+pub returns-then-tick-self-clause-delta : goal.returns-then-tick-self-clause-delta
+returns-then-tick-self-clause-delta c =
     let at : c.self.inside.tick ≡ c.args.self.now.tick = ap (λ (d : Shown). d.tick) c.self.view_is in
     let changed : c.self.inside.moves.carried ≡ c.args.self.now.changed = ap (λ (d : Shown). d.changed) c.self.view_is in
     let up : c.args.self.now.tick ≤ c.args.tick = grind arith in
@@ -21,8 +21,8 @@ returns-then-is_up_to_date-clause-delta c =
     (subst (IsItemsOf batch) c.new.ensures.items is))
     c.of_shared.ensures.items
 
-pub returns-then-is_up_to_date-clause-succeeds : goal.returns-then-is_up_to_date-clause-succeeds
-returns-then-is_up_to_date-clause-succeeds c = λ _. c.of_shared.ensures.succeeds c.new.ensures.items
+pub returns-then-tick-self-clause-succeeds : goal.returns-then-tick-self-clause-succeeds
+returns-then-tick-self-clause-succeeds c = λ _. c.of_shared.ensures.succeeds c.new.ensures.items
 
 pub returns-clause-delta : goal.returns-clause-delta
 returns-clause-delta c = if_ok_then (λ batch. IsItemsOf batch c.in_ok-shared_of.field-0.items) (IsDeltaOf c.args.self.now c.args.tick) c.of_shared.result
