@@ -2,7 +2,7 @@
 use Rattle.std.proofs.Common.{◌≡◌, ◌∙◌, ◌<◌, ◌||◌, ℕ, ℤ, ◌≤ℤ◌, ◌<ℤ◌, List, [], ◌∷◌, ◌++◌, map, refl, sym, ap, subst, inl, inr, Bool, true, false, cond}
 use Rattle.std.proofs.Common.{◌↔◌, not, ◌&&◌, arith, Option, Some, None, option_map, option_to_list}
 use Rattle.std.specs.List.{Contains, list_any}
-use Rattle.std.specs.Ordering.{nat_cmp, int_cmp, ordering_then, is_le, is_gt, eq_by_cmp, MatchOrdering}
+use Rattle.std.specs.Ordering.{nat_cmp, int_cmp, ordering_then, is_le, is_gt, is_eq, MatchOrdering}
 use Rattle.std.specs.Cmp.{tied_itself}
 use Rattle.std.specs.declared.cmp.Ordering.{Ordering}
 use Rattle.std.specs.declared.cmp.Ordering.TheVariants.{Less, Equal, Greater}
@@ -59,7 +59,7 @@ pub found_between : {K : Type 0} (cmp : K → K → Ordering) → CmpEqualImplie
     Contains (keys_between cmp (Included low) (Excluded high) set) e
 found_between cmp exact set low high e there inside =
     into_filter (range_contains cmp (Included low) (Excluded high)) set.keys e
-    (Contains-from_any {eq = eq_by_cmp cmp} (tells_apart exact) e set.keys there) inside
+    (Contains-from_any {eq = λ a b. is_eq (cmp a b)} (tells_apart exact) e set.keys there) inside
 
 both_ways : (a b : Bool) → a ≡ true → b ≡ false → (a && not b) ≡ true
 both_ways true false p q = refl

@@ -1,5 +1,5 @@
 -- Entries are gone through for the UIDs of their items.
-use Rattle.std.proofs.Common.{◌≡◌, ◌⊎◌, ◌++◌, ◌∷◌, ◌∙◌, ℕ, List, [], inl, inr, sym, ap, subst, true, false}
+use Rattle.std.proofs.Common.{◌≡◌, ◌⊎◌, ◌++◌, ◌∷◌, ◌∙◌, ℕ, List, [], ◌<◌, length, inl, inr, refl, sym, ap, subst, true, false, arith}
 use Rattle.std.specs.List.{Contains, list_any}
 use Rattle.std.specs.BTreeMap.{is_at}
 use Rattle.std.specs.BTreeSet.{BTreeSet, contains}
@@ -61,6 +61,13 @@ module _ {E : Type 0} (item_of : E → Item) (P : Item → Type 0) (all : List E
       | inr comes ↦ absurd (none_in entry (subst (λ (es : List E). Contains es entry) none comes))
     ];
   }
+
+pub nil_if : {A : Type 0} (xs : List A) → (0 < length xs → ⊥) → xs ≡ []
+nil_if [] none = refl
+nil_if (x ∷ xs) none = absurd (none (omega arith))
+
+pub not_nil : {A : Type 0} (xs : List A) → 0 < length xs → xs ≡ [] → ⊥
+not_nil xs some none = let e : length xs ≡ 0 = ap length none in omega (arith, e, some)
 
 -- an empty set has no entry
 pub none_there : {K : Type 0} (cmp : K → K → Ordering) (set : BTreeSet K) (e : K) → set.keys ≡ [] → contains cmp set e ≡ true → ⊥

@@ -36,17 +36,31 @@ pub(crate) fn find_in<'a>(
     ensures succeeds { days.now.keys ≡ [] → IsOk result }
 {
     let mut uids = Vec::new(alloc);
-    // A bound needs an item, and any will do.
-    let Some(any) = days.first() else {
-        return Ok(uids);
-    };
+    if let Some(any) = days.first() {
+        add_in(days, any, window, &mut uids)?;
+    }
+    Ok(uids)
+}
+
+/// Adds the UIDs found so. A bound needs an item, and any will do.
+fn add_in<'a>(
+    days: &'a BTreeSet<DayEntry>,
+    any: &DayEntry,
+    window: Window,
+    uids: &mut Vec<&'a Uid>,
+) -> Result<(), AllocError>
+    ensures days { OnOk result ((item : Item) (day : ℤ)
+        → window.from ≤ℤ day → day <ℤ window.to → contains day_cmp days.now (day_entry item (Day day)) ≡ true →
+        Contains (map (λ u. u.now) uids.new.items) (uid_of item.key)) }
+    ensures always { OnOk result ((item : Item)
+        → contains day_cmp days.now (day_entry item Always) ≡ true → Contains (map (λ u. u.now) uids.new.items) (uid_of item.key)) }
+{
     let from = any.bound(Mark::Day(window.from), 0)?;
     let to = any.bound(Mark::Day(window.to), 0)?;
-    find_between(days, from, to, &mut uids)?;
+    find_between(days, from, to, uids)?;
     let from = any.bound(Mark::Always, 0)?;
     let to = any.bound(Mark::Always, u32::MAX)?;
-    find_between(days, from, to, &mut uids)?;
-    Ok(uids)
+    find_between(days, from, to, uids)
 }
 
 /// The UIDs whose items name the attendee of an address, perhaps more than once. No other entry is looked at but those of attendees
@@ -63,15 +77,27 @@ pub(crate) fn find_named<'a>(
     ensures succeeds { names.now.keys ≡ [] → IsOk result }
 {
     let mut uids = Vec::new(alloc);
-    // A bound needs an item, and any will do.
-    let Some(any) = names.first() else {
-        return Ok(uids);
-    };
+    if let Some(any) = names.first() {
+        add_named(names, any, address, &mut uids)?;
+    }
+    Ok(uids)
+}
+
+/// Adds the UIDs found so. A bound needs an item, and any will do.
+fn add_named<'a>(
+    names: &'a BTreeSet<NameEntry>,
+    any: &NameEntry,
+    address: &str,
+    uids: &mut Vec<&'a Uid>,
+) -> Result<(), AllocError>
+    ensures { OnOk result ((item : Item) → NamesLine address.now item
+        → contains name_cmp names.now (name_entry item (address_number address.now)) ≡ true
+        → Contains (map (λ u. u.now) uids.new.items) (uid_of item.key)) }
+{
     let attendee = attendee_number(address);
     let from = any.bound(attendee, 0)?;
     let to = any.bound(attendee, u32::MAX)?;
-    find_naming(names, from, to, address, &mut uids)?;
-    Ok(uids)
+    find_naming(names, from, to, address, uids)
 }
 
 /// Adds the UIDs of the entries from `from` up to `to`, which is left out.

@@ -1,72 +1,29 @@
-use Rattle.std.proofs.Common.{◌≡◌, ◌<◌, ◌∙◌, ℤ, [], List, length, sym, ap, subst, refl, true, rules, w32, arith}
-use Rattle.std.specs.List.{list_any}
-use Rattle.std.specs.BTreeMap.{is_at}
-use Rattle.std.specs.BTreeMap.Range.{IsLeBy, range_contains}
-use Rattle.std.specs.declared.ops.Bound.TheVariants.{Included, Excluded}
-use Rattle.std.proofs.lemmas.Int.{to_z-of_z}
-use Rattle.std.proofs.lemmas.List.{nil_from_length}
-use mir.Val.{SFits}
-use Rattle.itip_items.specs.KeyParts.{uid_of}
-use Rattle.itip_items.specs.declared.item.Item.{Item}
-use Rattle.itip_desk.specs.Entries.{day_cmp, day_exact, day_entry, day_bound}
-use Rattle.itip_desk.specs.declared.entry.DayEntry.{DayEntry}
+use Rattle.std.proofs.Common.{◌≡◌, [], List}
+use Rattle.itip_desk.specs.Entries.{day_cmp, day_entry}
 use Rattle.itip_desk.specs.declared.entry.Mark.TheVariants.{Day, Always}
-use Rattle.itip_desk.proofs.Between.{found_between, window_forward, day_inside, mark_inside, mark_forward}
-use Rattle.itip_desk.proofs.Finding.{none_there}
+use Rattle.itip_desk.proofs.Finding.{none_there, nil_if, not_nil}
 use Rattle.itip_desk.proofs.found.find_in.Goals as goal
+use Rattle.itip_desk.proofs.found.find_in.Goals.{in-Some+in_ok-add_in, in_default}
 
--- ---- nothing is there
-pub returns-in_default-clause-days : goal.returns-in_default-clause-days
-returns-in_default-clause-days c = λ item day low high there.
-    let none : c.args.days.now.keys ≡ [] = nil_from_length _ (omega (arith, c.in_default.ensures.variant)) in
-    absurd (none_there day_cmp c.args.days.now (day_entry item (Day day)) none there)
-
-pub returns-in_default-clause-always : goal.returns-in_default-clause-always
-returns-in_default-clause-always c = λ item there.
-    let none : c.args.days.now.keys ≡ [] = nil_from_length _ (omega (arith, c.in_default.ensures.variant)) in
-    absurd (none_there day_cmp c.args.days.now (day_entry item Always) none there)
-
--- ---- the days of the window
-pub find_between-requires : goal.find_between-requires
-find_between-requires c =
-    let any : Item = c.in-Some.any.now.owner.item in
-    let first : SFits w32 c.args.window.from = search rules in
-    let last : SFits w32 c.args.window.to = search rules in
-    let from : c.in_ok-from.from ≡ day_bound (Day c.args.window.from) 0 any = simp to_z-of_z at c.in_ok-from.ensures in
-    let to : c.in_ok-to.to ≡ day_bound (Day c.args.window.to) 0 any = simp to_z-of_z at c.in_ok-to.ensures in
-    subst (λ (low : DayEntry). IsLeBy day_cmp low c.in_ok-to.to) (sym from)
-    (subst (λ (high : DayEntry). IsLeBy day_cmp (day_bound (Day c.args.window.from) 0 any) high) (sym to)
-    (window_forward any c.args.window.from c.args.window.to c.args.window.lawful.some))
-
-pub find_between-requires-2 : goal.find_between-requires-2
-find_between-requires-2 c =
-    let any : Item = c.in-Some.any.now.owner.item in
-    subst (λ (low : DayEntry). IsLeBy day_cmp low c.in_ok-to-2.to) (sym c.in_ok-from-2.ensures)
-    (subst (λ (high : DayEntry). IsLeBy day_cmp (day_bound Always 0 any) high) (sym c.in_ok-to-2.ensures) (mark_forward any Always))
-
+-- where there is a first entry, those that are there are found, and else none is there
 pub returns-clause-days : goal.returns-clause-days
-returns-clause-days c = λ item day low high there.
-    let any : Item = c.in-Some.any.now.owner.item in
-    let first : SFits w32 c.args.window.from = search rules in
-    let last : SFits w32 c.args.window.to = search rules in
-    let from : c.in_ok-from.from ≡ day_bound (Day c.args.window.from) 0 any = simp to_z-of_z at c.in_ok-from.ensures in
-    let to : c.in_ok-to.to ≡ day_bound (Day c.args.window.to) 0 any = simp to_z-of_z at c.in_ok-to.ensures in
-    let e : DayEntry = day_entry item (Day day) in
-    let inside : range_contains day_cmp (Included c.in_ok-from.from) (Excluded c.in_ok-to.to) e ≡ true =
-    subst (λ (l : DayEntry). range_contains day_cmp (Included l) (Excluded c.in_ok-to.to) e ≡ true) (sym from)
-    (subst (λ (h : DayEntry). range_contains day_cmp (Included (day_bound (Day c.args.window.from) 0 any)) (Excluded h) e ≡ true) (sym to)
-    (day_inside any c.args.window.from c.args.window.to day item low high)) in
-    c.in_ok-find_between-2.ensures.keeps (uid_of item.key) (c.in_ok-find_between.ensures.adds e
-    (found_between day_cmp day_exact c.args.days.now c.in_ok-from.from c.in_ok-to.to e there inside) tt)
+returns-clause-days c = λ item day low high there. elim c.match-first.branch [
+  | in-Some+in_ok-add_in w ↦ rw (← w.uids-is) w.in_ok-add_in.ensures.days item day low high there
+  | in_default w ↦ absurd (none_there day_cmp c.args.days.now (day_entry item (Day day)) (nil_if _ w.in_default.ensures.variant.1) there)
+]
 
--- ---- each window
 pub returns-clause-always : goal.returns-clause-always
-returns-clause-always c = λ item there.
-    let any : Item = c.in-Some.any.now.owner.item in
-    let e : DayEntry = day_entry item Always in
-    let inside : range_contains day_cmp (Included c.in_ok-from-2.from) (Excluded c.in_ok-to-2.to) e ≡ true =
-    subst (λ (l : DayEntry). range_contains day_cmp (Included l) (Excluded c.in_ok-to-2.to) e ≡ true) (sym c.in_ok-from-2.ensures)
-    (subst (λ (h : DayEntry). range_contains day_cmp (Included (day_bound Always 0 any)) (Excluded h) e ≡ true)
-    (sym c.in_ok-to-2.ensures) (mark_inside any Always item)) in
-    c.in_ok-find_between-2.ensures.adds e
-    (found_between day_cmp day_exact c.args.days.now c.in_ok-from-2.from c.in_ok-to-2.to e there inside) tt
+returns-clause-always c = λ item there. elim c.match-first.branch [
+  | in-Some+in_ok-add_in w ↦ rw (← w.uids-is) w.in_ok-add_in.ensures.always item there
+  | in_default w ↦ absurd (none_there day_cmp c.args.days.now (day_entry item Always) (nil_if _ w.in_default.ensures.variant.1) there)
+]
+
+-- of no entry there is no first
+pub returns-clause-none : goal.returns-clause-none
+returns-clause-none c = λ none. elim c.match-first.branch [
+  | in-Some+in_ok-add_in w ↦ absurd (not_nil c.args.days.now.keys (w.in-Some.ensures.variant.0 tt) none)
+  | in_default w ↦ rw (w.uids-is) c.new-uids.ensures.items
+]
+
+pub returns-in_err-add_in-clause-succeeds : goal.returns-in_err-add_in-clause-succeeds
+returns-in_err-add_in-clause-succeeds c = λ none. absurd (not_nil c.args.days.now.keys (c.in-Some.ensures.variant.0 tt) none)

@@ -1,40 +1,21 @@
-use Rattle.std.proofs.Common.{◌≡◌, ◌∙◌, ℕ, [], ap, sym, subst, refl, true, arith}
-use Rattle.std.specs.BTreeMap.Range.{IsLeBy, range_contains}
-use Rattle.std.specs.declared.ops.Bound.TheVariants.{Included, Excluded}
-use Rattle.std.proofs.lemmas.List.{nil_from_length}
-use Rattle.itip_items.specs.declared.item.Item.{Item}
-use Rattle.itip_desk.specs.Entries.{name_cmp, name_exact, name_entry, name_bound, address_number}
-use Rattle.itip_desk.specs.declared.entry.NameEntry.{NameEntry}
-use Rattle.itip_desk.proofs.Between.{found_between, name_inside, names_forward}
-use Rattle.itip_desk.proofs.Finding.{none_there}
+use Rattle.std.proofs.Common.{◌≡◌, [], List}
+use Rattle.itip_desk.specs.Entries.{name_cmp, name_entry, address_number}
+use Rattle.itip_desk.proofs.Finding.{none_there, nil_if, not_nil}
 use Rattle.itip_desk.proofs.found.find_named.Goals as goal
-
-pub returns-in_default-clause-names : goal.returns-in_default-clause-names
-returns-in_default-clause-names c = λ item names there.
-    let none : c.args.names.now.keys ≡ [] = nil_from_length _ (omega (arith, c.in_default.ensures.variant)) in
-    absurd (none_there name_cmp c.args.names.now (name_entry item (address_number c.args.address.now)) none there)
-
-pub find_naming-requires : goal.find_naming-requires
-find_naming-requires c =
-    let any : Item = c.in-Some.any.now.item in
-    let n : ℕ = address_number c.args.address.now in
-    let from : c.in_ok-from.from ≡ name_bound n 0 any = c.in_ok-from.ensures ∙ ap (λ (m : ℕ). name_bound m 0 any) c.attendee_number.ensures in
-    let to : c.in_ok-to.to ≡ name_bound n 4294967295 any = c.in_ok-to.ensures ∙
-    ap (λ (m : ℕ). name_bound m 4294967295 any) c.attendee_number.ensures in
-    subst (λ (low : NameEntry). IsLeBy name_cmp low c.in_ok-to.to) (sym from)
-    (subst (λ (high : NameEntry). IsLeBy name_cmp (name_bound n 0 any) high) (sym to) (names_forward any n))
+use Rattle.itip_desk.proofs.found.find_named.Goals.{in-Some+in_ok-add_named, in_default}
 
 pub returns-clause-names : goal.returns-clause-names
-returns-clause-names c = λ item names there.
-    let any : Item = c.in-Some.any.now.item in
-    let n : ℕ = address_number c.args.address.now in
-    let from : c.in_ok-from.from ≡ name_bound n 0 any = c.in_ok-from.ensures ∙ ap (λ (m : ℕ). name_bound m 0 any) c.attendee_number.ensures in
-    let to : c.in_ok-to.to ≡ name_bound n 4294967295 any = c.in_ok-to.ensures ∙
-    ap (λ (m : ℕ). name_bound m 4294967295 any) c.attendee_number.ensures in
-    let e : NameEntry = name_entry item n in
-    let inside : range_contains name_cmp (Included c.in_ok-from.from) (Excluded c.in_ok-to.to) e ≡ true =
-    subst (λ (l : NameEntry). range_contains name_cmp (Included l) (Excluded c.in_ok-to.to) e ≡ true) (sym from)
-    (subst (λ (h : NameEntry). range_contains name_cmp (Included (name_bound n 0 any)) (Excluded h) e ≡ true) (sym to)
-    (name_inside any n item)) in
-    c.in_ok-find_naming.ensures.adds e
-    (found_between name_cmp name_exact c.args.names.now c.in_ok-from.from c.in_ok-to.to e there inside) names
+returns-clause-names c = λ item names there. elim c.match-first.branch [
+  | in-Some+in_ok-add_named w ↦ rw (← w.uids-is) w.in_ok-add_named.ensures item names there
+  | in_default w ↦ absurd (none_there name_cmp c.args.names.now (name_entry item (address_number c.args.address.now))
+      (nil_if _ w.in_default.ensures.variant.1) there)
+]
+
+pub returns-clause-none : goal.returns-clause-none
+returns-clause-none c = λ none. elim c.match-first.branch [
+  | in-Some+in_ok-add_named w ↦ absurd (not_nil c.args.names.now.keys (w.in-Some.ensures.variant.0 tt) none)
+  | in_default w ↦ rw (w.uids-is) c.new-uids.ensures.items
+]
+
+pub returns-in_err-add_named-clause-succeeds : goal.returns-in_err-add_named-clause-succeeds
+returns-in_err-add_named-clause-succeeds c = λ none. absurd (not_nil c.args.names.now.keys (c.in-Some.ensures.variant.0 tt) none)
