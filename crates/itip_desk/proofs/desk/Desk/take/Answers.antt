@@ -169,12 +169,15 @@ returns-in_err-uids-clause-succeeds c = λ below.
 
 pub returns-then-self-clause-succeeds : goal.returns-then-self-clause-succeeds
 returns-then-self-clause-succeeds c = λ below.
-    let none = still (goal.at.returns-then-self-clause-succeeds c).In_ok-uids below in absurd (grind (arith, none))
+    let some : ¬ (length c.in_ok-uids.uids.items ≡ 0) = grind arith in
+    absurd (some (still (goal.at.returns-then-self-clause-succeeds c).In_ok-uids below))
 
 pub returns-in_err-prepare-clause-succeeds : goal.returns-in_err-prepare-clause-succeeds
 returns-in_err-prepare-clause-succeeds c = λ below.
-    let none = still (goal.at.returns-in_err-prepare-clause-succeeds c).In_ok-uids below in absurd (grind (arith, none))
+    let some : ¬ (length c.in_ok-uids.uids.items ≡ 0) = grind arith in
+    absurd (some (still (goal.at.returns-in_err-prepare-clause-succeeds c).In_ok-uids below))
 
-pub returns-in_err-hear-clause-succeeds : goal.returns-in_err-hear-clause-succeeds
-returns-in_err-hear-clause-succeeds c = λ below.
-    let none = still (goal.at.returns-in_err-hear-clause-succeeds c).In_ok-uids below in absurd (grind (arith, none))
+pub returns-in-Err-clause-succeeds : goal.returns-in-Err-clause-succeeds
+returns-in-Err-clause-succeeds c = λ below.
+    let some : ¬ (length c.in_ok-uids.uids.items ≡ 0) = grind arith in
+    absurd (some (still (goal.at.returns-in-Err-clause-succeeds c).In_ok-uids below))
