@@ -1,5 +1,5 @@
 //! A desk.
-ghost use Rattle.std.specs.Prelude.{◌≡◌, ◌≤◌, ◌↔◌, [], ◌++◌, ◌∷◌, IfOk, OnOk, OnErr, IsOk, length, map, min, List, ℕ, IsErrOf};
+ghost use Rattle.std.specs.Prelude.{◌≡◌, ◌<◌, ◌≤◌, ◌↔◌, ◌⊎◌, [], ◌++◌, ◌∷◌, IfOk, OnOk, OnErr, IsOk, MatchBool, length, map, min, List, ℕ, IsErrOf};
 ghost use Rattle.itip_items.specs.declared.item.Item.{Item};
 ghost use Rattle.itip_state.specs.Kept.{AreUidsOf};
 ghost use Rattle.itip_view.specs.declared.row.Row.{Row};
@@ -209,7 +209,24 @@ impl Desk {
         self.kept.state().part(&naming)
     }
 
-    /// The rows of the task list in a window, a UID at a time. No UID is looked at whose rows can't stand in it.
+    /// Whether these are as many as the UIDs of which something is kept, and some are. It takes no memory.
+    fn are_as_many(&self, uids: &[&Uid]) -> bool
+        ensures { MatchBool result
+            ((all : List (List ℕ)) → AreUidsOf all self.now.kept → (0 < length all) × (length all ≤ length uids.now))
+            ((all : List (List ℕ)) → AreUidsOf all self.now.kept → (length all ≡ 0) ⊎ (length uids.now < length all)) }
+    {
+        let all = self.kept.state().uid_count();
+        if all == 0 {
+            return false;
+        }
+        if uids.len() < all {
+            return false;
+        }
+        true
+    }
+
+    /// The rows of the task list in a window, a UID at a time. No UID is looked at whose rows can't stand in it, unless the index
+    /// finds as many, each as often as it finds it, as there are.
     ///
     /// Refused when out of memory. Where nothing is kept, no memory is asked for.
     pub fn rows(&self, window: Window) -> Result<RowsByUid<'_, '_>, AllocError>
@@ -219,6 +236,10 @@ impl Desk {
         ensures succeeds { self.now.kept ≡ [] → IsOk result }
     {
         let uids = self.kept.uids_in(window)?;
+        if self.are_as_many(&uids) {
+            // Those of the state stand in order already, and to sort these would cost more than a look at all.
+            return RowsByUid::of(self.alloc, self.kept.state(), window, &Wanted::all());
+        }
         RowsByUid::among(self.alloc, self.kept.state(), uids, window, &Wanted::all())
     }
 
@@ -247,7 +268,7 @@ impl Desk {
         )
     }
 
-    /// The text of the task list in a window. No UID is looked at whose rows can't stand in it.
+    /// The text of the task list in a window. UIDs are looked at as for [`Desk::rows`].
     ///
     /// Refused where more than 100,000 rows stand there (31), or when out of memory (32). Where nothing is kept, it is not refused.
     pub fn list(&self, window: Window) -> Result<Vec<u8>, ViewError>

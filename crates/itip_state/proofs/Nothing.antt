@@ -1,6 +1,9 @@
 -- Where nothing is news, or nothing is there.
 use Rattle.std.proofs.Common.{◌≡◌, ◌↔◌, ℕ, List, [], ◌∷◌, ◌++◌, ◌<◌, ◌≤◌, ◌⊎◌, inl, inr, refl, sym, ◌∙◌, ap, subst, true, false, nat_lt, length, map, get_or, arith, append-nil}
 use Rattle.std.specs.List.{Contains}
+use Rattle.std.specs.Ordering.{nat_cmp}
+use Rattle.std.specs.Cmp.Lexicographic.{slice_cmp}
+use Rattle.std.specs.declared.cmp.Ordering.TheVariants.{Less}
 use Rattle.std.proofs.Math.ListN.{get_or-map}
 use Rattle.std.proofs.lemmas.List.{length-map}
 use Rattle.std.proofs.lemmas.List.Elements.{Contains-append_left, Contains-append_right}
@@ -16,7 +19,7 @@ use Rattle.itip_state.specs.Told.{IsOutdone, AreOutdone, AreNews}
 use Rattle.itip_state.proofs.Best.{has_best, best_above}
 use Rattle.itip_state.proofs.Keeping.{eff_up, best_part, series_kept, kept_beside}
 use Rattle.itip_state.proofs.Maps.{held_state}
-use Rattle.itip_state.proofs.Members.{by_bool, none_in, cons_first}
+use Rattle.itip_state.proofs.Members.{by_bool, none_in, cons_first, no_pairs}
 use Rattle.itip_state.proofs.News.{news_kept}
 use Rattle.itip_state.proofs.Tests.{dies, can}
 
@@ -111,6 +114,13 @@ map_has f xs k x below is = (k, rw (length-map xs f) below, get_or-map f xs k x 
 pub no_uids : (uids : List (List ℕ)) → AreUidsOf uids [] → uids ≡ []
 no_uids [] are = refl
 no_uids (u ∷ uids) are = let some = are.each u (cons_first u uids) in absurd (none_in some.0 some.1)
+
+pub uids_of_nothing : AreUidsOf [] []
+uids_of_nothing = record {
+  ascend = no_pairs (λ (a b : List ℕ). slice_cmp nat_cmp a b ≡ Less);
+  each = λ uid h. absurd (none_in uid h);
+  all = λ item h. absurd (none_in item h);
+}
 
 -- what has the members of nothing is nothing
 module _ {A : Type 0} where

@@ -157,6 +157,13 @@ impl Held {
         self.map.below(&other.map)
     }
 
+    /// How many UIDs there are.
+    pub(crate) fn len(&self) -> usize
+        ensures { result ≡ length self.now }
+    {
+        self.map.map.len()
+    }
+
     /// The UIDs, in order.
     pub(crate) fn uids(&self, alloc: Global) -> Result<Vec<&Uid>, NoMemory>
         ensures { IfOk result (λ uids. map (λ uid. uid.now) uids.items ≡ keys_of self.now) }

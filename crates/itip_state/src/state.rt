@@ -1,5 +1,5 @@
 //! The state of a desk.
-ghost use Rattle.std.specs.Prelude.{◌≡◌, ◌↔◌, [], ◌++◌, IsTrue, IfOk, OnOk, OnErr, IsOk, MatchBool, length, min, map};
+ghost use Rattle.std.specs.Prelude.{◌≡◌, ◌↔◌, ℕ, List, [], ◌++◌, IsTrue, IfOk, OnOk, OnErr, IsOk, MatchBool, length, min, map};
 ghost use Rattle.std.specs.List.{Contains};
 ghost use Rattle.std.specs.Option.{option_copied};
 ghost use Rattle.itip_items.specs.KeyParts.{uid_of};
@@ -250,6 +250,13 @@ impl State {
         ensures state { OnOk result (IsState self.now) }
     {
         self.held.uids(self.alloc)
+    }
+
+    /// The number of UIDs of which something is kept. It takes no memory.
+    pub fn uid_count(&self) -> usize
+        ensures { (uids : List (List ℕ)) → AreUidsOf uids self.now → length uids ≡ result }
+    {
+        self.held.len()
     }
 
     /// Whether an item of a UID is kept. It takes no memory.
