@@ -236,12 +236,13 @@ impl Desk {
         ensures succeeds { self.now.kept ≡ [] → IsOk result }
     {
         let uids = self.kept.uids_in(window)?;
+        let state = self.kept.state();
         let wanted = Wanted::all();
         if self.are_as_many(&uids) {
             // Those of the state stand in order already, and to sort these would cost more than a look at all.
-            return RowsByUid::of(self.alloc, self.kept.state(), window, &wanted);
+            return RowsByUid::of(self.alloc, state, window, &wanted);
         }
-        RowsByUid::among(self.alloc, self.kept.state(), uids, window, &wanted)
+        RowsByUid::among(self.alloc, state, uids, window, &wanted)
     }
 
     /// The rows in a window that show the attendee of an address, a UID at a time. No UID is looked at whose items don't name

@@ -24,17 +24,17 @@ found c = subst (λ (k : List Item). (uid : List ℕ) → HasRowsIn k c.args.win
     Contains (map (λ u. u.now) c.in_ok-uids.uids.items) uid) (ap (λ (d : Shown). d.kept) c.self.view_is) c.in_ok-uids.ensures.uids
 
 asked_is : (c : After-among) (asked : RowsByUid) →
-    AreAsked (IsAmong (map (λ u. u.now) c.in_ok-uids.uids.items) (Wants c.all-wanted.result)) c.state.result.now c.args.window asked →
+    AreAsked (IsAmong (map (λ u. u.now) c.in_ok-uids.uids.items) (Wants c.all-wanted.result)) c.state-state.result.now c.args.window asked →
     AreAsked (λ row. Unit {0}) c.args.self.now.kept c.args.window asked
 asked_is c asked is =
-    asked_as (IsAmong (map (λ u. u.now) c.in_ok-uids.uids.items) (Wants c.all-wanted.result)) (λ row. Unit {0}) c.state.result.now
-    c.args.self.now.kept c.args.window asked is (c.state.ensures ∙ ap (λ (d : Shown). d.kept) c.self.view_is)
+    asked_as (IsAmong (map (λ u. u.now) c.in_ok-uids.uids.items) (Wants c.all-wanted.result)) (λ row. Unit {0}) c.state-state.result.now
+    c.args.self.now.kept c.args.window asked is (c.state-state.ensures ∙ ap (λ (d : Shown). d.kept) c.self.view_is)
     (row_found c.args.self.now.kept c.args.window (map (λ u. u.now) c.in_ok-uids.uids.items) (Wants c.all-wanted.result) (found c) c.all-wanted.ensures)
 
 pub returns-clause-rows : goal.returns-clause-rows
 returns-clause-rows c =
     let at = (goal.at.returns-clause-rows c).After-among in
-    if_ok_then (AreAsked (IsAmong (map (λ u. u.now) c.in_ok-uids.uids.items) (Wants c.all-wanted.result)) c.state.result.now c.args.window)
+    if_ok_then (AreAsked (IsAmong (map (λ u. u.now) c.in_ok-uids.uids.items) (Wants c.all-wanted.result)) c.state-state.result.now c.args.window)
     (λ asked. (rows : List Row) → AreLeft asked rows ↔ AreRows c.args.self.now.kept c.args.window rows) c.among.result
     (λ asked is rows.
     let left = left_where (λ row. Unit {0}) c.args.self.now.kept c.args.window asked (asked_is at asked is) rows in
@@ -44,7 +44,7 @@ returns-clause-rows c =
 pub returns-clause-asked : goal.returns-clause-asked
 returns-clause-asked c =
     let at = (goal.at.returns-clause-asked c).After-among in
-    if_ok_then (AreAsked (IsAmong (map (λ u. u.now) c.in_ok-uids.uids.items) (Wants c.all-wanted.result)) c.state.result.now c.args.window)
+    if_ok_then (AreAsked (IsAmong (map (λ u. u.now) c.in_ok-uids.uids.items) (Wants c.all-wanted.result)) c.state-state.result.now c.args.window)
     (AreAsked (λ row. Unit {0}) c.args.self.now.kept c.args.window) c.among.result (asked_is at) c.among.ensures.asked
 
 pub returns-in_err-uids-clause-succeeds : goal.returns-in_err-uids-clause-succeeds
@@ -59,16 +59,16 @@ returns-clause-succeeds c = λ none.
     c.among.ensures.succeeds (c.in_ok-uids.ensures.none (ap (λ (d : Shown). d.kept) c.self.view_is ∙ none))
 
 -- ---- the UIDs are all that there are
-all_is : (c : After-of) (asked : RowsByUid) → AreAsked (Wants c.all-wanted.result) c.state.result.now c.args.window asked →
+all_is : (c : After-of) (asked : RowsByUid) → AreAsked (Wants c.all-wanted.result) c.state-state.result.now c.args.window asked →
     AreAsked (λ row. Unit {0}) c.args.self.now.kept c.args.window asked
 all_is c asked is =
-    asked_as (Wants c.all-wanted.result) (λ row. Unit {0}) c.state.result.now c.args.self.now.kept c.args.window asked is
-    (c.state.ensures ∙ ap (λ (d : Shown). d.kept) c.self.view_is) (λ row there. (λ wants. tt, λ any. c.all-wanted.ensures row))
+    asked_as (Wants c.all-wanted.result) (λ row. Unit {0}) c.state-state.result.now c.args.self.now.kept c.args.window asked is
+    (c.state-state.ensures ∙ ap (λ (d : Shown). d.kept) c.self.view_is) (λ row there. (λ wants. tt, λ any. c.all-wanted.ensures row))
 
 pub returns-then-are_as_many-clause-rows : goal.returns-then-are_as_many-clause-rows
 returns-then-are_as_many-clause-rows c =
     let at = (goal.at.returns-then-are_as_many-clause-rows c).After-of in
-    if_ok_then (AreAsked (Wants c.all-wanted.result) c.state.result.now c.args.window)
+    if_ok_then (AreAsked (Wants c.all-wanted.result) c.state-state.result.now c.args.window)
     (λ asked. (rows : List Row) → AreLeft asked rows ↔ AreRows c.args.self.now.kept c.args.window rows) c.of.result
     (λ asked is rows.
     let left = left_where (λ row. Unit {0}) c.args.self.now.kept c.args.window asked (all_is at asked is) rows in
@@ -78,7 +78,7 @@ returns-then-are_as_many-clause-rows c =
 pub returns-then-are_as_many-clause-asked : goal.returns-then-are_as_many-clause-asked
 returns-then-are_as_many-clause-asked c =
     let at = (goal.at.returns-then-are_as_many-clause-asked c).After-of in
-    if_ok_then (AreAsked (Wants c.all-wanted.result) c.state.result.now c.args.window)
+    if_ok_then (AreAsked (Wants c.all-wanted.result) c.state-state.result.now c.args.window)
     (AreAsked (λ row. Unit {0}) c.args.self.now.kept c.args.window) c.of.result (all_is at) c.of.ensures.asked
 
 -- there are some
