@@ -27,6 +27,7 @@ use Rattle.itip_message.proofs.OneMessage.{one_message, one_cause, message_apart
 use Rattle.itip_message.proofs.ReadAgain.{reads_again}
 use Rattle.itip_items.proofs.SameItem.{Is, contents, bytes_are}
 use Rattle.itip_state.specs.Kept.{SameItems, IsItemsOf}
+use Rattle.itip_state.proofs.Members.{no_pairs}
 use Rattle.itip_state.proofs.OneOrder.{less_one_way, same_ascending}
 use Rattle.itip_desk.specs.Octets.{AscendOctets}
 use Rattle.itip_message.specs.Scanned.{begins_blank, lines_of, ends_calendar, groups_of, texts_of, messages_of, CutsMessage}
@@ -211,6 +212,9 @@ delta_apart bytes batch f h k =
 pub known_by_octets : (a b : List Item) → AscendOctets a → AscendOctets b → delta_octets a ≡ delta_octets b → a ≡ b
 known_by_octets a b up_a up_b same =
     one_batch (delta_octets b) a b (subst (λ (t : List ℕ). ReadsDelta t a) same (written_read a up_a)) (written_read b up_b)
+
+pub empty_batch : (batch : List Item) → AscendOctets batch → delta_octets batch ≡ [] → batch ≡ []
+empty_batch batch ascend none = known_by_octets batch [] ascend (no_pairs (λ (a b : Item). slice_cmp nat_cmp a.bytes b.bytes ≡ Less)) none
 
 -- ---- one message after another
 

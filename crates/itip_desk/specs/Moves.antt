@@ -1,5 +1,5 @@
 -- The UIDs that moved, each with the tick that it carries (our own form).
-use Rattle.std.specs.Prelude.{◌≡◌, ◌<◌, ◌⊎◌, ℕ, List, Bool, true, Option, Some, None, is_some, refl}
+use Rattle.std.specs.Prelude.{◌≡◌, ◌<◌, ◌≤◌, ◌⊎◌, ℕ, List, Bool, true, Option, Some, None, is_some, refl}
 use Rattle.std.specs.Coded.{Coded, code_by, coded×, coded_ℕ, coded_list}
 use Rattle.std.specs.List.{list_any}
 use Rattle.std.specs.List.Sorted.{IsStrictlySortedBy}
@@ -47,6 +47,10 @@ pub record AreMoves (carried : List (List ℕ × ℕ)) (order : List (ℕ × Lis
 -- there are no places that carry nothing
 abbrev pub AreTicks : List (List ℕ × ℕ) → Type 0
 AreTicks carried = (uid : List ℕ) (tick : ℕ) → tick_at carried uid ≡ Some tick → 0 < tick
+
+-- no UID carries a tick above this one
+abbrev pub AreUpTo : ℕ → List (List ℕ × ℕ) → Type 0
+AreUpTo top carried = (uid : List ℕ) (tick : ℕ) → tick_at carried uid ≡ Some tick → tick ≤ top
 
 -- each UID carries what it did; of these UIDs some that carried nothing may have places
 abbrev pub HavePlaces : List (List ℕ) → List (List ℕ × ℕ) → List (List ℕ × ℕ) → Type 0

@@ -74,13 +74,33 @@ fn newer_of(held: &Held, item: &SharedItem) -> Result<Option<Best>, NoMemory>
     }
 }
 
-/// Joins in what is kept of these items, in place. Where memory is refused, what was changed is changed back. A single
-/// item needs no note: its hearing is all or nothing.
+/// Joins in what is kept of these items, in place. A refusal (out of memory) changes nothing. Where none of them is news, the answer is
+/// Ok.
 pub(crate) fn hear_all(
     held: &mut Held,
     alloc: Global,
     items: &[&SharedItem],
 ) -> Result<(), NoMemory>
+    ensures ok { OnOk result ((heard : List Item)
+        → HoldKept heard held.old → HoldKept (heard ++ map (λ item. item.now) items.now) held.new) }
+    ensures succeeds { AreHeld held.old → AreOutdone (items_of held.old) (map (λ item. item.now) items.now) → IsOk result }
+    ensures err { OnErr result (held.new ≡ held.old) }
+{
+    match hear_each(held, alloc, items) {
+        Ok(()) => Ok(()),
+        Err(refused) => {
+            // Memory may have been asked for though none of the items is news.
+            if outdoes_all(held, items) {
+                return Ok(());
+            }
+            Err(refused)
+        }
+    }
+}
+
+/// Joins in what is kept of these items, in place. Where memory is refused, what was changed is changed back. A single
+/// item needs no note: its hearing is all or nothing.
+fn hear_each(held: &mut Held, alloc: Global, items: &[&SharedItem]) -> Result<(), NoMemory>
     ensures ok { OnOk result ((heard : List Item)
         → HoldKept heard held.old → HoldKept (heard ++ map (λ item. item.now) items.now) held.new) }
     ensures err { OnErr result (held.new ≡ held.old) }

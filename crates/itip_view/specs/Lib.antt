@@ -14,6 +14,7 @@ pub mod Blocks
 pub mod Wanting
 pub mod Wanted
 pub mod Places
+pub mod PutRows
 pub mod AscendingUids
 pub mod Most
 pub mod ByUid

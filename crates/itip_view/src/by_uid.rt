@@ -4,10 +4,10 @@ ghost use Rattle.itip_view.specs.AscendingUids.{AreAscendingUids, AreAscendingUi
 
 use crate::NoMemory;
 use crate::error::ViewError;
+use crate::list_text::text_by_uid;
 use crate::most::{RowCount, count_among};
 use crate::row::Row;
 use crate::row_order::{rows_by_uid, sorted_uids};
-use crate::row_text::text_by_uid;
 use crate::shown::shown_rows;
 use crate::wanted::Wanted;
 use crate::window::Window;
@@ -32,7 +32,7 @@ pub struct RowsByUid<'s, 'w> {
 }
 
 impl<'s, 'w> RowsByUid<'s, 'w> {
-    ghost use Rattle.std.specs.Prelude.{◌≡◌, ◌↔◌, ◌<◌, List, IfOk, IfSome, IsErrOf, OnErr};
+    ghost use Rattle.std.specs.Prelude.{◌≡◌, ◌↔◌, ◌<◌, List, [], IfOk, IfSome, IsOk, IsErrOf, OnErr};
     ghost use Rattle.std.specs.Option.{option_map};
     ghost use Rattle.itip_state.specs.Kept.{AscendTexts};
     ghost use Rattle.itip_view.specs.Showing.{AreRowsWhere, IsAmong};
@@ -62,7 +62,7 @@ impl<'s, 'w> RowsByUid<'s, 'w> {
         })
     }
 
-    /// The rows of these UIDs, which stand in any order, perhaps more than once. No other UID is looked at.
+    /// The rows of these UIDs, which stand in any order, perhaps more than once. No other UID is looked at. Of no UID it takes no memory.
     pub fn among(
         alloc: Global,
         state: &'s State,
@@ -73,6 +73,8 @@ impl<'s, 'w> RowsByUid<'s, 'w> {
         ensures rows { IfOk result (λ asked. (rows : List Row) → AreLeft asked rows
             ↔ AreRowsWhere (IsAmong (map (λ uid. uid.now) uids.entry.items) (Wants wanted.now)) state.now window rows) }
         ensures asked { IfOk result (AreAsked (IsAmong (map (λ uid. uid.now) uids.entry.items) (Wants wanted.now)) state.now window) }
+        ensures none { uids.items ≡ [] → IfOk result (λ asked. uids_of asked ≡ []) }
+        ensures succeeds { uids.items ≡ [] → IsOk result }
     {
         let uids = sorted_uids(uids)?;
         Ok(RowsByUid {
@@ -115,12 +117,13 @@ impl<'s, 'w> RowsByUid<'s, 'w> {
         Ok(Some(rows))
     }
 
-    /// The text of the rows that are left. The rows of one UID at a time are held beside it.
+    /// The text of the rows that are left. One row at a time is held beside it. Where no UID is left, it takes no memory.
     ///
     /// Refused where they are more than 100,000 (31), or when out of memory (32).
     pub fn text(&self) -> Result<Vec<u8>, ViewError>
         ensures text { IfOk result (λ text. IsTextLeft self.now text.items) }
         ensures many { IsErrOf result ViewError.TooManyRows → AreTooManyLeft self.now }
+        ensures succeeds { uids_of self.now ≡ [] → IsOk result }
     {
         text_by_uid(
             self.alloc,

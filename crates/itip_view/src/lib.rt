@@ -11,6 +11,7 @@ mod governs;
 mod in_question;
 mod keyed_item;
 mod laws;
+mod list_text;
 mod most;
 mod of_uid;
 mod progress;

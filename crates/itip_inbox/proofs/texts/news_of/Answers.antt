@@ -18,6 +18,6 @@ news_given kept items batch slice news told batch_is is are same =
 
 pub returns : goal.returns
 returns c =
-    news_given c.args.state.now c.args.items.items c.in_ok-batch.batch c.as_slice.result.now _ _ c.in_ok-batch.ensures
+    news_given c.args.state.now c.args.items.items c.in_ok-batch.batch c.as_slice.result.now _ _ c.in_ok-batch.ensures.items
     c.as_slice.ensures.items c.in_ok-news.ensures.news (c.from_vec.ensures ∙ c.in_ok-copies.ensures ∙
     ap (map (λ item. item.now)) c.as_slice-2.ensures.value)

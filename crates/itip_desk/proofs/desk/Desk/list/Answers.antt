@@ -28,3 +28,9 @@ returns-clause-many c = λ refused heard are.
     let kept : List Item = c.args.self.now.kept in
     too_many_of_kept kept heard are c.args.window (many_of_all (λ row. Unit {0}) kept c.args.window
     (too_many_where (λ row. Unit {0}) kept c.args.window c.in_ok-rows.rows c.in_ok-rows.ensures.asked (c.text.ensures.many refused)))
+
+pub returns-in_err-rows-clause-succeeds : goal.returns-in_err-rows-clause-succeeds
+returns-in_err-rows-clause-succeeds c = λ none. c.in_err-rows.ensures.succeeds none
+
+pub returns-clause-succeeds : goal.returns-clause-succeeds
+returns-clause-succeeds c = λ none. c.text.ensures.succeeds (c.in_ok-rows.ensures.none none)

@@ -28,3 +28,9 @@ returns-clause-many c = λ refused heard are.
     many_where_of_kept (Shows c.args.address.now) kept heard are c.args.window
     (too_many_where (Shows c.args.address.now) kept c.args.window c.in_ok-shown.shown c.in_ok-shown.ensures.asked
     (c.text.ensures.many refused))
+
+pub returns-in_err-shown-clause-succeeds : goal.returns-in_err-shown-clause-succeeds
+returns-in_err-shown-clause-succeeds c = λ none. c.in_err-shown.ensures.succeeds none
+
+pub returns-clause-succeeds : goal.returns-clause-succeeds
+returns-clause-succeeds c = λ none. c.text.ensures.succeeds (c.in_ok-shown.ensures.none none)
