@@ -5,6 +5,7 @@ pub mod Sorting
 pub mod CauseLines
 pub mod Message
 pub mod Drafts
+pub mod Building
 pub mod RefusalNumbers
 pub mod Cutting
 pub mod Scanned
