@@ -6,7 +6,7 @@ ghost use Rattle.itip_report.specs.Reports.{AreReportLines};
 use crate::NoMemory;
 use crate::line::line_of;
 use crate::report::Report;
-use crate::reported::reported;
+use crate::reported::report_items;
 use itip_state::State;
 use std::alloc::Global;
 
@@ -36,7 +36,7 @@ pub fn refresh_wanted(alloc: Global, state: &State) -> Result<Vec<String>, NoMem
 fn lines_of(alloc: Global, state: &State, report: Report) -> Result<Vec<String>, NoMemory>
     ensures { IfOk result (λ lines. AreReportLines report state.now (map string_bytes lines.items)) }
 {
-    let items = reported(alloc, state, report)?;
+    let items = report_items(alloc, state, report)?;
     let mut lines = Vec::new(alloc);
     for item in &items {
         lines.push(line_of(alloc, report, item)?)?;

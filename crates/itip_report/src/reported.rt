@@ -10,8 +10,8 @@ use itip_items::Item;
 use itip_state::{ItemsOfUid, State};
 use std::alloc::Global;
 
-/// The kept items that a report is about, by place.
-pub(crate) fn reported<'a>(
+/// The kept items that a report is about, by place: its lines are the texts of these.
+pub fn report_items<'a>(
     alloc: Global,
     state: &'a State,
     report: Report,
