@@ -83,7 +83,7 @@ impl Running {
             return Err(CallError::Changed);
         }
         self.keeper
-            .submit(back)
+            .submit(back.batch)
             .map_err(|_| CallError::NothingOnceMore)
     }
 

@@ -4,6 +4,7 @@ ghost use Rattle.std.specs.Prelude.{MatchResult, OnErr, OnOk, IfOk, IsErrOf};
 
 use crate::error::LiveError;
 use crate::receipt::Receipt;
+use crate::unsubmitted::Unsubmitted;
 use crate::write_end::WriteEnd;
 use itip_desk::Batch;
 use std::mem;
@@ -23,16 +24,19 @@ impl Keeper {
 
     /// Adds a batch after those that are pending.
     ///
-    /// The batch comes back when out of memory, or where `usize::MAX` batches are pending, and nothing has changed then.
-    pub fn submit(&mut self, batch: Batch) -> Result<(), Batch>
+    /// The batch comes back in the error when out of memory, or where `usize::MAX` batches are pending, and nothing has changed then.
+    pub fn submit(&mut self, batch: Batch) -> Result<(), Unsubmitted>
         ensures published { published self.new ≡ published self.old }
         ensures pending { MatchResult result (λ _. pending self.new ≡ pending self.old ++ batch ∷ [])
-            (λ back. (back ≡ batch) × (pending self.new ≡ pending self.old)) }
+            (λ back. (back.batch ≡ batch) × (pending self.new ≡ pending self.old)) }
         ensures pair { keeper_pair self.new ≡ keeper_pair self.old }
     {
         match &mut self.end {
-            Some(end) => end.submit(batch),
-            None => Err(batch),
+            Some(end) => match end.submit(batch) {
+                Ok(()) => Ok(()),
+                Err(batch) => Err(Unsubmitted { batch }),
+            },
+            None => Err(Unsubmitted { batch }),
         }
     }
 

@@ -19,6 +19,7 @@ mod published;
 mod read_end;
 mod receipt;
 mod start;
+mod unsubmitted;
 mod write_end;
 
 pub use error::{LiveError, PassError};
@@ -27,3 +28,4 @@ pub use meeting::{Met, meet};
 pub use pass::Pass;
 pub use receipt::Receipt;
 pub use start::start_desk;
+pub use unsubmitted::Unsubmitted;
