@@ -1,5 +1,5 @@
 //! How many rows show each attendee.
-ghost use Rattle.std.specs.Prelude.{◌≡◌, ◌≢◌, ◌<◌, ◌≤◌, ◌+◌, ◌++◌, ◌∷◌, [], ℕ, List, IfOk, OnOk, OnErr, codes, length, map};
+ghost use Rattle.std.specs.Prelude.{◌≡◌, ◌<◌, ◌≤◌, ◌+◌, ◌++◌, ◌∷◌, [], ℕ, List, IfOk, OnOk, IsOk, codes, length, map};
 ghost use Rattle.std.specs.Fmt.{decimal};
 ghost use Rattle.std.specs.BTreeMap.{get};
 ghost use Rattle.std.specs.List.{flat_map};
@@ -53,7 +53,7 @@ impl Tally {
 /// show him, in the order of first appearance. Where no row shows an attendee it takes no memory, and the answer is Ok.
 pub fn load_by_attendee(alloc: Global, rows: &[Row]) -> Result<Vec<String>, NoMemory>
     ensures lines { IfOk result (λ lines. map string_bytes lines.items ≡ load_lines rows.now) }
-    ensures nothing { OnErr result (load_lines rows.now ≢ []) }
+    ensures succeeds { load_lines rows.now ≡ [] → IsOk result }
 {
     let mut tally = Tally::new(alloc);
     count_rows(alloc, &mut tally, rows)?;
@@ -64,7 +64,7 @@ pub fn load_by_attendee(alloc: Global, rows: &[Row]) -> Result<Vec<String>, NoMe
 /// [`load_by_attendee`] as records. Where no row shows an attendee it takes no memory, and the answer is Ok.
 pub fn load_records(alloc: Global, rows: &[Row]) -> Result<Vec<AttendeeLoad>, NoMemory>
     ensures records { IfOk result (λ loads. loads.items ≡ load_records rows.now) }
-    ensures nothing { OnErr result (load_records rows.now ≢ []) }
+    ensures succeeds { load_records rows.now ≡ [] → IsOk result }
 {
     let mut tally = Tally::new(alloc);
     count_rows(alloc, &mut tally, rows)?;
@@ -74,7 +74,7 @@ pub fn load_records(alloc: Global, rows: &[Row]) -> Result<Vec<AttendeeLoad>, No
 /// The records of [`load_records`] for the rows that were counted.
 fn tallied_records(alloc: Global, tally: &Tally) -> Result<Vec<AttendeeLoad>, NoMemory>
     ensures records { IfOk result (λ loads. (done : List Row) → AreTallied done tally.now → loads.items ≡ load_records done) }
-    ensures some { OnErr result (tally.now.keys.items ≢ []) }
+    ensures succeeds { tally.now.keys.items ≡ [] → IsOk result }
 {
     let mut loads = Vec::new(alloc);
     for key in &tally.keys {
@@ -89,7 +89,7 @@ fn tallied_records(alloc: Global, tally: &Tally) -> Result<Vec<AttendeeLoad>, No
 /// The lines of [`load_by_attendee`] for the rows that were counted.
 pub(crate) fn tallied_lines(alloc: Global, tally: &Tally) -> Result<Vec<String>, NoMemory>
     ensures lines { IfOk result (λ lines. (done : List Row) → AreTallied done tally.now → map string_bytes lines.items ≡ load_lines done) }
-    ensures some { OnErr result (tally.now.keys.items ≢ []) }
+    ensures succeeds { tally.now.keys.items ≡ [] → IsOk result }
 {
     let mut lines = Vec::new(alloc);
     for key in &tally.keys {
@@ -123,7 +123,7 @@ fn load_line(alloc: Global, key: &Text, rows: usize) -> Result<String, NoMemory>
 pub(crate) fn count_rows(alloc: Global, tally: &mut Tally, rows: &[Row]) -> Result<(), NoMemory>
     ensures counted { OnOk result ((done : List Row) → length done + length rows.now ≤ usize.MAX
         → AreTallied done tally.old → AreTallied (done ++ rows.now) tally.new) }
-    ensures some { OnErr result (flat_map keys_in rows.now ≢ []) }
+    ensures succeeds { flat_map keys_in rows.now ≡ [] → IsOk result }
 {
     for row in rows {
         count_row(alloc, tally, row)?;
@@ -135,7 +135,7 @@ pub(crate) fn count_rows(alloc: Global, tally: &mut Tally, rows: &[Row]) -> Resu
 fn count_row(alloc: Global, tally: &mut Tally, row: &Row) -> Result<(), NoMemory>
     ensures counted { OnOk result ((done : List Row) → length done < usize.MAX
         → AreTallied done tally.old → AreTallied (done ++ row.now ∷ []) tally.new) }
-    ensures some { OnErr result (keys_in row.now ≢ []) }
+    ensures succeeds { keys_in row.now ≡ [] → IsOk result }
 {
     let place = tally.rows;
     let Some(rows) = place.checked_add(1) else {
@@ -156,7 +156,7 @@ fn count_attendees(
     requires { place < usize.MAX }
     ensures counted { OnOk result ((done : List Row) → length done ≡ place
         → IsTally done [] tally.old.keys.items tally.old.counts → IsTally (done ++ row.now ∷ []) [] tally.new.keys.items tally.new.counts) }
-    ensures some { OnErr result (keys_in row.now ≢ []) }
+    ensures succeeds { keys_in row.now ≡ [] → IsOk result }
 {
     for attendee in row.attendees.as_slice() {
         let key = attendee_key(alloc, attendee.address.as_str())?;

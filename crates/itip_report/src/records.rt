@@ -1,5 +1,5 @@
 //! Reports over rows as records.
-ghost use Rattle.std.specs.Prelude.{◌≡◌, ◌≢◌, [], List, IfOk, OnErr, map};
+ghost use Rattle.std.specs.Prelude.{◌≡◌, [], List, IfOk, IsOk, map};
 ghost use Rattle.itip_view.specs.declared.row.Row.{Row};
 ghost use Rattle.itip_report.specs.Load.{load_lines};
 ghost use Rattle.itip_report.specs.Progress.{progress_lines};
@@ -34,7 +34,7 @@ pub fn progress_records<'a>(
 ) -> Result<Vec<RowProgress<'a>>, NoMemory>
     ensures records { IfOk result (λ records.
         map (λ r. record { row = r.row.now; percent = r.percent }) records.items ≡ progress_records rows.now) }
-    ensures nothing { OnErr result (progress_records rows.now ≢ []) }
+    ensures succeeds { progress_records rows.now ≡ [] → IsOk result }
 {
     let mut records = Vec::new(alloc);
     for row in rows {

@@ -1,5 +1,5 @@
 //! How far the rows of a list are.
-ghost use Rattle.std.specs.Prelude.{◌≡◌, ◌≢◌, ◌++◌, [], IfOk, OnOk, OnErr, map};
+ghost use Rattle.std.specs.Prelude.{◌≡◌, ◌++◌, [], IfOk, OnOk, IsOk, map};
 ghost use Rattle.std.specs.String.{string_bytes};
 ghost use Rattle.itip_view.specs.ListText.{id_text};
 ghost use Rattle.itip_report.specs.Progress.{line_with, progress_lines};
@@ -13,7 +13,7 @@ use std::alloc::Global;
 /// Where no row has one it takes no memory, and the answer is Ok.
 pub fn progress(alloc: Global, rows: &[Row]) -> Result<Vec<String>, NoMemory>
     ensures lines { IfOk result (λ lines. map string_bytes lines.items ≡ progress_lines rows.now) }
-    ensures nothing { OnErr result (progress_lines rows.now ≢ []) }
+    ensures succeeds { progress_lines rows.now ≡ [] → IsOk result }
 {
     let mut lines = Vec::new(alloc);
     for row in rows {

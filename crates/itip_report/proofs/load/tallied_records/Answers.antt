@@ -4,7 +4,6 @@ use Rattle.itip_report.specs.Records.{load_of}
 use Rattle.itip_report.specs.Tally.{IsTally}
 use Rattle.itip_report.specs.declared.records.AttendeeLoad.{AttendeeLoad}
 use Rattle.itip_report.proofs.Mapped.{map_both}
-use Rattle.itip_report.proofs.Nothing.{some_there}
 use Rattle.itip_report.proofs.Tallying.{rows_told, tally_records}
 use Rattle.itip_report.proofs.load.tallied_records.Goals as goal
 
