@@ -3,7 +3,9 @@
 //! What is refused is answered by the number and the words of its [`Error`].
 //!
 //! - `window_of FROM TO`: the window of two days, as day numbers
-//! - `read TEXT`: how many items a message has
+//! - `read TEXT`, `batch TEXT`: how many items a message has, and how many different ones
+//! - `cut TEXT`: how many octets each message of a text has
+//! - `report_lines NAME FROM TO TEXT ..`: the lines of a report by its name
 //! - `item_of UID STAMP LINE ..`: the octets of the item that a program makes of these lines
 //! - `item_with UID STAMP NAME VALUE ..`: the same of properties by name, where a moment is as lists show it
 //! - `todo_of UID STAMP LINE ..`: the SEQUENCE and the number of attendees of the to-do of these lines
@@ -16,10 +18,14 @@
 use crate::error::CallError;
 use crate::texts::all_texts;
 use itipdesk::Error;
-use itipdesk::desks::State;
-use itipdesk::lists::{Report, Row, Window, load_records, progress_records, report_items, rows};
+use itipdesk::desks::{State, read_batch};
+use itipdesk::lists::{
+    Report, ReportName, Row, RowsByUid, Wanted, Window, load_records, no_rows, progress_records,
+    report_items, report_lines, rows,
+};
 use itipdesk::messages::{
-    Item, Moment, PartStat, Stamp, TodoBuilder, Uid, read_draft, read_message, read_moment,
+    Item, Moment, PartStat, Stamp, TodoBuilder, Uid, next_message, read_draft, read_message,
+    read_moment,
 };
 use itipdesk::writing::{Answer, Errand, message_for};
 use std::alloc::Global;
@@ -44,6 +50,11 @@ fn made(alloc: Global, word: &str, texts: &[&str]) -> Result<Option<Vec<u8>>, Er
     let answer = match (word, texts) {
         ("window_of", [from, to]) => window_text(alloc, window(from, to)?)?,
         ("read", [text]) => count(alloc, read_message(alloc, text.as_bytes())?.len())?,
+        ("batch", [text]) => { count(alloc, read_batch(alloc, text.as_bytes())?.as_slice().len())? }
+        ("cut", [text]) => cut(alloc, text.as_bytes())?,
+        ("report_lines", [name, from, to, texts @ ..]) => {
+            lines(alloc, named(name)?, window(from, to)?, texts)?
+        }
         ("item_of", [uid, stamp, lines @ ..]) => octets(
             alloc,
             &item_of(alloc, uid, stamp, lines)?,
@@ -76,6 +87,49 @@ fn window_text(alloc: Global, window: Window) -> Result<Vec<u8>, Error> {
 
 fn count(alloc: Global, count: usize) -> Result<Vec<u8>, Error> {
     Ok(format!(in alloc; "{count}")?.into_bytes())
+}
+
+fn cut(alloc: Global, text: &[u8]) -> Result<Vec<u8>, Error> {
+    let mut told = String::new(alloc);
+    let mut rest = text;
+    while let Some((message, after)) = next_message(rest) {
+        let octets = message.len();
+        told.push_str(format!(in alloc; "{octets}\n")?.as_str())?;
+        rest = after;
+    }
+    Ok(told.into_bytes())
+}
+
+fn named(name: &str) -> Result<ReportName, Error> {
+    match name {
+        "load" => Ok(ReportName::Load),
+        "progress" => Ok(ReportName::Progress),
+        "cancelled" => Ok(ReportName::Cancelled),
+        "orphans" => Ok(ReportName::Orphans),
+        "refresh" => Ok(ReportName::Refresh),
+        _ => Err(Error::Text),
+    }
+}
+
+/// The lines of a report, of the rows of a window where it is of rows.
+fn lines(
+    alloc: Global,
+    name: ReportName,
+    window: Window,
+    texts: &[&str],
+) -> Result<Vec<u8>, Error> {
+    let state = state(alloc, texts)?;
+    let rows = if name.is_of_rows() {
+        RowsByUid::of(alloc, &state, window, &Wanted::all())?
+    } else {
+        no_rows(alloc, &state, window)?
+    };
+    let mut told = String::new(alloc);
+    for line in &report_lines(alloc, &state, name, rows)? {
+        told.push_str(line.as_str())?;
+        told.push_str("\n")?;
+    }
+    Ok(told.into_bytes())
 }
 
 fn octets(alloc: Global, item: &Item) -> Result<Vec<u8>, Error> {

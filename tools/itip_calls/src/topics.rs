@@ -80,6 +80,9 @@ fn made_of_what_is_kept(
         }
         "read_delta" | "read_back" => deltas::answer(alloc, word, arguments),
         "window_of"
+        | "batch"
+        | "cut"
+        | "report_lines"
         | "read"
         | "item_of"
         | "item_with"
