@@ -19,13 +19,11 @@ mod published;
 mod read_end;
 mod receipt;
 mod start;
-mod unsubmitted;
 mod write_end;
 
-pub use error::{LiveError, PassError};
+pub use error::{LiveError, NotSubmitted, PassError};
 pub use keeper::Keeper;
 pub use meeting::{Met, meet};
 pub use pass::Pass;
 pub use receipt::Receipt;
 pub use start::start_desk;
-pub use unsubmitted::Unsubmitted;

@@ -6,7 +6,7 @@ use itip_desk::{DeskError, Refusal};
 use itip_message::{MessageRefusal, ReadError};
 use itip_moment::BadText;
 use itip_office::OfficeError;
-use itip_running::{LiveError, PassError, Unsubmitted};
+use itip_running::{LiveError, NotSubmitted, PassError};
 use itip_view::{BadWindow, ViewError};
 use itip_world::Cause;
 use itip_writing::WritingError;
@@ -92,10 +92,10 @@ impl<T: Drop> From<AllocFailed<T>> for Error {
     }
 }
 
-impl From<Unsubmitted> for Error {
+impl From<NotSubmitted> for Error {
     ghost from_gives = { λ _ e. e ≡ gives.NoMemory };
 
-    fn from(_e: Unsubmitted) -> Error {
+    fn from(_e: NotSubmitted) -> Error {
         Error::NoMemory
     }
 }

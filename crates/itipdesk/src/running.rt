@@ -5,7 +5,7 @@
 //! what was published when it was given. A keeper can't be let go: [`meet`] ends it, once the threads have returned, and gives the
 //! desk that is left.
 //!
-//! What `submit` doesn't take comes back in the error, [`Unsubmitted`], which goes through `?`.
+//! What `submit` doesn't take comes back in the error, [`NotSubmitted`], which goes through `?`.
 pub use itip_running::{
-    Keeper, LiveError, Met, Pass, PassError, Receipt, Unsubmitted, meet, start_desk,
+    Keeper, LiveError, Met, NotSubmitted, Pass, PassError, Receipt, meet, start_desk,
 };
