@@ -75,7 +75,7 @@ impl Running {
     /// Submits a batch, once more where it comes back.
     fn submit<R: Eprint>(&mut self, rt: &R, batch: Batch) -> Result<(), CallError> {
         let pending = self.keeper.pending();
-        let Err(back) = self.keeper.submit(batch) else {
+        let Err(refused) = self.keeper.submit(batch) else {
             return Ok(());
         };
         note_refusal(rt);
@@ -83,7 +83,7 @@ impl Running {
             return Err(CallError::Changed);
         }
         self.keeper
-            .submit(back)
+            .submit(refused.batch)
             .map_err(|_| CallError::NothingOnceMore)
     }
 

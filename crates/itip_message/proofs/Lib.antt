@@ -1,4 +1,5 @@
 pub mod BegunMessages
+pub mod Building
 pub mod Cuts
 pub mod Dating
 pub mod DraftItems

@@ -6,6 +6,7 @@ pub mod CauseLines
 pub mod Message
 pub mod Several
 pub mod Drafts
+pub mod Building
 pub mod RefusalNumbers
 pub mod Cutting
 pub mod Scanned

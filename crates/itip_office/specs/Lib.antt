@@ -1,6 +1,7 @@
 pub use Rattle.itip_desk.specs.Heard
 pub use Rattle.itip_desk.specs.Desk
 pub use Rattle.itip_state.specs.Kept
+pub mod Numbers
 pub mod Texts
 pub mod Answers
 pub mod Steps

@@ -36,8 +36,12 @@ pub enum OfficeError {
 }
 
 impl OfficeError {
+    ghost use Rattle.itip_office.specs.Numbers.{number_of};
+
     /// The number under which it is shown: 21, or 40 to 45.
-    pub fn number(self) -> u32 {
+    pub fn number(self) -> u32
+        ensures { result ≡ number_of self }
+    {
         match self {
             OfficeError::CountSpent => 21,
             OfficeError::NoMemory => 40,

@@ -21,7 +21,7 @@ mod receipt;
 mod start;
 mod write_end;
 
-pub use error::{LiveError, PassError};
+pub use error::{LiveError, NotSubmitted, PassError};
 pub use keeper::Keeper;
 pub use meeting::{Met, meet};
 pub use pass::Pass;

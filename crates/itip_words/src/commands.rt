@@ -4,10 +4,8 @@ use crate::help::{
     REFRESH_HELP, REPLY_HELP, REPORT_HELP, REQUEST_HELP, RESEND_HELP, RUN_HELP,
 };
 use clap::{Arg, ArgAction, Command};
+use itip_writing::VERSION;
 use std::alloc::{AllocError, Global};
-
-/// The version of the program.
-pub const VERSION: &str = "0.1.0";
 
 /// The program, with its words.
 pub(crate) fn command<'a>(alloc: Global) -> Result<Command<'a>, AllocError> {

@@ -14,7 +14,6 @@ mod words;
 mod wrong;
 
 pub use asked::Asked;
-pub use commands::VERSION;
 pub use days::now;
 pub use filter::{Filter, Format, Intake, Listing, MAX_THREADS, Reported, Written};
 pub use no_call::NoCall;

@@ -7,7 +7,8 @@
 
 use crate::error::{CallError, ShownMessage};
 use itip_items::{Item, write_item};
-use itip_message::{ReadError, read_all, read_message};
+use itip_message::{ReadError, read_message};
+use itip_reading::read_all;
 use std::alloc::{AllocError, Global};
 use std::thread::Threads;
 

@@ -4,8 +4,8 @@ use crate::call::Call;
 use crate::error::CallError;
 use crate::texts::all_texts;
 use crate::{
-    agree, deltas, desks, joins, kept, lines, maps, messages, moments, reports, rules, scripts,
-    series, states, todos, views, worlds,
+    agree, deltas, desks, joins, kept, library, lines, maps, messages, moments, reports, rules,
+    scripts, series, states, todos, views, worlds,
 };
 use std::alloc::Global;
 use std::thread::Threads;
@@ -79,6 +79,24 @@ fn made_of_what_is_kept(
             worlds::answer(alloc, word, arguments)
         }
         "read_delta" | "read_back" => deltas::answer(alloc, word, arguments),
+        "window_of"
+        | "batch"
+        | "cut"
+        | "report_lines"
+        | "read"
+        | "item_of"
+        | "item_with"
+        | "todo_of"
+        | "load_records"
+        | "progress_records"
+        | "report_items"
+        | "write_reply"
+        | "write_refresh"
+        | "write_cancel"
+        | "write_onward"
+        | "write_removal"
+        | "write_request"
+        | "write_resend" => { library::answer(alloc, word, arguments) }
         _ => scripts::answer(alloc, word, arguments),
     }
 }

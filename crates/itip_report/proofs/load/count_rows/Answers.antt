@@ -21,9 +21,9 @@ loop-row-preserved c = λ done few are.
     ap (λ (r : Row). take i rows ++ r ∷ []) (sym c.row-item.is) in
     subst (λ (all : List Row). AreTallied all c.count_row.new.tally)
     (append_assoc done (take i rows) (row ∷ []) ∙ ap (λ (more : List Row). done ++ more) (sym grown))
-    (c.in_ok-count_row.ensures (done ++ take i rows) small (c.loop-row.invariant done few are))
+    (c.in_ok-count_row.ensures.counted (done ++ take i rows) small (c.loop-row.invariant done few are))
 
-pub returns : goal.returns
-returns c = λ done few are.
+pub returns-clause-counted : goal.returns-clause-counted
+returns-clause-counted c = λ done few are.
     subst (λ (rows : List Row). AreTallied (done ++ rows) c.loop-row.tally)
     (take_all c.loop-row.row-index c.args.rows.now c.loop-row-test.false) (c.loop-row.invariant done few are)

@@ -4,12 +4,10 @@ ghost use Rattle.std.specs.List.{AllZip};
 ghost use Rattle.itip_message.specs.Refusals.{IfRefused};
 ghost use Rattle.itip_message.specs.Message.{ReadsMessage, RefusesMessage};
 
-use crate::error::ReadError;
-use crate::read::read_message;
 use itip_items::Item;
-use itip_lines::NoMemory;
+use itip_message::{ReadError, read_message};
 use rayon::prelude::*;
-use std::alloc::Global;
+use std::alloc::{AllocError, Global};
 use std::thread::Threads;
 
 /// What [`read_message`] gives for each text, in their order, from as many threads as there are processors.
@@ -19,7 +17,7 @@ pub fn read_all(
     rt: &(impl Threads + Sync),
     alloc: Global,
     texts: &[Vec<u8>],
-) -> Result<Vec<Result<Vec<Item>, ReadError>>, NoMemory>
+) -> Result<Vec<Result<Vec<Item>, ReadError>>, AllocError>
     ensures { IfOk result (λ answers. AllZip (λ text answer.
         IfOk answer (λ items. ReadsMessage text.items items.items) × IfErr answer (λ e. IfRefused e (RefusesMessage text.items)))
         texts.now answers.items) }

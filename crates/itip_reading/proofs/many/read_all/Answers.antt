@@ -4,7 +4,7 @@ use Rattle.rayon.proofs.ListFacts.{IfOk-then}
 use Rattle.rayon.proofs.ToStd.{slice-AllZip}
 use Rattle.itip_message.specs.Refusals.{IfRefused}
 use Rattle.itip_message.specs.Message.{ReadsMessage, RefusesMessage}
-use Rattle.itip_message.proofs.parallel.read_all.Goals as goal
+use Rattle.itip_reading.proofs.many.read_all.Goals as goal
 
 pub returns : goal.returns
 returns g c =

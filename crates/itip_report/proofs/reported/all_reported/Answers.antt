@@ -10,7 +10,7 @@ use Rattle.itip_state.specs.Kept.{AreUidsOf}
 use Rattle.itip_view.proofs.Collecting.{earlier_before}
 use Rattle.itip_report.proofs.Gathering.{ReportedOf, gather_more, all_gathered}
 use Rattle.itip_report.proofs.Mapped.{map_both}
-use Rattle.itip_report.proofs.reported.reported.Goals as goal
+use Rattle.itip_report.proofs.reported.all_reported.Goals as goal
 
 pub loop-uid-preserved : goal.loop-uid-preserved
 loop-uid-preserved c =

@@ -1,6 +1,6 @@
 use Rattle.std.proofs.Common.{map, take}
 use Rattle.itip_report.proofs.Gathering.{ReportedOf}
-use Rattle.itip_report.proofs.reported.reported.Given as goal
+use Rattle.itip_report.proofs.reported.all_reported.Given as goal
 
 abbrev pub invariant-loop-uid : goal.invariant-loop-uid
 invariant-loop-uid l =

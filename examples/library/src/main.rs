@@ -1,0 +1,60 @@
+//! Reads a message, lists, brings another desk up to date, is listed beside its writer, and goes on after a restart.
+#![tactic(auto)]
+
+use itipdesk::Error;
+use itipdesk::deltas::{read_delta, write_delta};
+use itipdesk::desks::{Batch, Desk, read_batch};
+use itipdesk::lists::Window;
+use itipdesk::messages::{Moment, TodoBuilder};
+use itipdesk::running::{Receipt, meet, start_desk};
+use std::alloc::Global;
+use std::io;
+use std::sync::Wait;
+use std::thread::{Threads, for_each_mut, join_mut};
+
+const MESSAGE: &[u8] = b"BEGIN:VCALENDAR\nVERSION:2.0\nMETHOD:REQUEST\nBEGIN:VTODO\nUID:u1\n\
+DTSTAMP:20260102T091000Z\nDUE:20260109\nSUMMARY:Look at it\nEND:VTODO\nEND:VCALENDAR\n";
+
+fn main(rt: HostRuntime) -> io::Result<()> {
+    match play(&rt) {
+        Ok(text) => rt.print(text.as_str()),
+        Err(error) => println!(rt; "refused {}: {error}", error.number()),
+    }
+}
+
+fn play<R: AllocGlobal + Threads + Wait + Sync>(rt: &R) -> Result<String, Error> {
+    let alloc = rt.alloc();
+    let year = Window::of("20260101".parse()?, "20270101".parse()?)?;
+    let mut desk = Desk::empty_at(alloc, 0);
+    desk.take(&read_batch(alloc, MESSAGE)?)?;
+    desk.take(&own_batch(alloc)?)?;
+    let delta = write_delta(alloc, &desk.delta_since(0)?)?;
+    let other = desk_of(alloc, &delta)?;
+    // One thread writes to a running desk, and others list it.
+    let (mut keeper, mut passes) = start_desk(rt, 2)?;
+    let mut write = || -> Result<Receipt, Error> {
+        keeper.submit(other.delta_since(0)?)?;
+        Ok(keeper.publish(rt)?)
+    };
+    let mut read = || for_each_mut(rt, &mut passes, 2, &|_, pass| drop(pass.list(year)));
+    let (published, ()) = join_mut(rt, &mut write, &mut read);
+    let ended = meet(rt, keeper, Vec::new(alloc))?.desk;
+    let _receipt = published?;
+    // The program ends here, and goes on with the file that it wrote.
+    let file = write_delta(alloc, &ended.delta_since(0)?)?;
+    Ok(String::from_utf8_lossy(alloc, &desk_of(alloc, &file)?.list(year)?)?)
+}
+
+fn own_batch(alloc: Global) -> Result<Batch, Error> {
+    let mut todo = TodoBuilder::new(alloc, "u2", "20260103T080000Z".parse()?)?;
+    todo.attendee("mailto:omar@example.com")?;
+    todo.due(&Moment::Date("20260112".parse()?))?;
+    todo.summary("Water the plants, and feed the cat")?;
+    Ok(Batch::of_items(vec![in alloc; todo.item()?]?)?)
+}
+
+fn desk_of(alloc: Global, delta: &[u8]) -> Result<Desk, Error> {
+    let mut desk = Desk::empty_at(alloc, 0);
+    desk.take(&read_delta(alloc, delta)?)?;
+    Ok(desk)
+}
