@@ -1,8 +1,9 @@
 //! A plain program that does what the benchmark does, for its times to be held against.
 //!
-//! The words are a topic and a size, as of the benchmark, or `run` for a script on standard input. It knows as much of a
-//! message as these need. It prints the lines that the benchmark prints.
+//! The words are a topic and a size, as of the benchmark; `run` for a script on standard input; or `compact`, a number of threads
+//! and the names of sources. It knows as much of a message as these need. It prints the lines that the benchmark prints.
 
+mod compact;
 mod desk;
 mod list;
 mod load;
@@ -155,6 +156,7 @@ fn main() {
         Some("desks") => desks(size),
         Some("lists") => lists(size),
         Some("run") => run().expect("standard input and output"),
-        _ => eprintln!("the words are a topic and a size, or run"),
+        Some("compact") => compact::compact((size as usize).max(1), words[2..].to_vec()).expect("sources and standard output"),
+        _ => eprintln!("the words are a topic and a size, run, or compact"),
     }
 }

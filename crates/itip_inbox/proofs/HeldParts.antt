@@ -6,7 +6,7 @@ use Rattle.std.proofs.lemmas.List.{take_all}
 use Rattle.itip_lines.specs.Reading.{text_limit}
 use Rattle.itip_message.specs.Begun.{DifferInFirst, StandsIn}
 use Rattle.itip_message.specs.Scanned.{messages_of}
-use Rattle.itip_inbox.specs.declared.inbox.Inbox.{Inbox}
+use Rattle.itip_inbox.specs.declared.open_inbox.OpenInbox.{OpenInbox}
 use Rattle.itip_inbox.specs.declared.messages.Held.{Held}
 use Rattle.itip_inbox.specs.Inbox.{Placed, placed_from}
 use Rattle.itip_inbox.specs.Streaming.{AreReadFor, IsHeld, is_left_long, StaysCutInto, KeepsMessages, HearsFirst}
@@ -14,11 +14,11 @@ use Rattle.itip_inbox.proofs.Hearing.{placed_on}
 
 -- ---- messages, and the texts that are read for them
 
-Keeps : Option (List ℕ) → List (List ℕ) → Inbox → Inbox → Type 0
+Keeps : Option (List ℕ) → List (List ℕ) → OpenInbox → OpenInbox → Type 0
 Keeps about messages old new = (before : List Placed) → KeepsMessages about before old →
     KeepsMessages about (before ++ placed_from old.source (old.messages + 1) messages) new
 
-module _ (about : Option (List ℕ)) (is_long : Bool) (old new : Inbox) where
+module _ (about : Option (List ℕ)) (is_long : Bool) (old new : OpenInbox) where
   pub short_heard : (texts : List (List ℕ)) → is_long ≡ false
       → ((before : List Placed) → KeepsMessages about before old →
       KeepsMessages about (before ++ placed_from old.source (old.messages + 1) texts) new)
@@ -39,11 +39,11 @@ module _ (about : Option (List ℕ)) (is_long : Bool) (old new : Inbox) where
   none_heard texts long none same messages are before keeps =
       let nothing : messages ≡ [] = none_of messages (subst (λ (ts : List (List ℕ)). DifferInFirst (text_limit + 1) messages ts) none
       (subst (λ (b : Bool). AreReadFor b messages texts) long are)) in
-      subst (λ (i : Inbox). KeepsMessages about (before ++ placed_from old.source (old.messages + 1) messages) i) (sym same)
+      subst (λ (i : OpenInbox). KeepsMessages about (before ++ placed_from old.source (old.messages + 1) messages) i) (sym same)
       (subst (λ (ms : List (List ℕ)). KeepsMessages about (before ++ placed_from old.source (old.messages + 1) ms) old) (sym nothing)
       (subst (λ (ms : List Placed). KeepsMessages about ms old) (sym (append-nil before)) keeps))
 
-  module _ (mid : Inbox) (first : List ℕ) (others : List (List ℕ)) (source : mid.source ≡ old.source)
+  module _ (mid : OpenInbox) (first : List ℕ) (others : List (List ℕ)) (source : mid.source ≡ old.source)
       (count : mid.messages ≡ old.messages + 1) (refuses : (before : List Placed) (text : List ℕ) → text_limit < length text →
       KeepsMessages about before old → KeepsMessages about (before ++ placed_from old.source (old.messages + 1) (text ∷ [])) mid)
       (hears : (before : List Placed) → KeepsMessages about before mid →
@@ -119,7 +119,7 @@ left_held true left next is holds =
     (λ more. fewer (text_limit + 1) (length left) (messages_of (left ++ more)) (messages_of (next.octets.items ++ more))
     (omega (arith, long)) (holds.1 more))
 
-module _ (about : Option (List ℕ)) (held left came more : List ℕ) (next : Held) (old new : Inbox) where
+module _ (about : Option (List ℕ)) (held left came more : List ℕ) (next : Held) (old new : OpenInbox) where
   -- what was held is what came
   first_short : (texts : List (List ℕ)) → StaysCutInto held texts left → new.messages ≡ old.messages + length texts → ((messages :
       List (List ℕ)) → AreReadFor false messages texts → (before : List Placed) → KeepsMessages about before old →

@@ -1,5 +1,6 @@
 mod Answered
 mod Hearing
+mod Sharding
 mod HeldParts
 mod Keeping
 mod Streams

@@ -7,7 +7,11 @@ use Rattle.std.proofs.lemmas.List.{length-append}
 use Rattle.itip_message.specs.Cutting.{IsCutInto}
 use Rattle.itip_message.specs.Scanned.{messages_of}
 use Rattle.itip_message.proofs.Cuts.{cut_by_scan}
-use Rattle.itip_inbox.specs.declared.inbox.Inbox.{Inbox}
+use Rattle.itip_items.specs.declared.item.Item.{Item}
+use Rattle.itip_state.specs.Kept.{AreKept}
+use Rattle.itip_state.proofs.Keeping.{are_kept_by, kept_again}
+use Rattle.itip_inbox.specs.declared.open_inbox.OpenInbox.{OpenInbox}
+use Rattle.itip_inbox.specs.declared.refused.RefusedMessage.{RefusedMessage}
 use Rattle.itip_inbox.specs.Following.{TellAbout}
 use Rattle.itip_inbox.specs.Inbox.{AreInputs, Placed, placed_from, placed_of, Holds}
 use Rattle.itip_inbox.specs.Streaming.{KeepsMessages, HearsInTurn}
@@ -33,7 +37,7 @@ placed_push source (first ∷ all) texts =
 
 module _ {R : Type 0} (remaining : R → Option (List ℕ)) (about : Option (List ℕ)) where
   -- no input is heard yet
-  pub turn_begins : (sources left : List R) (inputs : List (List ℕ)) (inbox : Inbox) → left ≡ sources → AreInputs remaining sources inputs →
+  pub turn_begins : (sources left : List R) (inputs : List (List ℕ)) (inbox : OpenInbox) → left ≡ sources → AreInputs remaining sources inputs →
       KeepsMessages about [] inbox → inbox.source ≡ 0 → HearsInTurn remaining about inputs left inbox
   turn_begins sources left inputs inbox same are keeps is = record {
     done = [];
@@ -46,7 +50,7 @@ module _ {R : Type 0} (remaining : R → Option (List ℕ)) (about : Option (Lis
     source_is = is;
   }
 
-  module _ (inputs : List (List ℕ)) (one : R) (after : List R) (inbox now next : Inbox) (fresh : inbox.messages ≡ 0)
+  module _ (inputs : List (List ℕ)) (one : R) (after : List R) (inbox now next : OpenInbox) (fresh : inbox.messages ≡ 0)
       (place : next.source ≡ inbox.source + 1) (same : (messages : List Placed) → KeepsMessages about messages now →
       KeepsMessages about messages next) (hears : (before : List Placed) → KeepsMessages about before inbox →
       IfSome (remaining one) (λ input. KeepsMessages about (before ++ placed_from inbox.source (inbox.messages + 1) (messages_of input))
@@ -90,7 +94,7 @@ module _ {R : Type 0} (remaining : R → Option (List ℕ)) (about : Option (Lis
   no_more (input ∷ rest) are = absurd are
 
   -- all inputs are heard
-  module _ (inputs : List (List ℕ)) (left : List R) (inbox : Inbox) (so_far : HearsInTurn remaining about inputs left inbox)
+  module _ (inputs : List (List ℕ)) (left : List R) (inbox : OpenInbox) (so_far : HearsInTurn remaining about inputs left inbox)
       (none : left ≡ []) where
     all_cut : AllZip IsCutInto inputs so_far.messages
     all_cut =
@@ -109,3 +113,13 @@ module _ {R : Type 0} (remaining : R → Option (List ℕ)) (about : Option (Lis
 
     pub turn_tells : TellAbout about inputs inbox.told.items
     turn_tells = record { messages = so_far.messages; cut = all_cut; tell = so_far.keeps.tells }
+
+-- what is kept, and then put together, is kept of the same
+pub holds_closed : (inputs : List (List ℕ)) (kept whole : List Item) (refusals same : List RefusedMessage) → Holds inputs kept refusals →
+    AreKept whole kept → same ≡ refusals → Holds inputs whole same
+holds_closed inputs kept whole refusals same holds all is =
+    subst (λ (noted : List RefusedMessage). Holds inputs whole noted) (sym is) (record {
+      heard = holds.heard;
+      inbox = holds.inbox;
+      keeps = are_kept_by whole kept holds.heard (kept_again kept holds.heard holds.keeps) all;
+    })

@@ -6,7 +6,7 @@ use Rattle.std.specs.Io.KnownBytes.{Consumes, IsAtEnd}
 use Rattle.std.proofs.KnownBytes.{Consumes-nil, Consumes-trans}
 use Rattle.std.proofs.lemmas.List.{length-append}
 use Rattle.itip_message.specs.Scanned.{messages_of, CutsMessage, StaysCut}
-use Rattle.itip_inbox.specs.declared.inbox.Inbox.{Inbox}
+use Rattle.itip_inbox.specs.declared.open_inbox.OpenInbox.{OpenInbox}
 use Rattle.itip_inbox.specs.declared.messages.Held.{Held}
 use Rattle.itip_inbox.specs.Inbox.{Placed, placed_from}
 use Rattle.itip_inbox.specs.Streaming.{Brings, LeavesMessages, AreReadFor, IsHeld, StaysCutInto, KeepsMessages, HasHeard, ReadsSoFar}
@@ -60,7 +60,7 @@ held_more is_long held filled came more grows is = λ others.
     (subst (λ (t : List ℕ). AreReadFor is_long (messages_of (came ++ (more ++ others))) (messages_of t))
     (sym (append_assoc held more others)) (is (more ++ others))))
 
-pub reads_none : (about : Option (List ℕ)) (before : List Placed) (inbox : Inbox) (o : Option (List ℕ)) (held : Held) →
+pub reads_none : (about : Option (List ℕ)) (before : List Placed) (inbox : OpenInbox) (o : Option (List ℕ)) (held : Held) →
     held.octets.items ≡ [] → held.is_long ≡ false → KeepsMessages about before inbox → ReadsSoFar about before inbox inbox o o held
 reads_none about before inbox o held nothing short keeps =
     let none : inbox.messages ≡ inbox.messages + 0 = omega arith in
@@ -75,7 +75,7 @@ reads_none about before inbox o held nothing short keeps =
     }
 
 all_kept : (about : Option (List ℕ)) (before : List Placed) (source base : ℕ) (old new : Option (List ℕ)) (messages : List (List ℕ))
-    (came : List ℕ) (now : Inbox) → LeavesMessages old new messages came → IsAtEnd new
+    (came : List ℕ) (now : OpenInbox) → LeavesMessages old new messages came → IsAtEnd new
     → KeepsMessages about (before ++ placed_from source (base + 1) (messages ++ messages_of came)) now
     → IfSome old (λ input. KeepsMessages about (before ++ placed_from source (base + 1) (messages_of input)) now)
 all_kept about before source base None new messages came now l end keeps = tt
@@ -85,10 +85,10 @@ all_kept about before source base (Some input) (Some rest) messages came now l e
     l ∙ ap (λ (t : List ℕ). messages ++ messages_of (came ++ t)) end ∙ ap (λ (t : List ℕ). messages ++ messages_of t) (append-nil came) in
     subst (λ (ms : List (List ℕ)). KeepsMessages about (before ++ placed_from source (base + 1) ms) now) (sym all) keeps
 
-module _ (about : Option (List ℕ)) (before : List Placed) (start now : Inbox) (old new : Option (List ℕ)) (held : Held)
+module _ (about : Option (List ℕ)) (before : List Placed) (start now : OpenInbox) (old new : Option (List ℕ)) (held : Held)
     (so_far : ReadsSoFar about before start now old new held) (same : now.source ≡ start.source) where
   -- more of its messages are heard
-  kept_on : (texts : List (List ℕ)) (next : Inbox)
+  kept_on : (texts : List (List ℕ)) (next : OpenInbox)
       → ((before : List Placed) → KeepsMessages about before now →
       KeepsMessages about (before ++ placed_from now.source (now.messages + 1) texts) next)
       → KeepsMessages about (before ++ placed_from start.source (start.messages + 1) (so_far.messages ++ texts)) next
@@ -107,7 +107,7 @@ module _ (about : Option (List ℕ)) (before : List Placed) (start now : Inbox) 
     left_now : LeavesMessages old newer so_far.messages came_now
     left_now = leaves_moved old new newer so_far.messages so_far.came brings.brought so_far.leaves brings.reads
 
-    share_of : (more : List ℕ) (after : Held) (next : Inbox) → more ≡ rest_of newer → HearsFirst about came_now more after now next →
+    share_of : (more : List ℕ) (after : Held) (next : OpenInbox) → more ≡ rest_of newer → HearsFirst about came_now more after now next →
         ReadsSoFar about before start next old newer after
     share_of more after next is first =
         let longer : length (so_far.messages ++ first.texts) ≡ length so_far.messages + length first.texts =
@@ -125,12 +125,12 @@ module _ (about : Option (List ℕ)) (before : List Placed) (start now : Inbox) 
         }
 
     -- a share is read and cut, and its messages are heard
-    pub reads_share : (after : Held) (next : Inbox) →
+    pub reads_share : (after : Held) (next : OpenInbox) →
         ((came more : List ℕ) → IsHeld held.is_long filled came → HearsFirst about came more after now next) →
         ReadsSoFar about before start next old newer after
     reads_share after next hears = share_of (rest_of newer) after next refl (hears came_now (rest_of newer) held_now)
 
-    module _ (next : Inbox) (hears : (came : List ℕ) → IsHeld held.is_long filled came → (before : List Placed) →
+    module _ (next : OpenInbox) (hears : (came : List ℕ) → IsHeld held.is_long filled came → (before : List Placed) →
         KeepsMessages about before now →
         KeepsMessages about (before ++ placed_from now.source (now.messages + 1) (messages_of came)) next) where
       -- whatever the input is, its messages so far and these are heard

@@ -48,3 +48,8 @@ pub record TellAbout (about : Option (List ℕ)) (inputs : List (List ℕ)) (tol
   pub messages : List (List (List ℕ))
   pub cut : AllZip IsCutInto inputs messages
   pub tell : AreTold about (placed_of 0 messages) told
+
+-- Some messages, whatever they are, tell this of a UID.
+pub record HasTold (about : Option (List ℕ)) (told : List ToldItem) : Type 0 where
+  pub messages : List Placed
+  pub tell : AreTold about messages told

@@ -13,4 +13,6 @@ pub mod Following
 pub mod Explaining
 pub mod Sending
 pub mod Shown
+pub mod ShardOf
+pub mod Shards
 pub mod Streaming

@@ -2,12 +2,13 @@
 ghost use Rattle.std.specs.Prelude.{◌≡◌, ◌≢◌, ◌++◌, ◌+◌, ℕ, List, length, map, IfOk, IfErr, OnOk, IfSome};
 ghost use Rattle.std.specs.Option.{option_copied};
 ghost use Rattle.itip_message.specs.Scanned.{messages_of};
-ghost use Rattle.itip_inbox.specs.Following.{TellAbout};
+ghost use Rattle.itip_inbox.specs.Following.{HasTold, TellAbout};
 ghost use Rattle.itip_inbox.specs.Inbox.{AreInputs, Holds, Placed, placed_from};
 ghost use Rattle.itip_inbox.specs.Streaming.{AreReadFor, Fills, HasHeard, HearsFirst, IsHeld, KeepsMessages, is_left_long};
 
 use crate::inbox::Inbox;
 use crate::messages::{Held, all_messages, first_messages};
+use crate::open_inbox::OpenInbox;
 use crate::shown::MAX_OCTETS;
 use crate::watch::Watch;
 use itip_message::stand_in;
@@ -17,7 +18,7 @@ use std::alloc::Global;
 use std::io::Read;
 use std::thread::Threads;
 
-// How many octets are read before messages are heard.
+// How many octets are read for each thread before messages are heard.
 const SHARE: usize = 1_048_576;
 
 // How much one read may bring.
@@ -45,9 +46,9 @@ impl Progress {
     }
 }
 
-/// Reads sources one after another, each to its end, and hears their messages. These are read by at most so many threads, a
-/// share of a source at a time: about a mebibyte, or two where a message is as long as one may be. Of a longer message nothing is held but
-/// where its line is. Where a UID is named, the items that the messages tell of it are followed.
+/// Reads sources one after another, each to its end, and hears their messages. These are read and heard by at most so many
+/// threads, a share of a source at a time: about a mebibyte for each thread, or two where a message is as long as one may be. Of a
+/// longer message nothing is held but where its line is. Where a UID is named, the items that the messages tell of it are followed.
 ///
 /// The octets of each source are cut into messages by themselves, as those of a delta are. A refused message is noted and not
 /// heard. A source is dropped at its end; once a read has failed, no other is read. A failed read is [`StreamFault::Read`], and
@@ -64,9 +65,8 @@ pub fn read_sources<R: Read + Drop, W: Watch>(
         Holds inputs inbox.state inbox.refusals.items) }
     ensures told { IfOk result (λ inbox. (inputs : List (List ℕ)) → AreInputs R.remaining sources.items inputs →
         TellAbout (option_copied about.entry) inputs inbox.told.items) }
-    ensures heard { IfOk result (HasHeard (option_copied about.entry)) }
+    ensures follows { IfOk result (λ inbox. HasTold (option_copied about.entry) inbox.told.items) }
     ensures source { IfOk result (λ inbox. inbox.source ≡ length sources.items) }
-    ensures messages { IfOk result (λ inbox. inbox.messages ≡ 0) }
     ensures fault { IfErr result (λ fault. fault ≢ StreamFault.Write) }
 {
     let mut progress = Progress::none();
@@ -87,12 +87,33 @@ pub(crate) fn read_more<R: Read + Drop, W: Watch>(
         Holds inputs inbox.state inbox.refusals.items) }
     ensures told { IfOk result (λ inbox. (inputs : List (List ℕ)) → AreInputs R.remaining sources.items inputs →
         TellAbout (option_copied about.entry) inputs inbox.told.items) }
-    ensures heard { IfOk result (HasHeard (option_copied about.entry)) }
+    ensures follows { IfOk result (λ inbox. HasTold (option_copied about.entry) inbox.told.items) }
     ensures source { IfOk result (λ inbox. inbox.source ≡ length sources.items) }
-    ensures messages { IfOk result (λ inbox. inbox.messages ≡ 0) }
     ensures fault { IfErr result (λ fault. fault ≢ StreamFault.Write) }
 {
-    let mut inbox = Inbox::empty(alloc);
+    let inbox = hear_sources(rt, alloc, sources, about, threads, progress, watch)?;
+    Ok(inbox.close()?)
+}
+
+/// Reads sources as [`read_more`] does, into an inbox that may hear more.
+pub(crate) fn hear_sources<R: Read + Drop, W: Watch>(
+    rt: &(impl Threads + Sync),
+    alloc: Global,
+    sources: Vec<R>,
+    about: Option<&Uid>,
+    threads: usize,
+    progress: &mut Progress,
+    watch: &mut W,
+) -> Result<OpenInbox, StreamFault>
+    ensures holds { IfOk result (λ inbox. (inputs : List (List ℕ)) → AreInputs R.remaining sources.items inputs →
+        Holds inputs inbox.state inbox.refusals.items) }
+    ensures told { IfOk result (λ inbox. (inputs : List (List ℕ)) → AreInputs R.remaining sources.items inputs →
+        TellAbout (option_copied about.entry) inputs inbox.told.items) }
+    ensures heard { IfOk result (HasHeard (option_copied about.entry)) }
+    ensures source { IfOk result (λ inbox. inbox.source ≡ length sources.items) }
+    ensures fault { IfErr result (λ fault. fault ≢ StreamFault.Write) }
+{
+    let mut inbox = OpenInbox::empty(alloc, threads)?;
     for mut source in sources {
         watch.opens(progress.sources);
         read_source(
@@ -114,7 +135,7 @@ pub(crate) fn read_more<R: Read + Drop, W: Watch>(
 
 /// Reads a source to its end, and hears its messages. After a fault a part of them is heard.
 fn read_source<R: Read, W: Watch>(
-    inbox: &mut Inbox,
+    inbox: &mut OpenInbox,
     rt: &(impl Threads + Sync),
     alloc: Global,
     reader: &mut R,
@@ -131,9 +152,10 @@ fn read_source<R: Read, W: Watch>(
     ensures fault { IfErr result (λ fault. fault ≢ StreamFault.Write) }
 {
     let mut held = Held::nothing(alloc);
+    let share = SHARE.saturating_mul(threads.max(1));
     for _ in 0..u64::MAX {
         let before = held.octets.len();
-        let is_end = fill(reader, &mut held.octets)?;
+        let is_end = fill(reader, &mut held.octets, share)?;
         let more = held.octets.len().saturating_sub(before) as u64;
         progress.octets = progress.octets.saturating_add(more);
         if is_end {
@@ -155,7 +177,7 @@ fn read_source<R: Read, W: Watch>(
 
 /// Hears all messages of what is held, where nothing follows.
 fn hear_all(
-    inbox: &mut Inbox,
+    inbox: &mut OpenInbox,
     rt: &(impl Threads + Sync),
     alloc: Global,
     held: &Held,
@@ -183,7 +205,7 @@ fn hear_all(
 
 /// Hears the first messages of what is held, where more may follow, and holds what is left.
 fn hear_first(
-    inbox: &mut Inbox,
+    inbox: &mut OpenInbox,
     rt: &(impl Threads + Sync),
     alloc: Global,
     held: &Held,
@@ -219,7 +241,7 @@ fn is_left_long(was_long: bool, texts: &[&[u8]], left: &[u8]) -> bool
 
 /// Hears messages. Where the first is too long to be read, it is noted as refused, whatever stands for it.
 fn hear_texts(
-    inbox: &mut Inbox,
+    inbox: &mut OpenInbox,
     rt: &(impl Threads + Sync),
     alloc: Global,
     is_long: bool,
@@ -245,13 +267,13 @@ fn hear_texts(
     inbox.hear(rt, alloc, others, about, threads)
 }
 
-/// Reads until a share is held, or twice what was: so a long message is gone through few times. Says whether the input
-/// is at its end. After a fault a part was read.
-fn fill<R: Read>(reader: &mut R, held: &mut Vec<u8>) -> Result<bool, StreamFault>
+/// Reads until a share of so many octets is held, or twice what was: so a long message is gone through few times. Says whether
+/// the input is at its end. After a fault a part was read.
+fn fill<R: Read>(reader: &mut R, held: &mut Vec<u8>, share: usize) -> Result<bool, StreamFault>
     ensures fills { IfOk result (Fills (R.remaining reader.old) (R.remaining reader.new) held.old.items held.new.items) }
     ensures fault { IfErr result (λ fault. fault ≢ StreamFault.Write) }
 {
-    let want = held.len().saturating_mul(2).max(SHARE);
+    let want = held.len().saturating_mul(2).max(share);
     let mut room = [0u8; ROOM];
     while held.len() < want {
         let count = read_some(reader, &mut room)?;
