@@ -4,7 +4,7 @@ use Rattle.std.proofs.Common.{inl, inr, ◌⊎◌, ◌||◌, arith, Bool, true, 
 use Rattle.std.specs.List.{Contains, filter, list_any}
 use Rattle.std.proofs.lemmas.List.Elements.{Contains-append_cases, Contains-append_left, Contains-append_right}
 use Rattle.std.proofs.lemmas.Nat.{mod_below}
-use Rattle.std.proofs.lemmas.Bool.Decides.{Decides-nat_eq}
+use Rattle.std.proofs.lemmas.Bool.Decides.{Decides-eqb}
 use Rattle.std.proofs.lemmas.Slice.Eq.{bytes_eq-Decides}
 use Rattle.itip_items.specs.KeyParts.{uid_of}
 use Rattle.itip_items.specs.Later.{IsLater}
@@ -161,7 +161,7 @@ module _ (olds news : List Shard) (items : List Item) (are : AreSharded olds) (m
         | inl before ↦ Contains-append_left old (of_shard count mine items) j ((same_of_own olds d are i j of_uid).1 before)
         | inr now ↦ Contains-append_right old (of_shard count mine items) j
             (into_filter (λ (item : Item). nat_eq (shard_of count (uid_of item.key)) mine) items j now
-            ((Decides-nat_eq (shard_of count (uid_of j.key)) mine).1 (ap (shard_of count) of_uid)))
+            ((Decides-eqb (shard_of count (uid_of j.key)) mine).1 (ap (shard_of count) of_uid)))
       ],
     )
 

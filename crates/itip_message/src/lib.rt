@@ -12,6 +12,7 @@ mod frame;
 mod head;
 mod laws;
 mod parallel;
+mod parting;
 mod read;
 mod sort;
 
@@ -22,6 +23,7 @@ pub use error::{MessageCause, MessageRefusal, ReadError};
 pub use frame::Placed;
 pub use laws::{message_cutting, one_draft, one_reading, read_again};
 pub use parallel::read_all;
+pub use parting::part_messages;
 pub use read::read_message;
 pub use sort::Component;
 pub use std::alloc::AllocError as NoMemory;

@@ -2,7 +2,7 @@ use Rattle.std.proofs.Common.{◌≡◌, ◌∙◌, ◌+◌, ◌<◌, sym, ap, s
 use Rattle.std.proofs.Common.{Bool, true, false, nat_eq, inl, inr}
 use Rattle.std.specs.Prelude.{cond}
 use Rattle.std.specs.List.{Contains}
-use Rattle.std.proofs.lemmas.Bool.Decides.{Decides-nat_eq}
+use Rattle.std.proofs.lemmas.Bool.Decides.{Decides-eqb}
 use Rattle.std.proofs.lemmas.List.{take_all}
 use Rattle.std.proofs.lemmas.List.Elements.{filter_more, Contains-append_cases}
 use Rattle.itip_items.specs.KeyParts.{uid_of}
@@ -25,7 +25,7 @@ module _ (count number : ℕ) (items : List Item) (at : ℕ) (item : Item) (belo
   of_it : shard_of count (uid_of item.key) ≡ number →
       of_shard count number (take (at + 1) items) ≡ of_shard count number (take at items) ++ item ∷ []
   of_it is = one_more ∙ ap (λ (b : Bool). of_shard count number (take at items) ++ cond b (item ∷ []) [])
-      ((Decides-nat_eq (shard_of count (uid_of item.key)) number).1 is)
+      ((Decides-eqb (shard_of count (uid_of item.key)) number).1 is)
 
   not_of_it : test item ≡ false → of_shard count number (take (at + 1) items) ≡ of_shard count number (take at items)
   not_of_it no = one_more ∙ ap (λ (b : Bool). of_shard count number (take at items) ++ cond b (item ∷ []) []) no ∙
@@ -64,7 +64,7 @@ loop-item-preserved c =
     elim c.if-is_of.branch [
       | then-is_of+in_ok-hear w ↦
           let is : shard_of count (uid_of c.item-item.result.key) ≡ number =
-          (Decides-nat_eq (shard_of count (uid_of c.item-item.result.key)) number).0 (sym c.is_of.ensures ∙ w.if-is_of.true) in
+          (Decides-eqb (shard_of count (uid_of c.item-item.result.key)) number).0 (sym c.is_of.ensures ∙ w.if-is_of.true) in
           record {
             hears = subst (λ (state : List Item). AreKept state (c.args.state.now ++ of_shard count number
                 (take (c.loop-item.item-index + 1) c.args.items.now))) (sym w.state-is)

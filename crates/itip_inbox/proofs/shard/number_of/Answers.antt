@@ -1,5 +1,6 @@
 use Rattle.std.proofs.Common.{◌≡◌, ◌∙◌, ◌+◌, ◌<◌, sym, ap, refl, ℕ, List, [], ◌∷◌, ◌++◌, take, arith}
-use Rattle.std.proofs.lemmas.List.{take_more, take_all, fold-append}
+use Rattle.std.proofs.lemmas.List.{take_more, take_all}
+use Rattle.std.proofs.lemmas.Grind.{fold-append}
 use Rattle.std.proofs.lemmas.Nat.{mod_below}
 use Rattle.itip_inbox.specs.ShardOf.{mixed, number_of}
 use Rattle.itip_inbox.proofs.shard.number_of.Goals as goal
