@@ -1,5 +1,6 @@
 -- Messages that are heard or refused, one after another.
-use Rattle.std.proofs.Common.{◌≡◌, ◌∙◌, sym, ap, refl, ℕ, suc, ◌+◌, List, [], ◌∷◌, ◌++◌, length, subst, arith, append_assoc, Option}
+use Rattle.std.proofs.Common.{◌≡◌, ◌∙◌, sym, ap, refl, ℕ, suc, ◌+◌, map, List, [], ◌∷◌, ◌++◌, length, subst, arith, append_assoc, append-nil, Option}
+use Rattle.std.proofs.lemmas.List.{length-append}
 use Rattle.itip_explain.specs.declared.told.ToldItem.{ToldItem}
 use Rattle.itip_items.specs.declared.item.Item.{Item}
 use Rattle.itip_message.specs.Message.{ReadsMessage, RefusesMessage}
@@ -10,10 +11,16 @@ use Rattle.itip_state.proofs.Members.{none_in}
 use Rattle.itip_inbox.specs.declared.open_inbox.OpenInbox.{OpenInbox}
 use Rattle.itip_inbox.specs.declared.refused.RefusedMessage.{RefusedMessage}
 use Rattle.itip_inbox.specs.Following.{items_about, told_in, place_of, AreTold}
+use Rattle.itip_inbox.specs.Placing.{later_refusal, later_told}
 use Rattle.itip_inbox.specs.Inbox.{Placed, placed_from, Hears}
-use Rattle.itip_inbox.specs.Streaming.{KeepsMessages, TellBeside}
+use Rattle.itip_inbox.specs.Streaming.{KeepsMessages, TellBeside, Tells, HasGot, waiting_of}
+use Rattle.itip_inbox.specs.declared.texts.Heard.{Heard}
+use Rattle.itip_inbox.specs.declared.waiting.Waiting.{Waiting}
+use Rattle.itip_message.specs.Parting.{StaysParted}
+use Rattle.itip_message.specs.Scanned.{messages_of}
 use Rattle.itip_inbox.proofs.Answered.{hears_none, hears_items, hears_refusal, hears_both, tells_none, tells_items, tells_refusal, tells_both}
 use Rattle.itip_inbox.proofs.Keeping.{news_both, keeps_more}
+use Rattle.itip_inbox.proofs.Behind.{beside_behind}
 
 -- ---- messages by their places
 
@@ -24,6 +31,10 @@ placed_both source n (x ∷ xs) ys =
     let e : (n + 1) + length xs ≡ n + suc (length xs) = omega arith in
     ap (λ (ms : List Placed). (record { source = source; message = n; text = x }) ∷ ms) (placed_both source (n + 1) xs ys ∙
     ap (λ (k : ℕ). placed_from source (n + 1) xs ++ placed_from source k ys) e)
+
+pub length_placed : (source n : ℕ) (xs : List (List ℕ)) → length (placed_from source n xs) ≡ length xs
+length_placed source n [] = refl
+length_placed source n (x ∷ xs) = ap suc (length_placed source (n + 1) xs)
 
 -- the messages of an input that come behind those before them
 pub placed_on : (before : List Placed) (source base at count : ℕ) (xs ys : List (List ℕ)) → at ≡ source → count ≡ base + length xs →
@@ -155,3 +166,157 @@ keeps_beside about before more old new news refusals told keeps beside kept note
       (tells_both about before more old.told.items told keeps.tells beside.tells);
   keeps = keeps_more old.state new.state keeps.heard beside.items news keeps.keeps beside.news_are kept;
 }
+
+-- ---- what messages tell, and how many they are
+
+pub heard_none : (about : Option (List ℕ)) (kept : List Item) (heard : Heard) → heard.count ≡ 0 → heard.news.items ≡ [] →
+    heard.refusals.items ≡ [] → heard.told.items ≡ [] → Tells about kept [] heard
+heard_none about kept heard none no_news unrefused untold = record {
+  beside = beside_none about kept heard.news.items heard.refusals.items heard.told.items no_news unrefused untold;
+  count_is = none;
+}
+
+pub heard_both : (about : Option (List ℕ)) (kept : List Item) (before after : List Placed) (one two all : Heard) →
+    all.count ≡ one.count + two.count → all.news.items ≡ one.news.items ++ two.news.items →
+    all.refusals.items ≡ one.refusals.items ++ two.refusals.items → all.told.items ≡ one.told.items ++ two.told.items →
+    Tells about kept before one → Tells about kept after two → Tells about kept (before ++ after) all
+heard_both about kept before after one two all count news refusals told first second =
+    let long : length (before ++ after) ≡ length before + length after = length-append before after in
+    let front : one.count ≡ length before = first.count_is in
+    let back : two.count ≡ length after = second.count_is in
+    record {
+      beside = beside_both about kept before after one.news.items two.news.items all.news.items one.refusals.items two.refusals.items
+          all.refusals.items one.told.items two.told.items all.told.items news refusals told first.beside second.beside;
+      count_is = omega (arith, count, long, front, back);
+    }
+
+-- the messages of an input from the first, and one more
+module _ (about : Option (List ℕ)) (kept : List Item) (source next : ℕ) (texts : List (List ℕ)) (text : List ℕ) (old : Heard)
+    (so_far : Tells about kept (placed_from source 1 texts) old) (is : next ≡ old.count + 1) where
+  pub next_number : next ≡ 1 + length texts
+  next_number =
+      let counted : old.count ≡ length texts = so_far.count_is ∙ length_placed source 1 texts in
+      omega (arith, is, counted)
+
+  pub heard_one : (new : Heard) → new.count ≡ next →
+      TellBeside about kept (placed_from source 1 texts ++ (record { source = source; message = next; text = text }) ∷ [])
+      new.news.items new.refusals.items new.told.items → Tells about kept (placed_from source 1 (texts ++ text ∷ [])) new
+  heard_one new count beside =
+      let long : length (placed_from source 1 (texts ++ text ∷ [])) ≡ length texts + 1 =
+      length_placed source 1 (texts ++ text ∷ []) ∙ length-append texts (text ∷ []) in
+      let number : next ≡ 1 + length texts = next_number in
+      record {
+        beside = subst (λ (ms : List Placed). TellBeside about kept ms new.news.items new.refusals.items new.told.items)
+            (sym (placed_one source 1 next texts text number)) beside;
+        count_is = omega (arith, count, long, number);
+      }
+
+-- so many others come before
+pub heard_behind : (about : Option (List ℕ)) (kept : List Item) (source first count : ℕ) (texts : List (List ℕ)) (old new : Heard) →
+    new.count ≡ old.count → new.news.items ≡ old.news.items →
+    new.refusals.items ≡ map (later_refusal count) old.refusals.items → new.told.items ≡ map (later_told count) old.told.items →
+    Tells about kept (placed_from source first texts) old → Tells about kept (placed_from source (first + count) texts) new
+heard_behind about kept source first count texts old new same news refusals told tells = record {
+  beside = subst (λ (ns : List Item). TellBeside about kept (placed_from source (first + count) texts) ns new.refusals.items new.told.items)
+      (sym news) (beside_behind about kept source first count texts old.news.items old.refusals.items new.refusals.items old.told.items
+      new.told.items refusals told tells.beside);
+  count_is = same ∙ tells.count_is ∙ length_placed source first texts ∙ sym (length_placed source (first + count) texts);
+}
+
+-- what two parts tell that are cut apart is what the whole tells
+pub parts_tell : (about : Option (List ℕ)) (kept : List Item) (source : ℕ) (whole front back : List ℕ) (ours all : Heard) →
+    StaysParted whole front back → Tells about kept (placed_from source 1 (messages_of front)) ours →
+    Tells about kept (placed_from source 1 (messages_of front) ++ placed_from source (1 + ours.count) (messages_of back)) all →
+    Tells about kept (placed_from source 1 (messages_of whole)) all
+parts_tell about kept source whole front back ours all parted one both =
+    let count : 1 + length (messages_of front) ≡ 1 + ours.count =
+    ap suc (sym (length_placed source 1 (messages_of front)) ∙ sym one.count_is) in
+    let cut : messages_of whole ≡ messages_of front ++ messages_of back =
+    ap messages_of (sym (append-nil whole)) ∙ parted.messages [] ∙ ap (λ (t : List ℕ). messages_of front ++ messages_of t) (append-nil back)
+    in
+    subst (λ (ms : List Placed). Tells about kept ms all)
+    (sym (ap (placed_from source 1) cut ∙ placed_both source 1 (messages_of front) (messages_of back) ∙
+    ap (λ (n : ℕ). placed_from source 1 (messages_of front) ++ placed_from source n (messages_of back)) count)) both
+
+-- ---- inputs that wait
+
+pub got_none : (about : Option (List ℕ)) (inbox : OpenInbox) → inbox.state ≡ [] → inbox.refusals.items ≡ [] → inbox.told.items ≡ [] →
+    inbox.waiting.items ≡ [] → HasGot about [] inbox
+got_none about inbox empty unrefused untold none = record {
+  done = [];
+  whole = ap waiting_of (sym none);
+  keeps = keeps_none about inbox empty unrefused untold;
+}
+
+pub got_same : (about : Option (List ℕ)) (messages : List Placed) (old new : OpenInbox) → new.state ≡ old.state →
+    new.refusals.items ≡ old.refusals.items → new.told.items ≡ old.told.items → new.waiting.items ≡ old.waiting.items →
+    HasGot about messages old → HasGot about messages new
+got_same about messages old new state refusals told waiting got = record {
+  done = got.done;
+  whole = subst (λ (ws : List Waiting). messages ≡ got.done ++ waiting_of ws) (sym waiting) got.whole;
+  keeps = keeps_same about got.done old new state refusals told got.keeps;
+}
+
+-- where none waits
+pub got_now : (about : Option (List ℕ)) (messages : List Placed) (inbox : OpenInbox) → inbox.waiting.items ≡ [] →
+    KeepsMessages about messages inbox → HasGot about messages inbox
+got_now about messages inbox none keeps = record {
+  done = messages;
+  whole = sym (append-nil messages) ∙ ap (λ (ws : List Waiting). messages ++ waiting_of ws) (sym none);
+  keeps = keeps;
+}
+
+pub waiting_push : (waiting : List Waiting) (one : Waiting) →
+    waiting_of (waiting ++ one ∷ []) ≡ waiting_of waiting ++ placed_from one.source 1 (messages_of one.octets.items)
+waiting_push [] one = append-nil (placed_from one.source 1 (messages_of one.octets.items))
+waiting_push (w ∷ waiting) one =
+    ap (λ (ms : List Placed). placed_from w.source 1 (messages_of w.octets.items) ++ ms) (waiting_push waiting one) ∙
+    sym (append_assoc (placed_from w.source 1 (messages_of w.octets.items)) (waiting_of waiting)
+    (placed_from one.source 1 (messages_of one.octets.items)))
+
+pub waiting_both : (xs ys : List Waiting) → waiting_of (xs ++ ys) ≡ waiting_of xs ++ waiting_of ys
+waiting_both [] ys = refl
+waiting_both (x ∷ xs) ys =
+    ap (λ (ms : List Placed). placed_from x.source 1 (messages_of x.octets.items) ++ ms) (waiting_both xs ys) ∙
+    sym (append_assoc (placed_from x.source 1 (messages_of x.octets.items)) (waiting_of xs) (waiting_of ys))
+
+-- one input more waits
+pub got_waits : (about : Option (List ℕ)) (before : List Placed) (old new : OpenInbox) (one : Waiting) → new.state ≡ old.state →
+    new.refusals.items ≡ old.refusals.items → new.told.items ≡ old.told.items → new.waiting.items ≡ old.waiting.items ++ one ∷ [] →
+    HasGot about before old → HasGot about (before ++ placed_from one.source 1 (messages_of one.octets.items)) new
+got_waits about before old new one state refusals told waiting got =
+    let more : List Placed = placed_from one.source 1 (messages_of one.octets.items) in
+    record {
+      done = got.done;
+      whole = ap (λ (ms : List Placed). ms ++ more) got.whole ∙ append_assoc got.done (waiting_of old.waiting.items) more ∙
+          ap (λ (ms : List Placed). got.done ++ ms) (sym (ap waiting_of waiting ∙ waiting_push old.waiting.items one));
+      keeps = keeps_same about got.done old new state refusals told got.keeps;
+    }
+
+-- those that wait are heard
+pub waiting_heard : (about : Option (List ℕ)) (messages : List Placed) (old now new : OpenInbox) (heard : Heard) →
+    Tells about old.state (waiting_of old.waiting.items) heard → ((before more : List Placed) → KeepsMessages about before old →
+    Tells about old.state more heard → KeepsMessages about (before ++ more) now) → new.state ≡ now.state →
+    new.refusals.items ≡ now.refusals.items → new.told.items ≡ now.told.items → HasGot about messages old →
+    KeepsMessages about messages new
+waiting_heard about messages old now new heard tells takes state refusals told got =
+    keeps_same about messages now new state refusals told
+    (subst (λ (ms : List Placed). KeepsMessages about ms now) (sym got.whole)
+    (takes got.done (waiting_of old.waiting.items) got.keeps tells))
+
+-- messages of an input are heard, once none waits
+pub got_more : (about : Option (List ℕ)) (before : List Placed) (old now new : OpenInbox) (texts : List (List ℕ)) →
+    now.source ≡ old.source → now.messages ≡ old.messages → new.waiting.items ≡ [] →
+    KeepsMessages about (before ++ placed_from now.source (now.messages + 1) texts) new →
+    HasGot about (before ++ placed_from old.source (old.messages + 1) texts) new
+got_more about before old now new texts source messages none keeps =
+    got_now about (before ++ placed_from old.source (old.messages + 1) texts) new none
+    (subst (λ (s : ℕ). KeepsMessages about (before ++ placed_from s (old.messages + 1) texts) new) source
+    (subst (λ (n : ℕ). KeepsMessages about (before ++ placed_from now.source (n + 1) texts) new) messages keeps))
+
+-- messages that were numbered from 1 come behind those that were heard
+pub heard_next : (about : Option (List ℕ)) (kept : List Item) (source count : ℕ) (texts : List (List ℕ)) (heard : Heard) →
+    Tells about kept (placed_from source (1 + count) texts) heard → Tells about kept (placed_from source (count + 1) texts) heard
+heard_next about kept source count texts heard tells =
+    let same : 1 + count ≡ count + 1 = omega arith in
+    subst (λ (n : ℕ). Tells about kept (placed_from source n texts) heard) same tells

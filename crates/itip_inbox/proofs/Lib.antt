@@ -1,4 +1,5 @@
 mod Answered
+mod Behind
 mod Hearing
 mod Sharding
 mod HeldParts

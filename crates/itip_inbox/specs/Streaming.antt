@@ -15,6 +15,8 @@ use Rattle.itip_inbox.specs.Following.{AreTold}
 use Rattle.itip_inbox.specs.Inbox.{AreInputs, Placed, placed_from, placed_of, Hears}
 use Rattle.itip_inbox.specs.declared.open_inbox.OpenInbox.{OpenInbox}
 use Rattle.itip_inbox.specs.declared.messages.Held.{Held}
+use Rattle.itip_inbox.specs.declared.texts.Heard.{Heard}
+use Rattle.itip_inbox.specs.declared.waiting.Waiting.{Waiting}
 use Rattle.itip_inbox.specs.declared.refused.RefusedMessage.{RefusedMessage}
 
 -- What messages tell beside a set of kept items: those of their items that are news, the refusals, and what they tell of the UID that is
@@ -25,6 +27,16 @@ pub record TellBeside (about : Option (List ℕ)) (kept : List Item) (messages :
   pub hears : Hears messages items refusals
   pub tells : AreTold about messages told
   pub news_are : AreNews kept items news
+
+-- This is what messages tell beside a set of kept items, and how many they are.
+pub record Tells (about : Option (List ℕ)) (kept : List Item) (messages : List Placed) (heard : Heard) : Type 0 where
+  pub beside : TellBeside about kept messages heard.news.items heard.refusals.items heard.told.items
+  pub count_is : heard.count ≡ length messages
+
+-- the messages of the sources that wait to be heard
+abbrev pub waiting_of : List Waiting → List Placed
+waiting_of [] = []
+waiting_of (one ∷ more) = placed_from one.source 1 (messages_of one.octets.items) ++ waiting_of more
 
 -- Octets were read, and stand behind those that were held before.
 pub record Brings (old new : Option (List ℕ)) (before after : List ℕ) : Type 0 where
@@ -63,17 +75,23 @@ pub record KeepsMessages (about : Option (List ℕ)) (messages : List Placed) (i
   pub tells : AreTold about messages inbox.told.items
   pub keeps : AreKept inbox.state heard
 
--- an inbox of some messages, whatever they are
-pub record HasHeard (about : Option (List ℕ)) (inbox : OpenInbox) : Type 0 where
+-- Messages came to an inbox. It has heard the first of them, and the others are those of the sources that wait.
+pub record HasGot (about : Option (List ℕ)) (messages : List Placed) (inbox : OpenInbox) : Type 0 where
+  pub done : List Placed
+  pub whole : messages ≡ done ++ waiting_of inbox.waiting.items
+  pub keeps : KeepsMessages about done inbox
+
+-- some messages came to an inbox, whatever they are
+pub record HasSome (about : Option (List ℕ)) (inbox : OpenInbox) : Type 0 where
   pub messages : List Placed
-  pub keeps : KeepsMessages about messages inbox
+  pub got : HasGot about messages inbox
 
 -- After some messages those of an input came so far, which began with the one inbox and led to the other; and what is left of it.
 pub record ReadsSoFar (about : Option (List ℕ)) (before : List Placed) (start now : OpenInbox) (old new : Option (List ℕ))
     (held : Held) : Type 0 where
   pub messages : List (List ℕ)
   pub came : List ℕ
-  pub keeps : KeepsMessages about (before ++ placed_from start.source (start.messages + 1) messages) now
+  pub got : HasGot about (before ++ placed_from start.source (start.messages + 1) messages) now
   pub leaves : LeavesMessages old new messages came
   pub is_held : IsHeld held.is_long held.octets.items came
   pub count_is : now.messages ≡ start.messages + length messages
@@ -85,8 +103,8 @@ pub record HearsFirst (about : Option (List ℕ)) (came more : List ℕ) (next :
   pub left : List ℕ
   pub cut : messages_of (came ++ more) ≡ texts ++ messages_of (left ++ more)
   pub is_held : IsHeld next.is_long next.octets.items left
-  pub hears : (before : List Placed) → KeepsMessages about before old →
-      KeepsMessages about (before ++ placed_from old.source (old.messages + 1) texts) new
+  pub hears : (before : List Placed) → HasGot about before old →
+      HasGot about (before ++ placed_from old.source (old.messages + 1) texts) new
   pub count_is : new.messages ≡ old.messages + length texts
 
 -- Octets were read behind those that were held, up to the end where that is said.
@@ -102,5 +120,5 @@ pub record HearsInTurn {R : Type 0} (remaining : R → Option (List ℕ)) (about
   pub whole : inputs ≡ done ++ rest
   pub are_left : AreInputs remaining left rest
   pub cut : AllZip IsCutInto done messages
-  pub keeps : KeepsMessages about (placed_of 0 messages) inbox
+  pub got : HasGot about (placed_of 0 messages) inbox
   pub source_is : inbox.source ≡ length messages

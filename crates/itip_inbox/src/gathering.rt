@@ -1,7 +1,7 @@
 //! Sources that are read, and what was refused of them told.
-ghost use Rattle.std.specs.Prelude.{ℕ, List, IfOk};
+ghost use Rattle.std.specs.Prelude.{◌≢◌, ℕ, List, IfOk, IfErr};
 ghost use Rattle.std.specs.Option.{option_copied};
-ghost use Rattle.itip_inbox.specs.Following.{HasTold, TellAbout};
+ghost use Rattle.itip_inbox.specs.Following.{HasHeard, TellAbout};
 ghost use Rattle.itip_inbox.specs.Inbox.{AreInputs, Holds};
 
 use crate::inbox::Inbox;
@@ -28,7 +28,8 @@ pub(crate) fn gather<R: Read + Drop, S: Watch>(
         Holds inputs inbox.state inbox.refusals.items) }
     ensures told { IfOk result (λ inbox. (inputs : List (List ℕ)) → AreInputs R.remaining sources.items inputs →
         TellAbout (option_copied about.entry) inputs inbox.told.items) }
-    ensures follows { IfOk result (λ inbox. HasTold (option_copied about.entry) inbox.told.items) }
+    ensures heard { IfOk result (λ inbox.
+        HasHeard (option_copied about.entry) inbox.state inbox.refusals.items inbox.told.items) }
 {
     let inbox = read_sources(rt, alloc, sources, about, threads, watch)?;
     tell(0, inbox.refusals.as_slice(), watch);
@@ -43,8 +44,9 @@ pub(crate) fn gather_shards<R: Read + Drop, S: Watch>(
     threads: usize,
     watch: &mut S,
 ) -> Result<OpenInbox, StreamFault>
-    ensures { IfOk result (λ inbox. (inputs : List (List ℕ)) → AreInputs R.remaining sources.items inputs →
+    ensures holds { IfOk result (λ inbox. (inputs : List (List ℕ)) → AreInputs R.remaining sources.items inputs →
         Holds inputs inbox.state inbox.refusals.items) }
+    ensures fault { IfErr result (λ fault. fault ≢ StreamFault.Write) }
 {
     let mut progress = Progress::none();
     let inbox = hear_sources(rt, alloc, sources, None, threads, &mut progress, watch)?;

@@ -1,31 +1,37 @@
 //! Reading many messages at once, and what they tell beside what is kept.
-ghost use Rattle.std.specs.Prelude.{◌≡◌, ◌≢◌, ◌<◌, ◌+◌, ◌^◌, ◌++◌, ◌∷◌, ℕ, List, Option, [], length, map, filter, IfOk, IfErr, OnOk};
+ghost use Rattle.std.specs.Prelude.{◌≡◌, ◌≢◌, ◌<◌, ◌+◌, ◌++◌, ◌∷◌, ℕ, List, Option, [], map, filter, IfOk, IfErr, OnOk};
 ghost use Rattle.std.specs.Option.{option_copied};
 ghost use Rattle.std.specs.Thread.{IsSync};
 ghost use Rattle.itip_items.specs.declared.item.Item.{Item};
+ghost use Rattle.itip_message.specs.Scanned.{messages_of};
 ghost use Rattle.itip_state.specs.Told.{AreNews};
 ghost use Rattle.itip_inbox.specs.Following.{is_about, items_about, told_in};
 ghost use Rattle.itip_inbox.specs.Inbox.{Placed, placed_from};
-ghost use Rattle.itip_inbox.specs.Streaming.{TellBeside};
+ghost use Rattle.itip_inbox.specs.Placing.{later_refusal, later_told};
+ghost use Rattle.itip_inbox.specs.Streaming.{Tells};
 
+use crate::counts::count_more;
 use crate::refused::RefusedMessage;
 use crate::shards::Shards;
 use itip_desk::Batch;
 use itip_explain::{Place, ToldItem};
 use itip_items::Item;
-use itip_message::{ReadError, read_message};
+use itip_message::{ReadError, next_message, part_messages, read_message};
 use itip_state::SharedItem;
 use itip_streams::StreamFault;
 use itip_todo::Uid;
 use std::alloc::{AllocError, Global};
+use std::mem;
 use std::thread::{Threads, join};
 
-// How few messages are worth a thread.
-const LEAST: usize = 16;
+/// How few octets are worth a thread.
+pub(crate) const LEAST: usize = 16_384;
 
 /// What messages tell beside what is kept.
 #[derive(Drop)]
 pub(crate) struct Heard {
+    /// How many they are, refused ones too.
+    pub(crate) count: u64,
     /// Those of their items that are news.
     pub(crate) news: Vec<SharedItem>,
     /// The refused messages, in their order.
@@ -34,143 +40,172 @@ pub(crate) struct Heard {
     pub(crate) told: Vec<ToldItem>,
 }
 
-/// What the messages tell whose first stands at a place, read by at most so many threads.
-pub(crate) fn read_texts(
+/// What all messages of octets tell, numbered from 1 and read by at most so many threads.
+pub(crate) fn read_share(
     rt: &(impl Threads + Sync),
     alloc: Global,
     kept: &Shards,
     about: Option<&Uid>,
-    first: Place,
-    texts: &[&[u8]],
+    source: usize,
+    octets: &[u8],
     threads: usize,
 ) -> Result<Heard, StreamFault>
-    requires { first.message + length texts.now < 2 ^ 64 }
-    ensures tells { IfOk result (λ heard. TellBeside (option_copied about.entry) kept.now
-        (placed_from first.source first.message (map (λ text. text.now) texts.now))
-        heard.news.items heard.refusals.items heard.told.items) }
+    ensures tells { IfOk result (Tells (option_copied about.entry) kept.now (placed_from source 1 (messages_of octets.now))) }
     ensures fault { IfErr result (λ fault. fault ≢ StreamFault.Write) }
 {
-    let threads = threads.min(texts.len() / LEAST);
-    read_pieces(rt, alloc, kept, about, first, texts, threads)
+    let threads = threads.min(octets.len() / LEAST);
+    read_parts(rt, alloc, kept, about, source, octets, threads)
 }
 
-/// The same by so many threads, or by one: each reads a piece of the messages.
-#[cycle(pieces)]
-fn read_pieces<R: Threads + Sync>(
+/// The same by so many threads, or by one: the octets are parted between messages, and each thread reads a part.
+#[cycle(parts)]
+fn read_parts<R: Threads + Sync>(
     rt: &R,
     alloc: Global,
     kept: &Shards,
     about: Option<&Uid>,
-    first: Place,
-    texts: &[&[u8]],
+    source: usize,
+    octets: &[u8],
     threads: usize,
 ) -> Result<Heard, StreamFault>
-    requires { first.message + length texts.now < 2 ^ 64 }
-    ensures tells { IfOk result (λ heard. TellBeside (option_copied about.entry) kept.now
-        (placed_from first.source first.message (map (λ text. text.now) texts.now))
-        heard.news.items heard.refusals.items heard.told.items) }
+    ensures tells { IfOk result (Tells (option_copied about.entry) kept.now (placed_from source 1 (messages_of octets.now))) }
     ensures fault { IfErr result (λ fault. fault ≢ StreamFault.Write) }
 {
     if threads < 2 {
-        return read_piece(alloc, kept, about, first, texts);
+        return read_octets(alloc, kept, about, source, octets);
     }
     let before = threads / 2;
     let after = threads - before;
-    let cut = (texts.len() / threads).saturating_mul(before);
-    let (front, back) = texts.split_at(cut.min(texts.len()));
-    let next = Place {
-        source: first.source,
-        message: first.message + front.len() as u64,
+    let place = (octets.len() / threads).saturating_mul(before);
+    let Some((front, back)) = part_messages(octets, place) else {
+        return read_octets(alloc, kept, about, source, octets);
     };
     let left = move || -> Result<Heard, StreamFault>
-        requires { IsSync R.row × (first.message + length front.now < 2 ^ 64) × (before < threads) }
-        ensures tells { IfOk result (λ heard. TellBeside (option_copied about.entry) kept.entry.now
-            (placed_from first.source first.message (map (λ text. text.now) front.entry.now))
-            heard.news.items heard.refusals.items heard.told.items) }
+        requires { IsSync R.row × (before < threads) }
+        ensures tells { IfOk result (Tells (option_copied about.entry) kept.entry.now
+            (placed_from source 1 (messages_of front.entry.now))) }
         ensures fault { IfErr result (λ fault. fault ≢ StreamFault.Write) }
-    { read_pieces(rt, alloc, kept, about, first, front, before) };
+    { read_parts(rt, alloc, kept, about, source, front, before) };
     let right = move || -> Result<Heard, StreamFault>
-        requires { IsSync R.row × (next.message + length back.now < 2 ^ 64) × (after < threads) }
-        ensures tells { IfOk result (λ heard. TellBeside (option_copied about.entry) kept.entry.now
-            (placed_from next.source next.message (map (λ text. text.now) back.entry.now))
-            heard.news.items heard.refusals.items heard.told.items) }
+        requires { IsSync R.row × (after < threads) }
+        ensures tells { IfOk result (Tells (option_copied about.entry) kept.entry.now
+            (placed_from source 1 (messages_of back.entry.now))) }
         ensures fault { IfErr result (λ fault. fault ≢ StreamFault.Write) }
-    { read_pieces(rt, alloc, kept, about, next, back, after) };
+    { read_parts(rt, alloc, kept, about, source, back, after) };
     let (ours, theirs) = join(rt, left, right);
     let mut heard = ours?;
-    heard.append(theirs?)?;
+    let mut behind = theirs?;
+    behind.move_behind(alloc, heard.count)?;
+    heard.append(behind)?;
     Ok(heard)
 }
 
-/// What the messages tell whose first stands at a place, one after another.
-fn read_piece(
+/// What all messages of octets tell, numbered from 1 and read one after another.
+pub(crate) fn read_octets(
     alloc: Global,
     kept: &Shards,
     about: Option<&Uid>,
-    first: Place,
-    texts: &[&[u8]],
+    source: usize,
+    octets: &[u8],
 ) -> Result<Heard, StreamFault>
-    requires { first.message + length texts.now < 2 ^ 64 }
-    ensures tells { IfOk result (λ heard. TellBeside (option_copied about.entry) kept.now
-        (placed_from first.source first.message (map (λ text. text.now) texts.now))
-        heard.news.items heard.refusals.items heard.told.items) }
+    ensures tells { IfOk result (Tells (option_copied about.entry) kept.now (placed_from source 1 (messages_of octets.now))) }
     ensures fault { IfErr result (λ fault. fault ≢ StreamFault.Write) }
 {
     let mut heard = Heard::nothing(alloc);
-    let mut place = first;
+    let mut rest = octets;
+    while let Some((text, after)) = next_message(rest) {
+        heard.add(alloc, kept, about, source, text)?;
+        rest = after;
+    }
+    Ok(heard)
+}
+
+/// What messages tell, numbered from 1 and read one after another.
+pub(crate) fn read_texts(
+    alloc: Global,
+    kept: &Shards,
+    about: Option<&Uid>,
+    source: usize,
+    texts: &[&[u8]],
+) -> Result<Heard, StreamFault>
+    ensures tells { IfOk result (Tells (option_copied about.entry) kept.now
+        (placed_from source 1 (map (λ text. text.now) texts.now))) }
+    ensures fault { IfErr result (λ fault. fault ≢ StreamFault.Write) }
+{
+    let mut heard = Heard::nothing(alloc);
     for text in texts {
-        heard.add(alloc, kept, about, place, text)?;
-        place.message += 1;
+        heard.add(alloc, kept, about, source, text)?;
     }
     Ok(heard)
 }
 
 impl Heard {
     /// What no message tells.
-    fn nothing(alloc: Global) -> Heard
-        ensures none { (about : Option (List ℕ)) (kept : List Item) →
-            TellBeside about kept [] result.news.items result.refusals.items result.told.items }
+    pub(crate) fn nothing(alloc: Global) -> Heard
+        ensures none { (about : Option (List ℕ)) (kept : List Item) → Tells about kept [] result }
     {
         Heard {
+            count: 0,
             news: Vec::new(alloc),
             refusals: Vec::new(alloc),
             told: Vec::new(alloc),
         }
     }
 
-    /// Adds what messages tell that come behind. After a refusal (out of memory) a part of it is added.
-    fn append(&mut self, others: Heard) -> Result<(), AllocError>
+    /// Adds what messages tell that come behind. After a fault a part of it is added.
+    pub(crate) fn append(&mut self, others: Heard) -> Result<(), StreamFault>
         ensures tells { OnOk result ((about : Option (List ℕ)) (kept : List Item) (before after : List Placed) →
-            TellBeside about kept before self.old.news.items self.old.refusals.items self.old.told.items →
-            TellBeside about kept after others.news.items others.refusals.items others.told.items →
-            TellBeside about kept (before ++ after) self.new.news.items self.new.refusals.items self.new.told.items) }
+            Tells about kept before self.old → Tells about kept after others → Tells about kept (before ++ after) self.new) }
+        ensures fault { IfErr result (λ fault. fault ≢ StreamFault.Write) }
     {
         let Heard {
+            count,
             mut news,
             mut refusals,
             mut told,
         } = others;
+        let sum = count_more(self.count, count)?;
+        self.count = sum;
         self.news.append(&mut news)?;
         self.refusals.append(&mut refusals)?;
-        self.told.append(&mut told)
+        self.told.append(&mut told)?;
+        Ok(())
     }
 
-    /// Reads one message more, at this place, and adds what it tells, or that it is refused. After a fault a part of that is added.
+    /// So many messages of their source come before these. After a fault some have their new numbers.
+    pub(crate) fn move_behind(&mut self, alloc: Global, count: u64) -> Result<(), StreamFault>
+        ensures tells { OnOk result ((about : Option (List ℕ)) (kept : List Item) (source first : ℕ) (texts : List (List ℕ)) →
+            Tells about kept (placed_from source first texts) self.old →
+            Tells about kept (placed_from source (first + count) texts) self.new) }
+        ensures count { OnOk result (self.new.count ≡ self.old.count) }
+        ensures fault { IfErr result (λ fault. fault ≢ StreamFault.Write) }
+    {
+        let refusals = refusals_behind(alloc, self.refusals.as_slice(), count)?;
+        self.refusals = refusals;
+        let told = mem::replace(&mut self.told, Vec::new(alloc));
+        let later = told_behind(alloc, told, count)?;
+        self.told = later;
+        Ok(())
+    }
+
+    /// Reads one message of a source more, with the next number, and adds what it tells, or that it is refused. After a fault a part
+    /// of that is added.
     fn add(
         &mut self,
         alloc: Global,
         kept: &Shards,
         about: Option<&Uid>,
-        place: Place,
+        source: usize,
         text: &[u8],
     ) -> Result<(), StreamFault>
-        ensures tells { OnOk result ((before : List Placed) →
-            TellBeside (option_copied about.entry) kept.now before self.old.news.items self.old.refusals.items self.old.told.items →
-            TellBeside (option_copied about.entry) kept.now
-            (before ++ (record { source = place.source; message = place.message; text = text.now }) ∷ [])
-            self.new.news.items self.new.refusals.items self.new.told.items) }
+        ensures tells { OnOk result ((texts : List (List ℕ)) →
+            Tells (option_copied about.entry) kept.now (placed_from source 1 texts) self.old →
+            Tells (option_copied about.entry) kept.now (placed_from source 1 (texts ++ text.now ∷ [])) self.new) }
         ensures fault { IfErr result (λ fault. fault ≢ StreamFault.Write) }
     {
+        let message = count_more(self.count, 1)?;
+        let place = Place { source, message };
+        self.count = message;
         match read_message(alloc, text) {
             Ok(items) => {
                 note(&mut self.told, about, place, items.as_slice())?;
@@ -188,6 +223,44 @@ impl Heard {
             Err(ReadError::NoMemory) => Err(StreamFault::Memory),
         }
     }
+}
+
+/// Refused messages before which so many others come.
+fn refusals_behind(
+    alloc: Global,
+    refusals: &[RefusedMessage],
+    count: u64,
+) -> Result<Vec<RefusedMessage>, StreamFault>
+    ensures later { IfOk result (λ later. later.items ≡ map (later_refusal count) refusals.now) }
+    ensures fault { IfErr result (λ fault. fault ≢ StreamFault.Write) }
+{
+    let mut later = Vec::new(alloc);
+    for refused in refusals {
+        let message = count_more(refused.message, count)?;
+        later.push(RefusedMessage {
+            source: refused.source,
+            message,
+            refusal: refused.refusal,
+        })?;
+    }
+    Ok(later)
+}
+
+/// Told items before whose messages so many others come.
+fn told_behind(alloc: Global, told: Vec<ToldItem>, count: u64) -> Result<Vec<ToldItem>, StreamFault>
+    ensures later { IfOk result (λ later. later.items ≡ map (later_told count) told.items) }
+    ensures fault { IfErr result (λ fault. fault ≢ StreamFault.Write) }
+{
+    let mut later = Vec::new(alloc);
+    for one in told {
+        let ToldItem { place, item } = one;
+        let place = Place {
+            source: place.source,
+            message: count_more(place.message, count)?,
+        };
+        later.push(ToldItem { place, item })?;
+    }
+    Ok(later)
 }
 
 /// Notes copies of the items of the UID that is followed, if one is, with the place of the message that tells them. After a refusal

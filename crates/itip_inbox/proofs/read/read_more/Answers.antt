@@ -1,8 +1,8 @@
 use Rattle.std.proofs.Common.{◌∙◌, sym, subst, List, ℕ}
 use Rattle.std.specs.Option.{option_copied}
 use Rattle.itip_explain.specs.declared.told.ToldItem.{ToldItem}
-use Rattle.itip_inbox.specs.Following.{AreTold, TellAbout}
-use Rattle.itip_inbox.proofs.Sources.{holds_closed}
+use Rattle.itip_inbox.specs.Following.{TellAbout}
+use Rattle.itip_inbox.proofs.Sources.{holds_closed, heard_closed}
 use Rattle.itip_inbox.proofs.read.read_more.Goals as goal
 
 pub returns-clause-holds : goal.returns-clause-holds
@@ -16,12 +16,11 @@ returns-clause-told g c = λ inputs are.
     subst (λ (told : List ToldItem). TellAbout (option_copied c.args.about) inputs told) (sym c.in_ok-close.ensures.told)
     (c.in_ok-inbox.ensures.told inputs are)
 
-pub returns-clause-follows : goal.returns-clause-follows
-returns-clause-follows g c = record {
-  messages = c.in_ok-inbox.ensures.heard.messages;
-  tell = subst (λ (told : List ToldItem). AreTold (option_copied c.args.about) c.in_ok-inbox.ensures.heard.messages told)
-      (sym c.in_ok-close.ensures.told) c.in_ok-inbox.ensures.heard.keeps.tells;
-}
+pub returns-clause-heard : goal.returns-clause-heard
+returns-clause-heard g c =
+    heard_closed (option_copied c.args.about) c.in_ok-inbox.inbox.state c.in_ok-close.close.state c.in_ok-inbox.inbox.refusals.items
+    c.in_ok-close.close.refusals.items c.in_ok-inbox.inbox.told.items c.in_ok-close.close.told.items c.in_ok-inbox.ensures.heard
+    c.in_ok-close.ensures.state c.in_ok-close.ensures.refusals c.in_ok-close.ensures.told
 
 pub returns-clause-source : goal.returns-clause-source
 returns-clause-source g c = c.in_ok-close.ensures.source ∙ c.in_ok-inbox.ensures.source

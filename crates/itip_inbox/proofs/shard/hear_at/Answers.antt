@@ -76,13 +76,13 @@ loop-item-preserved c =
                 (c.loop-item.invariant.stays are));
           }
       | else-is_of w ↦ record {
-          hears = subst (λ (state : List Item). AreKept state (c.args.state.now ++ of_shard count number
-              (take (c.loop-item.item-index + 1) c.args.items.now))) (sym w.state-is)
-              (subst (λ (xs : List Item). AreKept c.loop-item.state (c.args.state.now ++ xs))
-              (sym (not_of_it count number c.args.items.now c.loop-item.item-index c.item-item.result c.loop-item-test.true c.item-item.is
-              (sym c.is_of.ensures ∙ w.if-is_of.false))) c.loop-item.invariant.hears);
-          stays = λ are. subst (AreOfShard count number) (sym w.state-is) (c.loop-item.invariant.stays are);
-        }
+        hears = subst (λ (state : List Item). AreKept state (c.args.state.now ++ of_shard count number
+            (take (c.loop-item.item-index + 1) c.args.items.now))) (sym w.state-is)
+            (subst (λ (xs : List Item). AreKept c.loop-item.state (c.args.state.now ++ xs))
+            (sym (not_of_it count number c.args.items.now c.loop-item.item-index c.item-item.result c.loop-item-test.true c.item-item.is
+            (sym c.is_of.ensures ∙ w.if-is_of.false))) c.loop-item.invariant.hears);
+        stays = λ are. subst (AreOfShard count number) (sym w.state-is) (c.loop-item.invariant.stays are);
+      }
     ]
 
 -- A refusal changes nothing of what was heard by then.

@@ -28,5 +28,5 @@ returns g c =
     let at = (goal.at.returns g c).After-for_each_mut in
     subst (λ (all : List Item). AreKept (kept_in c.for_each_mut.new.s) (all ++ c.args.items.now)) c.self.view_is
     (shards_hear c.self.inside.shards.items c.for_each_mut.new.s c.args.items.now c.self.invariant c.for_each_mut.len (each g at)
-    (none_refused c.for_each_mut.new.s (sym (ap (list_any (λ (s : Shard). s.is_refused)) c.as_slice.ensures.value) ∙
-    sym c.is_one_refused.ensures ∙ c.if-is_one_refused.false)))
+    (λ n d below. none_refused c.for_each_mut.new.s (sym (ap (list_any (λ (s : Shard). s.is_refused)) c.as_slice.ensures.value) ∙
+    sym c.is_one_refused.ensures ∙ c.if-is_one_refused.false) n d (subst (λ (k : ℕ). n < k) (sym c.for_each_mut.len) below)))

@@ -1,8 +1,8 @@
 use Prim.Native.Nat.{◌+◌, ◌*◌}
-use Rattle.itip_inbox.proofs.texts.+pieces.Given as goal
+use Rattle.itip_inbox.proofs.texts.+parts.Given as goal
 
-abbrev pub decreases-read_pieces : goal.decreases-read_pieces
-decreases-read_pieces g l = 2 * l.threads
+abbrev pub decreases-read_parts : goal.decreases-read_parts
+decreases-read_parts g l = 2 * l.threads
 
 abbrev pub decreases-left : goal.decreases-left
 decreases-left g l = 2 * l.before + 1
