@@ -482,5 +482,8 @@ pub fn compact(threads: usize, names: Vec<String>) -> io::Result<()> {
     for octets in sorted(&maps, threads) {
         out.write_all(octets)?;
     }
-    out.flush()
+    out.flush()?;
+    // The program ends, and the memory goes with it.
+    mem::forget(maps);
+    Ok(())
 }
