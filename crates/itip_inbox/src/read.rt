@@ -45,6 +45,12 @@ impl Progress {
             octets: 0,
         }
     }
+
+    /// Tells that so many octets more were read, and that of this list of sources so many messages were heard.
+    fn tell<W: Watch>(&mut self, octets: usize, heard: u64, watch: &mut W) {
+        self.octets = self.octets.saturating_add(octets as u64);
+        watch.read(self.messages.saturating_add(heard), self.octets);
+    }
 }
 
 /// Reads sources one after another, each to its end, and hears their messages. These are cut, read and heard by at most so many
@@ -135,8 +141,8 @@ pub(crate) fn hear_sources<R: Read + Drop, W: Watch>(
         inbox.next_source()?;
     }
     inbox.hear_waiting(rt, alloc, about, threads)?;
+    progress.tell(0, inbox.heard, watch);
     progress.messages = progress.messages.saturating_add(inbox.heard);
-    watch.read(progress.messages, progress.octets);
     Ok(inbox)
 }
 
@@ -161,23 +167,15 @@ fn read_source<R: Read, W: Watch>(
     let mut held = Held::nothing(alloc);
     let share = SHARE.saturating_mul(threads.max(1));
     for _ in 0..u64::MAX {
-        let before = held.octets.len();
-        let is_end = fill(reader, &mut held.octets, share)?;
-        let more = held.octets.len().saturating_sub(before) as u64;
-        progress.octets = progress.octets.saturating_add(more);
+        let heard = inbox.heard;
+        let is_end = fill(reader, &mut held.octets, share, heard, progress, watch)?;
         if is_end {
             hear_last(inbox, rt, alloc, held, about, threads)?;
-            watch.read(
-                progress.messages.saturating_add(inbox.heard),
-                progress.octets,
-            );
+            progress.tell(0, inbox.heard, watch);
             return Ok(());
         }
         held = hear_first(inbox, rt, alloc, &held, about, threads)?;
-        watch.read(
-            progress.messages.saturating_add(inbox.heard),
-            progress.octets,
-        );
+        progress.tell(0, inbox.heard, watch);
     }
     Err(StreamFault::Read)
 }
@@ -202,7 +200,8 @@ fn hear_last(
     if held.is_long || inbox.messages != 0 || held.octets.len() > SHARE {
         return hear_all(inbox, rt, alloc, &held, about, threads);
     }
-    let_wait(inbox, rt, alloc, held.octets, about, threads)
+    let Held { octets, .. } = held;
+    let_wait(inbox, rt, alloc, octets, about, threads)
 }
 
 /// Lets a source wait that has no more octets than these, and hears all that wait once they are many.
@@ -377,8 +376,15 @@ fn hear_texts(
 }
 
 /// Reads until a share of so many octets is held, or twice what was: so a long message is gone through few times. Says whether
-/// the input is at its end. After a fault a part was read.
-fn fill<R: Read>(reader: &mut R, held: &mut Vec<u8>, share: usize) -> Result<bool, StreamFault>
+/// the input is at its end, and tells of each read. After a fault a part was read.
+fn fill<R: Read, W: Watch>(
+    reader: &mut R,
+    held: &mut Vec<u8>,
+    share: usize,
+    heard: u64,
+    progress: &mut Progress,
+    watch: &mut W,
+) -> Result<bool, StreamFault>
     ensures fills { IfOk result (Fills (R.remaining reader.old) (R.remaining reader.new) held.old.items held.new.items) }
     ensures fault { IfErr result (λ fault. fault ≢ StreamFault.Write) }
 {
@@ -390,6 +396,7 @@ fn fill<R: Read>(reader: &mut R, held: &mut Vec<u8>, share: usize) -> Result<boo
             return Ok(true);
         }
         held.extend_from_slice(&room[..count])?;
+        progress.tell(count, heard, watch);
     }
     Ok(false)
 }
