@@ -12,9 +12,9 @@ use Rattle.itip_items.specs.declared.item.Item.{Item}
 use Rattle.itip_items.specs.declared.key.Key.{Key}
 use Rattle.itip_items.specs.declared.key.Key.TheVariants.{Series}
 use Rattle.itip_state.specs.Kept.{IsBest, IsDead, IsKept, AreKept, ArePart, IsItemsOf}
-use Rattle.itip_state.specs.Told.{IsTold, IsOutdone, AreNews}
+use Rattle.itip_state.specs.Told.{IsTold, IsOutdone}
 use Rattle.itip_state.proofs.Keeping.{kept_in_part, kept_beside, are_kept_by, are_kept_same, same_swapped}
-use Rattle.itip_state.proofs.Members.{none_in, cons_first, cons_cases}
+use Rattle.itip_state.proofs.Members.{none_in}
 use Rattle.itip_view.proofs.Showing.{in_filter, passes, into_filter}
 use Rattle.itip_inbox.specs.Following.{is_about}
 use Rattle.itip_inbox.specs.ShardOf.{shard_of, of_shard, AreOfShard}
@@ -220,29 +220,20 @@ merged_one state now behind one keeps merged =
     are_kept_same now (behind ++ one) (one ++ behind) (same_swapped behind one)
     (are_kept_by now (state ++ one) (behind ++ one) (kept_beside behind one state keeps) merged)
 
--- an item that was asked about alone is outdone by all exactly where it is no news to the shard of its UID
-pub outdone_alone : (shards : List Shard) (are : AreSharded shards) (d : Shard) (i : Item) (news : List Item) →
-    AreNews (slice_index_or shards (shard_of (length shards) (uid_of i.key)) d).state (i ∷ []) news →
-    news ≡ [] ↔ IsOutdone (kept_in shards) i
-outdone_alone shards are d i news told =
-    let mine : List Item = (slice_index_or shards (shard_of (length shards) (uid_of i.key)) d).state in
-    let same : SameOf i mine (kept_in shards) = same_of_own shards d are i in (
-      λ none. elim (told.rest i (cons_first i [])) [
-        | inl h ↦ absurd (none_in i (subst (λ (ns : List Item). Contains ns i) none h))
-        | inr out ↦ outdone_alike i mine (kept_in shards) same out
-      ],
-      λ out. no_news news told (outdone_alike i (kept_in shards) mine (same_back i mine (kept_in shards) same) out),
+-- the shard of the UID of an item tells whether all outdo it
+pub outdone_at : (shards : List Shard) (are : AreSharded shards) (n count : ℕ) (uid : List ℕ) (i : Item) (one : Shard) →
+    n ≡ shard_of count uid → count ≡ length shards → uid ≡ uid_of i.key → one ≡ slice_index_or shards n one →
+    IsOutdone one.state i ↔ IsOutdone (kept_in shards) i
+outdone_at shards are n count uid i one number many about at =
+    let own_is : n ≡ shard_of (length shards) (uid_of i.key) =
+    number ∙ ap (λ (k : ℕ). shard_of k uid) many ∙ ap (shard_of (length shards)) about in
+    let here : one ≡ slice_index_or shards (shard_of (length shards) (uid_of i.key)) one =
+    at ∙ ap (λ (k : ℕ). slice_index_or shards k one) own_is in
+    let same : SameOf i one.state (kept_in shards) =
+    subst (λ (s : Shard). SameOf i s.state (kept_in shards)) (sym here) (same_of_own shards one are i) in (
+      outdone_alike i one.state (kept_in shards) same,
+      outdone_alike i (kept_in shards) one.state (same_back i one.state (kept_in shards) same),
     )
-  where
-    no_news : (news : List Item) →
-        AreNews (slice_index_or shards (shard_of (length shards) (uid_of i.key)) d).state (i ∷ []) news →
-        IsOutdone (slice_index_or shards (shard_of (length shards) (uid_of i.key)) d).state i → news ≡ []
-    no_news [] told out = refl
-    no_news (n ∷ ns) told out = elim (cons_cases i [] n (told.among n (cons_first n ns))) [
-      | inl is ↦ absurd (told.new n (cons_first n ns) (subst (IsOutdone
-          (slice_index_or shards (shard_of (length shards) (uid_of i.key)) d).state) is out))
-      | inr none ↦ absurd (none_in n none)
-    ]
 
 -- shards that keep nothing are sharded
 pub none_sharded : (shards : List Shard) → zero < length shards → kept_in shards ≡ [] → AreSharded shards
