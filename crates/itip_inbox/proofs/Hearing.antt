@@ -229,8 +229,8 @@ pub parts_tell : (about : Option (List ℕ)) (kept : List Item) (source : ℕ) (
     Tells about kept (placed_from source 1 (messages_of front) ++ placed_from source (1 + ours.count) (messages_of back)) all →
     Tells about kept (placed_from source 1 (messages_of whole)) all
 parts_tell about kept source whole front back ours all parted one both =
-    let count : 1 + length (messages_of front) ≡ 1 + ours.count =
-    ap suc (sym (length_placed source 1 (messages_of front)) ∙ sym one.count_is) in
+    let many : ours.count ≡ length (messages_of front) = one.count_is ∙ length_placed source 1 (messages_of front) in
+    let count : 1 + length (messages_of front) ≡ 1 + ours.count = omega (arith, many) in
     let cut : messages_of whole ≡ messages_of front ++ messages_of back =
     ap messages_of (sym (append-nil whole)) ∙ parted.messages [] ∙ ap (λ (t : List ℕ). messages_of front ++ messages_of t) (append-nil back)
     in

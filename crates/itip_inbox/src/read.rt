@@ -1,5 +1,5 @@
 //! Reading inputs to their ends, and no more of one at a time than a share.
-ghost use Rattle.std.specs.Prelude.{◌≡◌, ◌≢◌, ◌++◌, ◌+◌, ℕ, List, false, length, map, IfOk, IfErr, OnOk, IfSome};
+ghost use Rattle.std.specs.Prelude.{◌≡◌, ◌≢◌, ◌++◌, ◌+◌, ℕ, List, false, length, map, IfOk, IfErr, OnOk, IfSome, IsTrue};
 ghost use Rattle.std.specs.Option.{option_copied};
 ghost use Rattle.itip_message.specs.Parting.{StaysParted};
 ghost use Rattle.itip_message.specs.Scanned.{messages_of};
@@ -197,11 +197,19 @@ fn hear_last(
     ensures source { OnOk result (inbox.new.source ≡ inbox.old.source) }
     ensures fault { IfErr result (λ fault. fault ≢ StreamFault.Write) }
 {
-    if held.is_long || inbox.messages != 0 || held.octets.len() > SHARE {
-        return hear_all(inbox, rt, alloc, &held, about, threads);
+    if may_wait(&held, inbox.messages) {
+        let Held { octets, .. } = held;
+        return let_wait(inbox, rt, alloc, octets, about, threads);
     }
-    let Held { octets, .. } = held;
-    let_wait(inbox, rt, alloc, octets, about, threads)
+    hear_all(inbox, rt, alloc, &held, about, threads)
+}
+
+/// Whether what is held may wait, where nothing follows and so many messages of the source were heard: it is all of the source, and
+/// not many octets.
+fn may_wait(held: &Held, messages: u64) -> bool
+    ensures { IsTrue result → (held.now.is_long ≡ false) × (messages ≡ 0) }
+{
+    !held.is_long && messages == 0 && held.octets.len() <= SHARE
 }
 
 /// Lets a source wait that has no more octets than these, and hears all that wait once they are many.

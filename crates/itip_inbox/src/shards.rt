@@ -93,7 +93,7 @@ impl Shards {
             rt,
             self.shards.as_mut_slice(),
             threads,
-            &|number: usize, shard: &mut Shard|
+            &move |number: usize, shard: &mut Shard|
                 requires { 0 < count }
                 ensures { HearsShard count number items.entry.now shard.old shard.new }
             { shard.hear(number, count, items) },

@@ -7,7 +7,7 @@ use Rattle.std.proofs.lemmas.Bool.{and_parts, eqb-true}
 use Rattle.std.proofs.lemmas.List.{append_cancel_right, length-append, take_at}
 use Rattle.itip_message.specs.Scanned.{begins_blank, ends_line, line_length, lines_of, is_empty, ends_calendar, groups_of, texts_of, messages_of}
 use Rattle.itip_message.specs.Passing.{IsFirstLine, StaysFirstLine}
-use Rattle.itip_message.specs.Parting.{StaysParted, EndsLine, IsAtLine}
+use Rattle.itip_message.specs.Parting.{StaysParted, ClosesLine, IsAtLine}
 use Rattle.itip_message.proofs.FirstLines.{lines_first}
 
 -- ---- where a line is at its end
@@ -16,18 +16,18 @@ not_true : (b : Bool) → not b ≡ true → b ≡ false
 not_true true e = absurd cc
 not_true false e = refl
 
-ends_at : (bytes : List ℕ) → line_length bytes < length bytes → EndsLine (take (line_length bytes) bytes) (drop (line_length bytes) bytes)
+ends_at : (bytes : List ℕ) → line_length bytes < length bytes → ClosesLine (take (line_length bytes) bytes) (drop (line_length bytes) bytes)
 ends_at [] within = absurd (omega (arith, within))
 ends_at (b ∷ bytes) within =
     elim (ends_line b bytes) as (λ (t : Bool). ends_line b bytes ≡ t → cond t 1 (suc (line_length bytes)) < suc (length bytes) →
-    EndsLine (take (cond t 1 (suc (line_length bytes))) (b ∷ bytes)) (drop (cond t 1 (suc (line_length bytes))) (b ∷ bytes))) [
+    ClosesLine (take (cond t 1 (suc (line_length bytes))) (b ∷ bytes)) (drop (cond t 1 (suc (line_length bytes))) (b ∷ bytes))) [
       | true ↦ λ is h. record {
         before = [];
         feed = ap (λ (x : ℕ). x ∷ []) (eqb-true b 10 (and_parts (b == 10) (not (begins_blank bytes)) is).0);
         plain = not_true (begins_blank bytes) (and_parts (b == 10) (not (begins_blank bytes)) is).1;
       }
       | false ↦ λ is h.
-          let more : EndsLine (take (line_length bytes) bytes) (drop (line_length bytes) bytes) = ends_at bytes (omega (arith, h)) in
+          let more : ClosesLine (take (line_length bytes) bytes) (drop (line_length bytes) bytes) = ends_at bytes (omega (arith, h)) in
           record {
             before = b ∷ more.before;
             feed = ap (λ (t : List ℕ). b ∷ t) more.feed;
@@ -36,9 +36,9 @@ ends_at (b ∷ bytes) within =
     ] refl within
 
 -- a line behind which an octet stands
-pub line_at_end : (bytes : List ℕ) (n : ℕ) → n ≡ line_length bytes → n < length bytes → EndsLine (take n bytes) (drop n bytes)
+pub line_at_end : (bytes : List ℕ) (n : ℕ) → n ≡ line_length bytes → n < length bytes → ClosesLine (take n bytes) (drop n bytes)
 line_at_end bytes n is within =
-    subst (λ (k : ℕ). EndsLine (take k bytes) (drop k bytes)) (sym is) (ends_at bytes (omega (arith, is, within)))
+    subst (λ (k : ℕ). ClosesLine (take k bytes) (drop k bytes)) (sym is) (ends_at bytes (omega (arith, is, within)))
 
 -- ---- lists of lists, of which the first is longer
 
@@ -91,14 +91,14 @@ first_whole bytes line after first =
     sym (append-nil bytes) ∙ (first []).whole ∙ ap (λ (t : List ℕ). line ++ t) (append-nil after)
 
 -- the first line alone is one line
-line_alone : (bytes line after : List ℕ) → StaysFirstLine bytes line after → EndsLine line after → lines_of line ≡ line ∷ []
+line_alone : (bytes line after : List ℕ) → StaysFirstLine bytes line after → ClosesLine line after → lines_of line ≡ line ∷ []
 line_alone bytes line after first ends =
     append_cancel_right (lines_of line) (line ∷ []) (lines_of after)
     (sym (behind_line [] line after ends.before ends.feed ends.plain) ∙ ap lines_of (sym (first_whole bytes line after first)) ∙
     ap lines_of (sym (append-nil bytes)) ∙ (first []).lines ∙ ap (λ (t : List ℕ). line ∷ lines_of t) (append-nil after))
 
 -- the first line begins with a blank only where the octets do
-line_plain : (bytes line after : List ℕ) → StaysFirstLine bytes line after → EndsLine line after → begins_blank bytes ≡ false →
+line_plain : (bytes line after : List ℕ) → StaysFirstLine bytes line after → ClosesLine line after → begins_blank bytes ≡ false →
     begins_blank line ≡ false
 line_plain bytes line after first ends plain =
     ap begins_blank ends.feed ∙ sym (blank_front ends.before after) ∙
@@ -153,7 +153,7 @@ messages_apart text rest before line apart lines ends =
 -- ---- parts
 
 -- behind a line that is at its end another begins
-pub at_line : (bytes x behind line after : List ℕ) → bytes ≡ x ++ behind → StaysFirstLine behind line after → EndsLine line after →
+pub at_line : (bytes x behind line after : List ℕ) → bytes ≡ x ++ behind → StaysFirstLine behind line after → ClosesLine line after →
     IsAtLine bytes after
 at_line bytes x behind line after whole first ends = record {
   front = x ++ line;
@@ -163,7 +163,7 @@ at_line bytes x behind line after whole first ends = record {
 }
 
 -- with a line that ends a calendar the first part ends
-pub parted_at : (bytes rest line after part : List ℕ) → IsAtLine bytes rest → StaysFirstLine rest line after → EndsLine line after →
+pub parted_at : (bytes rest line after part : List ℕ) → IsAtLine bytes rest → StaysFirstLine rest line after → ClosesLine line after →
     0 < length after → ends_calendar line ≡ true → part ≡ take (length bytes - length after) bytes → StaysParted bytes part after
 parted_at bytes rest line after part at first ends some is_end is =
     let whole : bytes ≡ (at.front ++ line) ++ after =

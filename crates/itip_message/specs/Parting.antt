@@ -8,7 +8,7 @@ pub record StaysParted (bytes front back : List ℕ) : Type 0 where
   pub messages : (more : List ℕ) → messages_of (bytes ++ more) ≡ messages_of front ++ messages_of (back ++ more)
 
 -- LF is the last octet of a line, and behind it no blank stands, which would make it a fold.
-pub record EndsLine (line after : List ℕ) : Type 0 where
+pub record ClosesLine (line after : List ℕ) : Type 0 where
   pub before : List ℕ
   pub feed : line ≡ before ++ 10 ∷ []
   pub plain : begins_blank after ≡ false
