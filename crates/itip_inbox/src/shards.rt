@@ -89,15 +89,11 @@ impl Shards {
     {
         let count = self.shards.len();
         let threads = (items.len() / LEAST).min(count).max(1);
-        thread::for_each_mut(
-            rt,
-            self.shards.as_mut_slice(),
-            threads,
-            &move |number: usize, shard: &mut Shard|
-                requires { 0 < count }
-                ensures { HearsShard count number items.entry.now shard.old shard.new }
-            { shard.hear(number, count, items) },
-        );
+        let one = move |number: usize, shard: &mut Shard|
+            requires { 0 < count }
+            ensures { HearsShard count number items.entry.now shard.old shard.new }
+        { shard.hear(number, count, items) };
+        thread::for_each_mut(rt, self.shards.as_mut_slice(), threads, &one);
         if is_one_refused(self.shards.as_slice()) {
             return Err(AllocError);
         }

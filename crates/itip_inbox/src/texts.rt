@@ -1,5 +1,5 @@
 //! Reading many messages at once, and what they tell beside what is kept.
-ghost use Rattle.std.specs.Prelude.{◌≡◌, ◌≢◌, ◌<◌, ◌+◌, ◌++◌, ◌∷◌, ℕ, List, Option, [], map, filter, IfOk, IfErr, OnOk};
+ghost use Rattle.std.specs.Prelude.{◌≡◌, ◌≢◌, ◌+◌, ◌++◌, ◌∷◌, ℕ, List, Option, [], map, filter, IfOk, IfErr, OnOk};
 ghost use Rattle.std.specs.Option.{option_copied};
 ghost use Rattle.std.specs.Thread.{IsSync};
 ghost use Rattle.itip_items.specs.declared.item.Item.{Item};
@@ -81,13 +81,13 @@ fn read_parts<R: Threads + Sync>(
         return read_octets(alloc, kept, about, source, octets);
     };
     let left = move || -> Result<Heard, StreamFault>
-        requires { IsSync R.row × (before < threads) }
+        requires { IsSync R.row }
         ensures tells { IfOk result (Tells (option_copied about.entry) kept.entry.now
             (placed_from source 1 (messages_of front.entry.now))) }
         ensures fault { IfErr result (λ fault. fault ≢ StreamFault.Write) }
     { read_parts(rt, alloc, kept, about, source, front, before) };
     let right = move || -> Result<Heard, StreamFault>
-        requires { IsSync R.row × (after < threads) }
+        requires { IsSync R.row }
         ensures tells { IfOk result (Tells (option_copied about.entry) kept.entry.now
             (placed_from source 1 (messages_of back.entry.now))) }
         ensures fault { IfErr result (λ fault. fault ≢ StreamFault.Write) }

@@ -1,5 +1,5 @@
 //! Sources that were read to their ends and are heard together with others, so that many small ones are worth several threads.
-ghost use Rattle.std.specs.Prelude.{◌≢◌, ◌<◌, IfOk, IfErr};
+ghost use Rattle.std.specs.Prelude.{◌≢◌, IfOk, IfErr};
 ghost use Rattle.std.specs.Option.{option_copied};
 ghost use Rattle.std.specs.Thread.{IsSync};
 ghost use Rattle.itip_inbox.specs.Streaming.{Tells, waiting_of};
@@ -40,12 +40,12 @@ pub(crate) fn read_waiting<R: Threads + Sync>(
     let before = threads / 2;
     let after = threads - before;
     let left = move || -> Result<Heard, StreamFault>
-        requires { IsSync R.row × (before < threads) }
+        requires { IsSync R.row }
         ensures tells { IfOk result (Tells (option_copied about.entry) kept.entry.now (waiting_of front.entry.now)) }
         ensures fault { IfErr result (λ fault. fault ≢ StreamFault.Write) }
     { read_waiting(rt, alloc, kept, about, front, before) };
     let right = move || -> Result<Heard, StreamFault>
-        requires { IsSync R.row × (after < threads) }
+        requires { IsSync R.row }
         ensures tells { IfOk result (Tells (option_copied about.entry) kept.entry.now (waiting_of back.entry.now)) }
         ensures fault { IfErr result (λ fault. fault ≢ StreamFault.Write) }
     { read_waiting(rt, alloc, kept, about, back, after) };
