@@ -12,9 +12,9 @@ use Rattle.itip_items.specs.declared.item.Item.{Item}
 use Rattle.itip_items.specs.declared.key.Key.{Key}
 use Rattle.itip_items.specs.declared.key.Key.TheVariants.{Series}
 use Rattle.itip_state.specs.Kept.{IsBest, IsDead, IsKept, AreKept, ArePart, IsItemsOf}
-use Rattle.itip_state.specs.Told.{IsTold, IsOutdone}
+use Rattle.itip_state.specs.Told.{IsTold, IsOutdone, AreNews}
 use Rattle.itip_state.proofs.Keeping.{kept_in_part, kept_beside, are_kept_by, are_kept_same, same_swapped}
-use Rattle.itip_state.proofs.Members.{none_in}
+use Rattle.itip_state.proofs.Members.{none_in, cons_first, cons_cases}
 use Rattle.itip_view.proofs.Showing.{in_filter, passes, into_filter}
 use Rattle.itip_inbox.specs.Following.{is_about}
 use Rattle.itip_inbox.specs.ShardOf.{shard_of, of_shard, AreOfShard}
@@ -234,6 +234,23 @@ outdone_at shards are n count uid i one number many about at =
       outdone_alike i one.state (kept_in shards) same,
       outdone_alike i (kept_in shards) one.state (same_back i one.state (kept_in shards) same),
     )
+
+-- an item that was asked about alone is outdone exactly where it is no news
+pub outdone_alone : (set : List Item) (i : Item) (news : List Item) → AreNews set (i ∷ []) news → news ≡ [] ↔ IsOutdone set i
+outdone_alone set i news told = (
+  λ none. elim (told.rest i (cons_first i [])) [
+    | inl h ↦ absurd (none_in i (subst (λ (ns : List Item). Contains ns i) none h))
+    | inr out ↦ out
+  ],
+  λ out. no_news news told out,
+)
+  where
+    no_news : (ns : List Item) → AreNews set (i ∷ []) ns → IsOutdone set i → ns ≡ []
+    no_news [] are out = refl
+    no_news (n ∷ ns) are out = elim (cons_cases i [] n (are.among n (cons_first n ns))) [
+      | inl is ↦ absurd (are.new n (cons_first n ns) (subst (IsOutdone set) is out))
+      | inr none ↦ absurd (none_in n none)
+    ]
 
 -- shards that keep nothing are sharded
 pub none_sharded : (shards : List Shard) → zero < length shards → kept_in shards ≡ [] → AreSharded shards

@@ -10,8 +10,8 @@ use crate::shard::{Shard, shard_of};
 use itip_state::{SharedItem, State, by_octets};
 use std::alloc::{AllocError, Global};
 use std::marker::Model;
-use std::thread;
 use std::thread::{Threads, join};
+use std::{slice, thread};
 
 // How few items are worth a thread.
 const LEAST: usize = 64;
@@ -63,7 +63,7 @@ impl Shards {
     {
         let mut news = Vec::new(alloc);
         for item in items {
-            if self.is_outdone(item) {
+            if self.is_outdone(item)? {
                 continue;
             }
             news.push(item)?;
@@ -72,11 +72,12 @@ impl Shards {
     }
 
     /// Whether hearing an item changes nothing.
-    fn is_outdone(&self, item: &SharedItem) -> bool
-        ensures { IsTrue result ↔ IsOutdone self.now item.now }
+    fn is_outdone(&self, item: &SharedItem) -> Result<bool, AllocError>
+        ensures { IfOk result (λ is_outdone. IsTrue is_outdone ↔ IsOutdone self.now item.now) }
     {
         let number = shard_of(item.key.uid(), self.shards.len());
-        self.shards[number].state.is_outdone(item)
+        let news = self.shards[number].state.news(slice::from_ref(item))?;
+        Ok(news.is_empty())
     }
 
     /// Hears items, each shard those of its UIDs, and many on threads of their own. After a refusal (out of memory) some of them are heard.

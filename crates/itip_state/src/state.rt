@@ -163,13 +163,6 @@ impl State {
         Ok(news)
     }
 
-    /// Whether hearing an item changes nothing: this state tells it already, or it is dead beside it. It takes no memory.
-    pub fn is_outdone(&self, item: &SharedItem) -> bool
-        ensures { IsTrue result ↔ IsOutdone self.now item.now }
-    {
-        outdoes(&self.held, item)
-    }
-
     /// Hears these items. A refusal (out of memory) changes nothing. Unlike `merge` it may ask for memory where nothing is new.
     pub fn hear(&mut self, items: &[&SharedItem]) -> Result<(), NoMemory>
         ensures ok { OnOk result (AreKept self.new (self.old ++ map (λ item. item.now) items.now)) }
