@@ -19,7 +19,7 @@ pub(crate) struct Shard {
 impl Shard {
     /// A shard that keeps nothing.
     pub(crate) fn empty(alloc: Global) -> Shard
-        ensures state { result.state ≡ [] }
+        ensures { result.state ≡ [] }
     {
         Shard {
             state: State::empty(alloc),

@@ -142,7 +142,7 @@ pub(crate) fn read_texts(
 impl Heard {
     /// What no message tells.
     pub(crate) fn nothing(alloc: Global) -> Heard
-        ensures none { (about : Option (List ℕ)) (kept : List Item) → Tells about kept [] result }
+        ensures { (about : Option (List ℕ)) (kept : List Item) → Tells about kept [] result }
     {
         Heard {
             count: 0,
