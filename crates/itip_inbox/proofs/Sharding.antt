@@ -214,6 +214,12 @@ items_both all front back first second items cut one two both = record {
       );
 }
 
+-- nothing is kept of nothing
+pub are_none : (state all : List Item) → state ≡ [] → all ≡ [] → AreKept state all
+are_none state all empty none =
+    subst (λ (xs : List Item). AreKept xs all) (sym empty) (subst (λ (xs : List Item). AreKept [] xs) (sym none)
+    (λ i. (λ h. absurd (none_in i h), λ (kept : IsKept [] i). absurd (none_in i kept.best.is_heard))))
+
 -- one state more is merged into what is kept of those behind it
 pub merged_one : (state now behind one : List Item) → AreKept state behind → AreKept now (state ++ one) → AreKept now (one ++ behind)
 merged_one state now behind one keeps merged =

@@ -120,10 +120,11 @@ impl Shards {
     {
         let Shards { mut shards } = self;
         let alloc = *shards.allocator();
-        let mut whole = match shards.pop() {
-            Some(shard) => shard.state,
-            None => State::empty(alloc),
+        let Some(last) = shards.pop() else {
+            return Ok(State::empty(alloc));
         };
+        let Shard { state, .. } = last;
+        let mut whole = state;
         whole.lawful();
         while let Some(shard) = shards.pop() {
             whole.merge(&shard.state)?;

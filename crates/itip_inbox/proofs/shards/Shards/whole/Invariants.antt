@@ -11,3 +11,6 @@ invariant-loop-shard l = record {
   keeps : AreKept l.whole behind;
   all : kept_in l.shards.items ++ behind ≡ l.fn.self;
 }
+
+abbrev pub decreases-loop-shard : goal.decreases-loop-shard
+decreases-loop-shard l = goal.left-loop-shard l
