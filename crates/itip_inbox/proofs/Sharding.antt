@@ -1,6 +1,8 @@
 -- What is kept in shards is what is kept of all.
 use Rattle.std.proofs.Common.{◌≡◌, ◌∙◌, ◌↔◌, ◌<◌, ◌%◌, sym, ap, subst, refl, ℕ, zero, suc, List, [], ◌∷◌, ◌++◌, length, slice_index_or}
 use Rattle.std.proofs.Common.{inl, inr, ◌⊎◌, ◌||◌, arith, Bool, true, false, append_assoc, append-nil, nat_eq}
+use Rattle.std.proofs.Common.{Result, Ok, Err}
+use Rattle.std.specs.Prelude.{OnOk, is_err}
 use Rattle.std.specs.List.{Contains, filter, list_any}
 use Rattle.std.proofs.lemmas.List.Elements.{Contains-append_cases, Contains-append_left, Contains-append_right}
 use Rattle.std.proofs.lemmas.Nat.{mod_below}
@@ -85,6 +87,11 @@ first_false false b e = refl
 second_false : (a b : Bool) → (a || b) ≡ false → b ≡ false
 second_false true b e = absurd (cc)
 second_false false b e = e
+
+-- what holds on `Ok` holds where there is no `Err`
+pub on_no_err : {P : Type 0} {T E : Type 0} (r : Result T E) → is_err r ≡ false → OnOk r P → P
+on_no_err (Ok x) none holds = holds
+on_no_err (Err x) none holds = absurd (cc)
 
 -- ---- the items of shards
 
