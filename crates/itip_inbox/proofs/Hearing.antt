@@ -169,18 +169,18 @@ keeps_beside about before more old new news refusals told keeps beside kept note
 
 -- ---- what messages tell, and how many they are
 
-pub heard_none : (about : Option (List ℕ)) (kept : List Item) (heard : Heard) → heard.count ≡ 0 → heard.news.items ≡ [] →
+pub none_tells : (about : Option (List ℕ)) (kept : List Item) (heard : Heard) → heard.count ≡ 0 → heard.news.items ≡ [] →
     heard.refusals.items ≡ [] → heard.told.items ≡ [] → Tells about kept [] heard
-heard_none about kept heard none no_news unrefused untold = record {
+none_tells about kept heard none no_news unrefused untold = record {
   beside = beside_none about kept heard.news.items heard.refusals.items heard.told.items no_news unrefused untold;
   count_is = none;
 }
 
-pub heard_both : (about : Option (List ℕ)) (kept : List Item) (before after : List Placed) (one two all : Heard) →
+pub both_tell : (about : Option (List ℕ)) (kept : List Item) (before after : List Placed) (one two all : Heard) →
     all.count ≡ one.count + two.count → all.news.items ≡ one.news.items ++ two.news.items →
     all.refusals.items ≡ one.refusals.items ++ two.refusals.items → all.told.items ≡ one.told.items ++ two.told.items →
     Tells about kept before one → Tells about kept after two → Tells about kept (before ++ after) all
-heard_both about kept before after one two all count news refusals told first second =
+both_tell about kept before after one two all count news refusals told first second =
     let long : length (before ++ after) ≡ length before + length after = length-append before after in
     let front : one.count ≡ length before = first.count_is in
     let back : two.count ≡ length after = second.count_is in
@@ -198,10 +198,10 @@ module _ (about : Option (List ℕ)) (kept : List Item) (source next : ℕ) (tex
       let counted : old.count ≡ length texts = so_far.count_is ∙ length_placed source 1 texts in
       omega (arith, is, counted)
 
-  pub heard_one : (new : Heard) → new.count ≡ next →
+  pub one_tells : (new : Heard) → new.count ≡ next →
       TellBeside about kept (placed_from source 1 texts ++ (record { source = source; message = next; text = text }) ∷ [])
       new.news.items new.refusals.items new.told.items → Tells about kept (placed_from source 1 (texts ++ text ∷ [])) new
-  heard_one new count beside =
+  one_tells new count beside =
       let long : length (placed_from source 1 (texts ++ text ∷ [])) ≡ length texts + 1 =
       length_placed source 1 (texts ++ text ∷ []) ∙ length-append texts (text ∷ []) in
       let number : next ≡ 1 + length texts = next_number in
@@ -212,11 +212,11 @@ module _ (about : Option (List ℕ)) (kept : List Item) (source next : ℕ) (tex
       }
 
 -- so many others come before
-pub heard_behind : (about : Option (List ℕ)) (kept : List Item) (source first count : ℕ) (texts : List (List ℕ)) (old new : Heard) →
+pub behind_tell : (about : Option (List ℕ)) (kept : List Item) (source first count : ℕ) (texts : List (List ℕ)) (old new : Heard) →
     new.count ≡ old.count → new.news.items ≡ old.news.items →
     new.refusals.items ≡ map (later_refusal count) old.refusals.items → new.told.items ≡ map (later_told count) old.told.items →
     Tells about kept (placed_from source first texts) old → Tells about kept (placed_from source (first + count) texts) new
-heard_behind about kept source first count texts old new same news refusals told tells = record {
+behind_tell about kept source first count texts old new same news refusals told tells = record {
   beside = subst (λ (ns : List Item). TellBeside about kept (placed_from source (first + count) texts) ns new.refusals.items new.told.items)
       (sym news) (beside_behind about kept source first count texts old.news.items old.refusals.items new.refusals.items old.told.items
       new.told.items refusals told tells.beside);
@@ -315,8 +315,8 @@ got_more about before old now new texts source messages none keeps =
     (subst (λ (n : ℕ). KeepsMessages about (before ++ placed_from now.source (n + 1) texts) new) messages keeps))
 
 -- messages that were numbered from 1 come behind those that were heard
-pub heard_next : (about : Option (List ℕ)) (kept : List Item) (source count : ℕ) (texts : List (List ℕ)) (heard : Heard) →
+pub next_tells : (about : Option (List ℕ)) (kept : List Item) (source count : ℕ) (texts : List (List ℕ)) (heard : Heard) →
     Tells about kept (placed_from source (1 + count) texts) heard → Tells about kept (placed_from source (count + 1) texts) heard
-heard_next about kept source count texts heard tells =
+next_tells about kept source count texts heard tells =
     let same : 1 + count ≡ count + 1 = omega arith in
     subst (λ (n : ℕ). Tells about kept (placed_from source n texts) heard) same tells

@@ -62,12 +62,12 @@ news_both kept xs ys news more one two = record {
   ];
 }
 
+pub kept_among : (kept heard : List Item) → AreKept kept heard → AreAmong kept heard
+kept_among kept heard are i h = ((are i).0 h).best.is_heard
+
 -- what is kept of what was kept and of what is news beside it
 pub keeps_more : (old new heard items news : List Item) → AreKept old heard → AreNews old items news → AreKept new (old ++ news) →
     AreKept new (heard ++ items)
 keeps_more old new heard items news keeps are kept =
     keeps_news old new heard items news (kept_among old heard keeps) are
     (are_kept_by new (old ++ news) (heard ++ news) (kept_beside heard news old keeps) kept)
-
-pub kept_among : (kept heard : List Item) → AreKept kept heard → AreAmong kept heard
-kept_among kept heard are i h = ((are i).0 h).best.is_heard

@@ -3,12 +3,12 @@ use Rattle.std.specs.Option.{option_copied}
 use Rattle.itip_items.specs.declared.item.Item.{Item}
 use Rattle.itip_inbox.specs.Following.{items_about, told_in}
 use Rattle.itip_inbox.specs.Inbox.{placed_from}
-use Rattle.itip_inbox.proofs.Hearing.{beside_items, beside_refusal, heard_one}
+use Rattle.itip_inbox.proofs.Hearing.{beside_items, beside_refusal, one_tells}
 use Rattle.itip_inbox.proofs.texts.Heard.add.Goals as goal
 
 pub returns-in-Ok-clause-tells : goal.returns-in-Ok-clause-tells
 returns-in-Ok-clause-tells c = λ texts so_far.
-    heard_one (option_copied c.args.about) c.args.kept.now c.args.source c.in_ok-message.message texts c.args.text.now c.args.self.now so_far
+    one_tells (option_copied c.args.about) c.args.kept.now c.args.source c.in_ok-message.message texts c.args.text.now c.args.self.now so_far
     c.in_ok-message.ensures.sum _ refl
     (beside_items (option_copied c.args.about) c.args.kept.now (placed_from c.args.source 1 texts) c.args.self.now.news.items
     c.args.self.now.refusals.items c.args.self.now.told.items so_far.beside
@@ -20,7 +20,7 @@ returns-in-Ok-clause-tells c = λ texts so_far.
 
 pub returns-in-Err-Refused-clause-tells : goal.returns-in-Err-Refused-clause-tells
 returns-in-Err-Refused-clause-tells c = λ texts so_far.
-    heard_one (option_copied c.args.about) c.args.kept.now c.args.source c.in_ok-message.message texts c.args.text.now c.args.self.now so_far
+    one_tells (option_copied c.args.about) c.args.kept.now c.args.source c.in_ok-message.message texts c.args.text.now c.args.self.now so_far
     c.in_ok-message.ensures.sum _ refl
     (beside_refusal (option_copied c.args.about) c.args.kept.now (placed_from c.args.source 1 texts) c.args.self.now.news.items
     c.args.self.now.refusals.items c.args.self.now.told.items so_far.beside
