@@ -228,10 +228,16 @@ fn let_wait(
     ensures fault { IfErr result (λ fault. fault ≢ StreamFault.Write) }
 {
     inbox.wait(octets)?;
-    if inbox.octets < SHARE.saturating_mul(threads) {
+    if is_less(inbox.octets, threads) {
         return Ok(());
     }
-    inbox.hear_waiting(rt, alloc, about, threads)
+    inbox.hear_waiting(rt, alloc, about, threads)?;
+    Ok(())
+}
+
+/// Whether so many octets are less than a share for each thread.
+fn is_less(octets: usize, threads: usize) -> bool {
+    octets < SHARE.saturating_mul(threads)
 }
 
 /// Hears all messages of what is held, where nothing follows.
@@ -250,9 +256,28 @@ fn hear_all(
     ensures source { OnOk result (inbox.new.source ≡ inbox.old.source) }
     ensures fault { IfErr result (λ fault. fault ≢ StreamFault.Write) }
 {
-    if !held.is_long {
-        return inbox.hear(rt, alloc, held.octets.as_slice(), about, threads);
+    if held.is_long {
+        return hear_long(inbox, rt, alloc, held, about, threads);
     }
+    inbox.hear(rt, alloc, held.octets.as_slice(), about, threads)
+}
+
+/// Hears all messages of what is held, as [`hear_all`] does, on one thread: the first may be too long.
+fn hear_long(
+    inbox: &mut OpenInbox,
+    rt: &(impl Threads + Sync),
+    alloc: Global,
+    held: &Held,
+    about: Option<&Uid>,
+    threads: usize,
+) -> Result<(), StreamFault>
+    ensures hears { OnOk result ((came : List ℕ) → IsHeld held.now.is_long held.now.octets.items came →
+        (before : List Placed) → HasGot (option_copied about.entry) before inbox.old →
+        HasGot (option_copied about.entry)
+        (before ++ placed_from inbox.old.source (inbox.old.messages + 1) (messages_of came)) inbox.new) }
+    ensures source { OnOk result (inbox.new.source ≡ inbox.old.source) }
+    ensures fault { IfErr result (λ fault. fault ≢ StreamFault.Write) }
+{
     let texts = all_messages(alloc, held.octets.as_slice())?;
     hear_texts(
         inbox,

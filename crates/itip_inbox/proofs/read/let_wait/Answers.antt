@@ -1,13 +1,12 @@
 use Rattle.std.proofs.Common.{◌++◌}
 use Rattle.std.specs.Option.{option_copied}
-use Rattle.std.proofs.lemmas.Result.{on_ok_weaker}
 use Rattle.itip_message.specs.Scanned.{messages_of}
 use Rattle.itip_inbox.specs.Inbox.{placed_from}
 use Rattle.itip_inbox.proofs.Hearing.{got_now}
 use Rattle.itip_inbox.proofs.read.let_wait.Goals as goal
 
-pub returns-then-octets-clause-waits : goal.returns-then-octets-clause-waits
-returns-then-octets-clause-waits g c = c.in_ok-wait.ensures.keeps (option_copied c.args.about)
+pub returns-then-is_less-clause-waits : goal.returns-then-is_less-clause-waits
+returns-then-is_less-clause-waits g c = c.in_ok-wait.ensures.keeps (option_copied c.args.about)
 
 pub returns-clause-waits : goal.returns-clause-waits
 returns-clause-waits g c = λ before got.
