@@ -71,7 +71,7 @@ impl<'a, R: AllocGlobal + Eprint> Teller<'a, R> {
     /// Shows how much was read, where that is asked for and more was read than was shown.
     pub(crate) fn show_progress(&mut self) {
         let Progress { messages, octets } = self.progress;
-        if self.is_shown && octets > self.shown.octets {
+        if self.is_shown && (octets > self.shown.octets || messages > self.shown.messages) {
             let _ = eprintln!(self.rt; "{messages} messages, {octets} octets");
             self.shown = self.progress;
         }

@@ -1,5 +1,7 @@
 mod Answered
+mod Behind
 mod Hearing
+mod Sharding
 mod HeldParts
 mod Keeping
 mod Streams

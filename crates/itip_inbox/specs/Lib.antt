@@ -13,4 +13,7 @@ pub mod Following
 pub mod Explaining
 pub mod Sending
 pub mod Shown
+pub mod Placing
+pub mod ShardOf
+pub mod Shards
 pub mod Streaming

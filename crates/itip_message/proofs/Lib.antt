@@ -13,6 +13,7 @@ pub mod Messages
 pub mod OneCut
 pub mod OneDraft
 pub mod OneMessage
+pub mod Parted
 pub mod Placing
 pub mod Plain
 pub mod Properties

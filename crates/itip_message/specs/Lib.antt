@@ -12,3 +12,4 @@ pub mod Cutting
 pub mod Scanned
 pub mod Passing
 pub mod Begun
+pub mod Parting

@@ -12,6 +12,8 @@ mod error;
 mod frame;
 mod head;
 mod laws;
+
+mod parting;
 mod read;
 mod sort;
 
@@ -22,6 +24,7 @@ pub use draft::read_draft;
 pub use error::{MessageCause, MessageRefusal, ReadError};
 pub use frame::Placed;
 pub use laws::{message_cutting, one_draft, one_reading, read_again, read_as_before};
+pub use parting::part_messages;
 pub use read::read_message;
 pub use sort::Component;
 pub use std::alloc::AllocError as NoMemory;

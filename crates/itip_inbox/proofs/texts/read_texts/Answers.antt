@@ -1,28 +1,26 @@
-use Rattle.std.proofs.Common.{ap, ◌∙◌, map, subst, Bor, List, ℕ, Option}
-use Rattle.std.specs.List.{AllZip}
+use Rattle.std.proofs.Common.{◌≡◌, ◌∙◌, ◌+◌, sym, ap, subst, ℕ, List, [], ◌∷◌, ◌++◌, map, take, Bor}
 use Rattle.std.specs.Option.{option_copied}
-use Rattle.rayon.proofs.ListFacts.{IfOk-then}
-use Rattle.rayon.proofs.ToStd.{slice-AllZip}
-use Rattle.rayon.specs.Lists.{iter_slice, min_len_base, map_f}
-use Rattle.itip_items.specs.declared.item.Item.{Item}
-use Rattle.itip_inbox.specs.Streaming.{MayTell}
-use Rattle.itip_inbox.proofs.Hearing.{answers_of}
+use Rattle.std.proofs.lemmas.List.{take_more, take_all, map-append}
+use Rattle.itip_inbox.specs.Inbox.{placed_from}
+use Rattle.itip_inbox.specs.Streaming.{Tells}
 use Rattle.itip_inbox.proofs.texts.read_texts.Goals as goal
 
-pub returns : goal.returns
-returns g c =
-    let slice = ap (λ it. iter_slice (min_len_base it)) c.map.ensures.base ∙ ap (λ it. iter_slice it) c.with_min_len.ensures.base ∙
-    c.par_iter.ensures in
-    -- the state and the UID that the closure holds are those given
-    let held = ap (λ f. (f.1).now) c.map.ensures.f in
-    let followed = ap (λ f. option_copied (f.2).now) c.map.ensures.f in
-    let kept_by : List Item = ((map_f c.map.result).1).now in
-    let about_by : Option (List ℕ) = option_copied ((map_f c.map.result).2).now in
-    IfOk-then c.collect.result _ _ c.collect.ensures (λ v h.
-    let chain = h.1 in
-    let told = slice-AllZip chain.0 c.args.texts.now (chain.1 ∙ slice)
-    (λ (t : Bor (List ℕ)) a. MayTell about_by kept_by t.now a) h.0 chain.2 in
-    rw h.2 (subst (λ (kept : List Item). AllZip (MayTell (option_copied c.args.about) kept)
-    (map (λ (t : Bor (List ℕ)). t.now) c.args.texts.now) h.0) held
-    (subst (λ (about : Option (List ℕ)). AllZip (MayTell about kept_by) (map (λ (t : Bor (List ℕ)). t.now) c.args.texts.now) h.0) followed
-    (answers_of about_by kept_by c.args.texts.now h.0 told))))
+pub loop-text-init : goal.loop-text-init
+loop-text-init c = c.nothing-heard.ensures (option_copied c.args.about) c.args.kept.now
+
+pub loop-text-preserved : goal.loop-text-preserved
+loop-text-preserved c =
+    let at : ℕ = c.loop-text.text-index in
+    let now : Bor (List ℕ) → List ℕ = λ (t : Bor (List ℕ)). t.now in
+    let is : take (at + 1) c.args.texts.now ≡ take at c.args.texts.now ++ c.item-text.result ∷ [] =
+    take_more c.args.texts.now at c.item-text.result c.loop-text-test.true ∙
+    ap (λ (t : Bor (List ℕ)). take at c.args.texts.now ++ t ∷ []) (sym c.item-text.is) in
+    subst (λ (ts : List (List ℕ)). Tells (option_copied c.args.about) c.args.kept.now (placed_from c.args.source 1 ts) c.add.new.self)
+    (sym (ap (map now) is ∙ map-append now (take at c.args.texts.now) (c.item-text.result ∷ [])))
+    (c.in_ok-add.ensures.tells (map now (take at c.args.texts.now)) c.loop-text.invariant)
+
+pub returns-clause-tells : goal.returns-clause-tells
+returns-clause-tells c =
+    subst (λ (ts : List (Bor (List ℕ))). Tells (option_copied c.args.about) c.args.kept.now
+    (placed_from c.args.source 1 (map (λ text. text.now) ts)) c.loop-text.heard)
+    (take_all c.loop-text.text-index c.args.texts.now c.loop-text-test.false) c.loop-text.invariant
