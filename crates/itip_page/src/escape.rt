@@ -13,10 +13,17 @@ pub fn put_escaped(out: &mut Vec<u8>, text: &[u8]) -> Result<(), AllocError>
     ensures ok { OnOk result (out.new.items ≡ out.old.items ++ escaped text.now) }
     ensures err { OnErr result (out.new.items ≡ out.old.items) }
 {
-    let shown = visible_octets(*out.allocator(), text)?;
-    let mut markup = Vec::with_capacity(*out.allocator(), shown.len())?;
-    put_octets(&mut markup, &shown)?;
+    let mut markup = Vec::with_capacity(*out.allocator(), text.len())?;
+    put_text(&mut markup, text)?;
     out.extend_from_slice(markup.as_slice())
+}
+
+/// Appends a text so; where memory is refused, perhaps a part of it.
+fn put_text(out: &mut Vec<u8>, text: &[u8]) -> Result<(), AllocError>
+    ensures { OnOk result (out.new.items ≡ out.old.items ++ escaped text.now) }
+{
+    let shown = visible_octets(*out.allocator(), text)?;
+    put_octets(out, shown.as_slice())
 }
 
 fn put_octets(out: &mut Vec<u8>, octets: &[u8]) -> Result<(), AllocError>
