@@ -209,11 +209,8 @@ module _ (days style count today rows : List Token) where
       (both (both head_pieces (both (piece line_end) (both body_pieces (piece line_end)))) (piece after_html))
       (piece line_end))
 
-  same_pieces : joined read_pieces ≡ joined document_pieces
-  same_pieces = regrouped read_pieces document_pieces refl
-
-  document_is : joined document_pieces ≡ document_tokens days style count today rows
-  document_is = refl
+  same_document : joined read_pieces ≡ document_tokens days style count today rows
+  same_document = regrouped read_pieces document_pieces refl
 
 -- ---- its parts
 
@@ -261,7 +258,7 @@ page_read window today rows =
     (then_reads (title_read window)
     (then_reads (heading_read window) (then_reads (counted_read today.number today.in_years (length rows)) columns_read)))
     (then_reads (each_reads (row_markup today.number) (row_tokens today.number) data_state (row_read today.number) rows) closing_read) in
-    as_tokens (page_tokens window today.number rows) (same_pieces days style_text count number items) reads
+    as_tokens (page_tokens window today.number rows) (same_document days style_text count number items) reads
 
 -- ---- as laws
 

@@ -18,7 +18,7 @@ pub fn put_escaped(out: &mut Vec<u8>, text: &[u8]) -> Result<(), AllocError>
     out.extend_from_slice(markup.as_slice())
 }
 
-/// Appends a text so; where memory is refused, perhaps a part of it.
+/// Appends an escaped text; where memory is refused, perhaps a part of it.
 fn put_text(out: &mut Vec<u8>, text: &[u8]) -> Result<(), AllocError>
     ensures { OnOk result (out.new.items ≡ out.old.items ++ escaped text.now) }
 {
