@@ -13,7 +13,7 @@ use Rattle.itip_page.specs.Page.{page_markup}
 use Rattle.itip_page.specs.PageTokens.{characters, line_end, attribute, void, meta_tokens, column, column_names, style_sheet, style_text}
 use Rattle.itip_page.specs.PageTokens.{document_tokens, page_tokens, row_tokens, is_of_page, fetches_nothing}
 use Rattle.itip_page.specs.RowMarkup.{row_markup}
-use Rattle.itip_page.specs.Tokens.{State, data_state, rcdata, rawtext, Token, doctype, start_tag, end_tag, character, Run, run, tokens}
+use Rattle.itip_page.specs.Tokens.{State, data_state, rcdata, rawtext, Token, doctype, start_tag, end_tag, character, Reached, run, tokens}
 use Rattle.itip_page.specs.Tokens.{ended_in}
 use Rattle.itip_page.specs.declared.frame.TheConstants.{OPENING, COLUMNS, CLOSING}
 use Rattle.itip_page.specs.declared.style.TheConstants.{STYLE}
@@ -265,7 +265,7 @@ page_read window today rows =
 pub page_tokens_are : (window : Window) (today : Day) (rows : List Row) →
     tokens (page_markup window today.number rows) ≡ Some (page_tokens window today.number rows)
 page_tokens_are window today rows =
-    ap (option_and_then (λ (last : Run). ended_in last.state last.given)) (page_read window today rows).read
+    ap (option_and_then (λ (last : Reached). ended_in last.state last.given)) (page_read window today rows).read
 
 pub page_names_are : (window : Window) (today : Day) (rows : List Row) → list_all is_of_page (page_tokens window today.number rows) ≡ true
 page_names_are window today rows = (page_read window today rows).known

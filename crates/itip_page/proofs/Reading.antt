@@ -5,35 +5,35 @@ use Rattle.std.specs.List.{flat_map, list_all}
 use Rattle.std.specs.Option.{option_and_then}
 use Rattle.std.proofs.lemmas.Bool.{and_from, and_parts, ne_eqb}
 use Rattle.std.proofs.lemmas.List.Folds.{list_all-append}
-use Rattle.itip_page.specs.Tokens.{State, data_state, rcdata, rawtext, attribute_value, Run, ran, Token, character, Tag, step, run}
+use Rattle.itip_page.specs.Tokens.{State, data_state, rcdata, rawtext, attribute_value, Reached, ran, Token, character, Tag, step, run}
 use Rattle.itip_page.specs.Tokens.{given_before, IsReadAs}
 use Rattle.itip_page.specs.PageTokens.{characters, is_of_page}
 use Rattle.itip_page.proofs.Itself.{is_itself, differs}
 
 -- ---- one source behind another
 
-given_none : (o : Option Run) → option_map (given_before []) o ≡ o
+given_none : (o : Option Reached) → option_map (given_before []) o ≡ o
 given_none None = refl
 given_none (Some last) = refl
 
-given_twice : (front back : List Token) (o : Option Run) →
+given_twice : (front back : List Token) (o : Option Reached) →
     option_map (given_before front) (option_map (given_before back) o) ≡ option_map (given_before (front ++ back)) o
 given_twice front back None = refl
 given_twice front back (Some last) =
     ap (λ (given : List Token). Some (ran last.state given)) (sym (append_assoc front back last.given))
 
 -- what a source gives behind a run
-abbrev onwards : List ℕ → Run → Option Run
+abbrev onwards : List ℕ → Reached → Option Reached
 onwards source next = option_map (given_before next.given) (run next.state source)
 
-moved : (given : List Token) (source : List ℕ) (o : Option Run) →
+moved : (given : List Token) (source : List ℕ) (o : Option Reached) →
     option_map (given_before given) (option_and_then (onwards source) o) ≡
     option_and_then (onwards source) (option_map (given_before given) o)
 moved given source None = refl
 moved given source (Some next) = given_twice given next.given (run next.state source)
 
 stepped : (source more : List ℕ) →
-    ((state : State) → run state (source ++ more) ≡ option_and_then (onwards more) (run state source)) → (o : Option Run) →
+    ((state : State) → run state (source ++ more) ≡ option_and_then (onwards more) (run state source)) → (o : Option Reached) →
     option_and_then (onwards (source ++ more)) o ≡ option_and_then (onwards more) (option_and_then (onwards source) o)
 stepped source more so None = refl
 stepped source more so (Some next) =
@@ -150,7 +150,7 @@ module _ (tag : Tag) (name : List ℕ) where
       ) refl
 
   -- more of the value
-  abbrev grown : List ℕ → Option Run
+  abbrev grown : List ℕ → Option Reached
   grown value = Some (ran (attribute_value tag name value) [])
 
   value_stays : (text : List ℕ) → list_all is_itself text ≡ true → (value : List ℕ) →

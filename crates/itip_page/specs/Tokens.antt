@@ -58,19 +58,19 @@ pub data State : Type 0 where
   reference : State → List ℕ → State
 
 -- A state, and the tokens that were given out on the way to it.
-pub record Run : Type 0 where
+pub record Reached : Type 0 where
   pub state : State
   pub given : List Token
 
-abbrev pub ran : State → List Token → Run
+abbrev pub ran : State → List Token → Reached
 ran state given = record { state = state; given = given }
 
 -- to this state
-abbrev pub goes : State → Option Run
+abbrev pub goes : State → Option Reached
 goes state = Some (ran state [])
 
 -- to this state, and a token is given out
-abbrev pub gives : State → Token → Option Run
+abbrev pub gives : State → Token → Option Reached
 gives state token = Some (ran state (token ∷ []))
 
 -- ---- names
@@ -93,10 +93,10 @@ state_in name =
     else (if is_among (codes "style" ∷ []) name then Some (rawtext name)
     else (if is_among element_names name then Some data_state else None))
 
-abbrev pub gives_start : Tag → Option Run
+abbrev pub gives_start : Tag → Option Reached
 gives_start tag = option_map (λ (state : State). ran state (start_tag tag.name tag.attributes ∷ [])) (state_in tag.name)
 
-abbrev pub gives_end : List ℕ → Option Run
+abbrev pub gives_end : List ℕ → Option Reached
 gives_end name = if is_among element_names name then gives data_state (end_tag name) else None
 
 abbrev pub with_attribute : Tag → List ℕ → List ℕ → Tag
@@ -134,20 +134,20 @@ abbrev pub is_replaced : ℕ → Bool
 is_replaced octet = octet == 0 || octet == 13
 
 -- a character is given out, or is one more of a value
-abbrev pub takes : State → ℕ → Option Run
+abbrev pub takes : State → ℕ → Option Reached
 takes data_state octet = gives data_state (character octet)
 takes (rcdata name) octet = gives (rcdata name) (character octet)
 takes (rawtext name) octet = gives (rawtext name) (character octet)
 takes (attribute_value tag name value) octet = goes (attribute_value tag name (value ++ octet ∷ []))
 takes _ octet = None
 
-abbrev pub takes_itself : State → ℕ → Option Run
+abbrev pub takes_itself : State → ℕ → Option Reached
 takes_itself state octet = if is_replaced octet then None else takes state octet
 
 -- ---- one octet
 
 -- 34 is a quote, 38 an ampersand, 47 a slash, 59 a semicolon; 60, 61 and 62 are `<`, `=` and `>`; 33 is an exclamation mark
-abbrev pub step : State → ℕ → Option Run
+abbrev pub step : State → ℕ → Option Reached
 step data_state octet =
     if octet == 38 then goes (reference data_state [])
     else (if octet == 60 then goes tag_open else takes_itself data_state octet)
@@ -192,14 +192,14 @@ step (reference state name) octet =
 -- ---- a source
 
 -- these tokens were given out before
-abbrev pub given_before : List Token → Run → Run
+abbrev pub given_before : List Token → Reached → Reached
 given_before given last = ran last.state (given ++ last.given)
 
 -- from a state over a source; none where it has another form
-unfoldable pub run : State → List ℕ → Option Run
+unfoldable pub run : State → List ℕ → Option Reached
 run state [] = Some (ran state [])
 run state (octet ∷ source) =
-    option_and_then (λ (next : Run). option_map (given_before next.given) (run next.state source)) (step state octet)
+    option_and_then (λ (next : Reached). option_map (given_before next.given) (run next.state source)) (step state octet)
 
 -- In this state a source is read as these tokens, and behind it the state is that one.
 abbrev pub IsReadAs : State → List ℕ → List Token → State → Type 0
@@ -212,7 +212,7 @@ ended_in _ given = None
 
 -- the tokens of a document
 abbrev pub tokens : List ℕ → Option (List Token)
-tokens source = option_and_then (λ (last : Run). ended_in last.state last.given) (run data_state source)
+tokens source = option_and_then (λ (last : Reached). ended_in last.state last.given) (run data_state source)
 
 -- ---- escaped texts
 
