@@ -1,6 +1,6 @@
 use Rattle.std.proofs.Common.{◌≡◌, ◌++◌, length}
 use Rattle.itip_page.specs.Value.{behind, lines_of, lines_markup, value_markup}
-use Rattle.itip_page.proofs.value.put_value.Given as goal
+use Rattle.itip_page.proofs.value.put_lines.Given as goal
 
 abbrev pub invariant-loop-shown : goal.invariant-loop-shown
 invariant-loop-shown l =
