@@ -24,5 +24,5 @@ pub use error::DeskError;
 pub use laws::{delta_brings_up_to_date, delta_read_again, desks_converge, one_delta};
 pub use listed::write_head;
 pub use refusal::Refusal;
-pub use row_writing::{write_listed, write_rows};
+pub use row_writing::{write_listed, write_rows, write_some_rows};
 pub use std::alloc::AllocError as NoMemory;

@@ -18,7 +18,8 @@ mod Paging
 mod Explaining
 mod Sending
 mod Showing
-mod Recording
+mod CsvText
+mod JsonText
 mod Reporting
 mod SameTold
 mod PartsByUid

@@ -1,7 +1,7 @@
 use Rattle.std.proofs.Common.{◌++◌, take}
 use Rattle.std.specs.List.{flat_map}
 use Rattle.itip_streams.specs.Written.{MovesOut}
-use Rattle.itip_desk.proofs.row_writing.write_each.Given as goal
+use Rattle.itip_desk.proofs.row_writing.write_some_rows.Given as goal
 
 abbrev pub invariant-loop-row : goal.invariant-loop-row
 invariant-loop-row g l =

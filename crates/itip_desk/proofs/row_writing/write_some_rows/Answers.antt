@@ -5,8 +5,8 @@ use Rattle.itip_streams.specs.Written.{AppendsFront, MovesOut}
 use Rattle.itip_streams.proofs.Writing.{front_none, moves_on}
 use Rattle.itip_view.specs.declared.row.Row.{Row}
 use Rattle.itip_desk.proofs.WritingRows.{on_err, texts_none, texts_more, texts_front}
-use Rattle.itip_desk.proofs.row_writing.write_each.Goals as goal
-use Rattle.itip_desk.proofs.row_writing.write_each.Goals.{In_ok-put}
+use Rattle.itip_desk.proofs.row_writing.write_some_rows.Goals as goal
+use Rattle.itip_desk.proofs.row_writing.write_some_rows.Goals.{In_ok-put}
 
 -- the text of one row more is kept
 more : (g : _) (c : In_ok-put g)
