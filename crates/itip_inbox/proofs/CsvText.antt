@@ -60,7 +60,7 @@ same_fields [] = refl
 same_fields (field ∷ fields) = ap₂ (λ a b. 44 ∷ (a ++ b)) (same_field field) (same_fields fields)
 
 -- a record of two fields and more
-same_record : (record : List (List ℕ)) → 2 ≤ length record → row_text default_writer record ≡ record_text record
+same_record : (fields : List (List ℕ)) → 2 ≤ length fields → row_text default_writer fields ≡ record_text fields
 unfolding is_blank
 same_record [] long = absurd (omega arith)
 same_record (one ∷ []) long = absurd (omega arith)
@@ -70,16 +70,16 @@ same_record (one ∷ two ∷ fields) long =
 
 abbrev AreLong : List (List (List ℕ)) → Type 0
 AreLong [] = Unit {0}
-AreLong (record ∷ records) = (2 ≤ length record) × AreLong records
+AreLong (one ∷ records) = (2 ≤ length one) × AreLong records
 
 long_append : (some more : List (List (List ℕ))) → AreLong some → AreLong more → AreLong (some ++ more)
 long_append [] more first second = second
-long_append (record ∷ some) more first second = (first.0, long_append some more first.1 second)
+long_append (one ∷ some) more first second = (first.0, long_append some more first.1 second)
 
 same_text : (all : List (List (List ℕ))) → AreLong all → rows_text all ≡ records_text all
 unfolding rows_text
 same_text [] long = refl
-same_text (record ∷ all) long = ap₂ (λ a b. a ++ b) (same_record record long.0) (same_text all long.1)
+same_text (one ∷ all) long = ap₂ (λ a b. a ++ b) (same_record one long.0) (same_text all long.1)
 
 same_back : (all : List (List (List ℕ))) → AreLong all → map read_back all ≡ all
 same_back [] long = refl
@@ -96,16 +96,21 @@ nothing_left (suc n) = refl
 read_more : (all : List (List (List ℕ))) (n : ℕ) → records_from default_config (length all + n) st.StartRecord (rows_text all) ≡ map read_back all
 unfolding records_from rows_text
 read_more [] n = rw zero-add (nothing_left n)
-read_more (record ∷ all) n =
-    rw (suc-add, read-write record (rows_text all)) (ap (λ (t : List (List (List ℕ))). read_back record ∷ t) (read_more all n))
+read_more (one ∷ all) n =
+    rw (suc-add, read-write one (rows_text all)) (ap (λ (t : List (List (List ℕ))). read_back one ∷ t) (read_more all n))
 
 -- each record has an end
 as_long : (all : List (List (List ℕ))) → length all ≤ length (records_text all)
 as_long [] = omega arith
 as_long ([] ∷ all) = omega (arith, as_long all)
 as_long ((field ∷ fields) ∷ all) =
-    omega (arith, as_long all, length-append (record_text (field ∷ fields)) (records_text all),
-    length-append (field_text field) (fields_behind fields ++ 10 ∷ []), length-append (fields_behind fields) (10 ∷ []))
+    omega (
+      arith,
+      as_long all,
+      length-append (record_text (field ∷ fields)) (records_text all),
+      length-append (field_text field) (fields_behind fields ++ 10 ∷ []),
+      length-append (fields_behind fields) (10 ∷ []),
+    )
 
 -- what is written of records is read as these records, and nothing else
 read_again : (all : List (List (List ℕ))) → AreLong all → records default_config (records_text all) ≡ all

@@ -100,17 +100,50 @@ attendees_deep (attendee ∷ attendees) = omega (arith, attendees_deep attendees
 
 row_deep : (row : Row) → depth (row_object row) ≤ max_depth
 row_deep row =
-    omega (arith, flat_text (row_name row.id), flat_text (option_map status_text row.status), flat row.percent, flat row.priority,
-    flat_text (option_map shown_moment row.start), flat_text (option_map shown_moment row.due), flat_text row.summary,
-    attendees_deep row.attendees, flat row.progress)
+    omega (
+      arith,
+      flat_text (row_name row.id),
+      flat_text (option_map status_text row.status),
+      flat row.percent,
+      flat row.priority,
+      flat_text (option_map shown_moment row.start),
+      flat_text (option_map shown_moment row.due),
+      flat_text row.summary,
+      attendees_deep row.attendees,
+      flat row.progress,
+    )
 
 row_ok : (row : Row) → HasSmallNumbers row → HasNumbers (row_object row)
 row_ok row small = (
   tt,
-  (text_ok (row_name row.id), (IsNumber-decimal row.seq small.seq,
-  (text_ok (option_map status_text row.status), (number_ok row.percent small.percent, (number_ok row.priority small.priority,
-  (text_ok (option_map shown_moment row.start), (text_ok (option_map shown_moment row.due), (text_ok row.summary,
-  (attendees_ok row.attendees small.attendees, (number_ok row.progress small.progress, tt))))))))),
+  (
+    text_ok (row_name row.id),
+    (
+      IsNumber-decimal row.seq small.seq,
+      (
+        text_ok (option_map status_text row.status),
+        (
+          number_ok row.percent small.percent,
+          (
+            number_ok row.priority small.priority,
+            (
+              text_ok (option_map shown_moment row.start),
+              (
+                text_ok (option_map shown_moment row.due),
+                (
+                  text_ok row.summary,
+                  (
+                    attendees_ok row.attendees small.attendees,
+                    (number_ok row.progress small.progress, tt),
+                  ),
+                ),
+              ),
+            ),
+          ),
+        ),
+      ),
+    ),
+  ),
 )
 
 pub object_read : (row : Row) → HasSmallNumbers row → document (object_text row) ≡ Some (row_object row)
