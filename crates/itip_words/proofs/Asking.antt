@@ -2,16 +2,18 @@
 use Rattle.std.proofs.Common.{◌≡◌, ℕ, List, Bool, true, Option, Some, None, Result, Ok, Err, refl, sym, ap, subst, ◌∙◌}
 use Rattle.std.specs.Prelude.{IfOk, IfSome, IfNone, IsSomeAnd, MatchBool, ℤ, codes, is_some, nat_eq}
 use Rattle.std.specs.Borrow.{Bor}
-use Rattle.std.specs.Option.{option_copied}
+use Rattle.std.specs.Option.{option_copied, option_map}
 use Rattle.std.specs.Cmp.Lexicographic.{pointwise}
 use Rattle.std.proofs.lemmas.Slice.Eq.{bytes_eq-Decides}
 use Rattle.itip_moment.specs.Spelling.{IsDateText}
 use Rattle.itip_moment.specs.declared.stamp.Stamp.{Stamp}
 use Rattle.itip_view.specs.declared.window.Window.{Window}
-use Rattle.itip_words.specs.Asking.{IsDueDay, AsksScript, AsksWritten, AsksFilter, Asks}
+use Rattle.itip_words.specs.Asking.{IsDueDay, AsksScript, AsksWritten, AsksFilter, AsksMessage, AsksWho, Asks}
 use Rattle.itip_words.specs.Days.{is_today}
 use Rattle.itip_words.specs.Options.{Options, value_of, is_set}
 use Rattle.itip_words.specs.Words.{IsScriptedOf}
+use Rattle.itip_words.specs.Values.{address_of}
+use Rattle.itip_words.specs.declared.asked.Asked.{Asked}
 use Rattle.itip_words.specs.declared.filter.Filter.{Filter}
 use Rattle.itip_words.specs.declared.filter.Written.{Written}
 use Rattle.itip_words.specs.declared.words.Call.{Call}
@@ -101,3 +103,16 @@ module _ (options : Options) (clock : Option Stamp) where
   same_filter word filter r asks same =
       found_weaker (λ one. one ≡ filter) (AsksFilter word options clock) r
       (λ one e. subst (λ (f : Filter). AsksFilter word options clock f) (sym e) asks) same
+
+-- ---- messages
+
+module _ (options : Options) where
+  -- the message that is asked for by a word of this name
+  pub message_for : {E : Type 0} (name word : List ℕ) (r : Result (Option Asked) E) → word ≡ name →
+      IfOk r (λ found. IfSome found (AsksMessage name options)) → IfOk r (λ found. IfSome found (AsksMessage word options))
+  message_for name word r e h = subst (λ (w : List ℕ). IfOk r (λ found. IfSome found (AsksMessage w options))) (sym e) h
+
+  -- the attendee whose address was read of a text
+  pub who_asked : (text found : Option (List ℕ)) (one : List ℕ) → text ≡ value_of (codes "attendee") options →
+      found ≡ option_map address_of text → found ≡ Some one → AsksWho options one
+  who_asked text found one given is some = ap (option_map address_of) (sym given) ∙ sym is ∙ some

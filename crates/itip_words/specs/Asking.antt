@@ -104,8 +104,7 @@ pub record AsksListing (options : Options) (clock : Option Stamp) (listing : Lis
 -- one of the words for days is given
 abbrev pub names_days : Options → Bool
 names_days options =
-    is_some (value_of (codes "from") options) ||
-    (is_some (value_of (codes "to") options) || is_some (value_of (codes "today") options))
+    is_some (value_of (codes "from") options) || is_some (value_of (codes "to") options) || is_some (value_of (codes "today") options)
 
 -- The report of this name; only those of rows take days.
 pub record AsksReport (options : Options) (clock : Option Stamp) (reported : Reported) : Type 0 where

@@ -317,11 +317,13 @@ fn asked_report(words: &ArgMatches<'_>) -> Option<ReportName>
 {
     let text = value_of(words, "name")?;
     let name = read_report_name(text.as_bytes())?;
-    if name.is_of_rows() || !names_days(words) {
-        Some(name)
-    } else {
-        None
+    if name.is_of_rows() {
+        return Some(name);
     }
+    if names_days(words) {
+        return None;
+    }
+    Some(name)
 }
 
 /// Whether words name days, or the day that is taken for today.
