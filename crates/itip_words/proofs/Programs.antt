@@ -20,7 +20,7 @@ fold_one : (rules : List Rule) (rule : Rule) (app : App) → with_rules (rules +
 fold_one [] rule app = refl
 fold_one (first ∷ rules) rule app = fold_one rules rule (with_rule app first)
 
-module _ (old mid new : Command) (arg : Arg) (rule : Rule) (adds : AddsArg mid arg new) (is : IsRule rule arg) where
+module _ (mid new : Command) (arg : Arg) (rule : Rule) (adds : AddsArg mid arg new) (is : IsRule rule arg) where
   stays_local : (fields_of mid).has_globals ≡ false → (fields_of new).has_globals ≡ false
   stays_local none = adds.globals ∙ ap₂ (λ a b. a || b) none is.local
 
@@ -28,8 +28,8 @@ module _ (old mid new : Command) (arg : Arg) (rule : Rule) (adds : AddsArg mid a
   with_one = adds.shape is.local ∙ ap (with_rule (app_of mid)) is.rule_is
 
   -- one option more
-  pub adds_one : (rules : List Rule) → AddsRules rules old mid → AddsRules (rules ++ rule ∷ []) old new
-  adds_one rules before = record {
+  pub adds_one : (old : Command) (rules : List Rule) → AddsRules rules old mid → AddsRules (rules ++ rule ∷ []) old new
+  adds_one old rules before = record {
     app_is = with_one ∙ ap (λ (a : App). with_rule a rule) before.app_is ∙ sym (fold_one rules rule (app_of old));
     local = λ none. stays_local (before.local none);
   }
