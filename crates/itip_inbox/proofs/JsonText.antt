@@ -5,7 +5,7 @@ use Rattle.std.specs.Prelude.{IfSome, codes, option_map}
 use Rattle.std.specs.Fmt.{decimal}
 use Rattle.std.specs.List.{flat_map, AllByRecursion}
 use Rattle.std.proofs.lemmas.List.Concat.{flat_map-append}
-use Rattle.json.specs.Json.{Json, null, number, string, array, object, Items, item, Members, member, document, max_depth}
+use Rattle.json.specs.Json.{Json, null, number, string, array, object, Items, item, Members, member, document}
 use Rattle.json.specs.Print.{print, IsNumber}
 use Rattle.json.specs.Token.{Token, begin_object, end_object, begin_array, end_array}
 use Rattle.json.specs.Tree.{json_tokens, items_tokens, members_tokens, depth, items_depth, members_depth, HasNumbers, ItemsHaveNumbers}
@@ -98,8 +98,8 @@ attendees_deep : (attendees : List ShownAttendee) → items_depth (items_of (map
 attendees_deep [] = omega arith
 attendees_deep (attendee ∷ attendees) = omega (arith, attendees_deep attendees, flat attendee.percent)
 
-row_deep : (row : Row) → depth (row_object row) ≤ max_depth
-row_deep row =
+pub row_shallow : (row : Row) → depth (row_object row) ≤ 3
+row_shallow row =
     omega (
       arith,
       flat_text (row_name row.id),
@@ -113,7 +113,7 @@ row_deep row =
       flat row.progress,
     )
 
-row_ok : (row : Row) → HasSmallNumbers row → HasNumbers (row_object row)
+pub row_ok : (row : Row) → HasSmallNumbers row → HasNumbers (row_object row)
 row_ok row small = (
   tt,
   (
@@ -147,7 +147,7 @@ row_ok row small = (
 )
 
 pub object_read : (row : Row) → HasSmallNumbers row → document (object_text row) ≡ Some (row_object row)
-object_read row small = document-print (row_object row) (row_ok row small) (row_deep row)
+object_read row small = document-print (row_object row) (row_ok row small) (omega (arith, row_shallow row))
 
 -- ---- the first rows
 

@@ -19,7 +19,9 @@ mod Explaining
 mod Sending
 mod Showing
 mod CsvText
+mod Pieces
 mod JsonText
+mod JsonArray
 mod Reporting
 mod SameTold
 mod PartsByUid

@@ -65,9 +65,14 @@ abbrev pub last_members : Row → List Member
 last_members row =
     (codes "attendees", array (items_of (map attendee_object row.attendees))) ∷ (codes "progress", number_json row.progress) ∷ []
 
+abbrev pub row_members : Row → List Member
+row_members row = name_members row ++ (number_members row ++ (date_members row ++ last_members row))
+
 abbrev pub row_object : Row → Json
-row_object row =
-    object (members_of (name_members row ++ (number_members row ++ (date_members row ++ last_members row))))
+row_object row = object (members_of (row_members row))
+
+abbrev pub rows_array : List Row → Json
+rows_array rows = array (items_of (map row_object rows))
 
 -- ---- texts
 
@@ -83,6 +88,11 @@ object_behind row = codes ",\n" ++ object_text row
 abbrev pub json_text : List Row → List ℕ
 json_text [] = codes "[]\n"
 json_text (row ∷ rows) = codes "[\n" ++ (object_text row ++ (flat_map object_behind rows ++ codes "\n]\n"))
+
+-- the same without the last line break
+abbrev pub array_text : List Row → List ℕ
+array_text [] = codes "[]"
+array_text (row ∷ rows) = codes "[\n" ++ (object_text row ++ (flat_map object_behind rows ++ codes "\n]"))
 
 -- ---- what a row may have
 

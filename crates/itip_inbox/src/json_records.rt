@@ -1,6 +1,6 @@
 //! Rows as JSON objects (RFC 8259).
 ghost use Rattle.std.specs.Prelude.{◌≡◌, ◌≢◌, ◌++◌, ◌∷◌, List, Some, codes, OnOk, OnErr, IfOk, IfErr};
-ghost use Rattle.std.specs.List.{flat_map};
+ghost use Rattle.std.specs.List.{flat_map, AllByRecursion};
 ghost use Rattle.std.specs.Option.{option_copied, option_map};
 ghost use Rattle.std.specs.String.{string_bytes};
 ghost use Rattle.json.specs.Json.{document};
@@ -11,7 +11,7 @@ ghost use Rattle.itip_todo.specs.StatusText.{status_text};
 ghost use Rattle.itip_streams.specs.Written.{AppendsFront, MovesOut};
 ghost use Rattle.itip_view.specs.ByUid.{AreLeft};
 ghost use Rattle.itip_view.specs.declared.row.Row.{Row};
-ghost use Rattle.itip_inbox.specs.Json.{json_text, object_text, object_behind, text_json, number_json, HasSmallNumbers};
+ghost use Rattle.itip_inbox.specs.Json.{json_text, object_text, object_behind, text_json, number_json, array_text, rows_array, HasSmallNumbers};
 ghost use Rattle.itip_inbox.specs.Json.{row_object, name_members, number_members, date_members, last_members};
 ghost use Rattle.itip_inbox.specs.JsonTokens.{named_tokens, attendee_tokens, IsFrontOf, opened_text};
 
@@ -254,7 +254,10 @@ fn write_number(writer: &mut Writer, name: &str, number: Option<u8>) -> Result<(
     }
 }
 
-/// The object of a row is read as its members (RFC 8259).
+/// The object of a row is read as its members, and the text of a list, which is that of an array and a line break, as the array of these
+/// objects (RFC 8259).
 pub fn objects_are_read()
-    ensures { (row : Row) → HasSmallNumbers row → document (object_text row) ≡ Some (row_object row) }
+    ensures object { (row : Row) → HasSmallNumbers row → document (object_text row) ≡ Some (row_object row) }
+    ensures array { (rows : List Row) → AllByRecursion HasSmallNumbers rows → document (array_text rows) ≡ Some (rows_array rows) }
+    ensures line { (rows : List Row) → json_text rows ≡ array_text rows ++ codes "\n" }
 {}
