@@ -51,6 +51,7 @@ impl ListForm for CsvList {
 }
 
 /// The records of a row.
+#[derive(Clone, Copy)]
 struct CsvRows;
 
 impl RowForm for CsvRows {

@@ -86,6 +86,7 @@ fn open_array<W: Write>(rows: &[Row], writer: &mut W, kept: &mut Vec<u8>) -> Res
 }
 
 /// The objects of rows that stand behind another.
+#[derive(Clone, Copy)]
 struct NextObjects;
 
 impl RowForm for NextObjects {
