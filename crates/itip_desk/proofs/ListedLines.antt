@@ -11,11 +11,11 @@ use Rattle.itip_desk.specs.Listed.{headed_text, listed_text, listed_for_text}
 
 listed_word : Adds true (codes "list") 0 false
 unfolding todo_lines_from
-listed_word = record { adds = λ rest. grind arith }
+listed_word = record { adds = λ rest. omega arith }
 
 mine_word : Adds true (codes "mine") 0 false
 unfolding todo_lines_from
-mine_word = record { adds = λ rest. grind arith }
+mine_word = record { adds = λ rest. omega arith }
 
 module _ (word : List ℕ) (desk : ℕ) (rows : List Row) (starts : Adds true word 0 false) (small : IsSmallNumber desk)
     (few : IsSmallNumber (length rows)) (has : AllByRecursion HasUnbrokenTexts rows) where

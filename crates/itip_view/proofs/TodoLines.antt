@@ -46,11 +46,11 @@ unbroken (b ∷ text) none = record {
 
 todo : Adds true (codes "TODO ") 1 false
 unfolding todo_lines_from
-todo = record { adds = λ rest. grind arith }
+todo = record { adds = λ rest. omega arith }
 
 pub line_end : Adds false (codes "\n") 0 true
 unfolding todo_lines_from
-line_end = record { adds = λ rest. grind arith }
+line_end = record { adds = λ rest. omega arith }
 
 -- a blank begins no such line
 pub blank : (text : List ℕ) → IsUnbroken text → Adds true (32 ∷ text) 0 false
