@@ -1,6 +1,6 @@
 -- Records as they are written, and as a reader of comma-separated fields reads them.
 use Rattle.std.proofs.Common.{◌≡◌, ◌≤◌, ◌+◌, ◌-◌, ◌==◌, ◌||◌, ℕ, zero, suc, cond, List, [], ◌∷◌, ◌++◌, map, length}
-use Rattle.std.proofs.Common.{Some, None, refl, sym, ap, ap₂, inl, inr, ◌∙◌, arith, append_assoc, append-nil, length-append, zero-add, suc-add}
+use Rattle.std.proofs.Common.{Option, Some, None, refl, sym, ap, ap₂, inl, inr, ◌∙◌, arith, append_assoc, append-nil, length-append, zero-add, suc-add}
 use Rattle.std.specs.List.{flat_map, list_any}
 use Rattle.std.proofs.lemmas.List.Concat.{flat_map-append}
 use Rattle.std.proofs.lemmas.Bool.{cases_Bool, eqb-true}
@@ -12,8 +12,39 @@ use Rattle.csv.specs.declared.parser.State.TheVariants as st
 use Rattle.csv.proofs.RoundTrip.{read-write, rows_text}
 use Rattle.itip_view.specs.declared.row.Row.{Row}
 use Rattle.itip_view.specs.declared.row.ShownAttendee.{ShownAttendee}
+use Rattle.itip_view.proofs.FlatMap.{then_more}
 use Rattle.itip_inbox.specs.Csv.{is_special, doubled, field_text, field_behind, fields_behind, record_text, records_text, csv_text, field_names}
 use Rattle.itip_inbox.specs.Csv.{record_of, records_for, records_of, records_of_rows, attendee_record_text, row_records_text}
+use Rattle.itip_inbox.specs.Csv.{name_fields, number_fields, date_fields, last_fields, attendee_fields}
+use Rattle.itip_inbox.proofs.Pieces.{join_five}
+
+-- ---- a record
+
+-- it is put as its UID, its other fields and an end
+pub record_put : (row : Row) (who : Option ShownAttendee) (old t0 t1 t2 t3 t4 t5 new : List ℕ) → t0 ≡ old ++ field_text row.uid →
+    t1 ≡ t0 ++ fields_behind (name_fields row) → t2 ≡ t1 ++ fields_behind (number_fields row) →
+    t3 ≡ t2 ++ fields_behind (date_fields row) → t4 ≡ t3 ++ fields_behind (last_fields row) →
+    t5 ≡ t4 ++ fields_behind (attendee_fields who) → new ≡ t5 ++ 10 ∷ [] → new ≡ old ++ record_text (record_of row who)
+record_put row who old t0 t1 t2 t3 t4 t5 new uid one two three four five last =
+    let a = name_fields row in
+    let b = number_fields row in
+    let d = date_fields row in
+    let e = last_fields row in
+    let f = attendee_fields who in
+    let end : List ℕ = 10 ∷ [] in
+    let shown : new ≡ t4 ++ (fields_behind f ++ end) = then_more t4 t5 new (fields_behind f) end five last in
+    let rest : new ≡ t3 ++ (fields_behind e ++ (fields_behind f ++ end)) =
+    then_more t3 t4 new (fields_behind e) (fields_behind f ++ end) four shown in
+    let dated : new ≡ t2 ++ (fields_behind d ++ (fields_behind e ++ (fields_behind f ++ end))) =
+    then_more t2 t3 new (fields_behind d) (fields_behind e ++ (fields_behind f ++ end)) three rest in
+    let numbered : new ≡ t1 ++ (fields_behind b ++ (fields_behind d ++ (fields_behind e ++ (fields_behind f ++ end)))) =
+    then_more t1 t2 new (fields_behind b) (fields_behind d ++ (fields_behind e ++ (fields_behind f ++ end))) two dated in
+    let named : new ≡ t0 ++ (fields_behind a ++ (fields_behind b ++ (fields_behind d ++ (fields_behind e ++ (fields_behind f ++ end))))) =
+    then_more t0 t1 new (fields_behind a) (fields_behind b ++ (fields_behind d ++ (fields_behind e ++ (fields_behind f ++ end)))) one
+    numbered in
+    then_more old t0 new (field_text row.uid)
+    (fields_behind a ++ (fields_behind b ++ (fields_behind d ++ (fields_behind e ++ (fields_behind f ++ end))))) uid named ∙
+    ap (λ (t : List ℕ). old ++ (field_text row.uid ++ t)) (join_five field_behind a b d e f end)
 
 -- ---- the records of a row
 
