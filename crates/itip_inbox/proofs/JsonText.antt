@@ -211,7 +211,7 @@ module _ (old mid : Option (List ℕ)) (first rest all : List Row) (kept : List 
         (front_longer old new (opened_text first ++ flat_map object_behind rest) end
         (front_moved old mid (opened_text first ++ flat_map object_behind rest) (kept ++ flat_map object_behind rest) going_on new front))
 
-    module _ (held last : List ℕ) (moved : MovesOut mid new (kept ++ flat_map object_behind rest) held) where
+    module _ (held : List ℕ) (moved : MovesOut mid new (kept ++ flat_map object_behind rest) held) where
       all_rows : MovesOut old new (opened_text first ++ flat_map object_behind rest) held
       all_rows =
           moves_on old mid (opened_text first ++ flat_map object_behind rest) (kept ++ flat_map object_behind rest) going_on new held moved
@@ -223,7 +223,7 @@ module _ (old mid : Option (List ℕ)) (first rest all : List Row) (kept : List 
           (front_longer old new (opened_text first ++ flat_map object_behind rest) end
           (front_moved old new (opened_text first ++ flat_map object_behind rest) held all_rows new (front_none new held)))
 
-      module _ (last_is : last ≡ held ++ end) (after : Option (List ℕ)) where
+      module _ (last : List ℕ) (last_is : last ≡ held ++ end) (after : Option (List ℕ)) where
         closed : MovesOut old new (json_text all) last
         closed =
             subst (λ (t : List ℕ). MovesOut old new t last) array_text

@@ -82,8 +82,8 @@ returns-clause-all g c =
     let cut = c.in_ok-first.ensures few.rows few.are_left in
     array_written_out _ _ c.in_ok-first.first.items cut.0 few.rows c.open_array-done.new.kept.items
     (λ none. eqb-false (length c.in_ok-first.first.items) 0 (sym c.is_empty.ensures ∙ c.if-is_empty.false) (ap length none)) cut.2.1
-    (opened g (goal.at.returns-clause-all g c).In_ok-done) _ c.write_rows.new.kept.items c.extend_from_slice.new.self.items
-    (c.in_ok-write_rows.ensures.moved cut.0 cut.1) c.in_ok-extend_from_slice.ensures.items _
+    (opened g (goal.at.returns-clause-all g c).In_ok-done) _ c.write_rows.new.kept.items (c.in_ok-write_rows.ensures.moved cut.0 cut.1)
+    c.extend_from_slice.new.self.items c.in_ok-extend_from_slice.ensures.items _
     (subst (λ (t : List ℕ). Appends (g.W.Write.contents c.write_rows.new.writer) (g.W.Write.contents c.write_output-2.new.writer) t)
     c.as_slice-2.ensures.value appended)) c.write_output-2.ensures.all
 
@@ -93,7 +93,7 @@ returns-clause-front g c =
     let cut = c.in_ok-first.ensures few.rows few.are_left in
     array_cut _ _ c.in_ok-first.first.items cut.0 few.rows c.open_array-done.new.kept.items
     (λ none. eqb-false (length c.in_ok-first.first.items) 0 (sym c.is_empty.ensures ∙ c.if-is_empty.false) (ap length none)) cut.2.1
-    (opened g (goal.at.returns-clause-front g c).In_ok-done) _ c.write_rows.new.kept.items c.extend_from_slice.new.self.items
-    (c.in_ok-write_rows.ensures.moved cut.0 cut.1) c.in_ok-extend_from_slice.ensures.items _
+    (opened g (goal.at.returns-clause-front g c).In_ok-done) _ c.write_rows.new.kept.items (c.in_ok-write_rows.ensures.moved cut.0 cut.1)
+    c.extend_from_slice.new.self.items c.in_ok-extend_from_slice.ensures.items _
     (subst (λ (t : List ℕ). AppendsFront (g.W.Write.contents c.write_rows.new.writer) (g.W.Write.contents c.write_output-2.new.writer) t)
     c.as_slice-2.ensures.value front)) c.write_output-2.ensures.front
