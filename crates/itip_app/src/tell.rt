@@ -131,7 +131,9 @@ pub(crate) struct Explainer<'a, R> {
 }
 
 impl<'a, R: AllocGlobal + Eprint> Explainer<'a, R> {
-    pub(crate) fn new(rt: &'a R, is_asked: bool) -> Explainer<'a, R> {
+    pub(crate) fn new(rt: &'a R, is_asked: bool) -> Explainer<'a, R>
+        ensures { result.is_asked ≡ is_asked }
+    {
         Explainer {
             rt,
             is_asked,

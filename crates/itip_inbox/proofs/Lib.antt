@@ -20,7 +20,10 @@ mod Paging
 mod Explaining
 mod Sending
 mod Showing
-mod Recording
+mod CsvText
+mod Pieces
+mod JsonText
+mod JsonArray
 mod Reporting
 mod SameTold
 mod PartsByUid

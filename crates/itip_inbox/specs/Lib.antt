@@ -7,7 +7,9 @@ pub mod News
 pub mod OfInbox
 pub mod TaskList
 pub mod PartsByUid
-pub mod Records
+pub mod Csv
+pub mod Json
+pub mod JsonTokens
 pub mod Reports
 pub mod Following
 pub mod Explaining

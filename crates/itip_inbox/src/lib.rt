@@ -25,8 +25,6 @@ mod list_form;
 mod messages;
 mod open_inbox;
 mod read;
-mod record_text;
-mod records;
 mod refused;
 mod reports;
 mod row_texts;
@@ -41,8 +39,10 @@ mod waiting;
 mod watch;
 
 pub use compaction::{compact, write_items};
+pub use csv_records::{CsvList, records_are_read};
 pub use explained::{Explained, explain};
 pub use inbox::Inbox;
+pub use json_records::{JsonList, objects_are_read};
 pub use lacking::news;
 pub use laws::{
     compaction_of_compactions, compaction_with_news, items_of_parts, one_compaction, one_news,
@@ -50,7 +50,6 @@ pub use laws::{
 };
 pub use list_form::{ListForm, PageList, TextList};
 pub use read::read_sources;
-pub use records::{Notation, list_records};
 pub use refused::RefusedMessage;
 pub use reports::report;
 pub use sent::{Sent, send};

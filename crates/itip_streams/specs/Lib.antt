@@ -1,4 +1,5 @@
 pub mod Written
+pub mod Once
 pub mod Visible
 pub mod Folders
 pub mod Sources

@@ -1,8 +1,12 @@
 //! Reading octets.
 ghost use Rattle.std.specs.Prelude.{◌≡◌, ◌<◌, ◌≤◌, ◌≢◌, length, vec_len, IfOk, IfErr, IfSome, IfNone};
+ghost use Rattle.std.specs.Prelude.{OnOk, IsErrOf};
+ghost use Rattle.std.specs.Result.{result_ok};
 ghost use Rattle.std.specs.Io.KnownBytes.{ReadConsumes};
+ghost use Rattle.itip_streams.specs.Once.{FailsReading, ReadsWell};
 
 use crate::fault::StreamFault;
+use crate::once::ReadOnce;
 use std::alloc::Global;
 use std::io::Read;
 
@@ -15,7 +19,7 @@ const ROOM: usize = 65_536;
 /// Reads all octets, of which there may be `limit`. `None` says that there are more: one more was read, and the rest is left.
 ///
 /// A failed read is [`StreamFault::Read`] at once, and so is one read more than [`MAX_READS`].
-pub fn read_within<R: Read>(
+pub fn read_within<R: Read + ReadOnce>(
     alloc: Global,
     reader: &mut R,
     limit: usize,
@@ -25,6 +29,8 @@ pub fn read_within<R: Read>(
     ensures long { IfOk result (λ found. IfNone found (
         IfSome (R.remaining reader.old) (λ input. limit < length input))) }
     ensures fault { IfErr result (λ fault. fault ≢ StreamFault.Write) }
+    ensures well { OnOk result (ReadsWell R.reads reader.old reader.new) }
+    ensures failed { IsErrOf result StreamFault.Read → FailsReading R.reads reader.old reader.new }
 {
     let mut text = Vec::new(alloc);
     let mut buffer = [0u8; ROOM];
@@ -45,13 +51,17 @@ pub fn read_within<R: Read>(
 
 /// Reads some octets to the front of a buffer, and gives their number: 0 at the end, or where the buffer is empty.
 ///
-/// A failed read is [`StreamFault::Read`].
-pub fn read_some<R: Read>(reader: &mut R, buffer: &mut [u8]) -> Result<usize, StreamFault>
+/// It reads once; a failed read is [`StreamFault::Read`].
+pub fn read_some<R: Read + ReadOnce>(
+    reader: &mut R,
+    buffer: &mut [u8],
+) -> Result<usize, StreamFault>
     ensures bound { IfOk result (λ count. count ≤ length buffer.new) }
     ensures bytes { ReadConsumes (R.remaining reader.old) (R.remaining reader.new) result buffer.new }
     ensures fault { IfErr result (λ fault. fault ≡ StreamFault.Read) }
+    ensures once { R.reads reader.old (result_ok result) reader.new buffer.new }
 {
-    match reader.read(buffer) {
+    match reader.read_once(buffer) {
         Ok(count) => Ok(count),
         Err(_) => Err(StreamFault::Read),
     }

@@ -5,6 +5,7 @@
 mod fault;
 mod folders;
 mod input;
+mod once;
 mod output;
 mod replacement;
 mod source;
@@ -15,6 +16,7 @@ mod visible;
 pub use fault::StreamFault;
 pub use folders::source_names;
 pub use input::{MAX_READS, read_some, read_within};
+pub use once::{ReadOnce, WriteOnce};
 pub use output::{write_if_many, write_output};
 pub use replacement::Replacement;
 pub use source::{Source, sources_of};

@@ -1,5 +1,6 @@
 pub mod FlatMap
 pub mod OfKept
+pub mod TodoLines
 pub mod Sequences
 pub mod Alike
 pub mod OneList

@@ -10,6 +10,7 @@ pub mod Ruling
 pub mod InUid
 pub mod ListText
 pub mod Showing
+pub mod TodoLines
 pub mod Blocks
 pub mod Wanting
 pub mod Wanted

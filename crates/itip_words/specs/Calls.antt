@@ -1,6 +1,5 @@
 -- What a call of the program asks for (our own form).
 use Rattle.std.specs.Prelude.{ℕ, ◌+◌, nat_le, Bool, List, map, codes, string_bytes, IfSome, IsTrue}
-use Rattle.itip_view.specs.declared.window.Window.{Window}
 use Rattle.itip_words.specs.declared.filter.Filter.{Filter}
 use Rattle.itip_words.specs.declared.filter.Written.{Written}
 use Rattle.itip_words.specs.declared.filter.Written.TheVariants as written
@@ -10,7 +9,6 @@ use Rattle.itip_words.specs.declared.words.Scripted.{Scripted}
 use Rattle.itip_words.specs.Words.{AreDesks, AreWorkers, AreThreads}
 use Rattle.itip_words.specs.Values.{inputs}
 use Rattle.itip_words.specs.Asked.{asked_word, inputs_of_draft}
-use Rattle.itip_words.specs.Days.{HasAskedDays}
 
 -- of a call: P of how a script is run, where one is
 abbrev pub IfRun : (Scripted → Type 0) → Call → Type 0
@@ -46,15 +44,6 @@ word_of (written.News than) = codes "news"
 word_of (written.Explanation uid) = codes "explain"
 word_of (written.Message asked at) = asked_word asked
 
--- of what is written: P of the window of days, where it has one
-abbrev pub IfWindow : (Window → Type 0) → Written → Type 0
-IfWindow P (written.Compaction output) = Unit {0}
-IfWindow P (written.List listing) = P listing.window
-IfWindow P (written.Report reported) = P reported.window
-IfWindow P (written.News than) = Unit {0}
-IfWindow P (written.Explanation uid) = Unit {0}
-IfWindow P (written.Message asked at) = Unit {0}
-
 -- how often standard input is read before the sources
 abbrev pub inputs_before : Written → ℕ
 inputs_before (written.Compaction output) = 0
@@ -68,9 +57,7 @@ inputs_before (written.Message asked at) = inputs_of_draft asked
 abbrev pub reads_input_once : Filter → Bool
 reads_input_once asked = nat_le (inputs_before asked.written + inputs (map string_bytes asked.intake.sources.items)) 1
 
--- Messages can be filtered so: by 1 to 8 threads where their number is given, with standard input read once at most, and where
--- rows are written, those of days that words ask for.
+-- Messages can be filtered so: by 1 to 8 threads where their number is given, and with standard input read once at most.
 pub record CanFilter (asked : Filter) : Type 0 where
   pub few : IfSome asked.intake.threads AreThreads
   pub once : IsTrue (reads_input_once asked)
-  pub days : IfWindow HasAskedDays asked.written

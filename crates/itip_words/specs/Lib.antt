@@ -3,5 +3,8 @@ pub mod Values
 pub mod Days
 pub mod AskedValues
 pub mod Asked
+pub mod Options
+pub mod Asking
+pub mod Program
 pub mod Calls
 pub mod Told

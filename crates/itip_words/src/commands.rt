@@ -1,4 +1,12 @@
 //! The words that there are, each with its help.
+ghost use Rattle.std.specs.Prelude.{◌∷◌, [], IfOk, codes};
+ghost use Rattle.itip_words.specs.Program.{program, no_word, with_words, message_words, IsRule, IsWord, AddsRules};
+ghost use Rattle.itip_words.specs.Program.{run_word, office_word, check_word, compact_word, list_word, report_word, news_word};
+ghost use Rattle.itip_words.specs.Program.{explain_word, resend_word, request_word, reply_word, refresh_word, cancel_word};
+ghost use Rattle.itip_words.specs.Program.{positional, option, needed, flag, desks_rule, days_rules, window_rules, row_rules, intake_rules};
+ghost use Rattle.itip_words.specs.Program.{onward_rule};
+ghost use Rattle.clap.specs.Simple.{App};
+
 use crate::help::{
     CANCEL_HELP, CHECK_HELP, COMPACT_HELP, EXPLAIN_HELP, LIST_HELP, NEWS_HELP, OFFICE_HELP,
     REFRESH_HELP, REPLY_HELP, REPORT_HELP, REQUEST_HELP, RESEND_HELP, RUN_HELP,
@@ -8,7 +16,9 @@ use itip_writing::VERSION;
 use std::alloc::{AllocError, Global};
 
 /// The program, with its words.
-pub(crate) fn command<'a>(alloc: Global) -> Result<Command<'a>, AllocError> {
+pub(crate) fn command<'a>(alloc: Global) -> Result<Command<'a>, AllocError>
+    ensures { IfOk result (IsWord program) }
+{
     let program = Command::new(alloc, "itipdesk")
         .bin_name("itipdesk")?
         .about("A desk for to-dos under iTIP (RFC 5546)")
@@ -27,8 +37,10 @@ pub(crate) fn command<'a>(alloc: Global) -> Result<Command<'a>, AllocError> {
 }
 
 /// A program with the words that write a message.
-fn with_messages<'a>(alloc: Global, program: Command<'a>) -> Result<Command<'a>, AllocError> {
-    program
+fn with_messages<'a>(alloc: Global, command: Command<'a>) -> Result<Command<'a>, AllocError>
+    ensures { (app : App) → IsWord app command.entry → IfOk result (IsWord (with_words message_words app)) }
+{
+    command
         .subcommand(resend_command(alloc)?)?
         .subcommand(request_command(alloc)?)?
         .subcommand(reply_command(alloc)?)?
@@ -36,7 +48,9 @@ fn with_messages<'a>(alloc: Global, program: Command<'a>) -> Result<Command<'a>,
         .subcommand(cancel_command(alloc)?)
 }
 
-fn run_command<'a>(alloc: Global) -> Result<Command<'a>, AllocError> {
+fn run_command<'a>(alloc: Global) -> Result<Command<'a>, AllocError>
+    ensures { IfOk result (IsWord run_word) }
+{
     let run = Command::new(alloc, "run")
         .about("Runs a script from standard input")
         .after_help(RUN_HELP)
@@ -44,7 +58,9 @@ fn run_command<'a>(alloc: Global) -> Result<Command<'a>, AllocError> {
     days(alloc, run)?.arg(why_word(alloc))
 }
 
-fn office_command<'a>(alloc: Global) -> Result<Command<'a>, AllocError> {
+fn office_command<'a>(alloc: Global) -> Result<Command<'a>, AllocError>
+    ensures { IfOk result (IsWord office_word) }
+{
     let workers = Arg::new(alloc, "workers")
         .long("workers")
         .value_name("N")
@@ -57,14 +73,18 @@ fn office_command<'a>(alloc: Global) -> Result<Command<'a>, AllocError> {
     days(alloc, office)?.arg(workers)?.arg(why_word(alloc))
 }
 
-fn check_command<'a>(alloc: Global) -> Result<Command<'a>, AllocError> {
+fn check_command<'a>(alloc: Global) -> Result<Command<'a>, AllocError>
+    ensures { IfOk result (IsWord check_word) }
+{
     Command::new(alloc, "check")
         .about("Reads a message from standard input and shows its items")
         .after_help(CHECK_HELP)
         .arg(why_word(alloc))
 }
 
-fn compact_command<'a>(alloc: Global) -> Result<Command<'a>, AllocError> {
+fn compact_command<'a>(alloc: Global) -> Result<Command<'a>, AllocError>
+    ensures { IfOk result (IsWord compact_word) }
+{
     let output = Arg::new(alloc, "output")
         .long("output")
         .value_name("FILE")
@@ -76,7 +96,9 @@ fn compact_command<'a>(alloc: Global) -> Result<Command<'a>, AllocError> {
     intake_words(alloc, compact)
 }
 
-fn list_command<'a>(alloc: Global) -> Result<Command<'a>, AllocError> {
+fn list_command<'a>(alloc: Global) -> Result<Command<'a>, AllocError>
+    ensures { IfOk result (IsWord list_word) }
+{
     let list = Command::new(alloc, "list")
         .about("Reads messages and writes their task list")
         .after_help(LIST_HELP);
@@ -84,7 +106,9 @@ fn list_command<'a>(alloc: Global) -> Result<Command<'a>, AllocError> {
     intake_words(alloc, list)
 }
 
-fn report_command<'a>(alloc: Global) -> Result<Command<'a>, AllocError> {
+fn report_command<'a>(alloc: Global) -> Result<Command<'a>, AllocError>
+    ensures { IfOk result (IsWord report_word) }
+{
     let name = Arg::new(alloc, "name")
         .value_name("NAME")
         .required(true)
@@ -96,7 +120,9 @@ fn report_command<'a>(alloc: Global) -> Result<Command<'a>, AllocError> {
     intake_words(alloc, days_around_today(alloc, report)?)
 }
 
-fn news_command<'a>(alloc: Global) -> Result<Command<'a>, AllocError> {
+fn news_command<'a>(alloc: Global) -> Result<Command<'a>, AllocError>
+    ensures { IfOk result (IsWord news_word) }
+{
     let than = Arg::new(alloc, "than")
         .long("than")
         .value_name("SOURCE")
@@ -110,7 +136,9 @@ fn news_command<'a>(alloc: Global) -> Result<Command<'a>, AllocError> {
     intake_words(alloc, news)
 }
 
-fn explain_command<'a>(alloc: Global) -> Result<Command<'a>, AllocError> {
+fn explain_command<'a>(alloc: Global) -> Result<Command<'a>, AllocError>
+    ensures { IfOk result (IsWord explain_word) }
+{
     let explain = Command::new(alloc, "explain")
         .about("Reads messages and says what they tell of a to-do, and what came of it")
         .after_help(EXPLAIN_HELP)
@@ -118,7 +146,9 @@ fn explain_command<'a>(alloc: Global) -> Result<Command<'a>, AllocError> {
     intake_words(alloc, explain)
 }
 
-fn resend_command<'a>(alloc: Global) -> Result<Command<'a>, AllocError> {
+fn resend_command<'a>(alloc: Global) -> Result<Command<'a>, AllocError>
+    ensures { IfOk result (IsWord resend_word) }
+{
     let resend = Command::new(alloc, "resend")
         .about("Reads messages and writes those of a to-do that are to be sent again")
         .after_help(RESEND_HELP)
@@ -127,7 +157,9 @@ fn resend_command<'a>(alloc: Global) -> Result<Command<'a>, AllocError> {
     intake_words(alloc, resend)
 }
 
-fn request_command<'a>(alloc: Global) -> Result<Command<'a>, AllocError> {
+fn request_command<'a>(alloc: Global) -> Result<Command<'a>, AllocError>
+    ensures { IfOk result (IsWord request_word) }
+{
     let draft = Arg::new(alloc, "draft")
         .value_name("DRAFT")
         .required(true)
@@ -140,7 +172,9 @@ fn request_command<'a>(alloc: Global) -> Result<Command<'a>, AllocError> {
     intake_words(alloc, request)
 }
 
-fn reply_command<'a>(alloc: Global) -> Result<Command<'a>, AllocError> {
+fn reply_command<'a>(alloc: Global) -> Result<Command<'a>, AllocError>
+    ensures { IfOk result (IsWord reply_word) }
+{
     let status = Arg::new(alloc, "status")
         .long("status")
         .value_name("PARTSTAT")
@@ -162,7 +196,9 @@ fn reply_command<'a>(alloc: Global) -> Result<Command<'a>, AllocError> {
     intake_words(alloc, reply)
 }
 
-fn refresh_command<'a>(alloc: Global) -> Result<Command<'a>, AllocError> {
+fn refresh_command<'a>(alloc: Global) -> Result<Command<'a>, AllocError>
+    ensures { IfOk result (IsWord refresh_word) }
+{
     let refresh = Command::new(alloc, "refresh")
         .about("Reads messages and writes an attendee's wish to be sent a to-do again")
         .after_help(REFRESH_HELP)
@@ -173,7 +209,9 @@ fn refresh_command<'a>(alloc: Global) -> Result<Command<'a>, AllocError> {
     intake_words(alloc, refresh)
 }
 
-fn cancel_command<'a>(alloc: Global) -> Result<Command<'a>, AllocError> {
+fn cancel_command<'a>(alloc: Global) -> Result<Command<'a>, AllocError>
+    ensures { IfOk result (IsWord cancel_word) }
+{
     let onward = Arg::new(alloc, "onward")
         .long("onward")
         .action(ArgAction::SetTrue)
@@ -198,14 +236,18 @@ fn cancel_command<'a>(alloc: Global) -> Result<Command<'a>, AllocError> {
     intake_words(alloc, cancel)
 }
 
-fn uid_word<'a>(alloc: Global) -> Arg<'a> {
+fn uid_word<'a>(alloc: Global) -> Arg<'a>
+    ensures { IsRule (positional (codes "uid")) result }
+{
     Arg::new(alloc, "uid")
         .value_name("UID")
         .required(true)
         .help("The UID of the to-do")
 }
 
-fn answering_word<'a>(alloc: Global) -> Arg<'a> {
+fn answering_word<'a>(alloc: Global) -> Arg<'a>
+    ensures { IsRule (needed (option (codes "attendee"))) result }
+{
     Arg::new(alloc, "attendee")
         .long("attendee")
         .value_name("ADDRESS")
@@ -213,19 +255,25 @@ fn answering_word<'a>(alloc: Global) -> Arg<'a> {
         .help("Who writes: the address of an attendee, as a@example.com")
 }
 
-fn id_word<'a>(alloc: Global) -> Arg<'a> {
+fn id_word<'a>(alloc: Global) -> Arg<'a>
+    ensures { IsRule (option (codes "id")) result }
+{
     Arg::new(alloc, "id").long("id").value_name("MOMENT").help(
         "One instance of the to-do, as lists show it: 20260105 or TZID=Europe/Vienna:20260105T090000",
     )
 }
 
-fn at_word<'a>(alloc: Global) -> Arg<'a> {
+fn at_word<'a>(alloc: Global) -> Arg<'a>
+    ensures { IsRule (option (codes "at")) result }
+{
     Arg::new(alloc, "at").long("at").value_name("STAMP").help(
         "The moment of writing, as 20260101T090000Z; without it that of the clock, in UTC",
     )
 }
 
-fn desks_word<'a>(alloc: Global) -> Arg<'a> {
+fn desks_word<'a>(alloc: Global) -> Arg<'a>
+    ensures { IsRule desks_rule result }
+{
     Arg::new(alloc, "desks")
         .long("desks")
         .value_name("D")
@@ -233,7 +281,9 @@ fn desks_word<'a>(alloc: Global) -> Arg<'a> {
         .help("How many desks there are: 1 to 16")
 }
 
-fn why_word<'a>(alloc: Global) -> Arg<'a> {
+fn why_word<'a>(alloc: Global) -> Arg<'a>
+    ensures { IsRule (flag (codes "why")) result }
+{
     Arg::new(alloc, "why")
         .long("why")
         .action(ArgAction::SetTrue)
@@ -241,7 +291,9 @@ fn why_word<'a>(alloc: Global) -> Arg<'a> {
 }
 
 /// A command with the days of a window.
-fn days<'a>(alloc: Global, command: Command<'a>) -> Result<Command<'a>, AllocError> {
+fn days<'a>(alloc: Global, command: Command<'a>) -> Result<Command<'a>, AllocError>
+    ensures { IfOk result (AddsRules days_rules command.entry) }
+{
     let from = Arg::new(alloc, "from")
         .long("from")
         .value_name("YYYYMMDD")
@@ -256,7 +308,9 @@ fn days<'a>(alloc: Global, command: Command<'a>) -> Result<Command<'a>, AllocErr
 }
 
 /// A command with the days of a window, which need not be given.
-fn days_around_today<'a>(alloc: Global, command: Command<'a>) -> Result<Command<'a>, AllocError> {
+fn days_around_today<'a>(alloc: Global, command: Command<'a>) -> Result<Command<'a>, AllocError>
+    ensures { IfOk result (AddsRules window_rules command.entry) }
+{
     let from = Arg::new(alloc, "from")
         .long("from")
         .value_name("YYYYMMDD")
@@ -272,7 +326,9 @@ fn days_around_today<'a>(alloc: Global, command: Command<'a>) -> Result<Command<
 }
 
 /// A command with the words for which rows are shown, and how.
-fn row_words<'a>(alloc: Global, command: Command<'a>) -> Result<Command<'a>, AllocError> {
+fn row_words<'a>(alloc: Global, command: Command<'a>) -> Result<Command<'a>, AllocError>
+    ensures { IfOk result (AddsRules row_rules command.entry) }
+{
     let attendee = Arg::new(alloc, "attendee")
         .long("attendee")
         .value_name("ADDRESS")
@@ -300,7 +356,9 @@ fn row_words<'a>(alloc: Global, command: Command<'a>) -> Result<Command<'a>, All
 }
 
 /// A command with its sources, and the words for how they are read.
-fn intake_words<'a>(alloc: Global, command: Command<'a>) -> Result<Command<'a>, AllocError> {
+fn intake_words<'a>(alloc: Global, command: Command<'a>) -> Result<Command<'a>, AllocError>
+    ensures { IfOk result (AddsRules intake_rules command.entry) }
+{
     let source = Arg::new(alloc, "source")
         .value_name("SOURCE")
         .action(ArgAction::Append)

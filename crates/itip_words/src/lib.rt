@@ -8,6 +8,7 @@ mod days;
 mod filter;
 mod help;
 mod no_call;
+mod options;
 mod told;
 mod values;
 mod words;

@@ -1,12 +1,20 @@
 //! What a call of the program asks for.
-ghost use Rattle.std.specs.Prelude.{◌≡◌, ℕ, IfOk, IfSome, IfNone};
+ghost use Rattle.std.specs.Prelude.{◌≡◌, ℕ, List, Option, IfOk, IfSome, IfNone, codes, map};
+ghost use Rattle.std.specs.String.{string_bytes};
+ghost use Rattle.clap.specs.Simple.{subcommand_rows_of};
+ghost use Rattle.itip_moment.specs.declared.stamp.Stamp.{Stamp};
 ghost use Rattle.itip_words.specs.Words.{AreDesks, desks_of, workers_of, IsWindowOf, IsScriptedOf};
 ghost use Rattle.itip_words.specs.Calls.{IfRun, IfOffice, IfFilter, AreOffice, CanFilter};
+ghost use Rattle.itip_words.specs.Options.{options_of};
+ghost use Rattle.itip_words.specs.Asking.{AsksScript, Asks, IsAsked};
+ghost use Rattle.itip_words.specs.Program.{IsAskedBy};
 ghost use Rattle.itip_view.specs.declared.window.Window.{Window};
+ghost use Rattle.itip_words.specs.declared.words.Scripted.{Scripted};
 
 use crate::commands::command;
 use crate::filter::{Filter, filter_of};
 use crate::no_call::{NoCall, no_call};
+use crate::options::{is_set, value_of, word_of};
 use crate::wrong::what_is_wrong;
 use clap::ArgMatches;
 use itip_moment::{Stamp, read_date};
@@ -47,6 +55,7 @@ pub fn read_words(alloc: Global, words: &[String], clock: Option<Stamp>) -> Resu
     ensures run { IfOk result (IfRun (λ scripted. AreDesks scripted.desks)) }
     ensures office { IfOk result (IfOffice AreOffice) }
     ensures filter { IfOk result (IfFilter CanFilter) }
+    ensures asked { IfOk result (IsAskedBy (map string_bytes words.now) clock) }
 {
     let matches = match command(alloc)?.try_get_matches_from(words) {
         Ok(matches) => matches,
@@ -67,18 +76,37 @@ fn call_of(
     ensures run { IfOk result (λ found. IfSome found (IfRun (λ scripted. AreDesks scripted.desks))) }
     ensures office { IfOk result (λ found. IfSome found (IfOffice AreOffice)) }
     ensures filter { IfOk result (λ found. IfSome found (IfFilter CanFilter)) }
+    ensures asked { IfOk result (λ found. IfSome found (IsAsked (subcommand_rows_of matches.now) clock)) }
 {
-    if let Some(words) = matches.subcommand_matches("check") {
-        let why = words.get_flag("why");
+    match word_of(matches) {
+        Some((word, words)) => named_call(alloc, word, words, clock),
+        None => Ok(None),
+    }
+}
+
+/// The call of a word; `None` where a value is bad.
+fn named_call(
+    alloc: Global,
+    word: &str,
+    words: &ArgMatches<'_>,
+    clock: Option<Stamp>,
+) -> Result<Option<Call>, NoCall>
+    ensures run { IfOk result (λ found. IfSome found (IfRun (λ scripted. AreDesks scripted.desks))) }
+    ensures office { IfOk result (λ found. IfSome found (IfOffice AreOffice)) }
+    ensures filter { IfOk result (λ found. IfSome found (IfFilter CanFilter)) }
+    ensures asked { IfOk result (λ found. IfSome found (Asks word.now (options_of words.now) clock)) }
+{
+    if word == "check" {
+        let why = is_set(words, "why");
         return Ok(Some(Call::Check { why }));
     }
-    if let Some(words) = matches.subcommand_matches("office") {
-        return Ok(office_of(words));
-    }
-    if let Some(words) = matches.subcommand_matches("run") {
+    if word == "run" {
         return Ok(run_of(words));
     }
-    match filter_of(alloc, matches, clock)? {
+    if word == "office" {
+        return Ok(office_of(words));
+    }
+    match filter_of(alloc, word, words, clock)? {
         Some(filter) => Ok(Some(Call::Filter(filter))),
         None => Ok(None),
     }
@@ -88,30 +116,36 @@ fn run_of(words: &ArgMatches<'_>) -> Option<Call>
     ensures run { IfSome result (IfRun (λ scripted. AreDesks scripted.desks)) }
     ensures office { IfSome result (IfOffice AreOffice) }
     ensures filter { IfSome result (IfFilter CanFilter) }
+    ensures asked { IfSome result (λ call. (clock : Option Stamp) → Asks (codes "run") (options_of words.now) clock call) }
+    ensures none { IfNone result ((scripted : Scripted) → AsksScript (options_of words.now) scripted → ⊥) }
 {
     let scripted = scripted_of(words)?;
     Some(Call::Run(scripted))
 }
 
-fn scripted_of(matches: &ArgMatches<'_>) -> Option<Scripted>
-    ensures { IfSome result (λ scripted. AreDesks scripted.desks) }
-{
-    scripted_of_texts(
-        matches.get_str("desks")?,
-        matches.get_str("from")?,
-        matches.get_str("to")?,
-        matches.get_flag("why"),
-    )
-}
-
-fn office_of(matches: &ArgMatches<'_>) -> Option<Call>
+fn office_of(words: &ArgMatches<'_>) -> Option<Call>
     ensures run { IfSome result (IfRun (λ scripted. AreDesks scripted.desks)) }
     ensures office { IfSome result (IfOffice AreOffice) }
     ensures filter { IfSome result (IfFilter CanFilter) }
+    ensures asked { IfSome result (λ call. (clock : Option Stamp) → Asks (codes "office") (options_of words.now) clock call) }
 {
-    let scripted = scripted_of(matches)?;
-    let workers = workers_of(matches.get_str("workers")?)?;
+    let scripted = scripted_of(words)?;
+    let text = value_of(words, "workers")?;
+    let workers = workers_of(text)?;
     Some(Call::Office { scripted, workers })
+}
+
+/// How a script is run. `None` where a value is bad.
+fn scripted_of(words: &ArgMatches<'_>) -> Option<Scripted>
+    ensures asked { IfSome result (AsksScript (options_of words.now)) }
+    ensures none { IfNone result ((scripted : Scripted) → AsksScript (options_of words.now) scripted → ⊥) }
+    ensures desks { IfSome result (λ scripted. AreDesks scripted.desks) }
+{
+    let desks = value_of(words, "desks")?;
+    let from = value_of(words, "from")?;
+    let to = value_of(words, "to")?;
+    let why = is_set(words, "why");
+    scripted_of_texts(desks, from, to, why)
 }
 
 /// What the values of the words ask for, where they are what they have to be.
@@ -119,6 +153,7 @@ fn scripted_of_texts(desks: &str, from: &str, to: &str, why: bool) -> Option<Scr
     ensures found { IfSome result (λ scripted. IsScriptedOf desks.now from.now to.now scripted.desks scripted.window) }
     ensures none { IfNone result ((count : ℕ) (window : Window) → IsScriptedOf desks.now from.now to.now count window → ⊥) }
     ensures desks { IfSome result (λ scripted. AreDesks scripted.desks) }
+    ensures why { IfSome result (λ scripted. scripted.why ≡ why) }
 {
     let desks = desks_of(desks)?;
     let window = window_of(from, to)?;

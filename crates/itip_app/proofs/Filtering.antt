@@ -1,0 +1,31 @@
+-- What comes of a filter, from what its call gives.
+use Rattle.std.proofs.Common.{◌≡◌, ℕ, Bool, List, [], Option, Some, None, Result, Ok, Err, refl, sym, ap, subst, ◌∙◌}
+use Rattle.std.specs.Prelude.{IfOk}
+use Rattle.itip_streams.specs.Written.{WritesOutput}
+use Rattle.itip_words.specs.declared.filter.Format.{Format}
+use Rattle.itip_words.specs.declared.filter.Listing.{Listing}
+use Rattle.itip_app.specs.Filtered.{Writes, WritesList, octets_in}
+use Rattle.itip_app.specs.declared.filters.Outcome.{Outcome}
+
+-- what is said of an outcome in three clauses
+pub done_with : {E : Type 0} (P : Outcome → Type 0) (is_refused : Bool) (r : Result Outcome E) →
+    IfOk r (λ outcome. outcome.is_refused ≡ is_refused) → IfOk r (λ outcome. outcome.lacking.items ≡ []) →
+    IfOk r (λ outcome. outcome.undone ≡ None) →
+    ((outcome : Outcome) → outcome.is_refused ≡ is_refused → outcome.lacking.items ≡ [] → outcome.undone ≡ None → P outcome) → IfOk r P
+done_with P is_refused (Ok outcome) refused whole done more = more outcome refused whole done
+done_with P is_refused (Err fault) refused whole done more = tt
+
+-- an output that is written
+pub written : (Is : List ℕ → Bool → Type 0) (old new : Option (List ℕ)) (is_refused : Bool) (outcome : Outcome) →
+    outcome.is_refused ≡ is_refused → outcome.lacking.items ≡ [] → outcome.undone ≡ None → WritesOutput Is old new is_refused →
+    Writes Is old new outcome
+written Is old new is_refused outcome refused whole done output = record {
+  output = subst (λ (b : Bool). WritesOutput Is old new b) (sym refused) output;
+  whole = whole;
+  is_done = done;
+}
+
+-- a list in the format that is asked for
+pub in_format : {E : Type 0} (P : Format → Outcome → Type 0) (format asked : Format) (r : Result Outcome E) → asked ≡ format →
+    IfOk r (P format) → IfOk r (P asked)
+in_format P format asked r e h = subst (λ (f : Format). IfOk r (P f)) (sym e) h

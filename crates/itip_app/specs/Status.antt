@@ -1,0 +1,34 @@
+-- The exit status (docs/USING.md; our own rule).
+use Rattle.std.specs.Prelude.{◌≡◌, ◌⊎◌, ℕ, Bool, true, false, if◌then◌else◌, Option, Some, None, Result, Ok, Err}
+use Rattle.itip_app.specs.declared.filters.Outcome.{Outcome}
+use Rattle.itip_app.specs.declared.filters.Undone.{Undone}
+use Rattle.itip_words.specs.declared.no_call.NoCall.{NoCall}
+use Rattle.itip_words.specs.declared.no_call.NoCall.TheVariants as no_call
+
+-- 1 where something was refused, else 0
+abbrev pub status_refused : Bool → ℕ
+status_refused is_refused = if is_refused then 1 else 0
+
+-- of a script or a message that was shown: 3 after a fault
+abbrev pub status_shown : {E : Type 0} → Result Bool E → ℕ
+status_shown (Ok is_refused) = status_refused is_refused
+status_shown (Err fault) = 3
+
+-- 4 where what was asked for can't be done
+abbrev pub status_done : Option Undone → Bool → ℕ
+status_done None is_refused = status_refused is_refused
+status_done (Some why) is_refused = 4
+
+-- of a filter: 3 after a fault
+abbrev pub status_filtered : {E : Type 0} → Result Outcome E → ℕ
+status_filtered (Ok outcome) = status_done outcome.undone outcome.is_refused
+status_filtered (Err fault) = 3
+
+-- Where nothing is run: 2 for bad words, 3 where the clock or memory fails, and 0 for a help that is asked for, or 3 where it can't
+-- be written.
+abbrev pub IsStatusOfNoCall : NoCall → ℕ → Type 0
+IsStatusOfNoCall (no_call.Help error) status = (status ≡ 0) ⊎ (status ≡ 3)
+IsStatusOfNoCall (no_call.Refused error) status = status ≡ 2
+IsStatusOfNoCall (no_call.BadValue text) status = status ≡ 2
+IsStatusOfNoCall no_call.NoClock status = status ≡ 3
+IsStatusOfNoCall no_call.NoMemory status = status ≡ 3

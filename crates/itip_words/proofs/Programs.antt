@@ -1,0 +1,76 @@
+-- Commands as they are built, and what `clap` reads by them.
+use Rattle.std.proofs.Common.{◌≡◌, ℕ, List, [], ◌∷◌, ◌++◌, ◌||◌, true, false, refl, sym, ap, ap₂, ◌∙◌}
+use Rattle.clap.specs.Built.{AddsArg, AddsSubcommand}
+use Rattle.clap.specs.Simple.{App, HasMatchesOf, Shape, app_of, app_of_fields, is_simple, shape_of, subcommand_of, subcommand_rows_of}
+use Rattle.clap.specs.Simple.{with_rule, with_subcommand}
+use Rattle.clap.specs.Walk.{Rule}
+use Rattle.clap.specs.declared.builder.arg.Arg.{Arg}
+use Rattle.clap.specs.declared.builder.command.Command.{Command}
+use Rattle.clap.specs.declared.builder.command.Command.TheOpen.{Command-F}
+use Rattle.clap.specs.declared.builder.command.Command.TheViews.{out-Command as fields_of}
+use Rattle.clap.specs.declared.parser.matches.ArgMatches.{ArgMatches}
+use Rattle.itip_words.specs.Program.{IsRule, IsWord, AddsRules, program, with_rules}
+
+-- ---- options
+
+pub adds_none : (command : Command) → AddsRules [] command command
+adds_none command = record { app_is = refl; local = λ none. none }
+
+fold_one : (rules : List Rule) (rule : Rule) (app : App) → with_rules (rules ++ rule ∷ []) app ≡ with_rule (with_rules rules app) rule
+fold_one [] rule app = refl
+fold_one (first ∷ rules) rule app = fold_one rules rule (with_rule app first)
+
+module _ (mid new : Command) (arg : Arg) (rule : Rule) (adds : AddsArg mid arg new) (is : IsRule rule arg) where
+  stays_local : (fields_of mid).has_globals ≡ false → (fields_of new).has_globals ≡ false
+  stays_local none = adds.globals ∙ ap₂ (λ a b. a || b) none is.local
+
+  with_one : app_of new ≡ with_rule (app_of mid) rule
+  with_one = adds.shape is.local ∙ ap (with_rule (app_of mid)) is.rule_is
+
+  -- one option more
+  pub adds_one : (old : Command) (rules : List Rule) → AddsRules rules old mid → AddsRules (rules ++ rule ∷ []) old new
+  adds_one old rules before = record {
+    app_is = with_one ∙ ap (λ (a : App). with_rule a rule) before.app_is ∙ sym (fold_one rules rule (app_of old));
+    local = λ none. stays_local (before.local none);
+  }
+
+  pub word_one : (app : App) → IsWord app mid → IsWord (with_rule app rule) new
+  word_one app word = record {
+    app_is = with_one ∙ ap (λ (a : App). with_rule a rule) word.app_is;
+    local = stays_local word.local;
+  }
+
+-- some options more
+pub word_more : (app : App) (rules : List Rule) (old new : Command) → IsWord app old → AddsRules rules old new →
+    IsWord (with_rules rules app) new
+word_more app rules old new word adds =
+    record { app_is = adds.app_is ∙ ap (with_rules rules) word.app_is; local = adds.local word.local }
+
+-- texts and settings that are no option leave the word as it is
+pub word_kept : (app : App) (old new : Command) (fields : Command-F Command) → IsWord app old → fields_of new ≡ fields →
+    app_of_fields fields ≡ app_of old → fields.has_globals ≡ (fields_of old).has_globals → IsWord app new
+word_kept app old new fields word are same local = record {
+  app_is = ap app_of_fields are ∙ same ∙ word.app_is;
+  local = ap (λ (f : Command-F Command). f.has_globals) are ∙ local ∙ word.local;
+}
+
+-- a word more
+pub word_added : (app word : App) (old sub new : Command) → IsWord app old → IsWord word sub → AddsSubcommand old sub new →
+    IsWord (with_subcommand app word.top) new
+word_added app word old sub new is sub_is adds = record {
+  app_is = adds.shape sub_is.local ∙
+      ap₂ (λ (a : App) (s : Shape). with_subcommand a s) is.app_is (ap (λ (a : App). a.top) sub_is.app_is);
+  local = adds.globals ∙ ap₂ (λ a b. a || b) is.local sub_is.local;
+}
+
+-- ---- what is read
+
+program_is_simple : is_simple program ≡ true
+unfolding program
+program_is_simple = refl
+
+-- the words and what is read by them
+pub words_read : (command : Command) (words : List (List ℕ)) (matches : ArgMatches) → IsWord program command →
+    HasMatchesOf (app_of command) words matches → subcommand_rows_of matches ≡ subcommand_of program words
+words_read command words matches is has =
+    (has (ap is_simple is.app_is ∙ program_is_simple)).1 ∙ ap (λ (a : App). subcommand_of a words) is.app_is

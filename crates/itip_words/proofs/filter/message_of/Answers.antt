@@ -1,0 +1,9 @@
+use Rattle.std.proofs.Common.{ℕ, List, Option, subst}
+use Rattle.itip_words.specs.Asking.{IsWritingTime}
+use Rattle.itip_words.proofs.filter.message_of.Goals as goal
+
+pub returns-in-Some-2 : goal.returns-in-Some-2
+returns-in-Some-2 c = (
+  c.in-Some-2.ensures,
+  subst (λ (o : Option (List ℕ)). IsWritingTime o c.args.clock c.in-Some.at) c.value_of-at.ensures c.in-Some.ensures,
+)
