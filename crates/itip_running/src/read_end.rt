@@ -9,6 +9,7 @@ ghost use Rattle.itip_view.specs.ListText.{IsListText};
 ghost use Rattle.itip_view.specs.Rows.{AreTooMany};
 ghost use Rattle.itip_view.specs.Showing.{Shows, AreTooManyWhere, IsListTextFor};
 ghost use Rattle.itip_running.specs.Deltas.{IsDeltaAfter};
+ghost use Rattle.itip_running.specs.History.{batches_of};
 ghost use Rattle.itip_running.specs.Pair.{name_of};
 ghost use base.Stored.{Coded-set};
 ghost use Rattle.std.specs.Coded.{coded_list};
@@ -38,16 +39,16 @@ pub(crate) struct Look {
     reading: PublishedReading,
     front: Front,
     ghost tied: { view reading.place ≡ name_of front.seen.book },
-    ghost whole: { reading.part.value.history ≡ front.seen.log } by { Coded-set (coded_list (coded_list item.the_row.coded)) _ _ },
+    ghost whole: { reading.part.value.history ≡ batches_of front.seen.log } by { Coded-set (coded_list (coded_list item.the_row.coded)) _ _ },
 }
 
 impl ReadEnd {
-    ghost use Rattle.itip_running.specs.Ends.{reader_seen, reader_pair, told};
+    ghost use Rattle.itip_running.specs.Ends.{reader_groups, reader_seen, reader_pair, publishes_told};
 
     /// Looks at what is published, which begins with all that was seen. Where the pair lets nobody in or shows less, the
     /// end comes back as it was.
     fn look(self) -> Result<Look, ReadEnd>
-        ensures seen { MatchResult result (λ look. IsPrefix (reader_seen self) look.front.seen.log)
+        ensures seen { MatchResult result (λ look. IsPrefix (reader_groups self) look.front.seen.log)
             (λ end. end.front.seen ≡ self.front.seen) }
         ensures book { IfOk result (λ look. look.front.seen.book ≡ reader_pair self) }
     {
@@ -87,8 +88,8 @@ impl ReadEnd {
         ensures text { IfOk result.1 (λ text. IsListText (heard (reader_seen result.0)) window text.items) }
         ensures many { IsErrOf result.1 PassError.TooManyRows → AreTooMany (heard (reader_seen result.0)) window }
         ensures causes { IsErrOf result.1 PassError.NoMemory → ⊥ }
-        ensures grows { IsPrefix (reader_seen self) (reader_seen result.0) }
-        ensures no_entry { IsErrOf result.1 PassError.NoEntry → reader_seen result.0 ≡ reader_seen self }
+        ensures grows { IsPrefix (reader_groups self) (reader_groups result.0) }
+        ensures no_entry { IsErrOf result.1 PassError.NoEntry → reader_groups result.0 ≡ reader_groups self }
         ensures book { reader_pair result.0 ≡ reader_pair self }
     {
         match self.look() {
@@ -118,8 +119,8 @@ impl ReadEnd {
         ensures many { IsErrOf result.1 PassError.TooManyRows
             → AreTooManyWhere (Shows address.now) (heard (reader_seen result.0)) window }
         ensures causes { IsErrOf result.1 PassError.NoMemory → ⊥ }
-        ensures grows { IsPrefix (reader_seen self) (reader_seen result.0) }
-        ensures no_entry { IsErrOf result.1 PassError.NoEntry → reader_seen result.0 ≡ reader_seen self }
+        ensures grows { IsPrefix (reader_groups self) (reader_groups result.0) }
+        ensures no_entry { IsErrOf result.1 PassError.NoEntry → reader_groups result.0 ≡ reader_groups self }
         ensures book { reader_pair result.0 ≡ reader_pair self }
     {
         match self.look() {
@@ -142,8 +143,8 @@ impl ReadEnd {
     pub(crate) fn delta_since(self, tick: u64) -> (ReadEnd, Result<Batch, PassError>)
         ensures delta { IfOk result.1 (λ batch. IsDeltaAfter (reader_seen result.0) tick batch) }
         ensures causes { IfErr result.1 (λ e. (e ≡ PassError.NoMemory) ⊎ (e ≡ PassError.NoEntry)) }
-        ensures grows { IsPrefix (reader_seen self) (reader_seen result.0) }
-        ensures no_entry { IsErrOf result.1 PassError.NoEntry → reader_seen result.0 ≡ reader_seen self }
+        ensures grows { IsPrefix (reader_groups self) (reader_groups result.0) }
+        ensures no_entry { IsErrOf result.1 PassError.NoEntry → reader_groups result.0 ≡ reader_groups self }
         ensures book { reader_pair result.0 ≡ reader_pair self }
     {
         match self.look() {
@@ -162,9 +163,9 @@ impl ReadEnd {
     /// Takes in what was published when the receipt was given.
     pub(crate) fn learn(&mut self, receipt: &Receipt)
         requires book { receipt.now.front.seen.book ≡ reader_pair self.old }
-        ensures longer { (reader_seen self.new ≡ reader_seen self.old) ⊎ (reader_seen self.new ≡ told receipt.now) }
-        ensures own { IsPrefix (reader_seen self.old) (reader_seen self.new) }
-        ensures told { IsPrefix (told receipt.now) (reader_seen self.new) }
+        ensures longer { (reader_groups self.new ≡ reader_groups self.old) ⊎ (reader_groups self.new ≡ publishes_told receipt.now) }
+        ensures own { IsPrefix (reader_groups self.old) (reader_groups self.new) }
+        ensures told { IsPrefix (publishes_told receipt.now) (reader_groups self.new) }
         ensures book { reader_pair self.new ≡ reader_pair self.old }
     {
         if !receipt.front.begins(&self.front) {
@@ -218,7 +219,7 @@ fn text_of(rows: &RowsByUid<'_, '_>) -> Result<Vec<u8>, PassError>
 impl Look {
     /// The published desk.
     fn desk(&self) -> &Desk
-        ensures { IsDeskOf self.now.front.seen.log 0 result.now }
+        ensures { IsDeskOf (batches_of self.now.front.seen.log) 0 result.now }
     {
         &self.reading.get().desk
     }

@@ -1,4 +1,4 @@
-use Rattle.std.proofs.Common.{sym, ◌∙◌, ap}
+use Rattle.std.proofs.Common.{sym, ◌∙◌, ap, ◌≡◌, ◌+◌, length}
 use Rattle.itip_running.proofs.Adding.{adds_moves}
 use Rattle.itip_running.proofs.front.Front.followed_by.Goals as goal
 
@@ -13,5 +13,5 @@ compare_exchange-found-requires c =
       pen.0 ∙ (ap (λ s. s.book) again ∙ sym (ap (λ w. w.book) h)),
       offer.0,
       rw (ap (λ w. w.key) h, pen.1, offer.1, offer.3, ap (λ s. s.log) again)
-          (adds_moves c.args.self.now.seen.log c.args.batch.now.value c.args.self.now.count (sym c.args.self.now.counted)),
+          (adds_moves c.args.self.now.seen.log c.args.group.now.value c.args.self.now.count (sym c.args.self.now.counted)),
     )
