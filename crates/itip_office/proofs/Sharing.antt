@@ -1,9 +1,9 @@
 -- Desks that each take what the others keep, as what is kept of all that they heard.
-use Rattle.std.proofs.Common.{◌≡◌, ℕ, ◌+◌, ◌<◌, List, [], ◌∷◌, ◌++◌, length, take, get_or, map, All, suc, arith, ◌↔◌, inl, inr, refl, sym}
+use Rattle.std.proofs.Common.{◌≡◌, ℕ, ◌+◌, ◌<◌, List, [], ◌∷◌, ◌++◌, length, take, get_or, All, suc, arith, ◌↔◌, inl, inr, refl, sym}
 use Rattle.std.proofs.Common.{ap, subst, ◌∙◌, append_assoc, append-nil}
 use Rattle.std.specs.List.{Contains, AllZip, flat_map}
 use Rattle.std.proofs.lemmas.List.{take_more}
-use Rattle.std.proofs.lemmas.List.Elements.{All-push, Contains-append_cases, Contains-append_left, Contains-append_right}
+use Rattle.std.proofs.lemmas.List.Elements.{All-nil, All-cons, All-push, Contains-append_cases, Contains-append_left, Contains-append_right}
 use Rattle.itip_items.specs.declared.item.Item.{Item}
 use Rattle.itip_state.specs.Kept.{AreKept, IsKept}
 use Rattle.itip_state.proofs.Members.{none_in, cons_cases, cons_first, cons_later}
@@ -11,6 +11,7 @@ use Rattle.itip_state.proofs.Keeping.{Covers, covers_kept, covers_itself, kept_p
 use Rattle.itip_desk.specs.Desk.{Shown, IsDeskOf, IsDeltaOf}
 use Rattle.itip_desk.specs.Heard.{heard}
 use Rattle.itip_office.specs.Ended.{all_heard}
+use Rattle.itip_office.proofs.Taking.{heard_both}
 use Rattle.itip_office.proofs.Whole.{whole_delta}
 
 -- the batches that a desk heard
@@ -35,26 +36,6 @@ zip_length R [] [] are = refl
 zip_length R [] (b ∷ ys) are = absurd are
 zip_length R (a ∷ xs) [] are = absurd are
 zip_length R (a ∷ xs) (b ∷ ys) are = ap suc (zip_length R xs ys are.1)
-
--- one more desk that is met
-pub record Meets (all left : List History) (desks : List Shown) : Type 0 where
-  pub done : List History
-  pub are : AreDesksOf done desks
-  pub whole : done ++ left ≡ all
-
-pub meets_none : (all : List History) → Meets all all []
-meets_none all = record { done = []; are = tt; whole = refl }
-
-pub meets_more : (all left : List History) (desks : List Shown) (h : History) (d : Shown) → Meets all (h ∷ left) desks → IsDeskOf h 0 d →
-    Meets all left (desks ++ d ∷ [])
-meets_more all left desks h d met is = record {
-  done = met.done ++ h ∷ [];
-  are = zip_push (λ (h : History) (d : Shown). IsDeskOf h 0 d) met.done desks h d met.are is;
-  whole = append_assoc met.done (h ∷ []) left ∙ met.whole;
-}
-
-pub meets_all : (all : List History) (desks : List Shown) → Meets all [] desks → AreDesksOf all desks
-meets_all all desks met = subst (λ (l : List History). AreDesksOf l desks) (sym (append-nil met.done) ∙ met.whole) met.are
 
 -- one more delta that is taken
 abbrev pub Carries : List (List Item) → Shown → Shown → Type 0
@@ -108,11 +89,6 @@ covers_deltas [] (d ∷ desks) (b ∷ deltas) are gives = absurd are
 covers_deltas (h ∷ hs) (d ∷ desks) (b ∷ deltas) are gives =
     covers_append d.kept b (all_kept desks) (heard deltas) (covers_kept d.kept b (whole_delta h d b are.0 gives.0))
     (covers_deltas hs desks deltas are.1 gives.1)
-
-heard_both : (steps more : History) → heard (steps ++ more) ≡ heard steps ++ heard more
-heard_both [] more = refl
-heard_both (step ∷ steps) more = ap (λ (l : List Item). step ++ l) (heard_both steps more) ∙
-    sym (append_assoc step (heard steps) (heard more))
 
 among_heard : (hs : List History) (h : History) → Contains hs h → (i : Item) → Contains (heard h) i → Contains (all_heard hs) i
 among_heard [] h there i is = absurd (none_in h there)
@@ -173,16 +149,18 @@ deltas_more desks i d deltas new b within at are one pushed =
     (subst (λ (l : List (List Item)). AreDeltasOf (take i desks ++ d ∷ []) l) (sym pushed)
     (zip_push (λ (d : Shown) (b : List Item). IsDeltaOf d 0 b) (take i desks) deltas d b are one))
 
-pub meets_ended : {X : Type 0} (f : X → History) (rest : List X) (all : List History) (desks : List Shown) → length rest ≡ 0 →
-    Meets all (map f rest) desks → AreDesksOf all desks
-meets_ended f [] all desks none met = meets_all all desks met
-meets_ended f (x ∷ rest) all desks none met = absurd (omega (arith, none))
-
-pub meets_next : (all left rest : List History) (desks new : List Shown) (h : History) (d : Shown) → rest ≡ h ∷ left →
-    Meets all rest desks → IsDeskOf h 0 d → new ≡ desks ++ d ∷ [] → Meets all left new
-meets_next all left rest desks new h d first met is pushed =
-    subst (λ (l : List Shown). Meets all left l) (sym pushed)
-    (meets_more all left desks h d (subst (λ (l : List History). Meets all l desks) first met) is)
+-- a desk that is alone keeps what is kept of all that was heard
+pub alone_kept : (hs : List History) (desks : List Shown) → length desks < 2 → AreDesksOf hs desks →
+    All (λ (d : Shown). AreKept d.kept (all_heard hs)) desks
+alone_kept [] [] few are = All-nil (λ (d : Shown). AreKept d.kept (all_heard []))
+alone_kept [] (d ∷ desks) few are = absurd are
+alone_kept (h ∷ hs) [] few are = absurd are
+alone_kept (h ∷ []) (d ∷ []) few are =
+    let P : Shown → Type 0 = λ d. AreKept d.kept (all_heard (h ∷ [])) in
+    All-cons P d [] (subst (AreKept d.kept) (sym (append-nil (heard h))) are.0.kept) (All-nil P)
+alone_kept (h ∷ []) (d ∷ e ∷ desks) few are = absurd (omega (arith, few))
+alone_kept (h ∷ g ∷ hs) (d ∷ []) few are = absurd are.1
+alone_kept (h ∷ g ∷ hs) (d ∷ e ∷ desks) few are = absurd (omega (arith, few))
 
 -- one more desk has taken all deltas
 pub shares_more : (hs : List History) (desks : List Shown) (deltas : List (List Item)) (d r : Shown) (rest left ended new : List Shown) →

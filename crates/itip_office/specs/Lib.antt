@@ -3,6 +3,7 @@ pub use Rattle.itip_desk.specs.Desk
 pub use Rattle.itip_state.specs.Kept
 pub mod Texts
 pub mod Answers
+pub mod Taken
 pub mod Steps
 pub mod Merged
 pub mod Team

@@ -1,5 +1,5 @@
 //! The loop of a worker.
-ghost use Rattle.std.specs.Prelude.{◌≡◌, ◌<◌, ◌≢◌, length, All, IfOk, IfSome};
+ghost use Rattle.std.specs.Prelude.{◌≡◌, ◌≢◌, length, All, IfOk, IfErr, IfSome, IsErrOf};
 ghost use Rattle.itip_office.specs.declared.job.Work.TheVariants.{Text, Carry, Look};
 ghost use Rattle.itip_office.specs.Answers.{AnswersAlone};
 ghost use Rattle.itip_office.specs.Steps.{IsStepOf};
@@ -27,11 +27,11 @@ pub(crate) enum Step {
 }
 
 /// Takes jobs until their channel is closed, and gives those that it answered itself, with their outcomes: a desk that isn't there (50), a
-/// text that is refused, and a look. What else there is to merge goes to the keeper of the desk. There are as many passes as keepers, one
-/// for each desk, in the order of desks.
+/// text that is refused, and a look. What else there is to merge goes to the keeper of the desk. There are as many desks as keepers; looks
+/// and carries need a pass of each, in the order of desks.
 ///
 /// Ends early if an allocation failed (40), if the gate is closed (42), if a keeper takes nothing more (43), or if a pass is refused the
-/// entry (45). The passes are dropped in the end.
+/// entry, or isn't there (45). The passes are dropped in the end.
 pub fn worker_loop<R: AllocGlobal + Wait, G: Gate>(
     rt: &R,
     passes: Vec<Pass>,
@@ -39,8 +39,8 @@ pub fn worker_loop<R: AllocGlobal + Wait, G: Gate>(
     keepers: Vec<Sender<Merge>>,
     gate: &G,
 ) -> Result<Vec<(Job, Outcome)>, OfficeError>
-    requires desks { length passes.items ≡ length keepers.items }
     ensures alone { IfOk result (λ answers. All (λ a. AnswersAlone (length keepers.items) a.0.work a.1) answers.items) }
+    ensures closed { IsErrOf result OfficeError.GateClosed → G.may_close }
 {
     let mut passes = passes;
     let mut answers = Vec::new(rt.alloc());
@@ -70,11 +70,10 @@ fn do_job<R: AllocGlobal + Wait>(
     keepers: &[Sender<Merge>],
     job: Job,
 ) -> Result<Option<(Job, Outcome)>, OfficeError>
-    requires desks { length passes.old ≡ length keepers.now }
-    ensures passes { length passes.new ≡ length passes.old }
     ensures alone { IfOk result (λ done. IfSome done (λ a. AnswersAlone (length keepers.now) a.0.work a.1)) }
+    ensures open { IfErr result (λ e. e ≢ OfficeError.GateClosed) }
 {
-    match step_of(rt.alloc(), passes, &job.work)? {
+    match step_of(rt.alloc(), passes, keepers.len(), &job.work)? {
         Step::Answers(outcome) => Ok(Some((job, outcome))),
         Step::HandsOn { desk, batch } => {
             match keepers[desk].send(rt, Merge::new(job, batch)) {
@@ -85,19 +84,25 @@ fn do_job<R: AllocGlobal + Wait>(
     }
 }
 
-fn step_of(alloc: Global, passes: &mut [Pass], work: &Work) -> Result<Step, OfficeError>
-    ensures passes { length passes.new ≡ length passes.old }
-    ensures step { IfOk result (IsStepOf (length passes.old) work.now) }
+fn step_of(
+    alloc: Global,
+    passes: &mut [Pass],
+    desks: usize,
+    work: &Work,
+) -> Result<Step, OfficeError>
+    ensures step { IfOk result (IsStepOf desks work.now) }
+    ensures open { IfErr result (λ e. e ≢ OfficeError.GateClosed) }
 {
     match work {
-        Work::Text { desk, bytes } => read_text(alloc, passes.len(), *desk, bytes.as_slice()),
-        Work::Carry { from, to } => carry(passes, *from, *to),
-        Work::Look { desk, window } => look(passes, *desk, *window),
+        Work::Text { desk, bytes } => read_text(alloc, desks, *desk, bytes.as_slice()),
+        Work::Carry { from, to } => carry(passes, desks, *from, *to),
+        Work::Look { desk, window } => look(passes, desks, *desk, *window),
     }
 }
 
 fn read_text(alloc: Global, desks: usize, at: u64, bytes: &[u8]) -> Result<Step, OfficeError>
-    ensures { IfOk result (IsStepOf desks (Text at bytes.now)) }
+    ensures step { IfOk result (IsStepOf desks (Text at bytes.now)) }
+    ensures open { IfErr result (λ e. e ≢ OfficeError.GateClosed) }
 {
     let desk = at as usize;
     if desk >= desks {
@@ -111,30 +116,36 @@ fn read_text(alloc: Global, desks: usize, at: u64, bytes: &[u8]) -> Result<Step,
 }
 
 // A desk that all comes from is looked for before the one that it comes to.
-fn carry(passes: &mut [Pass], from: u64, to: u64) -> Result<Step, OfficeError>
-    ensures passes { length passes.new ≡ length passes.old }
-    ensures step { IfOk result (IsStepOf (length passes.old) (Carry from to)) }
+fn carry(passes: &mut [Pass], desks: usize, from: u64, to: u64) -> Result<Step, OfficeError>
+    ensures step { IfOk result (IsStepOf desks (Carry from to)) }
+    ensures open { IfErr result (λ e. e ≢ OfficeError.GateClosed) }
 {
-    let count = passes.len();
-    let desk = to as usize;
-    let Some(pass) = passes.get_mut(from as usize) else {
+    let (start, end) = (from as usize, to as usize);
+    if start >= desks {
         return Ok(refused(Refusal::NoDesk(from)));
-    };
-    if desk >= count {
+    }
+    if end >= desks {
         return Ok(refused(Refusal::NoDesk(to)));
     }
+    let Some(pass) = passes.get_mut(start) else {
+        return Err(OfficeError::NoEntry);
+    };
     match pass.delta_since(0) {
-        Ok(batch) => Ok(Step::HandsOn { desk, batch }),
+        Ok(batch) => Ok(Step::HandsOn { desk: end, batch }),
         Err(error) => Err(error_of(error)),
     }
 }
 
-fn look(passes: &mut [Pass], desk: u64, window: Window) -> Result<Step, OfficeError>
-    ensures passes { length passes.new ≡ length passes.old }
-    ensures step { IfOk result (IsStepOf (length passes.old) (Look desk window)) }
+fn look(passes: &mut [Pass], desks: usize, desk: u64, window: Window) -> Result<Step, OfficeError>
+    ensures step { IfOk result (IsStepOf desks (Look desk window)) }
+    ensures open { IfErr result (λ e. e ≢ OfficeError.GateClosed) }
 {
-    let Some(pass) = passes.get_mut(desk as usize) else {
+    let place = desk as usize;
+    if place >= desks {
         return Ok(refused(Refusal::NoDesk(desk)));
+    }
+    let Some(pass) = passes.get_mut(place) else {
+        return Err(OfficeError::NoEntry);
     };
     match pass.list(window) {
         Ok(text) => Ok(Step::Answers(Outcome::Looked { text })),
@@ -152,6 +163,7 @@ fn refused(refusal: Refusal) -> Step
 // Why a worker ends, where a pass has neither an answer nor too many rows.
 fn error_of(error: PassError) -> OfficeError
     requires { error ≢ PassError.TooManyRows }
+    ensures { result ≢ OfficeError.GateClosed }
 {
     match error {
         PassError::NoMemory | PassError::NoListMemory => OfficeError::NoMemory,

@@ -1,8 +1,7 @@
-use Rattle.std.proofs.Common.{◌≡◌, ℕ, ◌+◌, List, ◌∷◌, suc, length, map, ap, subst, arith}
+use Rattle.std.proofs.Common.{◌≡◌, ℕ, ◌+◌, List, ◌∷◌, suc, length, map, ap, subst, arith, inl, inr}
 use Rattle.std.specs.Prelude.{IfOk}
 use Rattle.std.specs.Vec.Iter.{into_iter_items}
-use Rattle.itip_running.specs.Ends.{published}
-use Rattle.itip_office.specs.Merged.{AreMerged}
+use Rattle.itip_office.specs.Merged.{HasMerged}
 use Rattle.itip_office.specs.Team.{AreNumbered}
 use Rattle.itip_office.proofs.team.join_keepers.Goals as goal
 
@@ -23,6 +22,7 @@ loop-keeper-preserved g c =
           subst (AreNumbered n) (ap (map (λ t. t.promise.desk)) first) k.0 in (
             here.1,
             c.with_kept-all.ensures.kept n k.1
-                (subst (λ (d : ℕ). IfOk c.join.result (λ v. AreMerged d v.answers.items (published v.held.keeper))) here.0 c.join.ensures),
+                (subst (λ (d : ℕ). IfOk c.join.result (λ v. HasMerged d v.answers.items v.held.texts)) here.0 c.join.ensures.0),
           ),
+      λ e. elim (c.with_kept-all.ensures.closed e) [ inl h ↦ was.4 h | inr h ↦ c.join.ensures.1 h ],
     )
