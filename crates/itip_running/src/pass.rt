@@ -1,5 +1,5 @@
 //! A pass, which reads beside the keeper.
-ghost use Rattle.std.specs.Prelude.{◌≡◌, ◌⊎◌, length, Some, IsSome, IfOk, IfErr, IsTrue, IsErrOf};
+ghost use Rattle.std.specs.Prelude.{◌≡◌, ◌⊎◌, ◌≤◌, length, Some, IsSome, IfOk, IfErr, IsTrue, IsErrOf};
 ghost use mathlib.Core.List.{IsPrefix};
 
 use crate::error::PassError;
@@ -7,7 +7,9 @@ use crate::front::Front;
 use crate::read_end::ReadEnd;
 use crate::receipt::Receipt;
 use itip_desk::Batch;
-use itip_view::Window;
+use itip_state::{SharedItem, State};
+use itip_todo::Uid;
+use itip_view::{Row, Window};
 
 /// The right to read a running desk, on any thread. It waits for nobody. Contracts see the list of the published groups of batches
 /// that it has seen, which only grows: what it has seen is always everything up to the end of some publish.
@@ -18,11 +20,13 @@ pub struct Pass {
 }
 
 impl Pass {
+    ghost use Rattle.itip_state.specs.Kept.{AreKept};
     ghost use Rattle.itip_desk.specs.Heard.{heard};
     ghost use Rattle.itip_view.specs.ListText.{IsListText};
-    ghost use Rattle.itip_view.specs.Rows.{AreTooMany};
-    ghost use Rattle.itip_view.specs.Showing.{Shows, AreTooManyWhere, IsListTextFor};
+    ghost use Rattle.itip_view.specs.Rows.{AreRows, AreTooMany, row_limit};
+    ghost use Rattle.itip_view.specs.Showing.{Shows, AreRowsWhere, AreTooManyWhere, IsListTextFor};
     ghost use Rattle.itip_running.specs.Deltas.{IsDeltaAfter};
+    ghost use Rattle.itip_running.specs.Parts.{AreKeptOf};
     ghost use Rattle.itip_running.specs.Ends.{publishes_seen, seen, pass_pair, publishes_told, told, receipt_pair};
 
     /// The text of the task list in a window, of a list of published batches that begins with all that this pass had seen;
@@ -65,6 +69,87 @@ impl Pass {
         let (end, text) = end.list_for(window, address);
         self.end = Some(end);
         text
+    }
+
+    /// The rows of a window, at most 100,000, of a list of published batches as in `list`.
+    ///
+    /// Refused where more rows are there (31), or when out of memory (32); it has seen the batches all the same. Refused too
+    /// where the pair lets nobody in or shows less than was seen (45): then nothing more is seen.
+    #[tactic(auto, using(crate::proofs::Groups::prefix_batches))]
+    pub fn rows(&mut self, window: Window) -> Result<Vec<Row>, PassError>
+        ensures rows { IfOk result (λ rows. AreRows (heard (seen self.new)) window rows.items) }
+        ensures few { IfOk result (λ rows. length rows.items ≤ row_limit) }
+        ensures many { IsErrOf result PassError.TooManyRows → AreTooMany (heard (seen self.new)) window }
+        ensures causes { IsErrOf result PassError.NoMemory → ⊥ }
+        ensures grows { IsPrefix (seen self.old) (seen self.new) }
+        ensures whole { IsPrefix (publishes_seen self.old) (publishes_seen self.new) }
+        ensures no_entry { IsErrOf result PassError.NoEntry → publishes_seen self.new ≡ publishes_seen self.old }
+        ensures pair { pass_pair self.new ≡ pass_pair self.old }
+    {
+        let end = self.end.take().unwrap();
+        let (end, rows) = end.rows(window);
+        self.end = Some(end);
+        rows
+    }
+
+    /// The rows of a window that show the attendee of an address, of a list of published batches as in `list`.
+    ///
+    /// Refused where more than 100,000 rows there show the attendee (31), or when out of memory (32); it has seen the batches
+    /// all the same. Refused too where the pair lets nobody in or shows less than was seen (45): then nothing more is seen.
+    #[tactic(auto, using(crate::proofs::Groups::prefix_batches))]
+    pub fn rows_for(&mut self, window: Window, address: &str) -> Result<Vec<Row>, PassError>
+        ensures rows { IfOk result (λ rows. AreRowsWhere (Shows address.now) (heard (seen self.new)) window rows.items) }
+        ensures many { IsErrOf result PassError.TooManyRows → AreTooManyWhere (Shows address.now) (heard (seen self.new)) window }
+        ensures causes { IsErrOf result PassError.NoMemory → ⊥ }
+        ensures grows { IsPrefix (seen self.old) (seen self.new) }
+        ensures whole { IsPrefix (publishes_seen self.old) (publishes_seen self.new) }
+        ensures no_entry { IsErrOf result PassError.NoEntry → publishes_seen self.new ≡ publishes_seen self.old }
+        ensures pair { pass_pair self.new ≡ pass_pair self.old }
+    {
+        let end = self.end.take().unwrap();
+        let (end, rows) = end.rows_for(window, address);
+        self.end = Some(end);
+        rows
+    }
+
+    /// All that is kept, each item shared with the desk, of a list of published batches as in `list`: what reports and
+    /// explanations are made of. Each kept item costs a count and its places in maps.
+    ///
+    /// Refused when out of memory (40); it has seen the batches all the same. Refused too where the pair lets nobody in or
+    /// shows less than was seen (45): then nothing more is seen.
+    #[tactic(auto, using(crate::proofs::Groups::prefix_batches))]
+    pub fn kept(&mut self) -> Result<State, PassError>
+        ensures kept { IfOk result (λ kept. AreKept kept (heard (seen self.new))) }
+        ensures causes { IfErr result (λ e. (e ≡ PassError.NoMemory) ⊎ (e ≡ PassError.NoEntry)) }
+        ensures grows { IsPrefix (seen self.old) (seen self.new) }
+        ensures whole { IsPrefix (publishes_seen self.old) (publishes_seen self.new) }
+        ensures no_entry { IsErrOf result PassError.NoEntry → publishes_seen self.new ≡ publishes_seen self.old }
+        ensures pair { pass_pair self.new ≡ pass_pair self.old }
+    {
+        let end = self.end.take().unwrap();
+        let (end, kept) = end.kept();
+        self.end = Some(end);
+        kept
+    }
+
+    /// What is kept of a UID, each item shared with the desk, in no particular order, of a list of published batches as in
+    /// `list`. No other UID is looked at.
+    ///
+    /// Refused when out of memory (40); it has seen the batches all the same. Refused too where the pair lets nobody in or
+    /// shows less than was seen (45): then nothing more is seen.
+    #[tactic(auto, using(crate::proofs::Groups::prefix_batches))]
+    pub fn items_of(&mut self, uid: &Uid) -> Result<Vec<SharedItem>, PassError>
+        ensures items { IfOk result (λ items. AreKeptOf uid.now items.items (heard (seen self.new))) }
+        ensures causes { IfErr result (λ e. (e ≡ PassError.NoMemory) ⊎ (e ≡ PassError.NoEntry)) }
+        ensures grows { IsPrefix (seen self.old) (seen self.new) }
+        ensures whole { IsPrefix (publishes_seen self.old) (publishes_seen self.new) }
+        ensures no_entry { IsErrOf result PassError.NoEntry → publishes_seen self.new ≡ publishes_seen self.old }
+        ensures pair { pass_pair self.new ≡ pass_pair self.old }
+    {
+        let end = self.end.take().unwrap();
+        let (end, items) = end.items_of(uid);
+        self.end = Some(end);
+        items
     }
 
     /// The kept items of the UIDs that moved after this tick of the desk, of a list of published batches as in `list`; the

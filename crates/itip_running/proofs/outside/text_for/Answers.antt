@@ -4,7 +4,7 @@ use Rattle.itip_view.specs.Showing.{Shows, IsListTextFor}
 use Rattle.itip_view.specs.Wanting.{Wants}
 use Rattle.itip_view.proofs.Left.{too_many_where}
 use Rattle.itip_view.proofs.SameAsked.{rows_alike, many_alike}
-use Rattle.itip_running.proofs.read_end.text_for.Goals as goal
+use Rattle.itip_running.proofs.outside.text_for.Goals as goal
 
 pub returns-clause-text : goal.returns-clause-text
 returns-clause-text c =

@@ -3,7 +3,7 @@ use Rattle.itip_desk.specs.Desk.{IsDeskOf}
 use Rattle.itip_desk.proofs.Stable.{desk_of}
 use Rattle.itip_running.specs.History.{Items, batches_of}
 use Rattle.itip_running.specs.declared.published.Published.{Published}
-use Rattle.itip_running.proofs.read_end.Look.desk.Goals as goal
+use Rattle.itip_running.proofs.look.Look.desk.Goals as goal
 
 pub returns : goal.returns
 returns c =

@@ -4,7 +4,7 @@ use Rattle.itip_view.specs.ListText.{IsListText}
 use Rattle.itip_view.specs.Wanting.{Wants}
 use Rattle.itip_view.proofs.Left.{too_many_where}
 use Rattle.itip_view.proofs.SameAsked.{rows_of_all, many_of_all}
-use Rattle.itip_running.proofs.read_end.text_in.Goals as goal
+use Rattle.itip_running.proofs.outside.text_in.Goals as goal
 
 pub returns-clause-text : goal.returns-clause-text
 returns-clause-text c =
