@@ -2,7 +2,7 @@
 ghost use Rattle.std.specs.Prelude.{◌≡◌, ◌↔◌, ◌+◌, ◌<◌, [], ◌∷◌, ◌++◌, length, IsSome};
 ghost use Rattle.std.specs.Prelude.{MatchResult, OnErr, OnOk, IfOk, IsErrOf};
 
-use crate::error::LiveError;
+use crate::error::{LiveError, NotSubmitted};
 use crate::receipt::Receipt;
 use crate::write_end::WriteEnd;
 use itip_desk::Batch;
@@ -24,18 +24,21 @@ impl Keeper {
 
     /// Adds a batch after those that are pending.
     ///
-    /// The batch comes back when out of memory, or where `usize::MAX` batches are pending, and nothing has changed then.
-    pub fn submit(&mut self, batch: Batch) -> Result<(), Batch>
+    /// Refused when out of memory, or where `usize::MAX` batches are pending; the error has the batch, and nothing has changed then.
+    pub fn submit(&mut self, batch: Batch) -> Result<(), NotSubmitted>
         ensures published { published self.new ≡ published self.old }
         ensures pending { MatchResult result (λ _. pending self.new ≡ pending self.old ++ batch ∷ [])
-            (λ back. (back ≡ batch) × (pending self.new ≡ pending self.old)) }
+            (λ refused. (refused.batch ≡ batch) × (pending self.new ≡ pending self.old)) }
         ensures publishes { (publishes self.new ≡ publishes self.old) × (calls self.new ≡ calls self.old) }
         ensures fresh { MatchResult result (λ _. fresh self.new ≡ fresh self.old ++ batch ∷ []) (λ _. fresh self.new ≡ fresh self.old) }
         ensures pair { keeper_pair self.new ≡ keeper_pair self.old }
     {
         match &mut self.end {
-            Some(end) => end.submit(batch),
-            None => Err(batch),
+            Some(end) => match end.submit(batch) {
+                Ok(()) => Ok(()),
+                Err(batch) => Err(NotSubmitted { batch }),
+            },
+            None => Err(NotSubmitted { batch }),
         }
     }
 

@@ -21,13 +21,15 @@ mod pass;
 mod published;
 mod read_end;
 mod receipt;
+mod scope;
 mod start;
 mod write_end;
 
-pub use error::{LiveError, PassError};
+pub use error::{LiveError, NotSubmitted, PassError};
 pub use keeper::Keeper;
 pub use meeting::{Met, meet};
 pub use named_receipt::{NamedReceipt, Naming};
 pub use pass::Pass;
 pub use receipt::Receipt;
+pub use scope::{OpenDesk, with_desk};
 pub use start::start_desk;

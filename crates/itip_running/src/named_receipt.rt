@@ -1,19 +1,22 @@
 //! A receipt that goes through a channel.
-ghost use Rattle.std.specs.Prelude.{◌≡◌, Some};
+ghost use Rattle.std.specs.Prelude.{◌≡◌};
 ghost use Rattle.itip_running.specs.Ends.{publishes_told, receipt_pair};
 
 use crate::receipt::Receipt;
 use std::marker::{Brand, Model, PhantomData};
 
-/// Which pair it is. Each call of a program picks it, by [`Brand`].
+/// Which pair it is. A function that is generic in it is called at [`Brand`], and the call picks the pair, as that of its keeper.
 pub trait Naming {
+    ghost use Rattle.std.specs.Prelude.{Option};
     ghost use Rattle.logbook.specs.Pages.{Book};
 
-    ghost pair: { Book };
+    ghost pair: { Option Book };
 }
 
 impl Naming for Brand {
-    ghost pair = { record { number = 0; log_name = 0; cells_name = 0 } };
+    ghost use Rattle.std.specs.Prelude.{None};
+
+    ghost pair = { None };
 }
 
 /// A receipt whose type says of which pair it is. Of a message nothing is known but its type: one who gets this from a channel knows that
@@ -25,7 +28,7 @@ pub struct NamedReceipt<N: Naming> {
 }
 
 impl<N: Naming> Model for NamedReceipt<N> {
-    ghost use Rattle.std.specs.Prelude.{◌≡◌, List};
+    ghost use Rattle.std.specs.Prelude.{◌≡◌, List, Some};
     ghost use Rattle.std.specs.Coded.{coded_list};
     ghost use Rattle.itip_items.specs.declared.item.Item.{Item};
     ghost use Rattle.itip_items.specs.contracts.item.Item as item;
@@ -36,13 +39,13 @@ impl<N: Naming> Model for NamedReceipt<N> {
 
     ghost view = { λ r. r.receipt.front.seen.log };
 
-    ghost invariant = { λ r. r.receipt.front.seen.book ≡ N.pair };
+    ghost invariant = { λ r. Some r.receipt.front.seen.book ≡ N.pair };
 }
 
 impl<N: Naming> NamedReceipt<N> {
     /// This receipt, which is of the pair that the type names.
     pub fn new(receipt: Receipt) -> NamedReceipt<N>
-        requires pair { receipt_pair receipt ≡ Some N.pair }
+        requires pair { receipt_pair receipt ≡ N.pair }
         ensures told { result ≡ publishes_told receipt }
     {
         NamedReceipt {
@@ -64,7 +67,7 @@ impl<N: Naming> NamedReceipt<N> {
     /// The receipt itself.
     pub fn into_receipt(self) -> Receipt
         ensures told { publishes_told result ≡ self }
-        ensures pair { receipt_pair result ≡ Some N.pair }
+        ensures pair { receipt_pair result ≡ N.pair }
     {
         let NamedReceipt { receipt, of: _ } = self;
         receipt

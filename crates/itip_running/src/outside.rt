@@ -81,8 +81,8 @@ pub(crate) fn rows_for(
     ensures memory { IsErrOf result PassError.NoMemory → ⊥ }
     ensures entry { IsErrOf result PassError.NoEntry → ⊥ }
 {
-    let wanted = Wanted::showing(Some(address));
-    let Ok(rows) = RowsByUid::of(alloc, state, window, &wanted) else {
+    let shown = Wanted::showing(Some(address));
+    let Ok(rows) = RowsByUid::of(alloc, state, window, &shown) else {
         return Err(PassError::NoListMemory);
     };
     match rows.count() {
