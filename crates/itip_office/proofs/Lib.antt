@@ -4,6 +4,7 @@ pub mod Merging
 pub mod Taking
 pub mod Whole
 pub mod Sharing
+pub mod Beside
 pub mod Reports
 pub mod Replying
 pub mod Ending

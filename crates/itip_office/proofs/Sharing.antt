@@ -139,16 +139,6 @@ left_next hs d desks l = by l.left l.are l.within
       rest = record { left = left; are = are.1; within = λ x there. within x (cons_later h left x there) };
     }
 
-pub deltas_more : (desks : List Shown) (i : ℕ) (d : Shown) (deltas new : List (List Item)) (b : List Item) → i < length desks →
-    d ≡ get_or desks i d → AreDeltasOf (take i desks) deltas → IsDeltaOf d 0 b
-    → new ≡ deltas ++ b ∷ [] → AreDeltasOf (take (i + 1) desks) new
-deltas_more desks i d deltas new b within at are one pushed =
-    let more : take (i + 1) desks ≡ take i desks ++ d ∷ [] = take_more desks i d within ∙
-    ap (λ (x : Shown). take i desks ++ x ∷ []) (sym at) in
-    subst (λ (l : List Shown). AreDeltasOf l new) (sym more)
-    (subst (λ (l : List (List Item)). AreDeltasOf (take i desks ++ d ∷ []) l) (sym pushed)
-    (zip_push (λ (d : Shown) (b : List Item). IsDeltaOf d 0 b) (take i desks) deltas d b are one))
-
 -- a desk that is alone keeps what is kept of all that was heard
 pub alone_kept : (hs : List History) (desks : List Shown) → length desks < 2 → AreDesksOf hs desks →
     All (λ (d : Shown). AreKept d.kept (all_heard hs)) desks
@@ -161,16 +151,3 @@ alone_kept (h ∷ []) (d ∷ []) few are =
 alone_kept (h ∷ []) (d ∷ e ∷ desks) few are = absurd (omega (arith, few))
 alone_kept (h ∷ g ∷ hs) (d ∷ []) few are = absurd are.1
 alone_kept (h ∷ g ∷ hs) (d ∷ e ∷ desks) few are = absurd (omega (arith, few))
-
--- one more desk has taken all deltas
-pub shares_more : (hs : List History) (desks : List Shown) (deltas : List (List Item)) (d r : Shown) (rest left ended new : List Shown) →
-    AreDesksOf hs desks → AreDeltasOf desks deltas → rest ≡ d ∷ left
-    → new ≡ ended ++ r ∷ [] → Carries deltas d r → AreLeft hs rest × All (λ (x : Shown). AreKept x.kept (all_heard hs)) ended →
-    AreLeft hs left × All (λ (x : Shown). AreKept x.kept (all_heard hs)) new
-shares_more hs desks deltas d r rest left ended new are gives first pushed one was =
-    let next : IsNext hs d left = left_next hs d left (subst (AreLeft hs) first was.0) in
-    let P : Shown → Type 0 = λ x. AreKept x.kept (all_heard hs) in (
-      next.rest,
-      subst (λ (l : List Shown). All P l) (sym pushed)
-          (All-push P ended r was.1 (shared hs desks deltas are gives next.history next.there r.kept (one next.history 0 next.is).kept)),
-    )

@@ -8,4 +8,5 @@ pub mod Steps
 pub mod Merged
 pub mod Team
 pub mod Ended
+pub mod Exchanged
 pub mod Scripts

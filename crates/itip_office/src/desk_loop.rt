@@ -27,7 +27,7 @@ pub fn keeper_loop<R: AllocGlobal + Wait, G: Gate>(
     desk: u64,
     texts: Desk,
     shown: Option<Keeper>,
-    merges: Receiver<Merge>,
+    merges: Receiver<Vec<Merge>>,
     gate: &G,
 ) -> Result<(Desk, Option<Keeper>, Vec<(Job, Outcome)>), OfficeError>
     requires nothing { IsIdle shown }
@@ -52,7 +52,7 @@ fn merge_all<R: AllocGlobal + Wait, G: Gate>(
     desk: u64,
     texts: &mut Desk,
     shown: &mut Option<Keeper>,
-    merges: &Receiver<Merge>,
+    merges: &Receiver<Vec<Merge>>,
     gate: &G,
 ) -> Result<Vec<(Job, Outcome)>, OfficeError>
     requires nothing { IsIdle shown.old }
@@ -63,14 +63,16 @@ fn merge_all<R: AllocGlobal + Wait, G: Gate>(
 {
     let mut answers = Vec::new(rt.alloc());
     for _ in rt.forever() {
-        let Ok(merge) = merges.recv(rt) else {
+        let Ok(some) = merges.recv(rt) else {
             return Ok(answers);
         };
-        let answer = merge_one(rt, desk, texts, shown, merge, gate)?;
-        let number = answer.0.number;
-        answers.push(answer)?;
-        if !gate.done(number) {
-            return Err(OfficeError::GateClosed);
+        for merge in some {
+            let answer = merge_one(rt, desk, texts, shown, merge, gate)?;
+            let number = answer.0.number;
+            answers.push(answer)?;
+            if !gate.done(number) {
+                return Err(OfficeError::GateClosed);
+            }
         }
     }
     unreachable!()

@@ -1,57 +1,73 @@
 //! The desks of an office, once its threads have returned.
-ghost use Rattle.std.specs.Prelude.{◌≡◌, ◌≢◌, ◌++◌, ℕ, List, length, All, IfOk, IfErr};
+ghost use Rattle.std.specs.Prelude.{◌≡◌, ◌≢◌, ◌<◌, ◌++◌, ℕ, List, length, map, All, Ok, IfOk, IfErr, slice_index_or};
 ghost use Rattle.std.specs.List.{AllZip};
 ghost use Rattle.itip_items.specs.declared.item.Item.{Item};
 ghost use Rattle.itip_state.specs.Kept.{AreKept};
 ghost use Rattle.itip_desk.specs.Desk.{IsDeskOf, IsDeltaOf};
 ghost use Rattle.itip_office.specs.Ended.{all_heard};
+ghost use Rattle.itip_office.specs.Exchanged.{GivesDelta, TakesAll, AreNoLoops};
 
 use crate::error::OfficeError;
 use itip_desk::{Batch, Desk, DeskError};
-use std::alloc::Global;
+use std::alloc::{AllocError, Global};
+use std::thread;
+use std::thread::Threads;
 
-/// The desks, each of which has taken what the others keep. A desk that is alone stays as it is.
-pub(crate) fn exchange(alloc: Global, desks: Vec<Desk>) -> Result<Vec<Desk>, OfficeError>
+/// The desks, each of which has taken what the others keep, each on a thread of its own. A desk that is alone stays as it is.
+pub(crate) fn exchange<R: Threads + Sync>(
+    rt: &R,
+    alloc: Global,
+    desks: Vec<Desk>,
+) -> Result<Vec<Desk>, OfficeError>
     ensures count { IfOk result (λ ended. length ended.items ≡ length desks.items) }
     ensures kept { (histories : List (List (List Item))) → AllZip (λ batches desk. IsDeskOf batches 0 desk) histories desks.items
         → IfOk result (λ ended. All (λ desk. AreKept desk.kept (all_heard histories)) ended.items) }
-    ensures causes { IfErr result (λ e. (e ≢ OfficeError.GateClosed) × (e ≢ OfficeError.ChannelClosed)) }
+    ensures causes { IfErr result AreNoLoops }
 {
     if desks.len() < 2 {
         return Ok(desks);
     }
-    exchange_all(alloc, desks)
+    let deltas = all_ok(alloc, deltas(rt, alloc, &desks)?)?;
+    all_ok(alloc, with_deltas(rt, desks, &deltas)?)
 }
 
-fn exchange_all(alloc: Global, desks: Vec<Desk>) -> Result<Vec<Desk>, OfficeError>
-    ensures count { IfOk result (λ ended. length ended.items ≡ length desks.items) }
-    ensures kept { (histories : List (List (List Item))) → AllZip (λ batches desk. IsDeskOf batches 0 desk) histories desks.items
-        → IfOk result (λ ended. All (λ desk. AreKept desk.kept (all_heard histories)) ended.items) }
-    ensures causes { IfErr result (λ e. (e ≢ OfficeError.GateClosed) × (e ≢ OfficeError.ChannelClosed)) }
+// What each desk keeps, as a delta.
+fn deltas<R: Threads + Sync>(
+    rt: &R,
+    alloc: Global,
+    desks: &[Desk],
+) -> Result<Vec<Result<Batch, OfficeError>>, AllocError>
+    ensures count { IfOk result (λ all. length all.items ≡ length desks.now) }
+    ensures each { IfOk result (λ all. (i : ℕ) (desk : _) (given : _) → i < length desks.now
+        → GivesDelta (slice_index_or desks.now i desk) (slice_index_or all.items i given)) }
 {
-    let deltas = deltas(alloc, &desks)?;
-    let mut ended = Vec::new(alloc);
-    for desk in desks {
-        ended.push(with_all(desk, &deltas)?)?;
-    }
-    Ok(ended)
+    thread::map_indices(rt, alloc, desks.len(), &|i| delta_of(&desks[i]))
 }
 
-fn deltas(alloc: Global, desks: &[Desk]) -> Result<Vec<Batch>, OfficeError>
-    ensures deltas { IfOk result (λ all. AllZip (λ desk delta. IsDeltaOf desk 0 delta) desks.now all.items) }
-    ensures causes { IfErr result (λ e. e ≡ OfficeError.NoMemory) }
+fn delta_of(desk: &Desk) -> Result<Batch, OfficeError>
+    ensures { GivesDelta desk.now result }
 {
-    let mut all = Vec::new(alloc);
-    for desk in desks {
-        all.push(desk.delta_since(0)?)?;
+    match desk.delta_since(0) {
+        Ok(delta) => Ok(delta),
+        Err(_) => Err(OfficeError::NoMemory),
     }
-    Ok(all)
+}
+
+// Each desk with all deltas.
+fn with_deltas<R: Threads + Sync>(
+    rt: &R,
+    desks: Vec<Desk>,
+    deltas: &[Batch],
+) -> Result<Vec<Result<Desk, OfficeError>>, AllocError>
+    ensures count { IfOk result (λ all. length all.items ≡ length desks.items) }
+    ensures each { IfOk result (λ all. (i : ℕ) (desk : _) (ended : _) → i < length desks.items
+        → TakesAll deltas.now (slice_index_or desks.items i desk) (slice_index_or all.items i ended)) }
+{
+    thread::map_vec(rt, desks, &|desk| with_all(desk, deltas))
 }
 
 fn with_all(desk: Desk, deltas: &[Batch]) -> Result<Desk, OfficeError>
-    ensures carries { IfOk result (λ r. (steps : List (List Item)) (start : ℕ) →
-        IsDeskOf steps start desk → IsDeskOf (steps ++ deltas.now) start r) }
-    ensures causes { IfErr result (λ e. (e ≢ OfficeError.GateClosed) × (e ≢ OfficeError.ChannelClosed)) }
+    ensures { TakesAll deltas.now desk result }
 {
     let mut desk = desk;
     for delta in deltas {
@@ -62,4 +78,16 @@ fn with_all(desk: Desk, deltas: &[Batch]) -> Result<Desk, OfficeError>
         }
     }
     Ok(desk)
+}
+
+// What all of these are, where none is an error, or an error of them.
+fn all_ok<T: Drop>(alloc: Global, all: Vec<Result<T, OfficeError>>) -> Result<Vec<T>, OfficeError>
+    ensures all { IfOk result (λ values. all.items ≡ map Ok values.items) }
+    ensures cause { All (λ one. IfErr one AreNoLoops) all.items → IfErr result AreNoLoops }
+{
+    let mut values = Vec::with_capacity(alloc, all.len())?;
+    for one in all {
+        values.push(one?)?;
+    }
+    Ok(values)
 }

@@ -6,6 +6,11 @@ pub trait Gate {
     // What is so where a gate of this type may say `false`. One that never does has nothing here that can be so.
     ghost may_close: { Type 0 } = { Unit {0} };
 
+    /// Whether it may wait before it answers, as for another job. Where it may not, a worker hands several merges on at once.
+    fn may_wait(&self) -> bool {
+        true
+    }
+
     /// Asked by a worker before it does a job.
     fn worker(&self, job: u64) -> bool
         ensures { IsFalse result → may_close };
@@ -25,6 +30,10 @@ pub struct OpenGate;
 
 impl Gate for OpenGate {
     ghost may_close = { ⊥ };
+
+    fn may_wait(&self) -> bool {
+        false
+    }
 
     fn worker(&self, _job: u64) -> bool {
         true

@@ -1,9 +1,10 @@
 //! Gathering what the threads answered.
-ghost use Rattle.std.specs.Prelude.{◌≡◌, ◌≢◌, ◌≤◌, length, map, All, IfOk, IfErr, IsTrue};
+ghost use Rattle.std.specs.Prelude.{◌≡◌, ◌≤◌, length, map, All, IfOk, IfErr, IsTrue};
 ghost use Rattle.itip_office.specs.Texts.{desk_of, AreThere};
 ghost use Rattle.itip_office.specs.Answers.{AnswersAlone};
 ghost use Rattle.itip_office.specs.Team.{AreOfDesks};
 ghost use Rattle.itip_office.specs.Ended.{AreGathered};
+ghost use Rattle.itip_office.specs.Exchanged.{AreNoLoops};
 
 use crate::error::OfficeError;
 use crate::job::Job;
@@ -24,7 +25,7 @@ pub(crate) fn gather<R: AllocGlobal + Wait + Copy>(
     requires count { length done.kept.items ≡ desks }
     ensures gathered { IfOk result (λ r. AreGathered desks r.0.items r.1.items) }
     ensures count { IfOk result (λ r. length r.1.items ≡ desks) }
-    ensures causes { IfErr result (λ e. (e ≢ OfficeError.GateClosed) × (e ≢ OfficeError.ChannelClosed)) }
+    ensures causes { IfErr result AreNoLoops }
 {
     let Done { alone, kept } = done;
     let mut answers = alone;

@@ -6,6 +6,7 @@ ghost use Rattle.itip_office.specs.Steps.{IsStepOf};
 
 use crate::error::OfficeError;
 use crate::gate::Gate;
+use crate::hands::Hands;
 use crate::job::{Job, Work};
 use crate::merge::Merge;
 use crate::outcome::Outcome;
@@ -36,23 +37,26 @@ pub fn worker_loop<R: AllocGlobal + Wait, G: Gate>(
     rt: &R,
     passes: Vec<Pass>,
     jobs: Receiver<Job>,
-    keepers: Vec<Sender<Merge>>,
+    keepers: Vec<Sender<Vec<Merge>>>,
     gate: &G,
 ) -> Result<Vec<(Job, Outcome)>, OfficeError>
     ensures alone { IfOk result (λ answers. All (λ a. AnswersAlone (length keepers.items) a.0.work a.1) answers.items) }
     ensures closed { IsErrOf result OfficeError.GateClosed → G.may_close }
 {
+    let desks = keepers.len();
     let mut passes = passes;
+    let mut hands = Hands::new(rt.alloc(), keepers, gate.may_wait())?;
     let mut answers = Vec::new(rt.alloc());
     for _ in rt.forever() {
         let Ok(job) = jobs.recv(rt) else {
+            hands.send_all(rt)?;
             return Ok(answers);
         };
         let number = job.number;
         if !gate.worker(number) {
             return Err(OfficeError::GateClosed);
         }
-        let done = do_job(rt, passes.as_mut_slice(), keepers.as_slice(), job)?;
+        let done = do_job(rt, passes.as_mut_slice(), desks, &mut hands, job)?;
         if let Some(answer) = done {
             answers.push(answer)?;
             if !gate.done(number) {
@@ -63,23 +67,25 @@ pub fn worker_loop<R: AllocGlobal + Wait, G: Gate>(
     unreachable!()
 }
 
-// The job with its outcome, or nothing where it was handed on.
+// The job with its outcome, or nothing where it is handed on. What was read before is handed on before a pass looks or carries.
 fn do_job<R: AllocGlobal + Wait>(
     rt: &R,
     passes: &mut [Pass],
-    keepers: &[Sender<Merge>],
+    desks: usize,
+    hands: &mut Hands,
     job: Job,
 ) -> Result<Option<(Job, Outcome)>, OfficeError>
-    ensures alone { IfOk result (λ done. IfSome done (λ a. AnswersAlone (length keepers.now) a.0.work a.1)) }
+    ensures alone { IfOk result (λ done. IfSome done (λ a. AnswersAlone desks a.0.work a.1)) }
     ensures open { IfErr result (λ e. e ≢ OfficeError.GateClosed) }
 {
-    match step_of(rt.alloc(), passes, keepers.len(), &job.work)? {
+    if job.needs_pass() {
+        hands.send_all(rt)?;
+    }
+    match step_of(rt.alloc(), passes, desks, &job.work)? {
         Step::Answers(outcome) => Ok(Some((job, outcome))),
         Step::HandsOn { desk, batch } => {
-            match keepers[desk].send(rt, Merge::new(job, batch)) {
-                Ok(()) => Ok(None),
-                Err(_) => Err(OfficeError::ChannelClosed),
-            }
+            hands.hand_on(rt, desk, Merge::new(job, batch))?;
+            Ok(None)
         }
     }
 }

@@ -15,6 +15,7 @@ mod error;
 mod exchange;
 mod gate;
 mod gather;
+mod hands;
 mod job;
 mod job_loop;
 mod laws;

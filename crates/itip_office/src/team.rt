@@ -3,6 +3,7 @@ ghost use Rattle.std.specs.Prelude.{◌≡◌, ◌≢◌, ◌⊎◌, ◌+◌, �
 ghost use Rattle.itip_desk.specs.Desk.{IsDeskOf};
 ghost use Rattle.itip_office.specs.Answers.{AnswersAlone};
 ghost use Rattle.itip_office.specs.Merged.{IsIdle, HasMerged};
+ghost use Rattle.itip_office.specs.Exchanged.{AreNoLoops};
 ghost use Rattle.itip_office.specs.Team.{AreOfDesks, AreNumbered};
 
 use crate::desk_loop::keeper_loop;
@@ -75,7 +76,7 @@ pub(crate) struct Done<R: AllocGlobal + Wait + Copy> {
 #[derive(Drop)]
 struct Bench {
     passes: Vec<Pass>,
-    keepers: Vec<Sender<Merge>>,
+    keepers: Vec<Sender<Vec<Merge>>>,
 }
 
 /// Runs the jobs on threads, one for each worker and one for the keeper of each desk, and joins them all, whatever they answer.
@@ -122,7 +123,7 @@ impl<
         ensures keepers { OnOk result (AreNumbered 0 (map (λ t. t.promise.desk) self.new.keepers.items)) }
         ensures count { OnOk result (length self.new.keepers.items ≡ desks) }
         ensures workers { OnOk result (All (λ t. t.promise.desks ≡ desks) self.new.workers.items) }
-        ensures causes { IfErr result (λ e. (e ≢ OfficeError.GateClosed) × (e ≢ OfficeError.ChannelClosed)) }
+        ensures causes { IfErr result AreNoLoops }
     {
         let alloc = rt.alloc();
         let gate = Arc::new(alloc, gate)?;
@@ -146,7 +147,7 @@ impl<
         ensures keepers { OnOk result (AreNumbered 0 (map (λ t. t.promise.desk) self.new.keepers.items)) }
         ensures count { OnOk result (length self.new.keepers.items ≡ desks) }
         ensures workers { self.new.workers.items ≡ self.old.workers.items }
-        ensures causes { IfErr result (λ e. (e ≢ OfficeError.GateClosed) × (e ≢ OfficeError.ChannelClosed)) }
+        ensures causes { IfErr result AreNoLoops }
     {
         for desk in 0..desks {
             let thread = start_keeper(rt, desk as u64, are_read, benches, gate)?;
@@ -166,7 +167,7 @@ impl<
         requires none { self.old.workers.items ≡ [] }
         ensures keepers { self.new.keepers.items ≡ self.old.keepers.items }
         ensures workers { OnOk result (All (λ t. t.promise.desks ≡ desks) self.new.workers.items) }
-        ensures causes { IfErr result (λ e. (e ≢ OfficeError.GateClosed) × (e ≢ OfficeError.ChannelClosed)) }
+        ensures causes { IfErr result AreNoLoops }
     {
         for bench in benches {
             let thread = start_worker(rt, desks, bench, jobs, gate)?;
@@ -208,7 +209,7 @@ fn start_keeper<
     requires workers { (1 ≤ length benches.old) × (length benches.old ≤ 8) }
     ensures desk { IfOk result (λ thread. thread.promise.desk ≡ desk) }
     ensures workers { length benches.new ≡ length benches.old }
-    ensures causes { IfErr result (λ e. (e ≢ OfficeError.GateClosed) × (e ≢ OfficeError.ChannelClosed)) }
+    ensures causes { IfErr result AreNoLoops }
 {
     let (shown, passes) = shown_desk(rt, is_read, benches.len())?;
     let held = OwnedKeeper {
@@ -229,7 +230,7 @@ fn shown_desk<R: AllocGlobal + Wait>(
 ) -> Result<(Option<Keeper>, Vec<Pass>), OfficeError>
     requires passes { (1 ≤ passes) × (passes ≤ 8) }
     ensures idle { IfOk result (λ r. IsIdle r.0) }
-    ensures causes { IfErr result (λ e. (e ≢ OfficeError.GateClosed) × (e ≢ OfficeError.ChannelClosed)) }
+    ensures causes { IfErr result AreNoLoops }
 {
     if !is_read {
         return Ok((None, Vec::new(rt.alloc())));
@@ -251,7 +252,7 @@ fn start_worker<
     gate: &Arc<G>,
 ) -> Result<WorkerThread<G>, OfficeError>
     ensures desks { IfOk result (λ thread. thread.promise.desks ≡ desks) }
-    ensures causes { IfErr result (λ e. (e ≢ OfficeError.GateClosed) × (e ≢ OfficeError.ChannelClosed)) }
+    ensures causes { IfErr result AreNoLoops }
 {
     if bench.keepers.len() != desks {
         return Err(OfficeError::NoPlace);
@@ -287,7 +288,11 @@ fn benches(alloc: Global, workers: usize) -> Result<Vec<Bench>, OfficeError>
 }
 
 // Gives each worker a way to the keeper of a desk, and a pass of the desk where there are passes.
-fn seat(benches: &mut [Bench], passes: Vec<Pass>, keeper: &Sender<Merge>) -> Result<(), OfficeError>
+fn seat(
+    benches: &mut [Bench],
+    passes: Vec<Pass>,
+    keeper: &Sender<Vec<Merge>>,
+) -> Result<(), OfficeError>
     ensures count { length benches.new ≡ length benches.old }
     ensures cause { IfErr result (λ e. e ≡ OfficeError.NoMemory) }
 {
@@ -307,7 +312,7 @@ fn keeper_thread<
     rt: &R,
     desk: u64,
     held: OwnedKeeper<R>,
-    merges: Receiver<Merge>,
+    merges: Receiver<Vec<Merge>>,
     gate: Arc<G>,
 ) -> Result<KeeperThread<R, G>, OfficeError>
     requires fresh { IsDeskOf [] 0 held.texts × IsIdle held.shown }
@@ -332,7 +337,7 @@ fn keeper_thread<
 fn keep<R: AllocGlobal + Wait + Copy, G: Gate + Drop>(
     desk: u64,
     held: OwnedKeeper<R>,
-    merges: Receiver<Merge>,
+    merges: Receiver<Vec<Merge>>,
     gate: Arc<G>,
 ) -> Result<Merged<R>, OfficeError>
     requires fresh { IsDeskOf [] 0 held.texts × IsIdle held.shown }
@@ -467,7 +472,7 @@ fn with_kept<R: AllocGlobal + Wait + Copy>(
 
 /// Why an office ends, where a running desk refused.
 pub(crate) fn live_error(refused: LiveError) -> OfficeError
-    ensures { (result ≢ OfficeError.GateClosed) × (result ≢ OfficeError.ChannelClosed) }
+    ensures { AreNoLoops result }
 {
     match refused {
         LiveError::NoMemory => OfficeError::NoMemory,

@@ -12,19 +12,19 @@ loop-initial g c = record {
   shown = grew_shown_none c.args.desk c.args.shown.now;
 }
 
-pub loop-preserved : goal.loop-preserved
-loop-preserved g c =
-    let was = c.loop.invariant in
-    let answers = c.loop.answers.items in
+pub loop-merge-preserved : goal.loop-merge-preserved
+loop-merge-preserved g c =
+    let was = c.loop-merge.invariant in
+    let answers = c.loop-merge.answers.items in
     let answer = c.in_ok-answer.answer in
     let one = c.in_ok-answer.ensures.merged in
     let pushed : c.push.new.self.items ≡ answers ++ answer ∷ [] = c.in_ok-push.ensures.items in
     record {
-      idle = idle_after c.loop.shown c.merge_one.new.shown one.batch one.shown;
+      idle = idle_after c.loop-merge.shown c.merge_one.new.shown one.batch one.shown;
       texts = subst (λ (l : List Answer). GrewTexts c.args.desk c.args.texts.now c.merge_one.new.texts l) (sym pushed)
-          (grew_texts_more c.args.desk c.args.texts.now c.loop.texts c.merge_one.new.texts answers answer one.batch was.texts one.answers
+          (grew_texts_more c.args.desk c.args.texts.now c.loop-merge.texts c.merge_one.new.texts answers answer one.batch was.texts one.answers
           one.texts);
       shown = subst (λ (l : List Answer). GrewShown c.args.desk c.args.shown.now c.merge_one.new.shown l) (sym pushed)
-          (grew_shown_more c.args.desk c.args.shown.now c.loop.shown c.merge_one.new.shown answers answer one.batch was.shown one.answers
+          (grew_shown_more c.args.desk c.args.shown.now c.loop-merge.shown c.merge_one.new.shown answers answer one.batch was.shown one.answers
           one.shown);
     }

@@ -4,6 +4,13 @@ use Rattle.itip_office.proofs.desk_loop.merge_all.Given as goal
 abbrev pub invariant-loop : goal.invariant-loop
 invariant-loop g l = record {
   idle : IsIdle l.shown;
-  texts : GrewTexts l.desk l.initial.texts l.texts l.answers.items;
-  shown : GrewShown l.desk l.initial.shown l.shown l.answers.items;
+  texts : GrewTexts l.desk l.fn.texts l.texts l.answers.items;
+  shown : GrewShown l.desk l.fn.shown l.shown l.answers.items;
+}
+
+abbrev pub invariant-loop-merge : goal.invariant-loop-merge
+invariant-loop-merge g l = record {
+  idle : IsIdle l.shown;
+  texts : GrewTexts l.desk l.fn.texts l.texts l.answers.items;
+  shown : GrewShown l.desk l.fn.shown l.shown l.answers.items;
 }

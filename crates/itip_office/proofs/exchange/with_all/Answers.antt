@@ -10,7 +10,7 @@ loop-delta-preserved c =
     carries_more c.args.deltas.now c.loop-delta.delta-index c.delta-item.result c.args.desk c.loop-delta.desk c.take.new.self
     c.loop-delta-test.true c.delta-item.is c.loop-delta.invariant c.in-Ok.ensures.step
 
-pub returns-clause-carries : goal.returns-clause-carries
-returns-clause-carries c = λ steps start is.
+pub returns : goal.returns
+returns c = λ steps start is.
     subst (λ (l : List (List Item)). IsDeskOf (steps ++ l) start c.loop-delta.desk) (take_all _ _ c.loop-delta-test.false)
     (c.loop-delta.invariant steps start is)
