@@ -1,5 +1,5 @@
 -- Desks that were made side by side.
-use Rattle.std.proofs.Common.{◌≡◌, ℕ, zero, suc, ◌+◌, ◌<◌, List, [], ◌∷◌, ◌++◌, length, map, All, refl, ap, sym, subst, ◌∙◌, arith, Result, Ok, Err}
+use Rattle.std.proofs.Common.{◌≡◌, ℕ, zero, suc, ◌+◌, ◌<◌, List, [], ◌∷◌, ◌++◌, length, take, map, All, refl, ap, sym, subst, ◌∙◌, arith, Result, Ok, Err}
 use Rattle.std.specs.Prelude.{IfErr, slice_index_or}
 use Rattle.std.specs.List.{AllZip}
 use Rattle.std.proofs.lemmas.List.{length-map}
@@ -11,7 +11,7 @@ use Rattle.itip_office.specs.declared.error.OfficeError.{OfficeError}
 use Rattle.itip_office.specs.declared.error.OfficeError.TheVariants.{NoMemory}
 use Rattle.itip_office.specs.Ended.{all_heard}
 use Rattle.itip_office.specs.Exchanged.{AreNoLoops, GivesDelta, TakesAll}
-use Rattle.itip_office.proofs.Sharing.{History, AreDesksOf, AreDeltasOf, AreLeft, IsNext, left_all, left_next, shared}
+use Rattle.itip_office.proofs.Sharing.{History, AreDesksOf, AreDeltasOf, AreLeft, IsNext, left_some, left_next, shared}
 
 pub no_more : {X : Type 0} (xs : List X) → length xs ≡ 0 → xs ≡ []
 no_more [] none = refl
@@ -58,14 +58,16 @@ module _ (hs : List History) (desks : List Shown) (deltas : List (List Item)) (a
         All-cons P r ended (shared hs desks deltas are gives next.history next.there r.kept (took.0 next.history 0 next.is).kept)
         (each_kept left ended next.rest took.1)
 
-    pub all_kept_alike : (all : List (Result Shown OfficeError)) (ended : List Shown) → length all ≡ length desks →
-        ((i : ℕ) (d : Shown) (r : Result Shown OfficeError) → i < length desks
-        → TakesAll deltas (slice_index_or desks i d) (slice_index_or all i r)) → all ≡ map Ok ended →
+    -- the first so many of the desks
+    pub all_kept_alike : (n : ℕ) (left : List Shown) (all : List (Result Shown OfficeError)) (ended : List Shown) → left ≡ take n desks →
+        length all ≡ length left
+        → ((i : ℕ) (d : Shown) (r : Result Shown OfficeError) → i < length left
+        → TakesAll deltas (slice_index_or left i d) (slice_index_or all i r)) → all ≡ map Ok ended →
         All (λ (d : Shown). AreKept d.kept (all_heard hs)) ended
     unfolding P
-    all_kept_alike all ended count each ok =
-        each_kept desks ended (left_all hs desks are)
-        (subst (λ (l : List (Result Shown OfficeError)). AllZip (TakesAll deltas) desks l) ok (zip_at (TakesAll deltas) desks all count each))
+    all_kept_alike n left all ended first count each ok =
+        each_kept left ended (subst (AreLeft hs) (sym first) (left_some hs desks n are))
+        (subst (λ (l : List (Result Shown OfficeError)). AllZip (TakesAll deltas) left l) ok (zip_at (TakesAll deltas) left all count each))
 
 pub as_many : {A : Type 0} (n : ℕ) (all : List (Result A OfficeError)) (values : List A) → length all ≡ n → all ≡ map Ok values →
     length values ≡ n

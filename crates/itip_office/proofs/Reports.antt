@@ -1,4 +1,4 @@
--- The reports of keepers, in the order of their desks, and what they tell of all answers.
+-- What keepers answered, and what that tells of all answers.
 use Rattle.std.proofs.Common.{◌≡◌, ℕ, ◌+◌, ◌<◌, List, [], ◌∷◌, ◌++◌, length, map, All, ◌⊎◌, inl, inr, refl, sym, ap, subst, ◌∙◌, append-nil}
 use Rattle.std.proofs.Common.{arith}
 use Rattle.std.specs.List.{AllZip}
@@ -18,37 +18,9 @@ use Rattle.itip_office.specs.Texts.{desk_of, AreThere}
 use Rattle.itip_office.specs.Answers.{Answer, AnswersAlone, AnswersMerged, IsOutcome, IsTook}
 use Rattle.itip_office.specs.Taken.{AreTaken}
 use Rattle.itip_office.specs.Merged.{IsMerged, HasMerged}
-use Rattle.itip_office.specs.Team.{Report, AreNumbered, AreOfDesks}
 use Rattle.itip_office.specs.Ended.{Tells, AreGathered, all_heard}
 use Rattle.itip_office.proofs.Sharing.{History, zip_push}
 use Rattle.itip_office.proofs.Taking.{taken_both}
-
-pub numbered_more : (first : ℕ) (xs : List ℕ) (x : ℕ) → AreNumbered first xs → x ≡ first + length xs → AreNumbered first (xs ++ x ∷ [])
-numbered_more first [] x are e = (omega (arith, e), tt)
-numbered_more first (y ∷ ys) x are e = (are.0, numbered_more (first + 1) ys x are.1 (omega (arith, e)))
-
-pub numbered_push : {X : Type 0} (f : X → ℕ) (old new : List X) (x : X) → new ≡ old ++ x ∷ [] → AreNumbered 0 (map f old) →
-    f x ≡ length old → AreNumbered 0 (map f new)
-numbered_push f old new x pushed are at =
-    let same : length (map f old) ≡ length old = length-map old f in
-    subst (AreNumbered 0) (sym (ap (map f) pushed ∙ map-append f old (x ∷ [])))
-    (numbered_more 0 (map f old) (f x) are (omega (arith, at, same)))
-
-pub reports_more : (first : ℕ) (rs : List Report) (r : Report) → AreOfDesks first rs → HasMerged (first + length rs) r.0 r.1 →
-    AreOfDesks first (rs ++ r ∷ [])
-reports_more first [] r are one = (let e : first + 0 ≡ first = omega arith in subst (λ (n : ℕ). HasMerged n r.0 r.1) e one, tt)
-reports_more first (q ∷ qs) r are one = (
-  are.0,
-  reports_more (first + 1) qs r are.1 (let e : first + length (q ∷ qs) ≡ (first + 1) + length qs = omega arith in
-      subst (λ (n : ℕ). HasMerged n r.0 r.1) e one),
-)
-
-pub reports_push : {X : Type 0} (f : X → Report) (old new : List X) (x : X) → new ≡ old ++ x ∷ [] → AreOfDesks 0 (map f old) →
-    HasMerged (length old) (f x).0 (f x).1 → AreOfDesks 0 (map f new)
-reports_push f old new x pushed are one =
-    let same : length old ≡ 0 + length (map f old) = (let e : length (map f old) ≡ length old = length-map old f in omega (arith, e)) in
-    subst (AreOfDesks 0) (sym (ap (map f) pushed ∙ map-append f old (x ∷ [])))
-    (reports_more 0 (map f old) (f x) are (subst (λ (n : ℕ). HasMerged n (f x).0 (f x).1) same one))
 
 -- what is answered alone takes no text
 alone_took : (desks : ℕ) (work : Work) (outcome : Outcome) → AnswersAlone desks work outcome → IsTook outcome → ⊥

@@ -1,5 +1,5 @@
 -- Desks that each take what the others keep, as what is kept of all that they heard.
-use Rattle.std.proofs.Common.{◌≡◌, ℕ, ◌+◌, ◌<◌, List, [], ◌∷◌, ◌++◌, length, take, get_or, All, suc, arith, ◌↔◌, inl, inr, refl, sym}
+use Rattle.std.proofs.Common.{◌≡◌, ℕ, ◌+◌, ◌<◌, List, [], ◌∷◌, ◌++◌, length, take, get_or, All, zero, suc, arith, ◌↔◌, inl, inr, refl, sym}
 use Rattle.std.proofs.Common.{ap, subst, ◌∙◌, append_assoc, append-nil}
 use Rattle.std.specs.List.{Contains, AllZip, flat_map}
 use Rattle.std.proofs.lemmas.List.{take_more}
@@ -118,8 +118,22 @@ pub record AreLeft (hs : List History) (desks : List Shown) : Type 0 where
   pub are : AreDesksOf left desks
   pub within : (h : History) → Contains left h → Contains hs h
 
-pub left_all : (hs : List History) (desks : List Shown) → AreDesksOf hs desks → AreLeft hs desks
-left_all hs desks are = record { left = hs; are = are; within = λ h there. there }
+-- the first so many desks
+pub left_some : (hs : List History) (desks : List Shown) (n : ℕ) → AreDesksOf hs desks → AreLeft hs (take n desks)
+left_some hs desks zero are = record { left = []; are = tt; within = λ h there. absurd (none_in h there) }
+left_some [] [] (suc n) are = record { left = []; are = tt; within = λ h there. there }
+left_some [] (d ∷ desks) (suc n) are = absurd are
+left_some (h ∷ hs) [] (suc n) are = absurd are
+left_some (h ∷ hs) (d ∷ desks) (suc n) are =
+    let rest = left_some hs desks n are.1 in
+    record {
+      left = h ∷ rest.left;
+      are = (are.0, rest.are);
+      within = λ x there. elim (cons_cases h rest.left x there) [
+        | inl same ↦ subst (λ (y : History). Contains (h ∷ hs) y) same (cons_first h hs)
+        | inr later ↦ cons_later h hs x (rest.within x later)
+      ];
+    }
 
 pub record IsNext (hs : List History) (d : Shown) (desks : List Shown) : Type 0 where
   pub history : History

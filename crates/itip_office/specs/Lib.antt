@@ -6,7 +6,6 @@ pub mod Answers
 pub mod Taken
 pub mod Steps
 pub mod Merged
-pub mod Team
 pub mod Ended
 pub mod Exchanged
 pub mod Scripts

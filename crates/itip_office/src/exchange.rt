@@ -13,22 +13,29 @@ use std::alloc::{AllocError, Global};
 use std::thread;
 use std::thread::Threads;
 
-/// The desks, each of which has taken what the others keep, each on a thread of its own. A desk that is alone stays as it is.
+/// So many of these desks, each of which has taken what all keep, each on a thread of its own. A desk that is alone stays as it is. 44
+/// where there are fewer.
 pub(crate) fn exchange<R: Threads + Sync>(
     rt: &R,
     alloc: Global,
-    desks: Vec<Desk>,
+    parts: Vec<Desk>,
+    desks: usize,
 ) -> Result<Vec<Desk>, OfficeError>
-    ensures count { IfOk result (λ ended. length ended.items ≡ length desks.items) }
-    ensures kept { (histories : List (List (List Item))) → AllZip (λ batches desk. IsDeskOf batches 0 desk) histories desks.items
+    ensures count { IfOk result (λ ended. length ended.items ≡ desks) }
+    ensures kept { (histories : List (List (List Item))) → AllZip (λ batches desk. IsDeskOf batches 0 desk) histories parts.items
         → IfOk result (λ ended. All (λ desk. AreKept desk.kept (all_heard histories)) ended.items) }
     ensures causes { IfErr result AreNoLoops }
 {
-    if desks.len() < 2 {
-        return Ok(desks);
+    if parts.len() < desks {
+        return Err(OfficeError::StrangeDone);
     }
-    let deltas = all_ok(alloc, deltas(rt, alloc, &desks)?)?;
-    all_ok(alloc, with_deltas(rt, desks, &deltas)?)
+    if parts.len() < 2 && parts.len() == desks {
+        return Ok(parts);
+    }
+    let deltas = all_ok(alloc, deltas(rt, alloc, &parts)?)?;
+    let mut ended = parts;
+    ended.truncate(desks);
+    all_ok(alloc, with_deltas(rt, ended, &deltas)?)
 }
 
 // What each desk keeps, as a delta.

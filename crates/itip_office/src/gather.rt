@@ -1,8 +1,8 @@
 //! Gathering what the threads answered.
-ghost use Rattle.std.specs.Prelude.{◌≡◌, ◌≤◌, length, map, All, IfOk, IfErr, IsTrue};
+ghost use Rattle.std.specs.Prelude.{◌≡◌, All, IfOk, IfErr, IsTrue};
 ghost use Rattle.itip_office.specs.Texts.{desk_of, AreThere};
 ghost use Rattle.itip_office.specs.Answers.{AnswersAlone};
-ghost use Rattle.itip_office.specs.Team.{AreOfDesks};
+ghost use Rattle.itip_office.specs.Merged.{HasMerged};
 ghost use Rattle.itip_office.specs.Ended.{AreGathered};
 ghost use Rattle.itip_office.specs.Exchanged.{AreNoLoops};
 
@@ -13,7 +13,7 @@ use crate::team::{Done, Merged};
 use itip_desk::Desk;
 use std::sync::Wait;
 
-/// All answers in one list, and the desks of texts in their order. 44 where a keeper answered a job that is for another desk, or that names
+/// All answers in one list, and the desks of texts of all keepers. 44 where a keeper answered a job that is for another desk, or that names
 /// a desk that isn't there.
 pub(crate) fn gather<R: AllocGlobal + Wait + Copy>(
     rt: &R,
@@ -21,18 +21,16 @@ pub(crate) fn gather<R: AllocGlobal + Wait + Copy>(
     done: Done<R>,
 ) -> Result<(Vec<(Job, Outcome)>, Vec<Desk>), OfficeError>
     requires alone { All (λ a. AnswersAlone desks a.0.work a.1) done.alone.items }
-    requires kept { AreOfDesks 0 (map (λ k. (k.answers.items, k.held.texts)) done.kept.items) }
-    requires count { length done.kept.items ≡ desks }
+    requires kept { All (λ k. HasMerged k.desk k.answers.items k.held.texts) done.kept.items }
     ensures gathered { IfOk result (λ r. AreGathered desks r.0.items r.1.items) }
-    ensures count { IfOk result (λ r. length r.1.items ≡ desks) }
     ensures causes { IfErr result AreNoLoops }
 {
     let Done { alone, kept } = done;
     let mut answers = alone;
     let mut texts = Vec::new(rt.alloc());
-    let mut desk: u64 = 0;
     for one in kept {
         let Merged {
+            desk,
             held,
             answers: mut merged,
         } = one;
@@ -41,7 +39,6 @@ pub(crate) fn gather<R: AllocGlobal + Wait + Copy>(
         }
         answers.append(&mut merged)?;
         texts.push(held.into_texts())?;
-        desk += 1;
     }
     Ok((answers, texts))
 }

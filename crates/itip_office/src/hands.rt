@@ -11,19 +11,22 @@ use std::sync::Wait;
 /// How many merges go to a keeper at once, where no gate may wait. To wake a keeper for each costs more than to read a text.
 const AT_ONCE: usize = 64;
 
-/// The ways to the keepers of desks, and for each the merges that wait to be handed on.
+/// The ways to keepers, and for each the merges that wait to be handed on. There is a keeper of each desk, in the order of desks, and then
+/// perhaps one more of each, and so on.
 #[derive(Drop)]
 pub(crate) struct Hands {
     alloc: Global,
+    desks: usize,
     keepers: Vec<Sender<Vec<Merge>>>,
     waiting: Vec<Vec<Merge>>,
     most: usize,
 }
 
 impl Hands {
-    /// Where each may be waited for, each merge is handed on by itself.
+    /// Where a gate may wait, each merge is handed on by itself.
     pub(crate) fn new(
         alloc: Global,
+        desks: usize,
         keepers: Vec<Sender<Vec<Merge>>>,
         may_wait: bool,
     ) -> Result<Hands, AllocError> {
@@ -33,13 +36,15 @@ impl Hands {
         }
         Ok(Hands {
             alloc,
+            desks,
             keepers,
             waiting,
             most: if may_wait { 1 } else { AT_ONCE },
         })
     }
 
-    /// Puts a merge behind those that wait for the keeper of a desk, and hands all on where they are many.
+    /// Puts a merge behind those that wait for a keeper of its desk, and hands these on where they are many. The revisions of a to-do go to
+    /// one keeper.
     pub(crate) fn hand_on<R: Wait>(
         &mut self,
         rt: &R,
@@ -48,39 +53,47 @@ impl Hands {
     ) -> Result<(), OfficeError>
         ensures { IfErr result (λ e. e ≢ OfficeError.GateClosed) }
     {
-        let Some(waiting) = self.waiting.get_mut(desk) else {
+        let at = self.keeper_of(desk, &merge);
+        let Some(waiting) = self.waiting.get_mut(at) else {
             return Err(OfficeError::NoPlace);
         };
         waiting.push(merge)?;
         if waiting.len() < self.most {
             return Ok(());
         }
-        self.send(rt, desk)
+        self.send(rt, at)
+    }
+
+    /// Which keeper of a desk gets a merge.
+    fn keeper_of(&self, desk: usize, merge: &Merge) -> usize {
+        let rounds = self.keepers.len().checked_div(self.desks).unwrap_or(0);
+        let round = merge.share(rounds);
+        round.saturating_mul(self.desks).saturating_add(desk)
     }
 
     /// Hands on all that waits.
     pub(crate) fn send_all<R: Wait>(&mut self, rt: &R) -> Result<(), OfficeError>
         ensures { IfErr result (λ e. e ≢ OfficeError.GateClosed) }
     {
-        for desk in 0..self.keepers.len() {
-            self.send(rt, desk)?;
+        for at in 0..self.keepers.len() {
+            self.send(rt, at)?;
         }
         Ok(())
     }
 
-    fn send<R: Wait>(&mut self, rt: &R, desk: usize) -> Result<(), OfficeError>
+    fn send<R: Wait>(&mut self, rt: &R, at: usize) -> Result<(), OfficeError>
         ensures { IfErr result (λ e. e ≢ OfficeError.GateClosed) }
     {
-        let Some(keeper) = self.keepers.get(desk) else {
-            return Err(OfficeError::NoPlace);
-        };
-        let Some(waiting) = self.waiting.get_mut(desk) else {
+        let Some(waiting) = self.waiting.get_mut(at) else {
             return Err(OfficeError::NoPlace);
         };
         if waiting.is_empty() {
             return Ok(());
         }
         let merges = mem::replace(waiting, Vec::new(self.alloc));
+        let Some(keeper) = self.keepers.get(at) else {
+            return Err(OfficeError::NoPlace);
+        };
         match keeper.send(rt, merges) {
             Ok(()) => Ok(()),
             Err(_) => Err(OfficeError::ChannelClosed),

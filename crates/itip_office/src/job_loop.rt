@@ -28,24 +28,25 @@ pub(crate) enum Step {
 }
 
 /// Takes jobs until their channel is closed, and gives those that it answered itself, with their outcomes: a desk that isn't there (50), a
-/// text that is refused, and a look. What else there is to merge goes to the keeper of the desk. There are as many desks as keepers; looks
-/// and carries need a pass of each, in the order of desks.
+/// text that is refused, and a look. What else there is to merge goes to a keeper of the desk. There are keepers for each of so many desks,
+/// in the order of desks; where these are several rounds of keepers, texts go to one of them by UID. Looks and carries need a pass of each
+/// desk, in the order of desks.
 ///
-/// Ends early if an allocation failed (40), if the gate is closed (42), if a keeper takes nothing more (43), or if a pass is refused the
-/// entry, or isn't there (45). The passes are dropped in the end.
+/// Ends early if an allocation failed (40), if a keeper isn't there (41), if the gate is closed (42), if a keeper takes nothing more (43),
+/// or if a pass is refused the entry, or isn't there (45). The passes are dropped in the end.
 pub fn worker_loop<R: AllocGlobal + Wait, G: Gate>(
     rt: &R,
+    desks: usize,
     passes: Vec<Pass>,
     jobs: Receiver<Job>,
     keepers: Vec<Sender<Vec<Merge>>>,
     gate: &G,
 ) -> Result<Vec<(Job, Outcome)>, OfficeError>
-    ensures alone { IfOk result (λ answers. All (λ a. AnswersAlone (length keepers.items) a.0.work a.1) answers.items) }
+    ensures alone { IfOk result (λ answers. All (λ a. AnswersAlone desks a.0.work a.1) answers.items) }
     ensures closed { IsErrOf result OfficeError.GateClosed → G.may_close }
 {
-    let desks = keepers.len();
     let mut passes = passes;
-    let mut hands = Hands::new(rt.alloc(), keepers, gate.may_wait())?;
+    let mut hands = Hands::new(rt.alloc(), desks, keepers, gate.may_wait())?;
     let mut answers = Vec::new(rt.alloc());
     for _ in rt.forever() {
         let Ok(job) = jobs.recv(rt) else {

@@ -22,6 +22,18 @@ impl Merge {
         Merge { job, batch }
     }
 
+    /// Which of so many shares it is in, by the UID of its items, the first where they have several. The first share where there is one or
+    /// none.
+    pub(crate) fn share(&self, shares: usize) -> usize {
+        if shares < 2 {
+            return 0;
+        }
+        match self.batch.as_slice().first() {
+            Some(item) => sum_of(item.item().key.uid().as_str()) % shares,
+            None => 0,
+        }
+    }
+
     pub(crate) fn into_parts(self) -> (Job, Batch)
         ensures { Merges result.0.work result.1 }
     {
@@ -29,4 +41,13 @@ impl Merge {
         batch.lawful();
         (job, batch)
     }
+}
+
+// A number that texts of a kind seldom have in common.
+fn sum_of(text: &str) -> usize {
+    let mut sum: usize = 0;
+    for byte in text.as_bytes() {
+        sum = sum.wrapping_mul(31).wrapping_add(*byte as usize);
+    }
+    sum
 }

@@ -47,6 +47,6 @@ pub fn run_office<
     let done = run_team(rt, desks, workers, sent, gate)?;
     let (answers, texts) = gather(rt, desks, done)?;
     let replies = replies(alloc, &jobs, answers)?;
-    let desks = exchange(rt, alloc, texts)?;
+    let desks = exchange(rt, alloc, texts, desks)?;
     Ok(Office { desks, replies })
 }

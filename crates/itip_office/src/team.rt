@@ -1,10 +1,9 @@
 //! The threads of an office.
-ghost use Rattle.std.specs.Prelude.{◌≡◌, ◌≢◌, ◌⊎◌, ◌+◌, ◌<◌, ◌≤◌, ℕ, [], length, map, All, IfOk, OnOk, IfErr, IsErrOf};
+ghost use Rattle.std.specs.Prelude.{◌≡◌, ◌≢◌, ◌⊎◌, ◌≤◌, ℕ, [], length, All, IfOk, OnOk, IfErr, IsErrOf};
 ghost use Rattle.itip_desk.specs.Desk.{IsDeskOf};
 ghost use Rattle.itip_office.specs.Answers.{AnswersAlone};
 ghost use Rattle.itip_office.specs.Merged.{IsIdle, HasMerged};
 ghost use Rattle.itip_office.specs.Exchanged.{AreNoLoops};
-ghost use Rattle.itip_office.specs.Team.{AreOfDesks, AreNumbered};
 
 use crate::desk_loop::keeper_loop;
 use crate::error::OfficeError;
@@ -23,22 +22,22 @@ use std::sync::{Arc, Wait};
 use std::thread;
 use std::thread::{Promise, PromisedHandle, Threads};
 
-/// What the thread of a keeper returns: what it owns, and the jobs that it merged, with their outcomes.
+/// What the thread of a keeper returns: for which desk it merged, what it owns, and the jobs that it merged, with their outcomes.
 #[derive(Drop)]
 pub(crate) struct Merged<R: AllocGlobal + Wait + Copy> {
+    pub(crate) desk: u64,
     pub(crate) held: OwnedKeeper<R>,
     pub(crate) answers: Vec<(Job, Outcome)>,
 }
 
-/// That a keeper merges for one desk, under a gate of this type.
+/// That a keeper has a desk of the texts that it answers, under a gate of this type.
 #[derive(Drop)]
-pub(crate) struct OfDesk<G: Gate> {
-    desk: u64,
+pub(crate) struct OfTexts<G: Gate> {
     gate: PhantomData<G>,
 }
 
-impl<R: AllocGlobal + Wait + Copy, G: Gate> Promise<Result<Merged<R>, OfficeError>> for OfDesk<G> {
-    ghost kept_by = { λ p r. IfOk r (λ kept. HasMerged p.desk kept.answers.items kept.held.texts)
+impl<R: AllocGlobal + Wait + Copy, G: Gate> Promise<Result<Merged<R>, OfficeError>> for OfTexts<G> {
+    ghost kept_by = { λ p r. IfOk r (λ kept. HasMerged kept.desk kept.answers.items kept.held.texts)
         × (IsErrOf r OfficeError.GateClosed → G.may_close) };
 }
 
@@ -54,11 +53,11 @@ impl<G: Gate> Promise<Result<Vec<(Job, Outcome)>, OfficeError>> for OfDesks<G> {
         × (IsErrOf r OfficeError.GateClosed → G.may_close) };
 }
 
-type KeeperThread<R, G> = PromisedHandle<Result<Merged<R>, OfficeError>, OfDesk<G>>;
+type KeeperThread<R, G> = PromisedHandle<Result<Merged<R>, OfficeError>, OfTexts<G>>;
 
 type WorkerThread<G> = PromisedHandle<Result<Vec<(Job, Outcome)>, OfficeError>, OfDesks<G>>;
 
-/// The threads that were made: keepers in the order of desks, and workers.
+/// The threads that were made.
 #[derive(Drop)]
 pub(crate) struct Team<R: AllocGlobal + Wait + Copy, G: Gate> {
     keepers: Vec<KeeperThread<R, G>>,
@@ -72,22 +71,24 @@ pub(crate) struct Done<R: AllocGlobal + Wait + Copy> {
     pub(crate) kept: Vec<Merged<R>>,
 }
 
-// What a worker works with: a way to the keeper of each desk, and a pass of each where jobs look or carry.
+// What a worker works with: a way to each keeper, and a pass of each desk where jobs look or carry.
 #[derive(Drop)]
 struct Bench {
     passes: Vec<Pass>,
     keepers: Vec<Sender<Vec<Merge>>>,
 }
 
-/// Runs the jobs on threads, one for each worker and one for the keeper of each desk, and joins them all, whatever they answer.
+/// Runs the jobs on threads, one for each worker and one for each keeper, and joins them all, whatever they answer.
+///
+/// Where no job looks or carries, and there are more workers than desks, a desk has several keepers, among which its texts are divided by
+/// UID: one alone would be slower than those who read.
 pub(crate) fn run_team<
     R: AllocGlobal + Threads + Wait + Copy + Send + Sync + 'static,
     G: Gate + Send + Sync + Drop + 'static,
 >(rt: &R, desks: usize, workers: usize, jobs: Vec<Job>, gate: G) -> Result<Done<R>, OfficeError>
     requires workers { (1 ≤ workers) × (workers ≤ 8) }
     ensures alone { IfOk result (λ done. All (λ a. AnswersAlone desks a.0.work a.1) done.alone.items) }
-    ensures kept { IfOk result (λ done. AreOfDesks 0 (map (λ k. (k.answers.items, k.held.texts)) done.kept.items)) }
-    ensures count { IfOk result (λ done. length done.kept.items ≡ desks) }
+    ensures kept { IfOk result (λ done. All (λ k. HasMerged k.desk k.answers.items k.held.texts) done.kept.items) }
     ensures closed { IsErrOf result OfficeError.GateClosed → G.may_close }
     ensures channel { IfErr result (λ e. e ≢ OfficeError.ChannelClosed) }
 {
@@ -118,10 +119,8 @@ impl<
         jobs: Vec<Job>,
         gate: G,
     ) -> Result<(), OfficeError>
-        requires none { (self.old.keepers.items ≡ []) × (self.old.workers.items ≡ []) }
+        requires none { self.old.workers.items ≡ [] }
         requires workers { (1 ≤ workers) × (workers ≤ 8) }
-        ensures keepers { OnOk result (AreNumbered 0 (map (λ t. t.promise.desk) self.new.keepers.items)) }
-        ensures count { OnOk result (length self.new.keepers.items ≡ desks) }
         ensures workers { OnOk result (All (λ t. t.promise.desks ≡ desks) self.new.workers.items) }
         ensures causes { IfErr result AreNoLoops }
     {
@@ -130,10 +129,14 @@ impl<
         let are_read = jobs.iter().any(|job| job.needs_pass());
         let jobs = queue(rt, jobs)?;
         let mut benches = benches(alloc, workers)?;
-        self.start_keepers(rt, desks, are_read, benches.as_mut_slice(), &gate)?;
+        let shares = if are_read { 1 } else { shares(desks, workers) };
+        for _ in 0..shares {
+            self.start_keepers(rt, desks, are_read, benches.as_mut_slice(), &gate)?;
+        }
         self.start_workers(rt, desks, benches, &jobs, &gate)
     }
 
+    // One keeper more for each desk, in the order of desks.
     fn start_keepers(
         &mut self,
         rt: &R,
@@ -142,11 +145,9 @@ impl<
         benches: &mut [Bench],
         gate: &Arc<G>,
     ) -> Result<(), OfficeError>
-        requires none { self.old.keepers.items ≡ [] }
         requires workers { (1 ≤ length benches.old) × (length benches.old ≤ 8) }
-        ensures keepers { OnOk result (AreNumbered 0 (map (λ t. t.promise.desk) self.new.keepers.items)) }
-        ensures count { OnOk result (length self.new.keepers.items ≡ desks) }
         ensures workers { self.new.workers.items ≡ self.old.workers.items }
+        ensures benches { length benches.new ≡ length benches.old }
         ensures causes { IfErr result AreNoLoops }
     {
         for desk in 0..desks {
@@ -165,7 +166,6 @@ impl<
         gate: &Arc<G>,
     ) -> Result<(), OfficeError>
         requires none { self.old.workers.items ≡ [] }
-        ensures keepers { self.new.keepers.items ≡ self.old.keepers.items }
         ensures workers { OnOk result (All (λ t. t.promise.desks ≡ desks) self.new.workers.items) }
         ensures causes { IfErr result AreNoLoops }
     {
@@ -179,9 +179,7 @@ impl<
     fn join(self, rt: &R) -> Result<Done<R>, OfficeError>
         ensures alone { (desks : ℕ) → All (λ t. t.promise.desks ≡ desks) self.workers.items →
             IfOk result (λ done. All (λ a. AnswersAlone desks a.0.work a.1) done.alone.items) }
-        ensures kept { AreNumbered 0 (map (λ t. t.promise.desk) self.keepers.items) →
-            IfOk result (λ done. AreOfDesks 0 (map (λ k. (k.answers.items, k.held.texts)) done.kept.items)) }
-        ensures count { IfOk result (λ done. length done.kept.items ≡ length self.keepers.items) }
+        ensures kept { IfOk result (λ done. All (λ k. HasMerged k.desk k.answers.items k.held.texts) done.kept.items) }
         ensures closed { IsErrOf result OfficeError.GateClosed → G.may_close }
     {
         let Team { keepers, workers } = self;
@@ -207,7 +205,6 @@ fn start_keeper<
     gate: &Arc<G>,
 ) -> Result<KeeperThread<R, G>, OfficeError>
     requires workers { (1 ≤ length benches.old) × (length benches.old ≤ 8) }
-    ensures desk { IfOk result (λ thread. thread.promise.desk ≡ desk) }
     ensures workers { length benches.new ≡ length benches.old }
     ensures causes { IfErr result AreNoLoops }
 {
@@ -220,6 +217,14 @@ fn start_keeper<
     let (to, merges) = unbounded(rt.alloc())?;
     seat(benches, passes, &to)?;
     keeper_thread(rt, desk, held, merges, Arc::try_clone(gate)?)
+}
+
+// How many keepers a desk has: as many as there are workers for it.
+fn shares(desks: usize, workers: usize) -> usize {
+    if desks == 0 || workers < desks {
+        return 1;
+    }
+    workers / desks
 }
 
 // A running desk with so many passes, where it is read.
@@ -254,9 +259,6 @@ fn start_worker<
     ensures desks { IfOk result (λ thread. thread.promise.desks ≡ desks) }
     ensures causes { IfErr result AreNoLoops }
 {
-    if bench.keepers.len() != desks {
-        return Err(OfficeError::NoPlace);
-    }
     worker_thread(rt, desks, bench, jobs.clone()?, Arc::try_clone(gate)?)
 }
 
@@ -316,18 +318,14 @@ fn keeper_thread<
     gate: Arc<G>,
 ) -> Result<KeeperThread<R, G>, OfficeError>
     requires fresh { IsDeskOf [] 0 held.texts × IsIdle held.shown }
-    ensures desk { IfOk result (λ thread. thread.promise.desk ≡ desk) }
     ensures cause { IfErr result (λ e. e ≡ OfficeError.NoPlace) }
 {
     let work = move || -> Result<Merged<R>, OfficeError>
         requires { IsDeskOf [] 0 held.texts × IsIdle held.shown }
-        ensures merged { IfOk result (λ kept. HasMerged desk kept.answers.items kept.held.texts) }
+        ensures merged { IfOk result (λ kept. HasMerged kept.desk kept.answers.items kept.held.texts) }
         ensures closed { IsErrOf result OfficeError.GateClosed → G.may_close }
     { keep(desk, held, merges, gate) };
-    let promise: OfDesk<G> = OfDesk {
-        desk,
-        gate: PhantomData,
-    };
+    let promise: OfTexts<G> = OfTexts { gate: PhantomData };
     match thread::spawn_with(rt, promise, work) {
         Ok(thread) => Ok(thread),
         Err(_) => Err(OfficeError::NoPlace),
@@ -341,13 +339,17 @@ fn keep<R: AllocGlobal + Wait + Copy, G: Gate + Drop>(
     gate: Arc<G>,
 ) -> Result<Merged<R>, OfficeError>
     requires fresh { IsDeskOf [] 0 held.texts × IsIdle held.shown }
-    ensures merged { IfOk result (λ kept. HasMerged desk kept.answers.items kept.held.texts) }
+    ensures merged { IfOk result (λ kept. HasMerged kept.desk kept.answers.items kept.held.texts) }
     ensures closed { IsErrOf result OfficeError.GateClosed → G.may_close }
 {
     let (texts, shown, rt) = held.into_parts();
     let (texts, shown, answers) = keeper_loop(&rt, desk, texts, shown, merges, &*gate)?;
     let held = OwnedKeeper { texts, shown, rt };
-    Ok(Merged { held, answers })
+    Ok(Merged {
+        desk,
+        held,
+        answers,
+    })
 }
 
 fn worker_thread<
@@ -360,13 +362,11 @@ fn worker_thread<
     jobs: Receiver<Job>,
     gate: Arc<G>,
 ) -> Result<WorkerThread<G>, OfficeError>
-    requires desks { length bench.keepers.items ≡ desks }
     ensures desks { IfOk result (λ thread. thread.promise.desks ≡ desks) }
     ensures cause { IfErr result (λ e. e ≡ OfficeError.NoPlace) }
 {
     let own = *rt;
     let work = move || -> Result<Vec<(Job, Outcome)>, OfficeError>
-        requires { length bench.keepers.items ≡ desks }
         ensures alone { IfOk result (λ answers. All (λ a. AnswersAlone desks a.0.work a.1) answers.items) }
         ensures closed { IsErrOf result OfficeError.GateClosed → G.may_close }
     { work(&own, desks, bench, jobs, gate) };
@@ -387,12 +387,11 @@ fn work<R: AllocGlobal + Wait, G: Gate + Drop>(
     jobs: Receiver<Job>,
     gate: Arc<G>,
 ) -> Result<Vec<(Job, Outcome)>, OfficeError>
-    requires desks { length bench.keepers.items ≡ desks }
     ensures alone { IfOk result (λ answers. All (λ a. AnswersAlone desks a.0.work a.1) answers.items) }
     ensures closed { IsErrOf result OfficeError.GateClosed → G.may_close }
 {
     let Bench { passes, keepers } = bench;
-    worker_loop(rt, passes, jobs, keepers, &*gate)
+    worker_loop(rt, desks, passes, jobs, keepers, &*gate)
 }
 
 fn join_workers<R: AllocGlobal + Threads, G: Gate>(
@@ -434,9 +433,7 @@ fn join_keepers<R: AllocGlobal + Threads + Wait + Copy, G: Gate>(
     rt: &R,
     keepers: Vec<KeeperThread<R, G>>,
 ) -> Result<Vec<Merged<R>>, OfficeError>
-    ensures kept { AreNumbered 0 (map (λ t. t.promise.desk) keepers.items) →
-        IfOk result (λ all. AreOfDesks 0 (map (λ k. (k.answers.items, k.held.texts)) all.items)) }
-    ensures count { IfOk result (λ all. length all.items ≡ length keepers.items) }
+    ensures kept { IfOk result (λ all. All (λ k. HasMerged k.desk k.answers.items k.held.texts) all.items) }
     ensures closed { IsErrOf result OfficeError.GateClosed → G.may_close }
 {
     let mut all = Ok(Vec::new(rt.alloc()));
@@ -450,11 +447,9 @@ fn with_kept<R: AllocGlobal + Wait + Copy>(
     all: Result<Vec<Merged<R>>, OfficeError>,
     more: Result<Merged<R>, OfficeError>,
 ) -> Result<Vec<Merged<R>>, OfficeError>
-    ensures kept { (n : ℕ) →
-        IfOk all (λ v. (length v.items ≡ n) × AreOfDesks 0 (map (λ k. (k.answers.items, k.held.texts)) v.items)) →
-        IfOk more (λ k. HasMerged n k.answers.items k.held.texts) →
-        IfOk result (λ v. (length v.items ≡ n + 1) × AreOfDesks 0 (map (λ k. (k.answers.items, k.held.texts)) v.items)) }
-    ensures count { (n : ℕ) → IfOk all (λ v. length v.items ≡ n) → IfOk result (λ v. length v.items ≡ n + 1) }
+    ensures kept { IfOk all (λ v. All (λ k. HasMerged k.desk k.answers.items k.held.texts) v.items) →
+        IfOk more (λ k. HasMerged k.desk k.answers.items k.held.texts) →
+        IfOk result (λ v. All (λ k. HasMerged k.desk k.answers.items k.held.texts) v.items) }
     ensures closed { IsErrOf result OfficeError.GateClosed → IsErrOf all OfficeError.GateClosed ⊎ IsErrOf more OfficeError.GateClosed }
 {
     match all {
