@@ -45,11 +45,10 @@ are_deltas desks all deltas count each ok =
 -- each desk that took all deltas keeps what is kept of all that was heard
 module _ (hs : List History) (desks : List Shown) (deltas : List (List Item)) (are : AreDesksOf hs desks) (gives : AreDeltasOf desks deltas)
   where
-    P : Shown → Type 0
+    abbrev P : Shown → Type 0
     P d = AreKept d.kept (all_heard hs)
 
     each_kept : (left ended : List Shown) → AreLeft hs left → AllZip (TakesAll deltas) left (map Ok ended) → All P ended
-    unfolding P
     each_kept [] [] l took = All-nil P
     each_kept [] (r ∷ ended) l took = absurd took
     each_kept (d ∷ left) [] l took = absurd took
@@ -64,7 +63,6 @@ module _ (hs : List History) (desks : List Shown) (deltas : List (List Item)) (a
         → ((i : ℕ) (d : Shown) (r : Result Shown OfficeError) → i < length left
         → TakesAll deltas (slice_index_or left i d) (slice_index_or all i r)) → all ≡ map Ok ended →
         All (λ (d : Shown). AreKept d.kept (all_heard hs)) ended
-    unfolding P
     all_kept_alike n left all ended first count each ok =
         each_kept left ended (subst (AreLeft hs) (sym first) (left_some hs desks n are))
         (subst (λ (l : List (Result Shown OfficeError)). AllZip (TakesAll deltas) left l) ok (zip_at (TakesAll deltas) left all count each))
