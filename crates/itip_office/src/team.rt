@@ -322,8 +322,8 @@ fn keeper_thread<
 {
     let work = move || -> Result<Merged<R>, OfficeError>
         requires { IsDeskOf [] 0 held.texts × IsIdle held.shown }
-        ensures merged { IfOk result (λ kept. HasMerged kept.desk kept.answers.items kept.held.texts) }
-        ensures closed { IsErrOf result OfficeError.GateClosed → G.may_close }
+        ensures { IfOk result (λ kept. HasMerged kept.desk kept.answers.items kept.held.texts)
+            × (IsErrOf result OfficeError.GateClosed → G.may_close) }
     { keep(desk, held, merges, gate) };
     let promise: OfTexts<G> = OfTexts { gate: PhantomData };
     match thread::spawn_with(rt, promise, work) {
@@ -367,8 +367,8 @@ fn worker_thread<
 {
     let own = *rt;
     let work = move || -> Result<Vec<(Job, Outcome)>, OfficeError>
-        ensures alone { IfOk result (λ answers. All (λ a. AnswersAlone desks a.0.work a.1) answers.items) }
-        ensures closed { IsErrOf result OfficeError.GateClosed → G.may_close }
+        ensures { IfOk result (λ answers. All (λ a. AnswersAlone desks a.0.work a.1) answers.items)
+            × (IsErrOf result OfficeError.GateClosed → G.may_close) }
     { work(&own, desks, bench, jobs, gate) };
     let promise: OfDesks<G> = OfDesks {
         desks,
