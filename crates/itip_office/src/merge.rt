@@ -29,7 +29,7 @@ impl Merge {
             return 0;
         }
         match self.batch.as_slice().first() {
-            Some(item) => sum_of(item.item().key.uid().as_str()) % shares,
+            Some(item) => number_of(item.item().key.uid().as_str()) as usize % shares,
             None => 0,
         }
     }
@@ -43,11 +43,15 @@ impl Merge {
     }
 }
 
-// A number that texts of a kind seldom have in common.
-fn sum_of(text: &str) -> usize {
-    let mut sum: usize = 0;
+// A number that two texts seldom have in common.
+fn number_of(text: &str) -> u32 {
+    let mut number = 0;
     for byte in text.as_bytes() {
-        sum = sum.wrapping_mul(31).wrapping_add(*byte as usize);
+        number = number_with(number, *byte);
     }
-    sum
+    number
+}
+
+fn number_with(number: u32, byte: u8) -> u32 {
+    ((u64::from(number) * 16_777_619 + u64::from(byte)) % 4_294_967_291) as u32
 }
