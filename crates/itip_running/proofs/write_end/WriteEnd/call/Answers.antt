@@ -1,4 +1,4 @@
-use Rattle.std.proofs.Common.{◌≡◌, [], ◌∷◌, ◌++◌, List, length, drop, ap, sym, ◌∙◌, subst}
+use Rattle.std.proofs.Common.{◌≡◌, ◌+◌, [], ◌∷◌, ◌++◌, List, length, drop, ap, sym, ◌∙◌, subst}
 use Rattle.itip_running.specs.History.{Items, Group, head_of, batches_of}
 use Rattle.itip_running.specs.Pair.{published_groups, published_log, pending_log}
 use Rattle.itip_running.proofs.Groups.{begins_more, whole_called, total_is}
