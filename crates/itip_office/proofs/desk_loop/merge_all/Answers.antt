@@ -5,8 +5,8 @@ use Rattle.itip_office.proofs.Merging.{grew_shown_none, grew_shown_more, idle_af
 use Rattle.itip_office.proofs.Taking.{grew_texts_none, grew_texts_more}
 use Rattle.itip_office.proofs.desk_loop.merge_all.Goals as goal
 
-pub loop-initial : goal.loop-initial
-loop-initial g c = record {
+pub loop-init : goal.loop-init
+loop-init g c = record {
   idle = c.requires.nothing;
   texts = grew_texts_none c.args.desk c.args.texts.now;
   shown = grew_shown_none c.args.desk c.args.shown.now;

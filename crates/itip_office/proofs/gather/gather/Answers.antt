@@ -9,8 +9,8 @@ use Rattle.itip_office.specs.Ended.{AreGathered}
 use Rattle.itip_office.proofs.Reports.{IsFor, gathered_none, gathered_more}
 use Rattle.itip_office.proofs.gather.gather.Goals as goal
 
-pub loop-one-initial : goal.loop-one-initial
-loop-one-initial g c = record {
+pub loop-one-init : goal.loop-one-init
+loop-one-init g c = record {
   left = search rules;
   gathered = gathered_none c.args.desks c.args.done.alone.items c.requires.alone;
 }
