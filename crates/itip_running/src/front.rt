@@ -30,14 +30,12 @@ pub(crate) fn open() -> (Head, Front)
     ensures empty { result.1.seen.log ≡ [] }
 {
     let (seen, mut first, _second) = Seen::open(Start::alone(), 0, 0);
-    (
-        Word::tracked(0, &mut first),
-        Front {
-            count: 0,
-            batches: 0,
-            seen,
-        },
-    )
+    let front = Front {
+        count: 0,
+        batches: 0,
+        seen,
+    };
+    (Word::tracked(0, &mut first), front)
 }
 
 impl Front {
@@ -100,10 +98,11 @@ impl Front {
         if found != count {
             return None;
         }
-        Some(Front {
+        let front = Front {
             count: count + 1,
             batches,
             seen,
-        })
+        };
+        Some(front)
     }
 }

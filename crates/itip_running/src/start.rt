@@ -95,7 +95,8 @@ pub fn start_desk<R: AllocGlobal + Wait>(
             return Err(LiveError::NoMemory);
         }
     }
-    match seats(alloc, &mut writer, &last, passes) {
+    let seated = seats(alloc, &mut writer, &last, passes);
+    match seated {
         Ok(all) => {
             let end = WriteEnd {
                 writer,
