@@ -1,9 +1,9 @@
 //! The desks of an office, once its threads have returned.
-ghost use Rattle.std.specs.Prelude.{◌≡◌, ◌≢◌, ◌<◌, ◌++◌, ℕ, List, length, map, All, Ok, IfOk, IfErr, slice_index_or};
+ghost use Rattle.std.specs.Prelude.{◌≡◌, ◌<◌, ℕ, List, length, map, All, Ok, IfOk, IfErr, slice_index_or};
 ghost use Rattle.std.specs.List.{AllZip};
 ghost use Rattle.itip_items.specs.declared.item.Item.{Item};
 ghost use Rattle.itip_state.specs.Kept.{AreKept};
-ghost use Rattle.itip_desk.specs.Desk.{IsDeskOf, IsDeltaOf};
+ghost use Rattle.itip_desk.specs.Desk.{IsDeskOf};
 ghost use Rattle.itip_office.specs.Ended.{all_heard};
 ghost use Rattle.itip_office.specs.Exchanged.{GivesDelta, TakesAll, AreNoLoops};
 
@@ -32,10 +32,13 @@ pub(crate) fn exchange<R: Threads + Sync>(
     if parts.len() < 2 && parts.len() == desks {
         return Ok(parts);
     }
-    let deltas = all_ok(alloc, deltas(rt, alloc, &parts)?)?;
-    let mut ended = parts;
-    ended.truncate(desks);
-    all_ok(alloc, with_deltas(rt, ended, &deltas)?)
+    let given = deltas(rt, alloc, parts.as_slice())?;
+    let deltas = all_ok(alloc, given)?;
+    let mut first = parts;
+    first.truncate(desks);
+    let taken = with_deltas(rt, first, deltas.as_slice())?;
+    let ended = all_ok(alloc, taken)?;
+    Ok(ended)
 }
 
 // What each desk keeps, as a delta.
@@ -94,7 +97,8 @@ fn all_ok<T: Drop>(alloc: Global, all: Vec<Result<T, OfficeError>>) -> Result<Ve
 {
     let mut values = Vec::with_capacity(alloc, all.len())?;
     for one in all {
-        values.push(one?)?;
+        let value = one?;
+        values.push(value)?;
     }
     Ok(values)
 }
