@@ -1,5 +1,5 @@
 -- An office from the answers of its threads to its end.
-use Rattle.std.proofs.Common.{◌≡◌, ℕ, List, map, length, All, sym, subst}
+use Rattle.std.proofs.Common.{◌≡◌, ℕ, List, length, All, sym, subst}
 use Rattle.std.specs.Prelude.{IsPermutation}
 use Rattle.std.proofs.lemmas.List.Sorted.{All-permutation, Contains-permutation, IsPermutation-sym}
 use Rattle.itip_items.specs.declared.item.Item.{Item}

@@ -1,10 +1,9 @@
 -- Offices that end with the same jobs end alike.
-use Rattle.std.proofs.Common.{◌≡◌, ◌↔◌, ℕ, ◌≤◌, ◌<◌, List, [], ◌∷◌, length, map, inl, inr, refl, sym, ap, subst, ◌∙◌, arith}
+use Rattle.std.proofs.Common.{◌≡◌, ℕ, List, [], ◌∷◌, length, map, inl, inr, sym, ap, subst, ◌∙◌, arith}
 use Rattle.std.specs.Prelude.{IsPermutation}
 use Rattle.std.specs.List.{Contains}
 use Rattle.std.proofs.lemmas.List.Elements.{All-contains}
 use Rattle.std.proofs.lemmas.List.Sorted.{Contains-permutation, IsPermutation-sym}
-use Rattle.itip_message.specs.Message.{RefusesMessage}
 use Rattle.itip_message.specs.declared.error.MessageRefusal.{MessageRefusal}
 use Rattle.itip_message.proofs.OneMessage.{one_message, one_cause, message_apart}
 use Rattle.itip_items.specs.declared.item.Item.{Item}
@@ -12,7 +11,7 @@ use Rattle.itip_state.specs.Kept.{AreKept, SameItems}
 use Rattle.itip_state.proofs.Keeping.{kept_iff}
 use Rattle.itip_state.proofs.Members.{none_in, cons_cases, cons_first, cons_later}
 use Rattle.itip_desk.specs.Desk.{Shown}
-use Rattle.itip_desk.specs.declared.refusal.Refusal.TheVariants.{Message, NoDesk}
+use Rattle.itip_desk.specs.declared.refusal.Refusal.TheVariants.{Message}
 use Rattle.itip_desk.proofs.ReadDeltas.{one_order}
 use Rattle.itip_office.specs.declared.job.Job.{Job}
 use Rattle.itip_office.specs.declared.job.Work.{Work}

@@ -1,5 +1,5 @@
 -- One more job whose text a desk took, or that is no text.
-use Rattle.std.proofs.Common.{◌≡◌, ◌↔◌, ℕ, List, [], ◌∷◌, ◌++◌, All, inl, inr, refl, sym, ap, subst, ◌∙◌, append_assoc, append-nil}
+use Rattle.std.proofs.Common.{◌≡◌, ℕ, List, [], ◌∷◌, ◌++◌, All, inl, inr, refl, sym, ap, subst, ◌∙◌, append_assoc, append-nil}
 use Rattle.std.specs.List.{Contains}
 use Rattle.std.proofs.lemmas.List.Elements.{All-nil, All-push, Contains-append_cases, Contains-append_left, Contains-append_right}
 use Rattle.itip_items.specs.declared.item.Item.{Item}
@@ -10,7 +10,6 @@ use Rattle.itip_desk.specs.Heard.{heard}
 use Rattle.itip_office.specs.declared.job.Work.{Work}
 use Rattle.itip_office.specs.declared.job.Work.TheVariants.{Text, Carry, Look}
 use Rattle.itip_office.specs.declared.outcome.Outcome.{Outcome}
-use Rattle.itip_office.specs.declared.outcome.Outcome.TheVariants.{Carried}
 use Rattle.itip_office.specs.Texts.{IsBatchOf, IsText}
 use Rattle.itip_office.specs.Answers.{Answer, AnswersMerged, IsTook}
 use Rattle.itip_office.specs.Taken.{ReadsWork, IsTaken, AreTaken}

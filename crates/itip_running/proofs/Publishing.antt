@@ -1,5 +1,5 @@
 -- What a call of `publish` leaves, once its group is among those of all calls.
-use Rattle.std.proofs.Common.{◌≡◌, List, [], ◌∷◌, ◌++◌, length, drop, refl, ap, sym, ◌∙◌, subst, inr, append_assoc, Result, Ok, Err}
+use Rattle.std.proofs.Common.{◌≡◌, List, [], ◌∷◌, ◌++◌, length, drop, ap, sym, ◌∙◌, subst, inr, append_assoc, Result, Ok, Err}
 use Rattle.std.specs.Prelude.{OnOk, OnErr}
 use mathlib.Core.List.{IsPrefix}
 use Rattle.itip_running.specs.History.{Group}

@@ -17,7 +17,6 @@ use Rattle.itip_view.specs.declared.error.ViewError.{ViewError}
 use Rattle.itip_view.specs.declared.error.ViewError.TheVariants as view
 use Rattle.itip_desk.specs.Desk.{Shown, IsDeskOf, IsDeltaOf}
 use Rattle.itip_running.specs.Refusals.{of_view}
-use Rattle.itip_running.specs.declared.error.PassError.{PassError}
 use Rattle.itip_running.specs.declared.error.PassError.TheVariants as pass
 use Rattle.itip_running.specs.Deltas.{IsDeltaAfter}
 use Rattle.itip_running.specs.Parts.{HasRowsOf, HasRowsFor, AreKeptOf}

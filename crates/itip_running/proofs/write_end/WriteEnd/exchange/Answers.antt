@@ -1,5 +1,5 @@
-use Rattle.std.proofs.Common.{rules, ◌≡◌, [], ◌∷◌, ◌++◌, List, length, drop, fold, refl, ap, sym, ◌∙◌, subst}
-use Rattle.itip_running.specs.History.{Items, Group, batches_of}
+use Rattle.std.proofs.Common.{rules, ◌≡◌, [], ◌++◌, List, length, drop, fold, refl, ap, sym, ◌∙◌, subst}
+use Rattle.itip_running.specs.History.{Items, batches_of}
 use Rattle.itip_running.specs.declared.published.Published.{Published}
 use Rattle.itip_running.specs.declared.published.Op.{Op}
 use Rattle.itip_running.specs.declared.published.Op.TheVariants.{Mark}

@@ -1,6 +1,5 @@
-use Rattle.std.proofs.Common.{rules, ◌≡◌, [], ◌∷◌, ◌++◌, List, length, drop, ap, sym, ◌∙◌}
-use Rattle.std.specs.Prelude.{OnOk}
-use Rattle.itip_running.specs.History.{Items, Group, batches_of}
+use Rattle.std.proofs.Common.{rules, ◌≡◌, [], ◌∷◌, ◌++◌, ap, ◌∙◌}
+use Rattle.itip_running.specs.History.{batches_of}
 use Rattle.itip_running.specs.Ends.{writer_groups, writer_calls, writer_fresh}
 use Rattle.itip_running.specs.Pair.{published_groups}
 use Rattle.itip_running.proofs.Groups.{batches_push}

@@ -1,4 +1,4 @@
-use Rattle.std.proofs.Common.{rules, ◌≡◌, [], ◌∷◌, ◌++◌, ◌+◌, List, ℕ, length, drop, ap, sym, ◌∙◌, subst, length-append}
+use Rattle.std.proofs.Common.{◌≡◌, [], ◌∷◌, ◌++◌, ◌+◌, List, ℕ, length, drop, ap, sym, ◌∙◌, subst, length-append}
 use Rattle.itip_running.specs.History.{Items, batches_of}
 use Rattle.itip_running.specs.declared.published.Published.{Published}
 use Rattle.itip_running.specs.declared.published.Op.{Op}
