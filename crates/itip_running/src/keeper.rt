@@ -1,6 +1,7 @@
 //! The keeper of a desk.
 ghost use Rattle.std.specs.Prelude.{◌≡◌, ◌↔◌, ◌+◌, ◌<◌, [], ◌∷◌, ◌++◌, length, IsSome};
-ghost use Rattle.std.specs.Prelude.{MatchResult, OnErr, OnOk, IfOk, IsErrOf};
+ghost use Rattle.std.specs.Prelude.{MatchResult, OnErr, OnOk, IfOk, IsErrOf, IsTrue};
+ghost use mathlib.Core.List.{IsPrefix};
 
 use crate::error::{LiveError, NotSubmitted};
 use crate::receipt::Receipt;
@@ -49,6 +50,18 @@ impl Keeper {
         match &self.end {
             Some(end) => end.pending,
             None => 0,
+        }
+    }
+
+    /// Whether all that a receipt tells is published. It is, in every run: `false` is answered where the receipt is ahead of the keeper.
+    #[tactic(auto, using(crate::proofs::Groups::prefix_batches))]
+    pub fn has_published(&self, receipt: &Receipt) -> bool
+        requires pair { receipt_pair receipt.now ≡ keeper_pair self.now }
+        ensures { IsTrue result → IsPrefix (publishes_told receipt.now) (publishes self.now) × IsPrefix (told receipt.now) (published self.now) }
+    {
+        match &self.end {
+            Some(end) => receipt.front.begins(&end.writer.published().front),
+            None => false,
         }
     }
 

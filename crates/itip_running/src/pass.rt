@@ -198,6 +198,19 @@ impl Pass {
         }
     }
 
+    /// A receipt of what it has seen.
+    pub fn receipt(&self) -> Receipt
+        ensures told { publishes_told result ≡ publishes_seen self.now }
+        ensures pair { receipt_pair result ≡ pass_pair self.now }
+    {
+        match &self.end {
+            Some(end) => Receipt {
+                front: end.front.again(),
+            },
+            None => unreachable!(),
+        }
+    }
+
     /// Whether the front begins with all that it has seen.
     pub(crate) fn is_within(&self, front: &Front) -> bool
         requires pair { pass_pair self.now ≡ Some front.now.seen.book }
