@@ -4,8 +4,9 @@ pub use Rattle.itip_state.specs.Kept
 pub mod Numbers
 pub mod Texts
 pub mod Answers
+pub mod Taken
 pub mod Steps
 pub mod Merged
-pub mod Team
 pub mod Ended
+pub mod Exchanged
 pub mod Scripts

@@ -1,0 +1,8 @@
+use Rattle.itip_office.proofs.OneEnd.{same_desks, same_texts}
+use Rattle.itip_office.proofs.laws.one_end.Goals as goal
+
+pub returns-clause-desks : goal.returns-clause-desks
+returns-clause-desks c = same_desks
+
+pub returns-clause-texts : goal.returns-clause-texts
+returns-clause-texts c = same_texts
