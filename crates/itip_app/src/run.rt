@@ -2,6 +2,7 @@
 ghost use Rattle.itip_words.specs.Words.{AreDesks, AreWorkers};
 
 use crate::filters::filtered;
+use crate::stream::stream;
 use crate::tell::{Explainer, complain};
 use itip_inbox::check;
 use itip_office::{ScriptError, run_jobs};
@@ -53,6 +54,7 @@ pub(crate) fn status<
     };
     match read_words(rt.alloc(), words.as_slice(), now(rt)) {
         Ok(Call::Run(scripted)) => ended(rt, run(rt, scripted)),
+        Ok(Call::Stream(streamed)) => stream(rt, &streamed),
         Ok(Call::Office { scripted, workers }) => ended(rt, office(rt, scripted, workers)),
         Ok(Call::Check { why }) => ended(rt, show(rt, why)),
         Ok(Call::Filter(filter)) => filtered(rt, &filter, terminals),
@@ -132,7 +134,7 @@ fn show<R: AllocGlobal + Input + Print + Eprint>(rt: &R, why: bool) -> Result<bo
 }
 
 /// The status of what was done: 1 where a refusal was written.
-fn ended<R: Eprint, E: Display + Drop>(rt: &R, done: Result<bool, E>) -> u8 {
+pub(crate) fn ended<R: Eprint, E: Display + Drop>(rt: &R, done: Result<bool, E>) -> u8 {
     match done {
         Ok(false) => 0,
         Ok(true) => 1,

@@ -1,12 +1,12 @@
 //! The UIDs that moved, by UID and by tick.
 ghost use Rattle.std.specs.Prelude.{◌≡◌, ◌≢◌, ◌↔◌, ◌⊎◌, ◌<◌, ℕ, List, [], Some, None, cond, true, is_some, map, IfOk, OnOk, OnErr, IfSome, IsTrue};
-ghost use Rattle.std.specs.List.{Contains};
+ghost use Rattle.std.specs.List.{All, Contains};
 ghost use Rattle.std.specs.List.Sorted.{IsStrictlySortedBy};
 ghost use Rattle.std.specs.Map.{keys_of};
 ghost use Rattle.std.specs.Ordering.{nat_cmp, is_eq};
 ghost use Rattle.std.specs.Cmp.Lexicographic.{slice_cmp};
 ghost use Rattle.std.specs.BTreeMap.{IsOrdered};
-ghost use Rattle.itip_desk.specs.Moves.{is_listed, tick_at, has_move, AreInOrder, AreTicks, HavePlaces, AreReady};
+ghost use Rattle.itip_desk.specs.Moves.{is_listed, tick_at, has_move, AreInOrder, AreTicks, HavePlaces, AreReady, CarriesLast};
 ghost use Rattle.itip_desk.specs.Desk.{CarriesAfter};
 
 use itip_lines::Text;
@@ -48,6 +48,27 @@ impl MovedUids {
             ticks: BTreeMap::new(alloc),
             order: BTreeSet::new(alloc),
         }
+    }
+
+    /// The UIDs that moved, each with the tick of its last move: of several the last that is given.
+    pub(crate) fn of_moves(alloc: Global, moves: Vec<(Uid, u64)>) -> Result<MovedUids, AllocError>
+        requires { All (λ (move : List ℕ × ℕ). 0 < move.1) moves.items }
+        ensures ticks { IfOk result (λ moved. AreTicks moved.carried) }
+        ensures moves { IfOk result (λ moved. CarriesLast moves.items moved.carried) }
+    {
+        let mut moved = MovedUids::new(alloc);
+        for (uid, tick) in moves {
+            moved.order.insert((tick, uid.clone()?))?;
+            moved.ticks.insert(uid, tick)?;
+        }
+        Ok(moved)
+    }
+
+    /// The tick of a UID's last move.
+    pub(crate) fn tick_of(&self, uid: &Uid) -> Option<u64>
+        ensures { result ≡ tick_at self.now.carried uid.now }
+    {
+        self.ticks.get(uid).copied()
     }
 
     /// Makes what is needed for these UIDs to carry a tick. After a refusal each carries what it did.

@@ -4,4 +4,5 @@ pub mod Days
 pub mod AskedValues
 pub mod Asked
 pub mod Calls
+pub mod Streams
 pub mod Told

@@ -1,12 +1,13 @@
 //! What a call of the program asks for.
 ghost use Rattle.std.specs.Prelude.{◌≡◌, ℕ, IfOk, IfSome, IfNone};
 ghost use Rattle.itip_words.specs.Words.{AreDesks, desks_of, workers_of, IsWindowOf, IsScriptedOf};
-ghost use Rattle.itip_words.specs.Calls.{IfRun, IfOffice, IfFilter, AreOffice, CanFilter};
+ghost use Rattle.itip_words.specs.Calls.{IfRun, IfStream, IfOffice, IfFilter, AreStreamed, AreOffice, CanFilter};
 ghost use Rattle.itip_view.specs.declared.window.Window.{Window};
 
 use crate::commands::command;
 use crate::filter::{Filter, filter_of};
 use crate::no_call::{NoCall, no_call};
+use crate::streamed::{Streamed, streamed_of};
 use crate::wrong::what_is_wrong;
 use clap::ArgMatches;
 use itip_moment::{Stamp, read_date};
@@ -25,6 +26,8 @@ const MAX_WORKERS: u64 = 8;
 pub enum Call {
     /// A script is run.
     Run(Scripted),
+    /// A stream of commands is served.
+    Stream(Streamed),
     /// The jobs of a script are run, by so many workers.
     Office { scripted: Scripted, workers: u64 },
     /// A message is read, and its items are shown.
@@ -45,6 +48,7 @@ pub struct Scripted {
 /// Reads the words, the first of which is the program's name. `clock` is the present moment, where it is known.
 pub fn read_words(alloc: Global, words: &[String], clock: Option<Stamp>) -> Result<Call, NoCall>
     ensures run { IfOk result (IfRun (λ scripted. AreDesks scripted.desks)) }
+    ensures stream { IfOk result (IfStream AreStreamed) }
     ensures office { IfOk result (IfOffice AreOffice) }
     ensures filter { IfOk result (IfFilter CanFilter) }
 {
@@ -65,6 +69,7 @@ fn call_of(
     clock: Option<Stamp>,
 ) -> Result<Option<Call>, NoCall>
     ensures run { IfOk result (λ found. IfSome found (IfRun (λ scripted. AreDesks scripted.desks))) }
+    ensures stream { IfOk result (λ found. IfSome found (IfStream AreStreamed)) }
     ensures office { IfOk result (λ found. IfSome found (IfOffice AreOffice)) }
     ensures filter { IfOk result (λ found. IfSome found (IfFilter CanFilter)) }
 {
@@ -76,7 +81,7 @@ fn call_of(
         return Ok(office_of(words));
     }
     if let Some(words) = matches.subcommand_matches("run") {
-        return Ok(run_of(words));
+        return run_of(alloc, words);
     }
     match filter_of(alloc, matches, clock)? {
         Some(filter) => Ok(Some(Call::Filter(filter))),
@@ -84,16 +89,23 @@ fn call_of(
     }
 }
 
-fn run_of(words: &ArgMatches<'_>) -> Option<Call>
-    ensures run { IfSome result (IfRun (λ scripted. AreDesks scripted.desks)) }
-    ensures office { IfSome result (IfOffice AreOffice) }
-    ensures filter { IfSome result (IfFilter CanFilter) }
+fn run_of(alloc: Global, words: &ArgMatches<'_>) -> Result<Option<Call>, NoCall>
+    ensures run { IfOk result (λ found. IfSome found (IfRun (λ scripted. AreDesks scripted.desks))) }
+    ensures stream { IfOk result (λ found. IfSome found (IfStream AreStreamed)) }
+    ensures office { IfOk result (λ found. IfSome found (IfOffice AreOffice)) }
+    ensures filter { IfOk result (λ found. IfSome found (IfFilter CanFilter)) }
 {
-    let scripted = scripted_of(words)?;
-    Some(Call::Run(scripted))
+    if !words.get_flag("stream") {
+        return Ok(scripted_of(words).map(Call::Run));
+    }
+    match streamed_of(alloc, words)? {
+        Some(streamed) => Ok(Some(Call::Stream(streamed))),
+        None => Ok(None),
+    }
 }
 
-fn scripted_of(matches: &ArgMatches<'_>) -> Option<Scripted>
+/// How the words have a script run.
+pub(crate) fn scripted_of(matches: &ArgMatches<'_>) -> Option<Scripted>
     ensures { IfSome result (λ scripted. AreDesks scripted.desks) }
 {
     scripted_of_texts(
@@ -106,6 +118,7 @@ fn scripted_of(matches: &ArgMatches<'_>) -> Option<Scripted>
 
 fn office_of(matches: &ArgMatches<'_>) -> Option<Call>
     ensures run { IfSome result (IfRun (λ scripted. AreDesks scripted.desks)) }
+    ensures stream { IfSome result (IfStream AreStreamed) }
     ensures office { IfSome result (IfOffice AreOffice) }
     ensures filter { IfSome result (IfFilter CanFilter) }
 {

@@ -5,6 +5,7 @@ pub mod Counting
 pub mod Desks
 pub mod Determined
 pub mod Events
+pub mod Looking
 pub mod Packets
 pub mod Runnings
 pub mod Runs

@@ -1,0 +1,197 @@
+//! A desk out of its file.
+ghost use Rattle.std.specs.Prelude.{◌≡◌, ◌<◌, ◌≤◌, ◌^◌, ℕ, List, Option, Some, length, IfOk, IfErr, OnOk, IfSome, IfNone};
+ghost use Rattle.std.specs.List.{All};
+ghost use Rattle.itip_desk.specs.DeskFile.{TellsDesk, RefusesFile, IfFileRefused, NamesForm, HasNumber, digits_before, message_text};
+ghost use Rattle.itip_desk.specs.DeskFile.{ReadsFile, AddsPart, IsNoPart, IsDeskOfParts, TellsTick, TellsMove, IsHead, first_text};
+ghost use Rattle.itip_desk.specs.declared.file_text.FileHead.{FileHead};
+
+use crate::batch::Batch;
+use crate::desk::Desk;
+use crate::error::FileError;
+use crate::file_text::{BEGINS, FORM, FORM_NAME, ITEMS_NAME, MOVED_NAME, PRODUCT, TICK_NAME};
+use crate::refusal::FileRefusal;
+use crate::write_desk::is_file_of;
+use itip_items::Item;
+use itip_message::{ReadError, next_message, read_message};
+use itip_todo::Uid;
+use std::alloc::Global;
+
+/// What is read of a file, message by message.
+#[derive(Drop)]
+struct FileParts {
+    /// The tick of the desk.
+    tick: u64,
+    items: Vec<Item>,
+    /// The UID of each item, and the tick at which it moved last.
+    moves: Vec<(Uid, u64)>,
+}
+
+/// The desk whose file these octets are. They are compared with what [`write_desk`](crate::write_desk) writes of it, so every other text is
+/// refused.
+///
+/// Refused where another form is named (70), or where they are the file of no desk (71), with the number of the first message that
+/// is none of such a file, where there is one; or when out of memory.
+pub fn read_desk(alloc: Global, octets: &[u8]) -> Result<Desk, FileError>
+    ensures found { IfOk result (TellsDesk octets.now) }
+    ensures fault { IfErr result (λ e. IfFileRefused e (RefusesFile octets.now)) }
+{
+    let parts = read_parts(alloc, octets)?;
+    let desk = desk_of(alloc, parts)?;
+    if is_file_of(alloc, octets, &desk)? {
+        return Ok(desk);
+    }
+    drop(desk);
+    Err(broken(None))
+}
+
+fn desk_of(alloc: Global, parts: FileParts) -> Result<Desk, FileError>
+    requires { All (λ (move : List ℕ × ℕ). 0 < move.1) parts.moves.items }
+    ensures made { IfOk result (IsDeskOfParts parts) }
+    ensures fault { IfErr result (λ e. e ≡ FileError.NoMemory) }
+{
+    let FileParts { tick, items, moves } = parts;
+    let batch = Batch::of_items(items)?;
+    Ok(Desk::of_parts(alloc, tick, &batch, moves)?)
+}
+
+/// The parts of all messages.
+fn read_parts(alloc: Global, octets: &[u8]) -> Result<FileParts, FileError>
+    ensures found { IfOk result (ReadsFile octets.now) }
+    ensures moved { IfOk result (λ parts. All (λ (move : List ℕ × ℕ). 0 < move.1) parts.moves.items) }
+    ensures fault { IfErr result (λ e. IfFileRefused e (RefusesFile octets.now)) }
+{
+    let mut parts = FileParts {
+        tick: tick_of(octets)?,
+        items: Vec::new(alloc),
+        moves: Vec::new(alloc),
+    };
+    let mut rest = octets;
+    let mut number: u64 = 1;
+    while let Some((message, after)) = next_message(rest) {
+        read_part(alloc, message, number, &mut parts)?;
+        rest = after;
+        number = number.saturating_add(1);
+    }
+    Ok(parts)
+}
+
+/// The parts of the message of this number.
+fn read_part(
+    alloc: Global,
+    message: &[u8],
+    number: u64,
+    parts: &mut FileParts,
+) -> Result<(), FileError>
+    ensures added { OnOk result (AddsPart message.now parts.old parts.new) }
+    ensures fault { IfErr result (λ e. IfFileRefused e (λ refusal.
+        (refusal ≡ FileRefusal.Broken (Some number)) × IsNoPart parts.old.tick message.now)) }
+{
+    let Some(moved) = moved_in(message) else {
+        return Err(broken(Some(number)));
+    };
+    if moved == 0 || moved > parts.tick {
+        return Err(broken(Some(number)));
+    }
+    let mut items = match read_message(alloc, message) {
+        Ok(items) => items,
+        Err(ReadError::NoMemory) => return Err(FileError::NoMemory),
+        Err(ReadError::Refused(_)) => return Err(broken(Some(number))),
+    };
+    for item in &items {
+        parts.moves.push((item.key.uid().clone()?, moved))?;
+    }
+    parts.items.append(&mut items)?;
+    Ok(())
+}
+
+/// The tick that the first message tells; 0 of the empty file.
+fn tick_of(octets: &[u8]) -> Result<u64, FileError>
+    ensures found { IfOk result (TellsTick octets.now) }
+    ensures fault { IfErr result (λ e. IfFileRefused e (RefusesFile octets.now)) }
+{
+    if octets.is_empty() {
+        return Ok(0);
+    }
+    let Some((form, after)) = first_form(octets) else {
+        return Err(broken(Some(1)));
+    };
+    if form != FORM {
+        return Err(FileError::Refused(FileRefusal::OtherForm));
+    }
+    match first_tick(after) {
+        Some(tick) => Ok(tick),
+        None => Err(broken(Some(1))),
+    }
+}
+
+/// The form that the first message names, and what follows it.
+fn first_form(octets: &[u8]) -> Option<(u64, &[u8])>
+    ensures found { IfSome result (λ found. NamesForm octets.now found.0) }
+    ensures none { IfNone result ((form : ℕ) → NamesForm octets.now form → ⊥) }
+{
+    let parameters = octets.strip_prefix(BEGINS.as_bytes())?;
+    number_behind(parameters, FORM_NAME)
+}
+
+/// The tick behind the form of a first message.
+fn first_tick(after: &[u8]) -> Option<u64>
+    ensures { (items tick : ℕ) (rest : List ℕ) → items < 2 ^ 64 → tick < 2 ^ 64 →
+        after.now ≡ first_text items tick rest → result ≡ Some tick }
+{
+    let (_, after) = number_behind(after, ITEMS_NAME)?;
+    let parameters = after.strip_prefix(PRODUCT.as_bytes())?;
+    let (tick, _) = number_behind(parameters, TICK_NAME)?;
+    Some(tick)
+}
+
+/// The tick at which the UID of a message moved last, if it tells that.
+fn moved_in(message: &[u8]) -> Option<u64>
+    ensures told { IfSome result (TellsMove message.now) }
+    ensures none { IfNone result ((head : Option FileHead) (at : ℕ) (bytes : List ℕ) → at < 2 ^ 64 →
+        IfSome head IsHead → message.now ≡ message_text head at bytes → ⊥) }
+{
+    let parameters = message.strip_prefix(BEGINS.as_bytes())?;
+    let after = behind_number(behind_number(parameters, FORM_NAME), ITEMS_NAME);
+    let parameters = after.strip_prefix(PRODUCT.as_bytes())?;
+    let (moved, _) = number_behind(behind_number(parameters, TICK_NAME), MOVED_NAME)?;
+    Some(moved)
+}
+
+/// What follows a parameter of this name, where octets begin with one.
+fn behind_number<'a>(octets: &'a [u8], name: &str) -> &'a [u8]
+    ensures number { (number : ℕ) (after : List ℕ) → HasNumber octets.now name.now number after → result.now ≡ after }
+    ensures none { ((number : ℕ) (after : List ℕ) → HasNumber octets.now name.now number after → ⊥) → result.now ≡ octets.now }
+{
+    match number_behind(octets, name) {
+        Some((_, after)) => after,
+        None => octets,
+    }
+}
+
+/// The number that a parameter of this name has at the front of octets, and what follows it.
+fn number_behind<'a>(octets: &'a [u8], name: &str) -> Option<(u64, &'a [u8])>
+    ensures found { IfSome result (λ found. HasNumber octets.now name.now found.0 found.1.now) }
+    ensures none { IfNone result ((number : ℕ) (after : List ℕ) → HasNumber octets.now name.now number after → ⊥) }
+{
+    let value = octets.strip_prefix(name.as_bytes())?;
+    let end = digits(value);
+    let number = str::from_utf8(&value[..end]).ok()?.parse::<u64>().ok()?;
+    Some((number, &value[end..]))
+}
+
+/// How many digits octets begin with.
+fn digits(octets: &[u8]) -> usize
+    ensures within { result ≤ length octets.now }
+    ensures exact { result ≡ digits_before octets.now }
+{
+    match octets.iter().position(|octet| !octet.is_ascii_digit()) {
+        Some(at) => at,
+        None => octets.len(),
+    }
+}
+
+fn broken(message: Option<u64>) -> FileError
+    ensures { result ≡ FileError.Refused (FileRefusal.Broken message) }
+{
+    FileError::Refused(FileRefusal::Broken { message })
+}

@@ -1,0 +1,252 @@
+//! The commands of a stream, each read, done and answered before the next.
+ghost use Rattle.std.specs.Prelude.{◌≡◌, ◌≢◌, Some, IfOk, IfErr, OnOk, OnErr, IfSome, IfNone};
+ghost use Rattle.itip_script.specs.Stream.{body_of, wish_of};
+ghost use Rattle.itip_view.specs.declared.window.Window.{Window};
+ghost use Rattle.itip_desk.specs.declared.refusal.Refusal.{Refusal};
+ghost use Rattle.itip_desk.specs.declared.refusal.Refusal.TheVariants.{File};
+ghost use Rattle.itip_desk.specs.declared.refusal.FileRefusal.TheVariants.{Unwritten};
+ghost use Rattle.itip_world.specs.Running.{answer_of, refused};
+ghost use Rattle.itip_world.specs.Serving.{Serves, ServesOne, ServesFront, EndsStream, Tells, TellsFront, take, arrive, post, save};
+
+use crate::answer::Answer;
+use crate::hearing::{hear_delta, hear_message};
+use crate::looks::{Look, told};
+use crate::shelf::Shelf;
+use crate::stop::Cause;
+use crate::watch::{Refused, Watch};
+use itip_desk::{Desk, FileRefusal, Refusal, write_delta};
+use itip_lines::{LineCause, LineRefusal};
+use itip_message::MessageRefusal;
+use itip_script::{Body, DELTA_OCTETS, LINE_OCTETS, MESSAGE_OCTETS, StreamLine, read_body};
+use itip_streams::{StreamFault, pass_octets, read_line_within, write_at_once};
+use itip_view::Window;
+use std::alloc::Global;
+use std::io::{Read, Write};
+
+// Why a message is refused of which no octet is held.
+const LONG_MESSAGE: LineRefusal = LineRefusal {
+    cause: LineCause::TooLong,
+    line: None,
+};
+
+/// The desks of a stream, and the window of lists. Nothing is kept of what they were sent or answered.
+#[derive(Drop)]
+pub(crate) struct Served {
+    pub(crate) alloc: Global,
+    pub(crate) desks: Vec<Desk>,
+    pub(crate) window: Window,
+}
+
+impl Served {
+    /// Reads one command, does it and writes its answer, all of which is done before an octet behind the command is read. It says
+    /// whether the command was refused; `None` where the input is at its end.
+    ///
+    /// After a fault a front of the answer was written.
+    pub(crate) fn step<R: Read, W: Write, S: Shelf, T: Watch>(
+        &mut self,
+        reader: &mut R,
+        writer: &mut W,
+        shelf: &mut S,
+        watch: &mut T,
+    ) -> Result<Option<bool>, StreamFault>
+        ensures one { IfOk result (λ done. IfSome done (ServesOne self.old.window self.old.desks.items self.new.desks.items
+            (R.remaining reader.old) (R.remaining reader.new) (W.contents writer.old) (W.contents writer.new))) }
+        ensures end { IfOk result (λ done. IfNone done (EndsStream self.old.desks.items self.new.desks.items
+            (R.remaining reader.old) (R.remaining reader.new) (W.contents writer.old) (W.contents writer.new))) }
+        ensures window { self.new.window ≡ self.old.window }
+        ensures front { OnErr result (ServesFront self.old.window self.old.desks.items
+            (R.remaining reader.old) (W.contents writer.old) (W.contents writer.new)) }
+    {
+        let Some(line) = read_line_within(self.alloc, reader, LINE_OCTETS)? else {
+            return self.answer_to(
+                &StreamLine::Malformed { octets: 0 },
+                reader,
+                writer,
+                shelf,
+                watch,
+            );
+        };
+        if line.is_empty() {
+            return Ok(None);
+        }
+        let asked = StreamLine::of_line(line.as_slice());
+        self.answer_to(&asked, reader, writer, shelf, watch)
+    }
+
+    /// Does what a line asks for, whose octets are still to be read, and writes the answer.
+    fn answer_to<R: Read, W: Write, S: Shelf, T: Watch>(
+        &mut self,
+        asked: &StreamLine<'_>,
+        reader: &mut R,
+        writer: &mut W,
+        shelf: &mut S,
+        watch: &mut T,
+    ) -> Result<Option<bool>, StreamFault> {
+        let mut kept = Vec::new(self.alloc);
+        let refused = self.reply(asked, reader, writer, shelf, &mut kept)?;
+        write_at_once(writer, kept.as_slice())?;
+        if !matches!(asked, StreamLine::Empty) {
+            watch.answered(asked.word(), refused.as_ref());
+        }
+        Ok(Some(refused.is_some()))
+    }
+
+    /// Does what a line asks for, and says why it was refused, if it was. The answer is put behind the octets that are kept to be
+    /// written; where it is a list, they are written once they are 65,536 or more.
+    fn reply<R: Read, W: Write, S: Shelf>(
+        &mut self,
+        asked: &StreamLine<'_>,
+        reader: &mut R,
+        writer: &mut W,
+        shelf: &mut S,
+        kept: &mut Vec<u8>,
+    ) -> Result<Option<Refused>, StreamFault>
+        ensures tells { IfOk result (Tells self.old.window (wish_of asked.now) self.old.desks.items self.new.desks.items
+            (R.remaining reader.old) (R.remaining reader.new) (W.contents writer.old) (W.contents writer.new)
+            kept.old.items kept.new.items) }
+        ensures window { self.new.window ≡ self.old.window }
+        ensures front { OnErr result (TellsFront self.old.window (wish_of asked.now) self.old.desks.items
+            (R.remaining reader.old) (W.contents writer.old) (W.contents writer.new) kept.old.items) }
+    {
+        match asked {
+            StreamLine::Take { desk, octets } => {
+                let body = read_body(self.alloc, reader, *octets, MESSAGE_OCTETS)?;
+                told(self.take(*desk, body)?, kept)
+            }
+            StreamLine::Arrive { desk, octets } => {
+                let body = read_body(self.alloc, reader, *octets, DELTA_OCTETS)?;
+                told(self.arrive(*desk, body)?, kept)
+            }
+            StreamLine::Post { desk, since } => told(self.post(*desk, *since)?, kept),
+            StreamLine::Save { desk, file } => told(self.save(*desk, file, shelf)?, kept),
+            StreamLine::Question(command) => self.look().reply(command, writer, kept),
+            StreamLine::Malformed { octets } => {
+                pass_octets(reader, *octets)?;
+                told(Answer::Refused(Refusal::NoCommand), kept)
+            }
+            StreamLine::Empty => Ok(None),
+        }
+    }
+
+    fn look(&self) -> Look<'_>
+        ensures desks { result.desks.now ≡ self.now.desks.items }
+        ensures window { result.window ≡ self.now.window }
+    {
+        Look {
+            alloc: self.alloc,
+            desks: self.desks.as_slice(),
+            window: self.window,
+        }
+    }
+
+    /// A desk takes a message.
+    fn take(&mut self, desk: u64, body: Body) -> Result<Answer, StreamFault>
+        ensures serves { IfOk result (λ answer. (window : Window) →
+            Serves window self.old.desks.items (take desk (body_of body)) (Some (answer_of answer)) self.new.desks.items) }
+        ensures window { self.new.window ≡ self.old.window }
+        ensures err { OnErr result (self.new ≡ self.old) }
+        ensures fault { IfErr result (λ fault. fault ≡ StreamFault.Memory) }
+    {
+        let alloc = self.alloc;
+        if let Body::Cut = body {
+            return Ok(Answer::Refused(Refusal::NoCommand));
+        }
+        let Some(hearer) = self.desks.get_mut(desk as usize) else {
+            return Ok(Answer::Refused(Refusal::NoDesk(desk)));
+        };
+        let Body::Whole(text) = body else {
+            let refusal = MessageRefusal::from(LONG_MESSAGE);
+            return Ok(Answer::Refused(Refusal::Message(refusal)));
+        };
+        let number = desk as usize;
+        match hear_message(alloc, hearer, number, text.as_slice()) {
+            Ok(heard) => Ok(Answer::Took {
+                desk: number,
+                heard,
+            }),
+            Err(cause) => unheard(cause),
+        }
+    }
+
+    /// A delta reaches a desk.
+    fn arrive(&mut self, desk: u64, body: Body) -> Result<Answer, StreamFault>
+        ensures serves { IfOk result (λ answer. (window : Window) →
+            Serves window self.old.desks.items (arrive desk (body_of body)) (Some (answer_of answer)) self.new.desks.items) }
+        ensures window { self.new.window ≡ self.old.window }
+        ensures err { OnErr result (self.new ≡ self.old) }
+        ensures fault { IfErr result (λ fault. fault ≡ StreamFault.Memory) }
+    {
+        let alloc = self.alloc;
+        if let Body::Cut = body {
+            return Ok(Answer::Refused(Refusal::NoCommand));
+        }
+        let Some(hearer) = self.desks.get_mut(desk as usize) else {
+            return Ok(Answer::Refused(Refusal::NoDesk(desk)));
+        };
+        let Body::Whole(octets) = body else {
+            return Ok(Answer::Refused(Refusal::LongDelta));
+        };
+        match hear_delta(alloc, hearer, desk as usize, octets.as_slice()) {
+            Ok(heard) => Ok(Answer::Reached { desk, heard }),
+            Err(cause) => unheard(cause),
+        }
+    }
+
+    /// A desk posts what changed there after a tick.
+    fn post(&self, desk: u64, since: u64) -> Result<Answer, StreamFault>
+        ensures serves { IfOk result (λ answer. (window : Window) →
+            Serves window self.now.desks.items (post desk since) (Some (answer_of answer)) self.now.desks.items) }
+        ensures fault { IfErr result (λ fault. fault ≡ StreamFault.Memory) }
+    {
+        let Some(asked) = self.desks.get(desk as usize) else {
+            return Ok(Answer::Refused(Refusal::NoDesk(desk)));
+        };
+        let batch = asked.delta_since(since)?;
+        Ok(Answer::Sent {
+            desk,
+            tick: asked.tick(),
+            items: batch.as_slice().len(),
+            octets: write_delta(self.alloc, &batch)?,
+        })
+    }
+
+    /// A desk is saved. Where it can't be, that is the answer.
+    fn save<S: Shelf>(&self, desk: u64, file: &[u8], shelf: &mut S) -> Result<Answer, StreamFault>
+        ensures serves { IfOk result (λ answer. (window : Window) →
+            Serves window self.now.desks.items (save desk file.now) (Some (answer_of answer)) self.now.desks.items) }
+        ensures fault { IfErr result (λ fault. fault ≡ StreamFault.Memory) }
+    {
+        let Some(saved) = self.desks.get(desk as usize) else {
+            return Ok(Answer::Refused(Refusal::NoDesk(desk)));
+        };
+        let Ok(name) = str::from_utf8(file) else {
+            return Ok(unwritten(desk));
+        };
+        match shelf.save(name, saved) {
+            Ok(()) => Ok(Answer::Saved {
+                desk,
+                tick: saved.tick(),
+            }),
+            Err(StreamFault::Memory) => Err(StreamFault::Memory),
+            Err(_) => Ok(unwritten(desk)),
+        }
+    }
+}
+
+fn unwritten(desk: u64) -> Answer
+    ensures { answer_of result ≡ refused (File (Unwritten desk)) }
+{
+    Answer::Refused(Refusal::File(FileRefusal::Unwritten { desk }))
+}
+
+/// What is answered where a desk heard nothing for this cause.
+fn unheard(cause: Cause) -> Result<Answer, StreamFault>
+    ensures refused { IfOk result (λ answer. (why : Refusal) → cause ≡ Cause.Refused why → answer_of answer ≡ refused why) }
+    ensures some { OnOk result (cause ≢ Cause.NoMemory) }
+    ensures fault { IfErr result (λ fault. fault ≡ StreamFault.Memory) }
+{
+    match cause {
+        Cause::Refused(refusal) => Ok(Answer::Refused(refusal)),
+        Cause::NoMemory => Err(StreamFault::Memory),
+    }
+}
