@@ -2,19 +2,16 @@
 -- when the message's UID moved last, and in the first message the form, the tick of the desk and how many messages there are. No line
 -- is added, since a message may have as many as are read.
 use Rattle.std.specs.Prelude.{◌≡◌, ◌≢◌, ◌<◌, ◌≤◌, ℕ, suc, ◌+◌, ◌-◌, ◌*◌, ◌^◌, Bool, ◌&&◌, nat_le, if◌then◌else◌}
-use Rattle.std.specs.Prelude.{List, [], ◌∷◌, ◌++◌, length, drop, codes, Option, Some, None, IfSome, map, unwrap_or}
+use Rattle.std.specs.Prelude.{List, [], ◌∷◌, ◌++◌, length, drop, codes, Option, Some, None, unwrap_or}
 use Rattle.std.specs.Fmt.{decimal}
 use Rattle.std.specs.List.{Contains}
 use Rattle.std.specs.Io.KnownBytes.{Appends}
 use Rattle.itip_items.specs.KeyParts.{uid_of}
 use Rattle.itip_items.specs.declared.item.Item.{Item}
 use Rattle.itip_state.specs.Kept.{AreKept, IsItemsOf, SameItems}
-use Rattle.itip_desk.specs.Desk.{Shown, CarriesAfter}
-use Rattle.itip_desk.specs.Moves.{tick_at, CarriesLast}
+use Rattle.itip_desk.specs.Desk.{Shown}
+use Rattle.itip_desk.specs.Moves.{tick_at}
 use Rattle.itip_desk.specs.declared.file_text.FileHead.{FileHead}
-use Rattle.itip_desk.specs.declared.read_desk.FileParts.{FileParts}
-use Rattle.itip_message.specs.Message.{ReadsMessage}
-use Rattle.itip_message.specs.Scanned.{messages_of}
 use Rattle.itip_desk.specs.declared.refusal.FileRefusal.{FileRefusal}
 use Rattle.itip_desk.specs.declared.refusal.FileRefusal.TheVariants.{OtherForm, Broken, Unwritten}
 use Rattle.itip_desk.specs.declared.error.FileError.{FileError}
@@ -58,17 +55,19 @@ messages_text changed head [] = []
 messages_text changed head (item ∷ items) = message_text head (moved_at changed item) item.bytes ++ messages_text changed None items
 
 abbrev pub head_of : ℕ → List Item → Option FileHead
-head_of tick items = Some (record { tick = tick; items = length items })
+head_of tick items = Some (record { items = length items; tick = tick })
 
 -- These octets are the file of the desk: the messages of what it keeps, by canonical octets. A desk that keeps nothing has the empty file.
 pub record IsFileOf (desk : Shown) (octets : List ℕ) : Type 0 where
   pub items : List Item
   pub items_are : IsItemsOf items desk.kept
+  pub few : length items < 2 ^ 64
   pub octets_are : octets ≡ messages_text desk.changed (head_of desk.tick items) items
 
--- A desk that its file tells whole: each UID of which something is kept moved last at a tick of the desk, and no other did. Every
--- desk that began with nothing at tick 0 is one.
+-- A desk that its file tells whole: what it keeps is all that counts of it, each UID of which something is kept moved last at a tick of
+-- the desk, and no other did. Every desk that began with nothing at tick 0 is one.
 pub record IsTold (desk : Shown) : Type 0 where
+  pub settled : AreKept desk.kept desk.kept
   pub ticks : (uid : List ℕ) (tick : ℕ) → tick_at desk.changed uid ≡ Some tick → (0 < tick) × (tick ≤ desk.tick)
   pub kept : (uid : List ℕ) (tick : ℕ) → tick_at desk.changed uid ≡ Some tick →
       (item : Item) × Contains desk.kept item × (uid_of item.key ≡ uid)
@@ -93,6 +92,8 @@ pub record WritesFile (desk : Shown) (old new : Option (List ℕ)) : Type 0 wher
   pub file : IsFileOf desk octets
   pub appended : Appends old new octets
 
+-- ---- what is no such file
+
 abbrev pub is_digit : ℕ → Bool
 is_digit b = nat_le 48 b && nat_le b 57
 
@@ -109,7 +110,7 @@ digits_value number (b ∷ octets) = digits_value (number * 10 + (b - 48)) octet
 -- Octets begin with a name and a number of 64 bits, in all digits that are there.
 pub record HasNumber (octets name : List ℕ) (number : ℕ) (after : List ℕ) : Type 0 where
   pub digits : List ℕ
-  pub whole : octets ≡ name ++ digits ++ after
+  pub whole : octets ≡ name ++ (digits ++ after)
   pub all : length digits ≡ digits_before (digits ++ after)
   pub some : 0 < length digits
   pub value : number ≡ digits_value 0 digits
@@ -134,72 +135,3 @@ RefusesFile octets (Unwritten desk) = ⊥
 abbrev pub IfFileRefused : FileError → (FileRefusal → Type 0) → Type 0
 IfFileRefused error.NoMemory P = Unit {0}
 IfFileRefused (error.Refused refusal) P = P refusal
-
--- ---- what is read of a file, part by part
-
--- numbers of 64 bits
-pub record IsHead (head : FileHead) : Type 0 where
-  pub items : head.items < 2 ^ 64
-  pub tick : head.tick < 2 ^ 64
-
--- what a message tells of its UID's last move, where it is one of a file
-abbrev pub TellsMove : List ℕ → ℕ → Type 0
-TellsMove text moved = (head : Option FileHead) (at : ℕ) (bytes : List ℕ) → at < 2 ^ 64 → IfSome head IsHead →
-    text ≡ message_text head at bytes → moved ≡ at
-
--- a message of a desk at this tick: it tells a move, and items
-pub record ReadsPart (tick : ℕ) (text : List ℕ) (moved : ℕ) (items : List Item) : Type 0 where
-  pub reads : ReadsMessage text items
-  pub told : TellsMove text moved
-  pub some : 0 < moved
-  pub within : moved ≤ tick
-
--- the UIDs of items, each with this tick
-abbrev pub moves_at : ℕ → List Item → List (List ℕ × ℕ)
-moves_at moved items = map (λ (item : Item). (uid_of item.key, moved)) items
-
--- Each of these messages is one of a desk at this tick, and these are the items and the moves of all.
-abbrev pub ReadsParts : ℕ → List (List ℕ) → List Item → List (List ℕ × ℕ) → Type 0
-ReadsParts tick [] items moves = (items ≡ []) × (moves ≡ [])
-ReadsParts tick (text ∷ texts) items moves =
-    (moved : ℕ) × (given : List Item) × (others : List Item) × (rest : List (List ℕ × ℕ)) × ReadsPart tick text moved given
-    × (items ≡ given ++ others) × (moves ≡ moves_at moved given ++ rest) × ReadsParts tick texts others rest
-
--- what follows the form of a first message
-abbrev pub first_text : ℕ → ℕ → List ℕ → List ℕ
-first_text items tick rest =
-    parameter_text (codes ";X-ITEMS=") items ++ codes ":-//itipdesk//1//EN\r\nVERSION" ++ parameter_text (codes ";X-TICK=") tick
-    ++ codes ";X-MOVED=" ++ rest
-
--- the tick that the first message tells, where it is one of a file; 0 of no octets
-pub record TellsTick (octets : List ℕ) (tick : ℕ) : Type 0 where
-  pub empty : octets ≡ [] → tick ≡ 0
-  pub first : (head : FileHead) (at : ℕ) (bytes rest : List ℕ) → IsHead head →
-      octets ≡ message_text (Some head) at bytes ++ rest → tick ≡ head.tick
-  pub fits : tick < 2 ^ 64
-  pub this_form : ¬ NamesOtherForm octets
-
--- what is read of the messages of a file
-pub record ReadsFile (octets : List ℕ) (parts : FileParts) : Type 0 where
-  pub tick : TellsTick octets parts.tick
-  pub all : ReadsParts parts.tick (messages_of octets) parts.items.items parts.moves.items
-
--- a text that is no message of a desk's file at this tick
-abbrev pub IsNoPart : ℕ → List ℕ → Type 0
-IsNoPart tick text = (head : Option FileHead) (at : ℕ) (item : Item) → at < 2 ^ 64 → 0 < at → at ≤ tick →
-    IfSome head IsHead → text ≡ message_text head at item.bytes → ⊥
-
--- what was read of one message more
-pub record AddsPart (text : List ℕ) (old new : FileParts) : Type 0 where
-  pub moved : ℕ
-  pub given : List Item
-  pub part : ReadsPart old.tick text moved given
-  pub items_are : new.items.items ≡ old.items.items ++ given
-  pub moves_are : new.moves.items ≡ old.moves.items ++ moves_at moved given
-  pub tick_is : new.tick ≡ old.tick
-
--- the desk that the parts make
-pub record IsDeskOfParts (parts : FileParts) (desk : Shown) : Type 0 where
-  pub kept : AreKept desk.kept parts.items.items
-  pub tick : desk.tick ≡ parts.tick
-  pub changed : CarriesLast parts.moves.items desk.changed

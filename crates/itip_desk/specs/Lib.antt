@@ -13,3 +13,4 @@ pub mod Refusals
 pub mod Listed
 pub mod WrittenRows
 pub mod DeskFile
+pub mod FileReading

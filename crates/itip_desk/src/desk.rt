@@ -87,7 +87,8 @@ impl Desk {
 
     /// A desk that has heard nothing, at this tick. It takes no memory.
     pub fn empty_at(alloc: Global, tick: u64) -> Desk
-        ensures { IsDeskOf [] tick result }
+        ensures desk { IsDeskOf [] tick result }
+        ensures told { tick ≡ 0 → IsTold result }
     {
         Desk {
             kept: IndexedState::empty(alloc),

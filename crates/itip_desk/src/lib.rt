@@ -9,6 +9,7 @@ mod entry;
 mod error;
 mod file_text;
 mod found;
+mod fronts;
 mod index;
 mod indexed;
 mod laws;

@@ -56,12 +56,16 @@ impl MovedUids {
         ensures ticks { IfOk result (λ moved. AreTicks moved.carried) }
         ensures moves { IfOk result (λ moved. CarriesLast moves.items moved.carried) }
     {
-        let mut moved = MovedUids::new(alloc);
+        let mut ticks = BTreeMap::new(alloc);
+        let mut order = BTreeSet::new(alloc);
         for (uid, tick) in moves {
-            moved.order.insert((tick, uid.clone()?))?;
-            moved.ticks.insert(uid, tick)?;
+            put_move(&mut order, &mut ticks, uid, tick)?;
         }
-        Ok(moved)
+        Ok(MovedUids {
+            alloc,
+            ticks,
+            order,
+        })
     }
 
     /// The tick of a UID's last move.
@@ -128,6 +132,25 @@ impl MovedUids {
     {
         let _ = &self.ticks;
     }
+}
+
+/// Has a UID carry a tick.
+fn put_move(
+    order: &mut BTreeSet<(u64, Uid)>,
+    ticks: &mut BTreeMap<Uid, u64>,
+    uid: Uid,
+    tick: u64,
+) -> Result<(), AllocError>
+    requires ordered { IsOrdered (slice_cmp nat_cmp) ticks.old }
+    requires in_order { AreInOrder ticks.old.entries order.old.keys }
+    ensures ordered { OnOk result (IsOrdered (slice_cmp nat_cmp) ticks.new) }
+    ensures in_order { OnOk result (AreInOrder ticks.new.entries order.new.keys) }
+    ensures put { OnOk result ((q : List ℕ) → tick_at ticks.new.entries q
+        ≡ cond (is_eq (slice_cmp nat_cmp uid q)) (Some tick) (tick_at ticks.old.entries q)) }
+{
+    order.insert((tick, uid.clone()?))?;
+    ticks.insert(uid, tick)?;
+    Ok(())
 }
 
 /// Puts in these UIDs under a tick.

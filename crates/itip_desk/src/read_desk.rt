@@ -1,20 +1,21 @@
 //! A desk out of its file.
-ghost use Rattle.std.specs.Prelude.{◌≡◌, ◌<◌, ◌≤◌, ◌^◌, ℕ, List, Option, Some, length, IfOk, IfErr, OnOk, IfSome, IfNone};
+ghost use Rattle.std.specs.Prelude.{◌≡◌, ◌++◌, ◌<◌, ◌^◌, ℕ, List, Some, codes, IfOk, IfErr, OnOk, IfSome, IfNone};
+ghost use Rattle.std.specs.Option.{option_copied};
 ghost use Rattle.std.specs.List.{All};
-ghost use Rattle.itip_desk.specs.DeskFile.{TellsDesk, RefusesFile, IfFileRefused, NamesForm, HasNumber, digits_before, message_text};
-ghost use Rattle.itip_desk.specs.DeskFile.{ReadsFile, AddsPart, IsNoPart, IsDeskOfParts, TellsTick, TellsMove, IsHead, first_text};
-ghost use Rattle.itip_desk.specs.declared.file_text.FileHead.{FileHead};
+ghost use Rattle.itip_desk.specs.DeskFile.{TellsDesk, RefusesFile, IfFileRefused, HasNumber, begins_text};
+ghost use Rattle.itip_desk.specs.FileReading.{ReadsFile, AddsPart, IsNoPart, IsDeskOfParts, TellsTick, TellsMove, FollowsProduct, first_text, moves_at};
 
 use crate::batch::Batch;
 use crate::desk::Desk;
 use crate::error::FileError;
 use crate::file_text::{BEGINS, FORM, FORM_NAME, ITEMS_NAME, MOVED_NAME, PRODUCT, TICK_NAME};
+use crate::fronts::{behind, behind_number, number_behind};
 use crate::refusal::FileRefusal;
 use crate::write_desk::is_file_of;
 use itip_items::Item;
 use itip_message::{ReadError, next_message, read_message};
 use itip_todo::Uid;
-use std::alloc::Global;
+use std::alloc::{AllocError, Global};
 
 /// What is read of a file, message by message.
 #[derive(Drop)]
@@ -57,7 +58,6 @@ fn desk_of(alloc: Global, parts: FileParts) -> Result<Desk, FileError>
 /// The parts of all messages.
 fn read_parts(alloc: Global, octets: &[u8]) -> Result<FileParts, FileError>
     ensures found { IfOk result (ReadsFile octets.now) }
-    ensures moved { IfOk result (λ parts. All (λ (move : List ℕ × ℕ). 0 < move.1) parts.moves.items) }
     ensures fault { IfErr result (λ e. IfFileRefused e (RefusesFile octets.now)) }
 {
     let mut parts = FileParts {
@@ -97,10 +97,18 @@ fn read_part(
         Err(ReadError::NoMemory) => return Err(FileError::NoMemory),
         Err(ReadError::Refused(_)) => return Err(broken(Some(number))),
     };
-    for item in &items {
-        parts.moves.push((item.key.uid().clone()?, moved))?;
-    }
+    push_moves(&mut parts.moves, items.as_slice(), moved)?;
     parts.items.append(&mut items)?;
+    Ok(())
+}
+
+/// Puts in the UIDs of items, each with this tick.
+fn push_moves(moves: &mut Vec<(Uid, u64)>, items: &[Item], moved: u64) -> Result<(), AllocError>
+    ensures { OnOk result (moves.new.items ≡ moves.old.items ++ moves_at moved items.now) }
+{
+    for item in items {
+        moves.push((item.key.uid().clone()?, moved))?;
+    }
     Ok(())
 }
 
@@ -126,10 +134,10 @@ fn tick_of(octets: &[u8]) -> Result<u64, FileError>
 
 /// The form that the first message names, and what follows it.
 fn first_form(octets: &[u8]) -> Option<(u64, &[u8])>
-    ensures found { IfSome result (λ found. NamesForm octets.now found.0) }
-    ensures none { IfNone result ((form : ℕ) → NamesForm octets.now form → ⊥) }
+    ensures found { IfSome result (λ found. HasNumber octets.now (begins_text ++ codes ";X-FORM=") found.0 found.1.now) }
+    ensures none { IfNone result ((form : ℕ) (after : List ℕ) → HasNumber octets.now (begins_text ++ codes ";X-FORM=") form after → ⊥) }
 {
-    let parameters = octets.strip_prefix(BEGINS.as_bytes())?;
+    let parameters = behind(octets, BEGINS.as_bytes())?;
     number_behind(parameters, FORM_NAME)
 }
 
@@ -138,56 +146,29 @@ fn first_tick(after: &[u8]) -> Option<u64>
     ensures { (items tick : ℕ) (rest : List ℕ) → items < 2 ^ 64 → tick < 2 ^ 64 →
         after.now ≡ first_text items tick rest → result ≡ Some tick }
 {
-    let (_, after) = number_behind(after, ITEMS_NAME)?;
-    let parameters = after.strip_prefix(PRODUCT.as_bytes())?;
-    let (tick, _) = number_behind(parameters, TICK_NAME)?;
-    Some(tick)
+    let after = behind_number(after, ITEMS_NAME);
+    let parameters = behind(after, PRODUCT.as_bytes())?;
+    let found = number_behind(parameters, TICK_NAME)?;
+    Some(found.0)
 }
 
 /// The tick at which the UID of a message moved last, if it tells that.
 fn moved_in(message: &[u8]) -> Option<u64>
-    ensures told { IfSome result (TellsMove message.now) }
-    ensures none { IfNone result ((head : Option FileHead) (at : ℕ) (bytes : List ℕ) → at < 2 ^ 64 →
-        IfSome head IsHead → message.now ≡ message_text head at bytes → ⊥) }
+    ensures { TellsMove message.now result }
 {
-    let parameters = message.strip_prefix(BEGINS.as_bytes())?;
+    let parameters = after_product(message)?;
+    let after = behind_number(parameters, TICK_NAME);
+    let found = number_behind(after, MOVED_NAME)?;
+    Some(found.0)
+}
+
+/// What follows the parameters of PRODID, with those of VERSION.
+fn after_product(message: &[u8]) -> Option<&[u8]>
+    ensures { FollowsProduct message.now (option_copied result) }
+{
+    let parameters = behind(message, BEGINS.as_bytes())?;
     let after = behind_number(behind_number(parameters, FORM_NAME), ITEMS_NAME);
-    let parameters = after.strip_prefix(PRODUCT.as_bytes())?;
-    let (moved, _) = number_behind(behind_number(parameters, TICK_NAME), MOVED_NAME)?;
-    Some(moved)
-}
-
-/// What follows a parameter of this name, where octets begin with one.
-fn behind_number<'a>(octets: &'a [u8], name: &str) -> &'a [u8]
-    ensures number { (number : ℕ) (after : List ℕ) → HasNumber octets.now name.now number after → result.now ≡ after }
-    ensures none { ((number : ℕ) (after : List ℕ) → HasNumber octets.now name.now number after → ⊥) → result.now ≡ octets.now }
-{
-    match number_behind(octets, name) {
-        Some((_, after)) => after,
-        None => octets,
-    }
-}
-
-/// The number that a parameter of this name has at the front of octets, and what follows it.
-fn number_behind<'a>(octets: &'a [u8], name: &str) -> Option<(u64, &'a [u8])>
-    ensures found { IfSome result (λ found. HasNumber octets.now name.now found.0 found.1.now) }
-    ensures none { IfNone result ((number : ℕ) (after : List ℕ) → HasNumber octets.now name.now number after → ⊥) }
-{
-    let value = octets.strip_prefix(name.as_bytes())?;
-    let end = digits(value);
-    let number = str::from_utf8(&value[..end]).ok()?.parse::<u64>().ok()?;
-    Some((number, &value[end..]))
-}
-
-/// How many digits octets begin with.
-fn digits(octets: &[u8]) -> usize
-    ensures within { result ≤ length octets.now }
-    ensures exact { result ≡ digits_before octets.now }
-{
-    match octets.iter().position(|octet| !octet.is_ascii_digit()) {
-        Some(at) => at,
-        None => octets.len(),
-    }
+    behind(after, PRODUCT.as_bytes())
 }
 
 fn broken(message: Option<u64>) -> FileError

@@ -5,6 +5,7 @@ ghost use Rattle.itip_desk.specs.DeskFile.{IsFileOf, WritesFile, moved_at, messa
 
 use crate::desk::Desk;
 use crate::file_text::{FileHead, append_message};
+use crate::fronts::behind;
 use itip_state::SharedItem;
 use itip_streams::{StreamFault, write_if_many, write_output};
 use std::alloc::{AllocError, Global};
@@ -62,7 +63,7 @@ fn after_message<'a>(
 {
     let mut message = Vec::new(alloc);
     append_item(&mut message, head, desk, item)?;
-    Ok(octets.strip_prefix(message.as_slice()))
+    Ok(behind(octets, message.as_slice()))
 }
 
 /// Appends the message of an item that the desk keeps. If an allocation fails a part of it may be there.

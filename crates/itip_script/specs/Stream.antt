@@ -1,9 +1,10 @@
 -- The commands of a stream: a line each, and behind those that bring a message or a delta so many octets (our own format).
-use Rattle.std.specs.Prelude.{◌≡◌, ◌<◌, ◌≤◌, ◌⊎◌, ℕ, ◌+◌, Bool, ◌||◌, ◌==◌, nat_lt, List, [], ◌∷◌, ◌++◌, length, take, drop}
+use Rattle.std.specs.Prelude.{◌≡◌, ◌<◌, ◌⊎◌, ℕ, ◌||◌, ◌==◌, nat_lt, List, [], ◌∷◌, length, take}
 use Rattle.std.specs.Prelude.{if◌then◌else◌, Option, Some, None, unwrap_or, option_map, codes}
 use Rattle.std.specs.Str.{bytes_eq}
 use Rattle.std.specs.Io.KnownBytes.{Consumes, IsAtEnd}
-use Rattle.itip_script.specs.Lines.{line_length, content_of}
+use Rattle.itip_streams.specs.Parts.{ReadsLine}
+use Rattle.itip_script.specs.Lines.{content_of}
 use Rattle.itip_script.specs.Orders.{Order, order_of, before_space, after_space, number_of, rest_of, verb_of, spelled_by, ◌>>=◌}
 use Rattle.itip_script.specs.declared.body.Body.{Body}
 use Rattle.itip_script.specs.declared.body.Body.TheVariants as body
@@ -88,7 +89,13 @@ wish_at bytes = wish_said (content_of bytes)
 abbrev pub wish_within : List ℕ → Wish
 wish_within bytes = if nat_lt line_limit (length bytes) then malformed 0 else wish_at bytes
 
--- how many octets follow a line, and how many of them are held at most
+-- what is asked for by the line that was found: nothing by no octets, and nothing that is known by a line that is too long
+abbrev pub AsksBy : Option (List ℕ) → Option Wish → Type 0
+AsksBy None asked = asked ≡ Some (malformed 0)
+AsksBy (Some []) asked = asked ≡ None
+AsksBy (Some (b ∷ bytes)) asked = asked ≡ Some (wish_at (b ∷ bytes))
+
+-- how many octets follow a line
 abbrev pub body_length : Wish → ℕ
 body_length (takes desk octets) = octets
 body_length (arrives desk octets) = octets
@@ -121,20 +128,16 @@ pub record ReadsBody (limit count : ℕ) (old new : Option (List ℕ)) (came : B
   pub came_is : came ≡ brought limit count octets
   pub all : (length octets ≡ count) ⊎ ((length octets < count) × IsAtEnd new)
 
--- The command of some octets: a line, what belongs to it, and what is left. No octet is no command.
-pub record IsFirstWish (bytes line rest : List ℕ) (wish : Wish) : Type 0 where
-  pub some : 0 < length bytes
-  pub line_is : line ≡ take (line_length bytes) bytes
+-- One command was read, and no octet behind it: a line, and as many octets as belong to it, or all that was left of those.
+pub record ReadsWish (old new : Option (List ℕ)) (line behind : List ℕ) (wish : Wish) : Type 0 where
+  pub mid : Option (List ℕ)
+  pub reads : ReadsLine old mid line
+  pub some : 0 < length line
   pub wish_is : wish ≡ wish_within line
-  pub rest_is : rest ≡ drop (line_length bytes + body_length wish) bytes
+  pub consumed : Consumes mid new behind
+  pub all : (length behind ≡ body_length wish) ⊎ ((length behind < body_length wish) × IsAtEnd new)
 
--- the octets behind the first line
-abbrev pub behind_line : List ℕ → List ℕ
-behind_line bytes = drop (line_length bytes) bytes
-
--- One command was read, and no octet behind it: its line and what belongs to it, whatever follows; or all that was left.
-pub record ReadsWish (old new : Option (List ℕ)) (bytes : List ℕ) (wish : Wish) : Type 0 where
-  pub consumed : Consumes old new bytes
-  pub line : List ℕ
-  pub first : IsFirstWish bytes line [] wish
-  pub all : ((more : List ℕ) → IsFirstWish (bytes ++ more) line more wish) ⊎ IsAtEnd new
+-- No octet was left.
+pub record ReadsNothing (old new : Option (List ℕ)) : Type 0 where
+  pub consumed : Consumes old new []
+  pub end : IsAtEnd new

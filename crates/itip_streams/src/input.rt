@@ -1,7 +1,7 @@
 //! Reading octets.
-ghost use Rattle.std.specs.Prelude.{◌≡◌, ◌<◌, ◌≤◌, ◌≢◌, ℕ, List, length, vec_len, option_map, MatchBool, IfOk, IfErr, IfSome, IfNone};
+ghost use Rattle.std.specs.Prelude.{◌≡◌, ◌<◌, ◌≤◌, ◌≢◌, length, vec_len, option_map, IfOk, OnOk, IfErr, IfSome, IfNone};
 ghost use Rattle.std.specs.Io.KnownBytes.{ReadConsumes};
-ghost use Rattle.itip_streams.specs.Parts.{ReadsWithin, ReadsOctets, PassesOctets, PassesFewer};
+ghost use Rattle.itip_streams.specs.Parts.{ReadsWithin, ReadsOctets, ReadsOctet, PassesLine, PassesOctets};
 
 use crate::fault::StreamFault;
 use std::alloc::Global;
@@ -75,24 +75,25 @@ pub fn read_line_within<R: Read>(
     ensures fault { IfErr result (λ fault. fault ≢ StreamFault.Write) }
 {
     let mut line = Vec::new(alloc);
-    for _ in 0..u64::MAX {
+    while line.len() < limit {
         let Some(octet) = read_octet(reader)? else {
             return Ok(Some(line));
         };
-        if line.len() >= limit {
-            pass_line(reader, octet)?;
-            return Ok(None);
-        }
         line.push(octet)?;
         if octet == b'\n' {
             return Ok(Some(line));
         }
     }
-    Err(StreamFault::Read)
+    let Some(octet) = read_octet(reader)? else {
+        return Ok(Some(line));
+    };
+    pass_line(reader, octet)?;
+    Ok(None)
 }
 
 /// Reads what is left of a line of which this octet was read.
 fn pass_line<R: Read>(reader: &mut R, last: u8) -> Result<(), StreamFault>
+    ensures passes { OnOk result (PassesLine last (R.remaining reader.old) (R.remaining reader.new)) }
     ensures fault { IfErr result (λ fault. fault ≡ StreamFault.Read) }
 {
     let mut last = last;
@@ -110,6 +111,7 @@ fn pass_line<R: Read>(reader: &mut R, last: u8) -> Result<(), StreamFault>
 
 /// Reads one octet; none at the end.
 fn read_octet<R: Read>(reader: &mut R) -> Result<Option<u8>, StreamFault>
+    ensures reads { IfOk result (ReadsOctet (R.remaining reader.old) (R.remaining reader.new)) }
     ensures fault { IfErr result (λ fault. fault ≡ StreamFault.Read) }
 {
     let mut buffer = [0u8; 1];
@@ -133,41 +135,33 @@ pub fn read_octets<R: Read>(
 {
     let mut octets = Vec::new(alloc);
     let mut buffer = [0u8; SMALL_ROOM];
-    for _ in 0..u64::MAX {
+    while octets.len() < count {
         let room = (count - octets.len()).min(SMALL_ROOM);
-        if room == 0 {
-            return Ok(Some(octets));
-        }
         let brought = read_some(reader, &mut buffer[..room])?;
         if brought == 0 {
             return Ok(None);
         }
         octets.extend_from_slice(&buffer[..brought])?;
     }
-    Err(StreamFault::Read)
+    Ok(Some(octets))
 }
 
 /// Reads past so many octets, of which a few are held at a time. `false` says that there were fewer: all that is left was read then.
 ///
 /// A failed read is [`StreamFault::Read`] at once.
 pub fn pass_octets<R: Read>(reader: &mut R, count: u64) -> Result<bool, StreamFault>
-    ensures passes { IfOk result (λ all. (octets : List ℕ) × MatchBool all
-        (PassesOctets count (R.remaining reader.old) (R.remaining reader.new) octets)
-        (PassesFewer count (R.remaining reader.old) (R.remaining reader.new) octets)) }
+    ensures passes { IfOk result (PassesOctets count (R.remaining reader.old) (R.remaining reader.new)) }
     ensures fault { IfErr result (λ fault. fault ≡ StreamFault.Read) }
 {
     let mut buffer = [0u8; SMALL_ROOM];
     let mut left = count;
-    for _ in 0..u64::MAX {
+    while left > 0 {
         let room = left.min(SMALL_ROOM as u64) as usize;
-        if room == 0 {
-            return Ok(true);
-        }
         let brought = read_some(reader, &mut buffer[..room])?;
         if brought == 0 {
             return Ok(false);
         }
         left -= brought as u64;
     }
-    Err(StreamFault::Read)
+    Ok(true)
 }

@@ -5,10 +5,12 @@ pub mod Counting
 pub mod Desks
 pub mod Determined
 pub mod Events
+pub mod HeardOctets
 pub mod Looking
 pub mod Packets
 pub mod Runnings
 pub mod Runs
 pub mod SameHistories
+pub mod Streaming
 pub mod Swaps
 pub mod Uids

@@ -136,7 +136,7 @@ module _ (window : Window) (desks : ℕ) (old new : Option (List ℕ)) (orders d
       }
 
 -- a refusal has a cause, and nothing else has one
-cause_of : (answer : Answer) → is_some (refusal_of answer) ≡ is_refusal answer
+pub cause_of : (answer : Answer) → is_some (refusal_of answer) ≡ is_refusal answer
 cause_of (refused refusal) = refl
 cause_of (took desk tick changed) = refl
 cause_of (posted packet items) = refl
@@ -151,7 +151,7 @@ cause_of (sent desk tick items octets) = refl
 cause_of (reached desk tick changed) = refl
 cause_of (saved desk tick) = refl
 
-some_mapped : (why : Option RefusedAs) → is_some (option_map (λ (r : RefusedAs). r.refusal) why) ≡ is_some why
+pub some_mapped : (why : Option RefusedAs) → is_some (option_map (λ (r : RefusedAs). r.refusal) why) ≡ is_some why
 some_mapped (Some r) = refl
 some_mapped None = refl
 

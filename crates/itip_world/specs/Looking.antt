@@ -10,8 +10,10 @@ use Rattle.itip_items.specs.declared.item.Item.{Item}
 use Rattle.itip_message.specs.declared.error.MessageRefusal.{MessageRefusal}
 use Rattle.itip_message.specs.declared.error.ReadError.{ReadError}
 use Rattle.itip_message.specs.declared.error.ReadError.TheVariants as read
-use Rattle.itip_state.specs.Kept.{HasEachOnce}
-use Rattle.itip_desk.specs.Desk.{Shown}
+use Rattle.itip_state.specs.Kept.{AreKept, AreMoved, HasEachOnce}
+use Rattle.itip_desk.specs.Desk.{Shown, IsCarriedOn}
+use Rattle.itip_desk.specs.DeskFile.{IsTold}
+use Rattle.itip_desk.specs.Heard.{TickStep}
 use Rattle.itip_desk.specs.declared.refusal.Refusal.TheVariants.{Message, TicksSpent, TooManyRows, NoDesk, NoPacket, NoCommand}
 use Rattle.itip_desk.specs.declared.refusal.Refusal.TheVariants.{LongScript, LongDelta, File}
 use Rattle.itip_desk.specs.declared.refusal.Refusal.{Refusal}
@@ -20,11 +22,10 @@ use Rattle.itip_report.specs.Organizing.{IsResendOf, IsNext}
 use Rattle.itip_report.specs.declared.report_name.ReportName.{ReportName}
 use Rattle.itip_script.specs.Orders.{Order, takes, lists, lists_for, posts, arrives, reports, resends, asks_next, counts, malformed}
 use Rattle.itip_streams.specs.Written.{AppendsFront, MovesOut}
-use Rattle.itip_world.specs.Worlds.{HearsBatch, StopsHearing, entries_shown}
+use Rattle.itip_world.specs.Worlds.{StopsHearing, entries_shown}
 use Rattle.itip_world.specs.Running.{Answer, refused, listed, listed_for, counted, reported, resent, next_is, answer_text, refusal_of}
 use Rattle.itip_world.specs.Running.{AreListed, AreListedFor}
 use Rattle.itip_world.specs.declared.answer.Heard.{Heard as HeardAs}
-use Rattle.itip_world.specs.declared.event.Outcome.TheVariants.{Heard}
 use Rattle.itip_world.specs.declared.stop.Cause.{Cause}
 use Rattle.itip_world.specs.declared.stop.Cause.TheVariants as cause
 use Rattle.itip_world.specs.declared.watch.Refused.{Refused as RefusedAs}
@@ -104,11 +105,23 @@ abbrev pub LookFront : Window → Order → List Shown → Option (List ℕ) →
 LookFront window order desks old new kept =
     AppendsFront old new kept ⊎ ((answer : Answer) × Looks window desks order answer × AppendsFront old new (kept ++ answer_text answer))
 
+-- A desk heard a batch: what it keeps, its tick and what moved when, whatever it heard before; and what is told of that.
+pub record HearsNow (was : Shown) (step : List Item) (is : Shown) (heard : HeardAs) : Type 0 where
+  pub uids : List (List ℕ)
+  pub moved : AreMoved uids was.kept step
+  pub kept : AreKept is.kept (was.kept ++ step)
+  pub rises : TickStep was.kept step was.tick is.tick
+  pub carried : IsCarriedOn was is step
+  pub tick_is : heard.tick ≡ is.tick
+  pub changed_is : heard.changed ≡ length uids
+  -- a desk that its file tells whole is one still
+  pub told : IsTold was → IsTold is
+
 -- A desk heard the batch that octets tell.
 pub record HearsOctets (Gives : List Item → Type 0) (was is : Shown) (heard : HeardAs) : Type 0 where
   pub batch : List Item
   pub gives : Gives batch
-  pub hears : HearsBatch was batch is (Heard heard.tick heard.changed)
+  pub hears : HearsNow was batch is heard
 
 -- a cause for which the desk of this number doesn't hear a batch that octets tell
 pub record StopsAt (Gives : List Item → Type 0) (number : ℕ) (shown : Shown) (why : Cause) : Type 0 where

@@ -1,6 +1,6 @@
 -- What a stream of commands writes, as a run of a machine over its commands, whose state is its desks as they are seen (our own format).
-use Rattle.std.specs.Prelude.{◌≡◌, ◌⊎◌, ◌≤◌, ◌<◌, ℕ, Bool, false, List, [], ◌∷◌, ◌++◌, length, Option, Some, None, IfSome, slice_get, slice_set}
-use Rattle.std.specs.List.{AllByRecursion, flat_map, list_any, concat}
+use Rattle.std.specs.Prelude.{◌≡◌, ◌⊎◌, ◌≤◌, ◌<◌, ℕ, Bool, false, List, [], ◌∷◌, ◌++◌, length, Option, Some, None, slice_get, slice_set}
+use Rattle.std.specs.List.{flat_map, list_any}
 use Rattle.std.specs.Option.{option_map}
 use Rattle.std.specs.Io.KnownBytes.{Appends, Consumes, IsAtEnd, Keeps}
 use Rattle.itip_view.specs.declared.window.Window.{Window}
@@ -15,7 +15,7 @@ use Rattle.itip_desk.specs.declared.refusal.Refusal.TheVariants.{Message, NoDesk
 use Rattle.itip_desk.specs.declared.refusal.FileRefusal.TheVariants.{Unwritten}
 use Rattle.itip_script.specs.Orders.{Order}
 use Rattle.itip_script.specs.Stream.{Wish, takes, arrives, posts, saves, asks, malformed, empty, Brought, whole, too_long, cut_off}
-use Rattle.itip_script.specs.Stream.{brought, behind_line, body_length, message_limit, delta_limit, IsFirstWish, ReadsWish}
+use Rattle.itip_script.specs.Stream.{brought, body_length, message_limit, delta_limit, ReadsWish, ReadsNothing}
 use Rattle.itip_streams.specs.Written.{AppendsFront, MovesOut}
 use Rattle.itip_world.specs.Looking.{Looks, HearsOctets, StopsFor, OnlyAsks}
 use Rattle.itip_world.specs.Running.{Answer, refused, took, sent, reached, saved, answer_text, is_refusal, refusal_of}
@@ -94,59 +94,85 @@ abbrev pub reply_refusal : Option Answer → Option Refusal
 reply_refusal None = None
 reply_refusal (Some answer) = refusal_of answer
 
--- One command of a stream: no octet behind it is read, and all that was written is its reply.
-pub record ServesOne (window : Window) (old new : List Shown) (input left output written : Option (List ℕ)) (refused : Bool) : Type 0 where
-  pub bytes : List ℕ
+-- A command as it was served: its line, the octets behind it that belong to it, and its reply.
+pub record Served : Type 0 where
+  pub line : List ℕ
+  pub behind : List ℕ
   pub wish : Wish
-  pub reads : ReadsWish input left bytes wish
   pub reply : Option Answer
-  pub serves : Serves window old (serving_of wish (behind_line bytes)) reply new
-  pub writes : Appends output written (reply_text reply)
-  pub refusal_is : refused ≡ refuses reply
+
+-- ---- one command
+
+-- One command of a stream: it was read and no octet behind it, and all that was written is its reply.
+pub record ServesOne (window : Window) (old new : List Shown) (input left output written : Option (List ℕ)) (refused : Bool) : Type 0 where
+  pub one : Served
+  pub reads : ReadsWish input left one.line one.behind one.wish
+  pub serves : Serves window old (serving_of one.wish one.behind) one.reply new
+  pub writes : Appends output written (reply_text one.reply)
+  pub refusal_is : refused ≡ refuses one.reply
 
 -- No octet was left, and nothing was written.
 pub record EndsStream (old new : List Shown) (input left output written : Option (List ℕ)) : Type 0 where
   pub still : new ≡ old
-  pub consumed : Consumes input left []
-  pub end : IsAtEnd left
+  pub reads : ReadsNothing input left
   pub kept : Keeps output written
 
--- After a fault: a front of the command was read, and a front of a reply was written.
-pub record ServesFront (window : Window) (old : List Shown) (input output written : Option (List ℕ)) : Type 0 where
-  pub served : Serving
-  pub reply : Option Answer
+-- A command was read, and a front was written of what was said before, and of its reply.
+pub record FrontOfOne (window : Window) (old : List Shown) (input left output written : Option (List ℕ)) (before : List ℕ) : Type 0 where
+  pub one : Served
   pub after : List Shown
-  pub serves : Serves window old served reply after
-  pub appended : AppendsFront output written (reply_text reply)
+  pub reads : ReadsWish input left one.line one.behind one.wish
+  pub serves : Serves window old (serving_of one.wish one.behind) one.reply after
+  pub appended : AppendsFront output written (before ++ reply_text one.reply)
 
--- What a line is told behind what is kept to be written, where the octets that belong to it are read.
+-- after a fault nothing was written, or a front of the reply to the command that was read
+abbrev pub ServesFront : Window → List Shown → Option (List ℕ) → Option (List ℕ) → Option (List ℕ) → Option (List ℕ) → Type 0
+ServesFront window old input left output written =
+    AppendsFront output written [] ⊎ FrontOfOne window old input left output written []
+
+-- ---- what a line asks for, once the line is read
+
+-- The octets that belong to a line of this wish were read, or all that was left of them.
+pub record ReadsBehind (wish : Wish) (input left : Option (List ℕ)) (behind : List ℕ) : Type 0 where
+  pub consumed : Consumes input left behind
+  pub all : (length behind ≡ body_length wish) ⊎ ((length behind < body_length wish) × IsAtEnd left)
+
+-- It is done and told behind what is kept to be written; and why it is refused, if it is.
 pub record Tells (window : Window) (wish : Wish) (old new : List Shown) (input left output written : Option (List ℕ)) (kept rest : List ℕ)
     (refused : Option RefusedAs) : Type 0 where
   pub behind : List ℕ
-  pub consumed : Consumes input left behind
-  pub all : (length behind ≡ body_length wish) ⊎ ((length behind < body_length wish) × IsAtEnd left)
+  pub reads : ReadsBehind wish input left behind
   pub reply : Option Answer
   pub serves : Serves window old (serving_of wish behind) reply new
   pub moved : MovesOut output written (kept ++ reply_text reply) rest
   pub refusal_is : option_map (λ (r : RefusedAs). r.refusal) refused ≡ reply_refusal reply
 
-pub record TellsFront (window : Window) (wish : Wish) (old : List Shown) (input output written : Option (List ℕ)) (kept : List ℕ)
+-- It is done, and all that was written is what it is told.
+pub record TellsOne (window : Window) (wish : Wish) (old new : List Shown) (input left output written : Option (List ℕ)) (refused : Bool)
     : Type 0 where
   pub behind : List ℕ
+  pub reads : ReadsBehind wish input left behind
+  pub reply : Option Answer
+  pub serves : Serves window old (serving_of wish behind) reply new
+  pub writes : Appends output written (reply_text reply)
+  pub refusal_is : refused ≡ refuses reply
+
+-- A front was written of what is kept and of what it is told.
+pub record TellsSome (window : Window) (wish : Wish) (old : List Shown) (input left output written : Option (List ℕ)) (kept : List ℕ)
+    : Type 0 where
+  pub behind : List ℕ
+  pub reads : ReadsBehind wish input left behind
   pub reply : Option Answer
   pub after : List Shown
   pub serves : Serves window old (serving_of wish behind) reply after
   pub appended : AppendsFront output written (kept ++ reply_text reply)
 
--- A command as it was served: its octets, and its reply.
-pub record Served : Type 0 where
-  pub bytes : List ℕ
-  pub wish : Wish
-  pub reply : Option Answer
+-- after a fault a front was written of what is kept, or of that and of what it is told
+abbrev pub TellsFront : Window → Wish → List Shown → Option (List ℕ) → Option (List ℕ) → Option (List ℕ) → Option (List ℕ) → List ℕ → Type 0
+TellsFront window wish old input left output written kept =
+    AppendsFront output written kept ⊎ TellsSome window wish old input left output written kept
 
-abbrev pub bytes_of : List Served → List (List ℕ)
-bytes_of [] = []
-bytes_of (one ∷ others) = one.bytes ∷ bytes_of others
+-- ---- a stream
 
 abbrev pub output_of : List Served → List ℕ
 output_of served = flat_map (λ (one : Served). reply_text one.reply) served
@@ -154,40 +180,35 @@ output_of served = flat_map (λ (one : Served). reply_text one.reply) served
 abbrev pub refusal_in : List Served → Bool
 refusal_in served = list_any (λ (one : Served). refuses one.reply) served
 
--- the replies to commands, one after another, each from the desks that the one before left
-abbrev pub AreServed : Window → List Shown → List Served → List Shown → Type 0
-AreServed window old [] new = new ≡ old
-AreServed window old (one ∷ others) new =
-    (mid : List Shown) × Serves window old (serving_of one.wish (behind_line one.bytes)) one.reply mid × AreServed window mid others new
+-- A run is its steps: each command is the first of what the ones before left, and is served by the desks that these left.
+abbrev pub RunsStream : Window → Option (List ℕ) → List Shown → List Served → Option (List ℕ) → List Shown → Type 0
+RunsStream window input old [] left new = (left ≡ input) × (new ≡ old)
+RunsStream window input old (one ∷ others) left new =
+    (mid : Option (List ℕ)) × (between : List Shown) × ReadsWish input mid one.line one.behind one.wish
+    × Serves window old (serving_of one.wish one.behind) one.reply between × RunsStream window mid between others left new
 
--- The octets of each are a command, with all that belongs to its line, or all that was left of that.
-abbrev pub AreCommands : List Served → Type 0
-AreCommands served = AllByRecursion (λ (one : Served). (line : List ℕ) × IsFirstWish one.bytes line [] one.wish) served
-
--- The commands of an input: each is the first of what the ones before left, and the last leaves nothing.
-abbrev pub AreCommandsOf : List ℕ → List Served → Type 0
-AreCommandsOf input [] = input ≡ []
-AreCommandsOf input (one ∷ others) =
-    (rest line : List ℕ) × IsFirstWish input line rest one.wish × (input ≡ one.bytes ++ rest) × AreCommandsOf rest others
-
--- A stream to its end: all that was read is commands, those of the input where its octets are known; and what was written is their
--- replies.
+-- A stream to its end: its commands were read to the last octet, and what was written is their replies.
 pub record IsStream (window : Window) (desks : List Shown) (input left output written : Option (List ℕ)) (refusal : Bool) : Type 0 where
   pub served : List Served
+  pub mid : Option (List ℕ)
   pub after : List Shown
-  pub commands : AreCommands served
-  pub consumed : Consumes input left (concat (bytes_of served))
-  pub known : IfSome input (λ bytes. AreCommandsOf bytes served)
-  pub end : IsAtEnd left
-  pub replies : AreServed window desks served after
+  pub runs : RunsStream window input desks served mid after
+  pub end : ReadsNothing mid left
   pub appended : Appends output written (output_of served)
   pub refusal_is : refusal ≡ refusal_in served
 
--- After a fault: so many commands were served, and a front was written of what was still to be said.
-pub record IsStreamFront (window : Window) (desks : List Shown) (input output written : Option (List ℕ)) : Type 0 where
+-- After a fault: so many commands were served, and their replies were written, and perhaps a front of the reply to the next.
+pub record IsStreamFront (window : Window) (desks : List Shown) (input left output written : Option (List ℕ)) : Type 0 where
   pub served : List Served
+  pub mid : Option (List ℕ)
   pub after : List Shown
-  pub replies : AreServed window desks served after
-  pub wrote : Appends output written (output_of served)
-      ⊎ ((reply : Option Answer) × (serving : Serving) × (next : List Shown) × Serves window after serving reply next
-      × AppendsFront output written (output_of served ++ reply_text reply))
+  pub runs : RunsStream window input desks served mid after
+  pub wrote : Appends output written (output_of served) ⊎ FrontOfOne window after mid left output written (output_of served)
+
+-- Some commands were served, and their replies were written.
+pub record StreamSoFar (window : Window) (desks now : List Shown) (input left output written : Option (List ℕ)) (refusal : Bool)
+    : Type 0 where
+  pub served : List Served
+  pub runs : RunsStream window input desks served left now
+  pub appended : Appends output written (output_of served)
+  pub refusal_is : refusal ≡ refusal_in served

@@ -2,7 +2,7 @@
 ghost use Rattle.std.specs.Prelude.{◌≡◌, OnErr, IfOk, IfErr};
 ghost use Rattle.itip_desk.specs.Delta.{GivesBatch, ReadsDelta, RefusesDelta};
 ghost use Rattle.itip_message.specs.Message.{RefusesMessage};
-ghost use Rattle.itip_world.specs.Looking.{HearsOctets, StopsOctets, read_as};
+ghost use Rattle.itip_world.specs.Looking.{HearsNow, HearsOctets, StopsOctets, read_as};
 ghost use Rattle.itip_world.specs.Worlds.{HearsBatch, StopsHearing};
 ghost use Rattle.itip_world.specs.declared.event.Outcome.TheVariants.{Heard as heard_as};
 
@@ -57,6 +57,7 @@ fn read(found: Result<Batch, ReadError>) -> Result<Batch, Cause>
 /// The desk of this number hears a batch.
 pub(crate) fn hear_batch(desk: &mut Desk, number: usize, batch: &Batch) -> Result<Heard, Cause>
     ensures hears { IfOk result (λ heard. HearsBatch desk.old batch.now desk.new (heard_as heard.tick heard.changed)) }
+    ensures now { IfOk result (HearsNow desk.old batch.now desk.new) }
     ensures cause { IfErr result (λ cause. StopsHearing number desk.old batch.now cause) }
     ensures err { OnErr result (desk.new ≡ desk.old) }
 {

@@ -21,7 +21,7 @@ mod watch;
 mod world;
 
 pub use event::{Event, Outcome};
-pub use laws::one_output;
+pub use laws::{desks_saved_whole, one_output};
 pub use packet::Packet;
 pub use run::{Ran, run_world};
 pub use script::{run_script, run_script_watched};

@@ -1,12 +1,13 @@
 //! The commands of a stream, each read, done and answered before the next.
-ghost use Rattle.std.specs.Prelude.{◌≡◌, ◌≢◌, Some, IfOk, IfErr, OnOk, OnErr, IfSome, IfNone};
-ghost use Rattle.itip_script.specs.Stream.{body_of, wish_of};
+ghost use Rattle.std.specs.Prelude.{◌≡◌, ◌≢◌, [], Some, option_map, IfOk, IfErr, OnOk, OnErr, IfSome, IfNone};
+ghost use Rattle.std.specs.Option.{option_copied};
+ghost use Rattle.itip_script.specs.Stream.{body_of, wish_of, AsksBy};
 ghost use Rattle.itip_view.specs.declared.window.Window.{Window};
 ghost use Rattle.itip_desk.specs.declared.refusal.Refusal.{Refusal};
 ghost use Rattle.itip_desk.specs.declared.refusal.Refusal.TheVariants.{File};
 ghost use Rattle.itip_desk.specs.declared.refusal.FileRefusal.TheVariants.{Unwritten};
 ghost use Rattle.itip_world.specs.Running.{answer_of, refused};
-ghost use Rattle.itip_world.specs.Serving.{Serves, ServesOne, ServesFront, EndsStream, Tells, TellsFront, take, arrive, post, save};
+ghost use Rattle.itip_world.specs.Serving.{Serves, ServesOne, ServesFront, EndsStream, Tells, TellsOne, TellsFront, take, arrive, post, save};
 
 use crate::answer::Answer;
 use crate::hearing::{hear_delta, hear_message};
@@ -41,7 +42,7 @@ impl Served {
     /// Reads one command, does it and writes its answer, all of which is done before an octet behind the command is read. It says
     /// whether the command was refused; `None` where the input is at its end.
     ///
-    /// After a fault a front of the answer was written.
+    /// After a fault nothing was written, or a front of the answer.
     pub(crate) fn step<R: Read, W: Write, S: Shelf, T: Watch>(
         &mut self,
         reader: &mut R,
@@ -55,25 +56,19 @@ impl Served {
             (R.remaining reader.old) (R.remaining reader.new) (W.contents writer.old) (W.contents writer.new))) }
         ensures window { self.new.window ≡ self.old.window }
         ensures front { OnErr result (ServesFront self.old.window self.old.desks.items
-            (R.remaining reader.old) (W.contents writer.old) (W.contents writer.new)) }
+            (R.remaining reader.old) (R.remaining reader.new) (W.contents writer.old) (W.contents writer.new)) }
     {
-        let Some(line) = read_line_within(self.alloc, reader, LINE_OCTETS)? else {
-            return self.answer_to(
-                &StreamLine::Malformed { octets: 0 },
-                reader,
-                writer,
-                shelf,
-                watch,
-            );
-        };
-        if line.is_empty() {
+        let found = read_line_within(self.alloc, reader, LINE_OCTETS)?;
+        let Some(asked) = asked_by(found.as_deref()) else {
             return Ok(None);
-        }
-        let asked = StreamLine::of_line(line.as_slice());
-        self.answer_to(&asked, reader, writer, shelf, watch)
+        };
+        let refused = self.answer_to(&asked, reader, writer, shelf, watch)?;
+        Ok(Some(refused))
     }
 
-    /// Does what a line asks for, whose octets are still to be read, and writes the answer.
+    /// Does what a line asks for, whose octets are still to be read, and writes the answer. It says whether that is a refusal.
+    ///
+    /// After a fault nothing was written, or a front of the answer.
     fn answer_to<R: Read, W: Write, S: Shelf, T: Watch>(
         &mut self,
         asked: &StreamLine<'_>,
@@ -81,14 +76,20 @@ impl Served {
         writer: &mut W,
         shelf: &mut S,
         watch: &mut T,
-    ) -> Result<Option<bool>, StreamFault> {
+    ) -> Result<bool, StreamFault>
+        ensures one { IfOk result (TellsOne self.old.window (wish_of asked.now) self.old.desks.items self.new.desks.items
+            (R.remaining reader.old) (R.remaining reader.new) (W.contents writer.old) (W.contents writer.new)) }
+        ensures window { self.new.window ≡ self.old.window }
+        ensures front { OnErr result (TellsFront self.old.window (wish_of asked.now) self.old.desks.items
+            (R.remaining reader.old) (R.remaining reader.new) (W.contents writer.old) (W.contents writer.new) []) }
+    {
         let mut kept = Vec::new(self.alloc);
         let refused = self.reply(asked, reader, writer, shelf, &mut kept)?;
         write_at_once(writer, kept.as_slice())?;
         if !matches!(asked, StreamLine::Empty) {
             watch.answered(asked.word(), refused.as_ref());
         }
-        Ok(Some(refused.is_some()))
+        Ok(refused.is_some())
     }
 
     /// Does what a line asks for, and says why it was refused, if it was. The answer is put behind the octets that are kept to be
@@ -106,7 +107,7 @@ impl Served {
             kept.old.items kept.new.items) }
         ensures window { self.new.window ≡ self.old.window }
         ensures front { OnErr result (TellsFront self.old.window (wish_of asked.now) self.old.desks.items
-            (R.remaining reader.old) (W.contents writer.old) (W.contents writer.new) kept.old.items) }
+            (R.remaining reader.old) (R.remaining reader.new) (W.contents writer.old) (W.contents writer.new) kept.old.items) }
     {
         match asked {
             StreamLine::Take { desk, octets } => {
@@ -147,19 +148,18 @@ impl Served {
         ensures err { OnErr result (self.new ≡ self.old) }
         ensures fault { IfErr result (λ fault. fault ≡ StreamFault.Memory) }
     {
-        let alloc = self.alloc;
         if let Body::Cut = body {
             return Ok(Answer::Refused(Refusal::NoCommand));
         }
-        let Some(hearer) = self.desks.get_mut(desk as usize) else {
+        let number = desk as usize;
+        if number >= self.desks.len() {
             return Ok(Answer::Refused(Refusal::NoDesk(desk)));
-        };
+        }
         let Body::Whole(text) = body else {
             let refusal = MessageRefusal::from(LONG_MESSAGE);
             return Ok(Answer::Refused(Refusal::Message(refusal)));
         };
-        let number = desk as usize;
-        match hear_message(alloc, hearer, number, text.as_slice()) {
+        match hear_message(self.alloc, &mut self.desks[number], number, text.as_slice()) {
             Ok(heard) => Ok(Answer::Took {
                 desk: number,
                 heard,
@@ -176,17 +176,22 @@ impl Served {
         ensures err { OnErr result (self.new ≡ self.old) }
         ensures fault { IfErr result (λ fault. fault ≡ StreamFault.Memory) }
     {
-        let alloc = self.alloc;
         if let Body::Cut = body {
             return Ok(Answer::Refused(Refusal::NoCommand));
         }
-        let Some(hearer) = self.desks.get_mut(desk as usize) else {
+        let number = desk as usize;
+        if number >= self.desks.len() {
             return Ok(Answer::Refused(Refusal::NoDesk(desk)));
-        };
+        }
         let Body::Whole(octets) = body else {
             return Ok(Answer::Refused(Refusal::LongDelta));
         };
-        match hear_delta(alloc, hearer, desk as usize, octets.as_slice()) {
+        match hear_delta(
+            self.alloc,
+            &mut self.desks[number],
+            number,
+            octets.as_slice(),
+        ) {
             Ok(heard) => Ok(Answer::Reached { desk, heard }),
             Err(cause) => unheard(cause),
         }
@@ -230,6 +235,17 @@ impl Served {
             Err(StreamFault::Memory) => Err(StreamFault::Memory),
             Err(_) => Ok(unwritten(desk)),
         }
+    }
+}
+
+/// What a line that was read asks for, or `None` where nothing was left. Of a line that is too long nothing is known.
+fn asked_by(found: Option<&[u8]>) -> Option<StreamLine<'_>>
+    ensures { AsksBy (option_copied found) (option_map wish_of result) }
+{
+    match found {
+        None => Some(StreamLine::Malformed { octets: 0 }),
+        Some([]) => None,
+        Some(line) => Some(StreamLine::of_line(line)),
     }
 }
 

@@ -1,5 +1,5 @@
 //! A stream of commands from the first to the last.
-ghost use Rattle.std.specs.Prelude.{IfOk, OnErr, [], ◌≡◌};
+ghost use Rattle.std.specs.Prelude.{IfOk, OnErr};
 ghost use Rattle.itip_world.specs.Serving.{IsStream, IsStreamFront};
 
 use crate::served::Served;
@@ -27,7 +27,7 @@ pub fn run_stream<R: Read, W: Write, S: Shelf, T: Watch>(
 ) -> Result<bool, StreamFault>
     ensures all { IfOk result (IsStream window desks.items (R.remaining reader.old) (R.remaining reader.new)
         (W.contents writer.old) (W.contents writer.new)) }
-    ensures front { OnErr result (IsStreamFront window desks.items (R.remaining reader.old)
+    ensures front { OnErr result (IsStreamFront window desks.items (R.remaining reader.old) (R.remaining reader.new)
         (W.contents writer.old) (W.contents writer.new)) }
 {
     let mut served = Served {

@@ -14,6 +14,20 @@ returns-in-Ok-clause-hears c =
       outcome_is = ap (λ (n : ℕ). Heard n c.len.result) c.in-Ok.ensures.tick ∙ ap (λ (n : ℕ). Heard c.take.new.self.tick n) count;
     }
 
+pub returns-in-Ok-clause-now : goal.returns-in-Ok-clause-now
+returns-in-Ok-clause-now c =
+    let count : c.len.result ≡ length c.in-Ok.changed.uids.items = grind arith in
+    record {
+      uids = c.in-Ok.changed.uids.items;
+      moved = c.in-Ok.ensures.uids;
+      kept = c.in-Ok.ensures.kept;
+      rises = c.in-Ok.ensures.rises;
+      carried = c.in-Ok.ensures.carried;
+      tick_is = c.in-Ok.ensures.tick;
+      changed_is = count;
+      told = c.in-Ok.ensures.told;
+    }
+
 pub returns-in-Err-TicksSpent-clause-cause : goal.returns-in-Err-TicksSpent-clause-cause
 returns-in-Err-TicksSpent-clause-cause c =
     let at_desk = c.in-Err-TicksSpent.ensures.spent (ap (λ e. Err e) c.in-Err-TicksSpent.field-0-is) in
