@@ -1,3 +1,4 @@
 pub mod Windows
 pub mod AskedDays
 pub mod MomentNames
+pub mod Loading

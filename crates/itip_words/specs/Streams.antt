@@ -1,7 +1,6 @@
--- How a stream of commands is served, as words say it (our own form).
+-- Which desks of a stream begin with a file, as words say it (our own form).
 use Rattle.std.specs.Prelude.{◌≢◌, ◌<◌, ◌==◌, ℕ, List, map, length, if◌then◌else◌, Option, Some, None, string_bytes, option_map}
-use Rattle.std.specs.List.{All, AllPairs, before_first, after_first, list_any}
-use Rattle.std.specs.Option.{option_and_then}
+use Rattle.std.specs.List.{All, AllPairs, before_first, after_first}
 use Rattle.itip_script.specs.Orders.{number_of}
 use Rattle.itip_words.specs.declared.streamed.Load.{Load}
 

@@ -1,5 +1,6 @@
 //! How a stream of commands is served.
-ghost use Rattle.std.specs.Prelude.{◌≡◌, IfOk, IfSome, IfNone, [], map};
+ghost use Rattle.std.specs.Prelude.{◌≡◌, ◌≢◌, ◌<◌, Some, IfOk, IfSome};
+ghost use Rattle.std.specs.List.{All};
 ghost use Rattle.std.specs.Option.{option_map};
 ghost use Rattle.itip_words.specs.Words.{AreDesks};
 ghost use Rattle.itip_words.specs.Streams.{AreLoads, load_of, names_of};
@@ -55,7 +56,11 @@ pub(crate) fn loads_named<'m, 'a>(words: &'m ArgMatches<'a>) -> &'m [&'a str] {
 }
 
 /// The desk and the file that a word names, where there are so many desks and none of these was named before.
-pub(crate) fn next_load<'a>(text: &'a str, desks: u64, before: &[Load]) -> Option<(u64, &'a str)> {
+pub(crate) fn next_load<'a>(text: &'a str, desks: u64, before: &[Load]) -> Option<(u64, &'a str)>
+    ensures named { IfSome result (λ load. load_of text.now ≡ Some (load.0, load.1.now)) }
+    ensures there { IfSome result (λ load. load.0 < desks) }
+    ensures once { IfSome result (λ load. All (λ l. l.desk ≢ load.0) before.now) }
+{
     let (desk, file) = load_of(text)?;
     if desk >= desks || before.iter().any(|load| load.desk == desk) {
         return None;
