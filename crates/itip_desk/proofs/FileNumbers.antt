@@ -1,15 +1,20 @@
 -- Numbers in the file of a desk: what is written of one is read as it, and octets begin with one number.
-use Rattle.std.proofs.Common.{◌≡◌, ◌∙◌, sym, ap, refl, ℕ, suc, ◌+◌, ◌*◌, ◌-◌, ◌%◌, ◌<◌, ◌≤◌, ◌^◌, Bool, true, false, cond, ◌&&◌, ◌||◌}
-use Rattle.std.proofs.Common.{List, [], ◌∷◌, ◌++◌, length, get_or, take, drop, arith, subst, take-append-drop}
+use Rattle.std.proofs.Common.{◌≡◌, ◌∙◌, sym, ap, refl, ℕ, zero, suc, ◌+◌, ◌*◌, ◌-◌, ◌%◌, ◌<◌, ◌≤◌, ◌^◌, Bool, true, false, cond, ◌&&◌, ◌||◌}
+use Rattle.std.proofs.Common.{List, [], ◌∷◌, ◌++◌, length, get_or, take, drop, arith, subst, append_assoc, take-append-drop}
+use Rattle.std.proofs.Common.{Option, Some, None, MatchOption, IfSome, IfNone, Result, Ok, Err, MatchResult}
 use Rattle.std.specs.Fmt.{decimal}
 use Rattle.std.specs.Int.{IsInRange}
 use Rattle.std.specs.List.{list_all, list_any}
+use Rattle.std.specs.Result.{result_ok}
+use Rattle.std.specs.Str.{IsUtf8}
+use Rattle.std.specs.Str.Parse.{ParsesUnsigned}
 use Rattle.std.proofs.lemmas.Bool.{and_parts}
 use Rattle.std.proofs.lemmas.Bool.Decides.{nat_tests}
-use Rattle.std.proofs.lemmas.Fmt.{decimal_by_steps, decimal_nonempty, digits_decimal, digits_value-decimal, length-decimal-le}
+use Rattle.std.proofs.lemmas.Fmt.{IsAscii-from_digits, decimal_by_steps, decimal_nonempty, digits_decimal, digits_value-decimal, length-decimal-le}
 use Rattle.std.proofs.lemmas.List.{append_cancel_left, length-append, length-take-le, take_at}
 use Rattle.std.proofs.lemmas.List.Folds.{list_all-append, list_any-append}
-use Rattle.std.proofs.lemmas.Str.Parse.{IsDigitsTest, IsNumeralModel, numerals_by_fold}
+use Rattle.std.proofs.lemmas.Str.{IsUtf8-from_ascii}
+use Rattle.std.proofs.lemmas.Str.Parse.{IsDigitsTest, IsNumeralModel, numerals_by_fold, parse_digits}
 use Rattle.itip_desk.specs.DeskFile.{parameter_text, is_digit, digits_before, digits_value, HasNumber}
 use Rattle.itip_desk.specs.FileReading.{IsBehind, IsValue}
 
@@ -176,3 +181,102 @@ number_parts octets name value number after whole h =
     let digits : take (digits_before value) value ≡ h.digits =
     ap (take (digits_before value)) (sym same) ∙ take_at h.digits after (digits_before value) count in
     subst (λ (ds : List ℕ). IsValue ds number) (sym digits) (record { some = h.some; value = h.value; fits = h.fits })
+
+-- ---- what is found, and what is not
+
+pub if_found : {X : Type 0} (o : Option X) (P : Type 0) (Q : X → Type 0) → MatchOption o P Q → IfSome o Q
+if_found None P Q h = tt
+if_found (Some x) P Q h = h
+
+pub if_none : {X : Type 0} (o : Option X) (P : Type 0) (Q : X → Type 0) → MatchOption o P Q → IfNone o P
+if_none None P Q h = h
+if_none (Some x) P Q h = tt
+
+-- digits are text
+pub digits_utf8 : (ds : List ℕ) → list_all is_digit ds ≡ true → IsUtf8 ds
+digits_utf8 ds h = IsUtf8-from_ascii ds (IsAscii-from_digits ds (own.to ds h))
+
+-- what is text is not refused as none
+pub not_refused : {T E : Type 0} (r : Result T E) (P : T → Type 0) (Q : Type 0) (V : E → Type 0) → None ≡ result_ok r →
+    MatchResult r P (λ e. (Q → ⊥) × V e) → Q → ⊥
+not_refused (Ok x) P Q V none h q = cc
+not_refused (Err e) P Q V none h q = h.0 q
+
+-- what is parsed of digits is their value
+pub parsed_value : {E : Type 0} (ds : List ℕ) (number : ℕ) (r : Result ℕ E) → r ≡ Ok number → ParsesUnsigned 64 10 ds r →
+    list_all is_digit ds ≡ true → IsValue ds number
+parsed_value ds number (Ok n) is parses digits =
+    let given = parse_digits own 64 ds (Ok n) parses digits in
+    let same : n ≡ number = cc in
+    record { some = given.0.0; value = sym same ∙ given.1; fits = subst (λ (m : ℕ). m < 2 ^ 64) (sym given.1 ∙ same) given.0.1 }
+parsed_value ds number (Err e) is parses digits = absurd (apart is)
+  where
+    apart : {T E : Type 0} {x : E} {t : T} → Err x ≡ Ok t → ⊥
+    apart e = cc
+
+pub unparsed : {E : Type 0} (ds : List ℕ) (number : ℕ) (r : Result ℕ E) (e : E) → r ≡ Err e → ParsesUnsigned 64 10 ds r →
+    list_all is_digit ds ≡ true → IsValue ds number → ⊥
+unparsed ds number (Ok n) e is parses digits value = apart is
+  where
+    apart : {T E : Type 0} {x : E} {t : T} → Ok t ≡ Err x → ⊥
+    apart e = cc
+unparsed ds number (Err x) e is parses digits value =
+    parse_digits own 64 ds (Err x) parses digits (value.some, subst (λ (m : ℕ). m < 2 ^ 64) value.value value.fits)
+
+-- ---- one name behind another
+
+-- a number behind two names is one behind the second, where the first stands
+pub behind_first : (octets first name rest : List ℕ) (number : ℕ) (after : List ℕ) → octets ≡ first ++ rest →
+    HasNumber octets (first ++ name) number after → HasNumber rest name number after
+behind_first octets first name rest number after cut h = record {
+  digits = h.digits;
+  whole = append_cancel_left first rest (name ++ (h.digits ++ after))
+      (sym cut ∙ h.whole ∙ append_assoc first name (h.digits ++ after));
+  all = h.all;
+  some = h.some;
+  value = h.value;
+  fits = h.fits;
+}
+
+pub with_first : (octets first name rest : List ℕ) (number : ℕ) (after : List ℕ) → octets ≡ first ++ rest →
+    HasNumber rest name number after → HasNumber octets (first ++ name) number after
+with_first octets first name rest number after cut h = record {
+  digits = h.digits;
+  whole = cut ∙ ap (λ (t : List ℕ). first ++ t) h.whole ∙ sym (append_assoc first name (h.digits ++ after));
+  all = h.all;
+  some = h.some;
+  value = h.value;
+  fits = h.fits;
+}
+
+-- ---- how many digits there are
+
+-- digits up to a place at which there is none
+pub digits_at : (octets : List ℕ) (at : ℕ) → at < length octets → ((k : ℕ) → k < at → is_digit (get_or octets k 0) ≡ true) →
+    is_digit (get_or octets at 0) ≡ false → at ≡ digits_before octets
+digits_at [] at within each stops = absurd (omega (arith, within))
+digits_at (b ∷ octets) zero within each stops = sym (ap (λ (t : Bool). cond t (suc (digits_before octets)) 0) stops)
+digits_at (b ∷ octets) (suc at) within each stops =
+    ap suc (digits_at octets at (omega arith) (λ k below. each (suc k) (omega arith)) stops)
+    ∙ sym (ap (λ (t : Bool). cond t (suc (digits_before octets)) 0) (each 0 (omega arith)))
+
+pub all_digits : (octets : List ℕ) → ((k : ℕ) → k < length octets → is_digit (get_or octets k 0) ≡ true) → length octets ≡ digits_before octets
+all_digits [] each = refl
+all_digits (b ∷ octets) each =
+    ap suc (all_digits octets (λ k below. each (suc k) (omega arith)))
+    ∙ sym (ap (λ (t : Bool). cond t (suc (digits_before octets)) 0) (each 0 (omega arith)))
+
+pub no_octets_if : (octets : List ℕ) → length octets ≡ 0 → octets ≡ []
+no_octets_if [] none = refl
+no_octets_if (b ∷ octets) none = absurd (omega (arith, none))
+
+pub some_octets_if : (octets : List ℕ) → 0 < length octets → octets ≡ [] → ⊥
+some_octets_if octets some none = let size : length octets ≡ 0 = ap length none in omega (arith, some, size)
+
+pub if_some_then : {X : Type 0} (o : Option X) (P Q : X → Type 0) → ((x : X) → P x → Q x) → IfSome o P → IfSome o Q
+if_some_then None P Q f h = tt
+if_some_then (Some x) P Q f h = f x h
+
+pub if_none_then : {X P Q : Type 0} (o : Option X) → (P → Q) → IfNone o P → IfNone o Q
+if_none_then None f h = f h
+if_none_then (Some x) f h = tt

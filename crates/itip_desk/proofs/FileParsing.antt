@@ -1,8 +1,9 @@
 -- The parameters of a message of a desk's file, as they are passed one after another.
 use Rattle.std.proofs.Common.{◌≡◌, ◌∙◌, sym, ap, refl, subst, ℕ, ◌<◌, ◌^◌, List, [], ◌∷◌, ◌++◌, drop, get_or, arith, append_assoc}
-use Rattle.std.proofs.Common.{Option, Some, None}
+use Rattle.std.proofs.Common.{Bor, Option, Some, None}
 use Rattle.std.proofs.lemmas.List.{append_cancel_left}
-use Rattle.std.specs.Prelude.{IfSome, codes}
+use Rattle.std.specs.Prelude.{IfSome, IfNone, codes}
+use Rattle.std.specs.Option.{option_copied}
 use Rattle.std.specs.Fmt.{decimal}
 use Rattle.itip_desk.specs.declared.file_text.FileHead.{FileHead}
 use Rattle.itip_desk.specs.DeskFile.{parameter_text, product_parameters, version_parameters, begins_text, product_text, version_text}
@@ -272,3 +273,10 @@ form_of_first octets head at bytes rest same =
     (sym (first_flat head.items head.tick (decimal at ++ (version_end ++ (drop 57 bytes ++ rest))))))
     ∙ sym (append_assoc begins_text (codes ";X-FORM=") (decimal 1 ++ after)) in
     record { digits = h.digits; whole = whole ∙ h.whole; all = h.all; some = h.some; value = h.value; fits = h.fits }
+
+-- what follows them, found or not
+pub follows_by : (text parameters a b : List ℕ) (begins : text ≡ begins_text ++ parameters) (form : IsBehind parameters (codes ";X-FORM=") a)
+    (items : IsBehind a (codes ";X-ITEMS=") b) (found : Option (Bor (List ℕ))) → IfSome found (λ after. b ≡ between ++ after.now) →
+    IfNone found ((after : List ℕ) → b ≡ between ++ after → ⊥) → FollowsProduct text (option_copied found)
+follows_by text parameters a b begins form items None some none = none_product text parameters a b begins form items none
+follows_by text parameters a b begins form items (Some found) some none = some_product text parameters a b begins form items found.now some

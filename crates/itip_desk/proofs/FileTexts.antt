@@ -7,15 +7,17 @@ use Rattle.std.specs.List.{Contains, All}
 use Rattle.std.proofs.lemmas.List.Elements.{Contains-append_cases}
 use Rattle.itip_items.specs.KeyParts.{uid_of}
 use Rattle.itip_items.specs.declared.item.Item.{Item}
-use Rattle.itip_message.specs.Message.{ReadsMessage}
+use Rattle.itip_message.specs.Message.{ReadsMessage, RefusesMessage}
 use Rattle.itip_message.specs.Scanned.{begins_blank, messages_of, CutsMessage}
 use Rattle.itip_message.proofs.Cuts.{cut_by_scan}
-use Rattle.itip_message.proofs.OneMessage.{one_message}
+use Rattle.itip_message.proofs.OneMessage.{one_message, message_apart}
+use Rattle.itip_message.specs.declared.error.MessageRefusal.{MessageRefusal}
 use Rattle.itip_state.specs.Kept.{AreKept, IsKept, SameItems, IsItemsOf}
 use Rattle.itip_state.proofs.Keeping.{kept_again, kept_same}
 use Rattle.itip_state.proofs.Members.{none_in, cons_cases, cons_first, cons_later, all_each}
 use Rattle.itip_desk.specs.Delta.{AreMessages, ReadsDelta}
-use Rattle.itip_desk.specs.Desk.{Shown, CarriesAfter, IsDeltaOf}
+use Rattle.itip_desk.specs.Desk.{Shown, IsDeskOf, IsDeltaOf}
+use Rattle.itip_desk.specs.Heard.{Ticks}
 use Rattle.itip_desk.specs.DeskFile.{message_text, messages_text, moved_at, head_of, begins_text, product_text, version_text, HasNumber, NamesForm}
 use Rattle.itip_desk.specs.DeskFile.{NamesOtherForm, IsFileOf, IsTold, TellsDesk, AreAlike, RefusesFile, IfFileRefused}
 use Rattle.itip_desk.specs.FileReading.{IsHead, ReadsPart, IsNoPart, moves_at, ReadsParts, TellsTick, TellsMove, FileSoFar, ReadsFile, IsDeskOfParts}
@@ -523,6 +525,21 @@ alike_delta desk other since delta are is = record {
   );
 }
 
+-- and is the desk of the same steps
+pub alike_steps : (steps : List (List Item)) (start : ℕ) (desk other : Shown) → AreAlike desk other → IsDeskOf steps start desk →
+    IsDeskOf steps start other
+alike_steps steps start desk other are is = record {
+  kept = λ item. (
+    λ h. (is.kept item).0 ((are.kept item).1 h),
+    λ k. (are.kept item).0 ((is.kept item).1 k),
+  );
+  tick = subst (λ (t : ℕ). Ticks [] start steps t) are.tick is.tick;
+  changed = λ since uid. (
+    λ c. (is.changed since uid).0 (c.0, are.changed uid ∙ c.1, c.2),
+    λ moved. let c = (is.changed since uid).1 moved in (c.0, sym (are.changed uid) ∙ c.1, c.2),
+  );
+}
+
 -- the file is read as what the desk keeps
 texts_read : (changed : Carried) → Fit changed → (head : Option FileHead) → IfSome head IsHead → (items : List Item) →
     AreMessages (file_texts changed head items) (alone items)
@@ -546,3 +563,19 @@ file_messages octets desk batch tells ascend same = record {
     );
   });
 }
+
+-- ---- a message that is none of a file
+
+pub no_move_part : (tick : ℕ) (text : List ℕ) → TellsMove text None → IsNoPart tick text
+no_move_part tick text tells head at item fits some within is same = none_some at (tells head at item.bytes fits is same)
+
+pub other_move_part : (tick : ℕ) (text : List ℕ) (moved : ℕ) → TellsMove text (Some moved) → (0 < moved → moved ≤ tick → ⊥) →
+    IsNoPart tick text
+other_move_part tick text moved tells not head at item fits some within is same =
+    let one : moved ≡ at = some_same moved at (tells head at item.bytes fits is same) in
+    not (omega (arith, one, some)) (omega (arith, one, within))
+
+pub refused_part : (tick : ℕ) (text : List ℕ) (refusal : MessageRefusal) → RefusesMessage text refusal → IsNoPart tick text
+refused_part tick text refusal refuses head at item fits some within is same =
+    message_apart text (item ∷ [])
+    refusal (subst (λ (t : List ℕ). ReadsMessage t (item ∷ [])) (sym same) (message_read head at item is fits)) refuses

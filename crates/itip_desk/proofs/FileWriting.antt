@@ -1,6 +1,6 @@
 -- The file of a desk, written and compared a message at a time.
 use Rattle.std.proofs.Common.{◌≡◌, ◌∙◌, sym, ap, refl, subst, ℕ, ◌+◌, ◌<◌, ◌≤◌, ◌^◌, List, [], ◌∷◌, ◌++◌, length, get_or, drop, append_assoc, append-nil}
-use Rattle.std.proofs.Common.{Option, Some, None, ◌↔◌}
+use Rattle.std.proofs.Common.{Option, Some, None, Result, Ok, Err, OnErr, ◌↔◌}
 use Rattle.std.proofs.lemmas.List.{append_cancel_left, at_drop_more, at_drop_all}
 use Rattle.itip_items.specs.declared.item.Item.{Item}
 use Rattle.itip_state.specs.Kept.{IsItemsOf, SameItems}
@@ -136,3 +136,15 @@ file_where desk items octets are few = (
   λ same. record { items = items; items_are = are; few = few; octets_are = same },
   λ file. one_file desk items octets are file,
 )
+
+pub writes_file : (desk : Shown) (items : List Item) → IsItemsOf items desk.kept → length items < 2 ^ 64 → (old new : Option (List ℕ)) →
+    Appends old new (messages_text desk.changed (head_of desk.tick items) items) → WritesFile desk old new
+writes_file desk items are few old new appended = record {
+  octets = messages_text desk.changed (head_of desk.tick items) items;
+  file = record { items = items; items_are = are; few = few; octets_are = refl };
+  appended = appended;
+}
+
+pub on_err_then : {A E P Q : Type 0} (r : Result A E) → (P → Q) → OnErr r P → OnErr r Q
+on_err_then (Ok x) f p = tt
+on_err_then (Err e) f p = f p

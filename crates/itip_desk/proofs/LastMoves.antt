@@ -1,5 +1,5 @@
 -- The last move of each UID, of moves in their order.
-use Rattle.std.proofs.Common.{◌≡◌, ◌∙◌, sym, ap, refl, subst, ℕ, ◌<◌, Bool, true, false, List, [], ◌∷◌, ◌++◌, append_assoc, Option, Some, None}
+use Rattle.std.proofs.Common.{◌≡◌, ◌∙◌, sym, ap, refl, subst, ℕ, ◌<◌, Bool, true, false, List, [], ◌∷◌, ◌++◌, append_assoc, append-nil, Option, Some, None}
 use Rattle.std.specs.Prelude.{cond, is_some}
 use Rattle.std.specs.List.{Contains, All}
 use Rattle.std.specs.Ordering.{nat_cmp, is_eq}
@@ -101,3 +101,25 @@ pub last_ticks : (moves carried : Carried) → All (λ (move : List ℕ × ℕ).
 last_ticks moves carried above carries uid tick there =
     let found = last_in moves uid tick (sym (carries uid) ∙ there) in
     All-contains (λ (move : List ℕ × ℕ). 0 < move.1) moves (found.0, tick) above found.1
+
+-- Some of these moves were put in, and others are left.
+pub record PutSoFar (all left carried : Carried) : Type 0 where
+  pub done : Carried
+  pub whole : all ≡ done ++ left
+  pub carries : CarriesLast done carried
+
+pub nothing_put : (all left carried : Carried) → all ≡ left → carried ≡ [] → PutSoFar all left carried
+nothing_put all left carried same none = record { done = []; whole = same; carries = none_put carried none }
+
+pub put_more : (all left rest was now : Carried) (u : List ℕ) (tick : ℕ) → PutSoFar all left was → left ≡ (u, tick) ∷ rest →
+    ((q : List ℕ) → tick_at now q ≡ cond (is_eq (uid_cmp u q)) (Some tick) (tick_at was q)) → PutSoFar all rest now
+put_more all left rest was now u tick so_far cut put = record {
+  done = so_far.done ++ (u, tick) ∷ [];
+  whole = so_far.whole ∙ ap (λ (ms : Carried). so_far.done ++ ms) cut ∙ sym (append_assoc so_far.done ((u, tick) ∷ []) rest);
+  carries = one_put so_far.done u tick was now so_far.carries put;
+}
+
+pub all_put : (all left carried : Carried) → PutSoFar all left carried → left ≡ [] → CarriesLast all carried
+all_put all left carried so_far none =
+    subst (λ (ms : Carried). CarriesLast ms carried)
+    (sym (so_far.whole ∙ ap (λ (ms : Carried). so_far.done ++ ms) none ∙ append-nil so_far.done)) so_far.carries

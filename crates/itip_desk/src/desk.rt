@@ -112,10 +112,16 @@ impl Desk {
         ensures tick { IfOk result (λ desk. desk.tick ≡ tick) }
         ensures changed { IfOk result (λ desk. CarriesLast moves.items desk.changed) }
     {
-        let mut desk = Desk::empty_at(alloc, tick);
-        desk.moves = MovedUids::of_moves(alloc, moves)?;
-        desk.kept.hear(&shared_each(alloc, items.as_slice())?)?;
-        Ok(desk)
+        let moves = MovedUids::of_moves(alloc, moves)?;
+        let each = shared_each(alloc, items.as_slice())?;
+        let mut kept = IndexedState::empty(alloc);
+        kept.hear(each.as_slice())?;
+        Ok(Desk {
+            kept,
+            tick,
+            moves,
+            alloc,
+        })
     }
 
     /// The tick at which a UID moved last; 0 where it didn't.

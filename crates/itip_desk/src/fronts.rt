@@ -28,8 +28,10 @@ fn number_of(digits: &[u8]) -> Option<u64>
     ensures found { IfSome result (λ number. list_all is_digit digits.now ≡ true → IsValue digits.now number) }
     ensures none { IfNone result (list_all is_digit digits.now ≡ true → (number : ℕ) → IsValue digits.now number → ⊥) }
 {
-    let text = str::from_utf8(digits).ok()?;
-    text.parse::<u64>().ok()
+    match str::from_utf8(digits).ok()?.parse::<u64>() {
+        Ok(number) => Some(number),
+        Err(_) => None,
+    }
 }
 
 /// The digits that octets begin with, and what follows them.

@@ -1,5 +1,5 @@
 //! The laws of convergence and of deltas. They hold with no code: each function is empty.
-ghost use Rattle.std.specs.Prelude.{◌≡◌, ◌⊎◌, List, ◌++◌, ℕ, ◌<◌, ◌^◌};
+ghost use Rattle.std.specs.Prelude.{◌≡◌, ◌⊎◌, List, ◌++◌, ℕ};
 ghost use Rattle.itip_items.specs.declared.item.Item.{Item};
 ghost use Rattle.itip_state.specs.Kept.{AreKept, SameItems};
 ghost use Rattle.itip_message.specs.declared.error.MessageRefusal.{MessageRefusal};
@@ -7,7 +7,7 @@ ghost use Rattle.itip_desk.specs.Octets.{AscendOctets};
 ghost use Rattle.itip_desk.specs.Delta.{delta_octets, ReadsDelta, RefusesDelta};
 ghost use Rattle.itip_desk.specs.Heard.{heard, TellsAfter};
 ghost use Rattle.itip_desk.specs.Desk.{Shown, IsDeskOf, IsDeltaOf};
-ghost use Rattle.itip_desk.specs.DeskFile.{IsTold, IsFileOf, TellsDesk, AreAlike, RefusesFile};
+ghost use Rattle.itip_desk.specs.DeskFile.{TellsDesk, AreAlike, RefusesFile};
 ghost use Rattle.itip_desk.specs.declared.refusal.FileRefusal.{FileRefusal};
 
 /// Desks that have heard the same items keep the same items, however these came: late, repeated or in another order (our own rule).
@@ -45,13 +45,15 @@ pub fn one_delta()
 {}
 
 /// The file of a desk is read as that desk: as one that keeps the same, is at the same tick and has the same last moves, so that it
-/// sends the same since every tick (our own rule). Whoever reads messages takes the file for the compaction of what the desk keeps.
+/// is the desk of the same steps and sends the same since every tick (our own rule). Whoever reads messages takes the file for the
+/// compaction of what the desk keeps.
 pub fn desk_read_again()
-    ensures told { (steps : List (List Item)) (desk : Shown) → desk.tick < 2 ^ 64 → IsDeskOf steps 0 desk → IsTold desk }
     ensures alike { (octets : List ℕ) (desk other : Shown) → TellsDesk octets desk → TellsDesk octets other → AreAlike desk other }
     ensures apart { (octets : List ℕ) (desk : Shown) (refusal : FileRefusal) → TellsDesk octets desk → RefusesFile octets refusal → ⊥ }
+    ensures steps { (steps : List (List Item)) (start : ℕ) (desk other : Shown) →
+        AreAlike desk other → IsDeskOf steps start desk → IsDeskOf steps start other }
     ensures delta { (desk other : Shown) (since : ℕ) (delta : List Item) →
         AreAlike desk other → IsDeltaOf desk since delta → IsDeltaOf other since delta }
     ensures messages { (octets : List ℕ) (desk : Shown) (batch : List Item) →
-        IsFileOf desk octets → AscendOctets batch → SameItems batch desk.kept → ReadsDelta octets batch }
+        TellsDesk octets desk → AscendOctets batch → SameItems batch desk.kept → ReadsDelta octets batch }
 {}

@@ -60,11 +60,10 @@ fn read_parts(alloc: Global, octets: &[u8]) -> Result<FileParts, FileError>
     ensures found { IfOk result (ReadsFile octets.now) }
     ensures fault { IfErr result (λ e. IfFileRefused e (RefusesFile octets.now)) }
 {
-    let mut parts = FileParts {
-        tick: tick_of(octets)?,
-        items: Vec::new(alloc),
-        moves: Vec::new(alloc),
-    };
+    let tick = tick_of(octets)?;
+    let items = Vec::new(alloc);
+    let moves = Vec::new(alloc);
+    let mut parts = FileParts { tick, items, moves };
     let mut rest = octets;
     let mut number: u64 = 1;
     while let Some((message, after)) = next_message(rest) {
