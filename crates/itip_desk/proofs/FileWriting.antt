@@ -148,3 +148,9 @@ writes_file desk items are few old new appended = record {
 pub on_err_then : {A E P Q : Type 0} (r : Result A E) → (P → Q) → OnErr r P → OnErr r Q
 on_err_then (Ok x) f p = tt
 on_err_then (Err e) f p = f p
+
+-- three parts behind what was there
+pub in_three : (old a b c one two new : List ℕ) → one ≡ old ++ a → two ≡ one ++ b → new ≡ two ++ c → new ≡ old ++ ((a ++ b) ++ c)
+in_three old a b c one two new first second third =
+    third ∙ ap (λ (t : List ℕ). t ++ c) (second ∙ ap (λ (t : List ℕ). t ++ b) first)
+    ∙ ap (λ (t : List ℕ). t ++ c) (append_assoc old a b) ∙ append_assoc old (a ++ b) c

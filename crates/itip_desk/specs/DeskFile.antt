@@ -27,9 +27,12 @@ product_parameters None = []
 product_parameters (Some head) = parameter_text (codes ";X-FORM=") 1 ++ parameter_text (codes ";X-ITEMS=") head.items
 
 -- the parameters of VERSION: of the first message the tick of the desk, and of each when its UID moved last
+abbrev pub tick_parameters : Option FileHead → List ℕ
+tick_parameters None = []
+tick_parameters (Some head) = parameter_text (codes ";X-TICK=") head.tick
+
 abbrev pub version_parameters : Option FileHead → ℕ → List ℕ
-version_parameters None moved = parameter_text (codes ";X-MOVED=") moved
-version_parameters (Some head) moved = parameter_text (codes ";X-TICK=") head.tick ++ parameter_text (codes ";X-MOVED=") moved
+version_parameters head moved = tick_parameters head ++ parameter_text (codes ";X-MOVED=") moved
 
 -- what a message begins with, up to the parameters of PRODID, and what follows them up to those of VERSION
 abbrev pub begins_text : List ℕ

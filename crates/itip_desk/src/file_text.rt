@@ -1,6 +1,7 @@
 //! The text of a desk's file: canonical messages, of which two lines have parameters that tell a tick and what moved when.
 ghost use Rattle.std.specs.Prelude.{◌≡◌, ◌++◌, OnOk};
 ghost use Rattle.itip_desk.specs.DeskFile.{message_text, product_text, version_text, parameter_text};
+ghost use Rattle.itip_desk.specs.DeskFile.{product_parameters, tick_parameters};
 
 use itip_items::Item;
 use std::alloc::AllocError;
@@ -49,7 +50,9 @@ pub(crate) fn append_message(
 {
     append_product(file, head)?;
     append_version(file, head, moved)?;
-    let bytes = item.bytes.as_slice();
+    let mut canonical = Vec::new(*file.allocator());
+    item.bytes.append_to(&mut canonical)?;
+    let bytes = canonical.as_slice();
     file.extend_from_slice(&bytes[HEAD_OCTETS.min(bytes.len())..])
 }
 
@@ -58,22 +61,38 @@ fn append_product(file: &mut Vec<u8>, head: Option<FileHead>) -> Result<(), Allo
     ensures { OnOk result (file.new.items ≡ file.old.items ++ product_text head) }
 {
     file.extend_from_slice(BEGINS.as_bytes())?;
-    if let Some(head) = head {
-        append_parameter(file, FORM_NAME, FORM)?;
-        append_parameter(file, ITEMS_NAME, head.items as u64)?;
-    }
+    append_form(file, head)?;
     file.extend_from_slice(PRODUCT.as_bytes())
+}
+
+/// Appends the parameters of PRODID.
+fn append_form(file: &mut Vec<u8>, head: Option<FileHead>) -> Result<(), AllocError>
+    ensures { OnOk result (file.new.items ≡ file.old.items ++ product_parameters head) }
+{
+    let Some(head) = head else {
+        return Ok(());
+    };
+    append_parameter(file, FORM_NAME, FORM)?;
+    append_parameter(file, ITEMS_NAME, head.items as u64)
 }
 
 /// Appends what is left of the line of VERSION.
 fn append_version(file: &mut Vec<u8>, head: Option<FileHead>, moved: u64) -> Result<(), AllocError>
     ensures { OnOk result (file.new.items ≡ file.old.items ++ version_text head moved) }
 {
-    if let Some(head) = head {
-        append_parameter(file, TICK_NAME, head.tick)?;
-    }
+    append_tick(file, head)?;
     append_parameter(file, MOVED_NAME, moved)?;
     file.extend_from_slice(VERSION.as_bytes())
+}
+
+/// Appends the parameter of VERSION that tells the tick of the desk.
+fn append_tick(file: &mut Vec<u8>, head: Option<FileHead>) -> Result<(), AllocError>
+    ensures { OnOk result (file.new.items ≡ file.old.items ++ tick_parameters head) }
+{
+    match head {
+        Some(head) => append_parameter(file, TICK_NAME, head.tick),
+        None => Ok(()),
+    }
 }
 
 /// Appends a parameter whose value is a number.
