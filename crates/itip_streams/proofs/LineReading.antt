@@ -1,11 +1,11 @@
 -- A line that is read octet by octet, and octets that are read until there are so many.
 use Rattle.std.proofs.Common.{◌≡◌, ◌≢◌, ◌∙◌, sym, ap, refl, subst, ℕ, ◌+◌, ◌-◌, ◌<◌, ◌≤◌, Bool, List, [], ◌∷◌, ◌++◌, length, take, get_or, arith}
-use Rattle.std.proofs.Common.{append_assoc, append-nil, inl, inr, Option, Some, None}
+use Rattle.std.proofs.Common.{append_assoc, append-nil, inl, inr, Option, Some, None, true, false}
 use Rattle.std.specs.Io.KnownBytes.{Consumes, IsAtEnd}
 use Rattle.std.proofs.KnownBytes.{Consumes-nil, Consumes-trans}
 use Rattle.std.proofs.lemmas.List.{length-append, length-take-le}
 use Rattle.std.proofs.lemmas.List.Elements.{All-append, All-nil, All-push}
-use Rattle.itip_streams.specs.Parts.{HasNoLf, IsLine, EndsLine, ReadsLine, PassesLine, ReadsWithin, ReadsOctets}
+use Rattle.itip_streams.specs.Parts.{HasNoLf, IsLine, EndsLine, ReadsLine, PassesLine, ReadsWithin, ReadsOctets, PassesOctets}
 
 -- ---- a line so far
 
@@ -128,19 +128,43 @@ module _ (first last : ℕ) (old mid : Option (List ℕ)) (so_far : PassesSoFar 
       whole = refl;
     }
 
--- ---- one octet
+-- ---- one read
 
-pub one_octet : (buf : List ℕ) → length buf ≡ 1 → take 1 buf ≡ get_or buf 0 0 ∷ []
+-- a read that brings nothing where there is room is the last
+pub none_read : (old new : Option (List ℕ)) (n : ℕ) (buf : List ℕ) → Consumes old new (take n buf) →
+    (n ≡ 0 → 0 < length buf → IsAtEnd new) → n ≡ 0 → 0 < length buf → Consumes old new [] × IsAtEnd new
+none_read old new n buf given end none room = (
+  subst (λ (t : List ℕ). Consumes old new t) (ap (λ (k : ℕ). take k buf) none) given,
+  end none room,
+)
+
+-- in a buffer of one octet it brings one octet or none
+pub one_read : (old new : Option (List ℕ)) (n : ℕ) (buf : List ℕ) → Consumes old new (take n buf) → n ≢ 0 → n ≤ length buf →
+    length buf ≡ 1 → Consumes old new (get_or buf 0 0 ∷ [])
+one_read old new n buf given some within size =
+    let one : n ≡ 1 = omega (arith, some, within, size) in
+    subst (λ (t : List ℕ). Consumes old new t) (ap (λ (k : ℕ). take k buf) one ∙ one_octet buf size) given
+
+one_octet : (buf : List ℕ) → length buf ≡ 1 → take 1 buf ≡ get_or buf 0 0 ∷ []
 one_octet [] size = absurd (omega (arith, size))
 one_octet (b ∷ []) size = refl
 one_octet (b ∷ (c ∷ buf)) size = absurd (omega (arith, size))
 
 -- ---- so many octets
 
-pub fewer_read : (count : ℕ) (old mid new : Option (List ℕ)) (octets : List ℕ) → Consumes old mid octets → length octets < count →
-    Consumes mid new [] → IsAtEnd new → ReadsOctets count old new None
-fewer_read count old mid new octets consumed few nothing end = record {
-  octets = octets;
-  consumed = subst (λ (t : List ℕ). Consumes old new t) (append-nil octets) (Consumes-trans old mid new octets [] consumed nothing);
-  are = (few, end);
-}
+module _ (count : ℕ) (old mid : Option (List ℕ)) (octets : List ℕ) (consumed : Consumes old mid octets) where
+  pub fewer_read : (new : Option (List ℕ)) → length octets < count → Consumes mid new [] × IsAtEnd new → ReadsOctets count old new None
+  fewer_read new few last = record { octets = octets; consumed = with_nothing new last.0; are = (few, last.1) }
+
+  pub fewer_passed : (new : Option (List ℕ)) → length octets < count → Consumes mid new [] × IsAtEnd new → PassesOctets count old new false
+  fewer_passed new few last = record { octets = octets; consumed = with_nothing new last.0; are = (few, last.1) }
+
+  pub all_read : length octets ≡ count → ReadsOctets count old mid (Some octets)
+  all_read all = record { octets = octets; consumed = consumed; are = (refl, all) }
+
+  pub all_passed : length octets ≡ count → PassesOctets count old mid true
+  all_passed all = record { octets = octets; consumed = consumed; are = all }
+
+  with_nothing : (new : Option (List ℕ)) → Consumes mid new [] → Consumes old new octets
+  with_nothing new nothing =
+      subst (λ (t : List ℕ). Consumes old new t) (append-nil octets) (Consumes-trans old mid new octets [] consumed nothing)
