@@ -138,6 +138,11 @@ none_read old new n buf given end none room = (
   end none room,
 )
 
+one_octet : (buf : List ℕ) → length buf ≡ 1 → take 1 buf ≡ get_or buf 0 0 ∷ []
+one_octet [] size = absurd (omega (arith, size))
+one_octet (b ∷ []) size = refl
+one_octet (b ∷ (c ∷ buf)) size = absurd (omega (arith, size))
+
 -- in a buffer of one octet it brings one octet or none
 pub one_read : (old new : Option (List ℕ)) (n : ℕ) (buf : List ℕ) → Consumes old new (take n buf) → n ≢ 0 → n ≤ length buf →
     length buf ≡ 1 → Consumes old new (get_or buf 0 0 ∷ [])
@@ -145,14 +150,13 @@ one_read old new n buf given some within size =
     let one : n ≡ 1 = omega (arith, some, within, size) in
     subst (λ (t : List ℕ). Consumes old new t) (ap (λ (k : ℕ). take k buf) one ∙ one_octet buf size) given
 
-one_octet : (buf : List ℕ) → length buf ≡ 1 → take 1 buf ≡ get_or buf 0 0 ∷ []
-one_octet [] size = absurd (omega (arith, size))
-one_octet (b ∷ []) size = refl
-one_octet (b ∷ (c ∷ buf)) size = absurd (omega (arith, size))
-
 -- ---- so many octets
 
 module _ (count : ℕ) (old mid : Option (List ℕ)) (octets : List ℕ) (consumed : Consumes old mid octets) where
+  with_nothing : (new : Option (List ℕ)) → Consumes mid new [] → Consumes old new octets
+  with_nothing new nothing =
+      subst (λ (t : List ℕ). Consumes old new t) (append-nil octets) (Consumes-trans old mid new octets [] consumed nothing)
+
   pub fewer_read : (new : Option (List ℕ)) → length octets < count → Consumes mid new [] × IsAtEnd new → ReadsOctets count old new None
   fewer_read new few last = record { octets = octets; consumed = with_nothing new last.0; are = (few, last.1) }
 
@@ -164,7 +168,3 @@ module _ (count : ℕ) (old mid : Option (List ℕ)) (octets : List ℕ) (consum
 
   pub all_passed : length octets ≡ count → PassesOctets count old mid true
   all_passed all = record { octets = octets; consumed = consumed; are = all }
-
-  with_nothing : (new : Option (List ℕ)) → Consumes mid new [] → Consumes old new octets
-  with_nothing new nothing =
-      subst (λ (t : List ℕ). Consumes old new t) (append-nil octets) (Consumes-trans old mid new octets [] consumed nothing)

@@ -1,5 +1,6 @@
 pub mod Addresses
 pub mod Answering
+pub mod Asking
 pub mod Ascending
 pub mod Counting
 pub mod Desks
@@ -11,6 +12,8 @@ pub mod Packets
 pub mod Runnings
 pub mod Runs
 pub mod SameHistories
+pub mod Serving
 pub mod Streaming
 pub mod Swaps
+pub mod Telling
 pub mod Uids

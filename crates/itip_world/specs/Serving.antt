@@ -42,9 +42,24 @@ serving_of (asks order) behind = ask order
 serving_of (malformed octets) behind = nothing_known
 serving_of empty behind = nothing_said
 
+-- what is asked of a desk leaves it as it is
+abbrev pub AsksOnly : Wish → Type 0
+AsksOnly (takes desk octets) = Unit {0}
+AsksOnly (arrives desk octets) = Unit {0}
+AsksOnly (posts desk since) = Unit {0}
+AsksOnly (saves desk file) = Unit {0}
+AsksOnly (asks order) = OnlyAsks order
+AsksOnly (malformed octets) = Unit {0}
+AsksOnly empty = Unit {0}
+
 -- why a message is refused that is too long to be held
 abbrev pub long_message : Refusal
 long_message = Message (of_lines (record { cause = TooLong; line = None }))
+
+-- octets for a desk are refused so, unless there is no such desk
+abbrev pub RefusesAt : List Shown → ℕ → Refusal → Answer → Type 0
+RefusesAt desks desk refusal answer =
+    ((desk < length desks) × (answer ≡ refused refusal)) ⊎ ((length desks ≤ desk) × (answer ≡ refused (NoDesk desk)))
 
 -- What is answered, and the desks after it. A line that says nothing has no answer. Of a file nothing is known: a desk is saved, or isn't.
 pub data Serves (window : Window) (old : List Shown) : Serving → Option Answer → List Shown → Type 0 where

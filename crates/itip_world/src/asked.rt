@@ -1,11 +1,11 @@
 //! The commands of a script, each done and answered.
-ghost use Rattle.std.specs.Prelude.{◌≡◌, ◌≢◌, IfOk, IfErr, OnErr, Some};
+ghost use Rattle.std.specs.Prelude.{◌≡◌, ◌≢◌, IfOk, IfErr, OnErr, MatchBool, Some};
 ghost use Rattle.itip_world.specs.Worlds.{no_past, IsWorldOf};
 ghost use Rattle.itip_script.specs.Orders.{Order, order_of};
 ghost use Rattle.itip_view.specs.declared.window.Window.{Window};
 ghost use Rattle.itip_world.specs.Running.{Answers, answer_of, answer_to, heard_at, event_of, HasTick};
 ghost use Rattle.itip_world.specs.Running.{Replies, RepliesFront};
-ghost use Rattle.itip_world.specs.Looking.{MovesSomething};
+ghost use Rattle.itip_world.specs.Looking.{OnlyAsks, MovesSomething};
 
 use crate::answer::{Answer, Heard};
 use crate::event::{Event, Outcome};
@@ -58,16 +58,11 @@ impl Desks {
             (W.contents writer.old) (W.contents writer.new) kept.old.items) }
         ensures fault { IfErr result (λ fault. fault ≢ StreamFault.Read) }
     {
-        match command {
-            Command::Take { .. }
-            | Command::Post { .. }
-            | Command::Arrive { .. }
-            | Command::Malformed => {
-                let answer = self.answer(command)?;
-                told(answer, kept)
-            }
-            _ => self.look().reply(command, writer, kept),
+        if only_asks(command) {
+            return self.look().reply(command, writer, kept);
         }
+        let answer = self.answer(command)?;
+        told(answer, kept)
     }
 
     /// What the desks are asked.
@@ -120,6 +115,17 @@ impl Desks {
             Err(Cause::Refused(refusal)) => Ok(Answer::Refused(refusal)),
             Err(Cause::NoMemory) => Err(StreamFault::Memory),
         }
+    }
+}
+
+/// Whether a command only asks a desk.
+fn only_asks(command: &Command<'_>) -> bool
+    ensures { MatchBool result (OnlyAsks (order_of command.now)) (MovesSomething (order_of command.now)) }
+{
+    match command {
+        Command::Take { .. } | Command::Post { .. } | Command::Arrive { .. } | Command::Malformed =>
+            false,
+        _ => true,
     }
 }
 

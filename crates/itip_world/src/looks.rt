@@ -72,7 +72,8 @@ impl<'a> Look<'a> {
         }
     }
 
-    fn desk(&self, desk: u64) -> Option<&Desk>
+    /// The desk of a number.
+    pub(crate) fn desk(&self, desk: u64) -> Option<&Desk>
         ensures { MatchOption (option_copied result) (length self.now.desks.now ≤ desk)
             (λ shown. slice_get self.now.desks.now desk ≡ Some shown) }
     {

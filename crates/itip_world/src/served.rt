@@ -1,13 +1,14 @@
 //! The commands of a stream, each read, done and answered before the next.
 ghost use Rattle.std.specs.Prelude.{◌≡◌, ◌≢◌, [], Some, option_map, IfOk, IfErr, OnOk, OnErr, IfSome, IfNone};
 ghost use Rattle.std.specs.Option.{option_copied};
-ghost use Rattle.itip_script.specs.Stream.{body_of, wish_of, AsksBy};
+ghost use Rattle.itip_script.specs.Stream.{whole, body_of, wish_of, AsksBy};
 ghost use Rattle.itip_view.specs.declared.window.Window.{Window};
 ghost use Rattle.itip_desk.specs.declared.refusal.Refusal.{Refusal};
 ghost use Rattle.itip_desk.specs.declared.refusal.Refusal.TheVariants.{File};
 ghost use Rattle.itip_desk.specs.declared.refusal.FileRefusal.TheVariants.{Unwritten};
 ghost use Rattle.itip_world.specs.Running.{answer_of, refused};
-ghost use Rattle.itip_world.specs.Serving.{Serves, ServesOne, ServesFront, EndsStream, Tells, TellsOne, TellsFront, take, arrive, post, save};
+ghost use Rattle.itip_world.specs.Serving.{Serves, ServesOne, ServesFront, EndsStream, Tells, TellsOne, TellsFront};
+ghost use Rattle.itip_world.specs.Serving.{AsksOnly, RefusesAt, take, arrive, post, save};
 
 use crate::answer::Answer;
 use crate::hearing::{hear_delta, hear_message};
@@ -77,6 +78,7 @@ impl Served {
         shelf: &mut S,
         watch: &mut T,
     ) -> Result<bool, StreamFault>
+        requires { AsksOnly (wish_of asked.now) }
         ensures one { IfOk result (TellsOne self.old.window (wish_of asked.now) self.old.desks.items self.new.desks.items
             (R.remaining reader.old) (R.remaining reader.new) (W.contents writer.old) (W.contents writer.new)) }
         ensures window { self.new.window ≡ self.old.window }
@@ -102,6 +104,7 @@ impl Served {
         shelf: &mut S,
         kept: &mut Vec<u8>,
     ) -> Result<Option<Refused>, StreamFault>
+        requires { AsksOnly (wish_of asked.now) }
         ensures tells { IfOk result (Tells self.old.window (wish_of asked.now) self.old.desks.items self.new.desks.items
             (R.remaining reader.old) (R.remaining reader.new) (W.contents writer.old) (W.contents writer.new)
             kept.old.items kept.new.items) }
@@ -148,18 +151,29 @@ impl Served {
         ensures err { OnErr result (self.new ≡ self.old) }
         ensures fault { IfErr result (λ fault. fault ≡ StreamFault.Memory) }
     {
-        if let Body::Cut = body {
-            return Ok(Answer::Refused(Refusal::NoCommand));
+        match body {
+            Body::Whole(text) => self.take_text(desk, text.as_slice()),
+            Body::Long => {
+                let refusal = MessageRefusal::from(LONG_MESSAGE);
+                Ok(self.refused_at(desk, Refusal::Message(refusal)))
+            }
+            Body::Cut => Ok(Answer::Refused(Refusal::NoCommand)),
         }
+    }
+
+    /// A desk takes the message that a text is.
+    fn take_text(&mut self, desk: u64, text: &[u8]) -> Result<Answer, StreamFault>
+        ensures serves { IfOk result (λ answer. (window : Window) →
+            Serves window self.old.desks.items (take desk (whole text.now)) (Some (answer_of answer)) self.new.desks.items) }
+        ensures window { self.new.window ≡ self.old.window }
+        ensures err { OnErr result (self.new ≡ self.old) }
+        ensures fault { IfErr result (λ fault. fault ≡ StreamFault.Memory) }
+    {
         let number = desk as usize;
         if number >= self.desks.len() {
             return Ok(Answer::Refused(Refusal::NoDesk(desk)));
         }
-        let Body::Whole(text) = body else {
-            let refusal = MessageRefusal::from(LONG_MESSAGE);
-            return Ok(Answer::Refused(Refusal::Message(refusal)));
-        };
-        match hear_message(self.alloc, &mut self.desks[number], number, text.as_slice()) {
+        match hear_message(self.alloc, &mut self.desks[number], number, text) {
             Ok(heard) => Ok(Answer::Took {
                 desk: number,
                 heard,
@@ -176,25 +190,39 @@ impl Served {
         ensures err { OnErr result (self.new ≡ self.old) }
         ensures fault { IfErr result (λ fault. fault ≡ StreamFault.Memory) }
     {
-        if let Body::Cut = body {
-            return Ok(Answer::Refused(Refusal::NoCommand));
+        match body {
+            Body::Whole(octets) => self.arrive_octets(desk, octets.as_slice()),
+            Body::Long => Ok(self.refused_at(desk, Refusal::LongDelta)),
+            Body::Cut => Ok(Answer::Refused(Refusal::NoCommand)),
         }
+    }
+
+    /// The delta that these octets are reaches a desk.
+    fn arrive_octets(&mut self, desk: u64, octets: &[u8]) -> Result<Answer, StreamFault>
+        ensures serves { IfOk result (λ answer. (window : Window) →
+            Serves window self.old.desks.items (arrive desk (whole octets.now)) (Some (answer_of answer)) self.new.desks.items) }
+        ensures window { self.new.window ≡ self.old.window }
+        ensures err { OnErr result (self.new ≡ self.old) }
+        ensures fault { IfErr result (λ fault. fault ≡ StreamFault.Memory) }
+    {
         let number = desk as usize;
         if number >= self.desks.len() {
             return Ok(Answer::Refused(Refusal::NoDesk(desk)));
         }
-        let Body::Whole(octets) = body else {
-            return Ok(Answer::Refused(Refusal::LongDelta));
-        };
-        match hear_delta(
-            self.alloc,
-            &mut self.desks[number],
-            number,
-            octets.as_slice(),
-        ) {
+        match hear_delta(self.alloc, &mut self.desks[number], number, octets) {
             Ok(heard) => Ok(Answer::Reached { desk, heard }),
             Err(cause) => unheard(cause),
         }
+    }
+
+    /// What is answered where octets for a desk are refused. Perhaps there is no such desk.
+    fn refused_at(&self, desk: u64, refusal: Refusal) -> Answer
+        ensures { RefusesAt self.now.desks.items desk refusal (answer_of result) }
+    {
+        if desk as usize >= self.desks.len() {
+            return Answer::Refused(Refusal::NoDesk(desk));
+        }
+        Answer::Refused(refusal)
     }
 
     /// A desk posts what changed there after a tick.
@@ -203,15 +231,17 @@ impl Served {
             Serves window self.now.desks.items (post desk since) (Some (answer_of answer)) self.now.desks.items) }
         ensures fault { IfErr result (λ fault. fault ≡ StreamFault.Memory) }
     {
-        let Some(asked) = self.desks.get(desk as usize) else {
+        let look = self.look();
+        let Some(asked) = look.desk(desk) else {
             return Ok(Answer::Refused(Refusal::NoDesk(desk)));
         };
         let batch = asked.delta_since(since)?;
+        let octets = write_delta(self.alloc, &batch)?;
         Ok(Answer::Sent {
             desk,
             tick: asked.tick(),
             items: batch.as_slice().len(),
-            octets: write_delta(self.alloc, &batch)?,
+            octets,
         })
     }
 
@@ -221,7 +251,8 @@ impl Served {
             Serves window self.now.desks.items (save desk file.now) (Some (answer_of answer)) self.now.desks.items) }
         ensures fault { IfErr result (λ fault. fault ≡ StreamFault.Memory) }
     {
-        let Some(saved) = self.desks.get(desk as usize) else {
+        let look = self.look();
+        let Some(saved) = look.desk(desk) else {
             return Ok(Answer::Refused(Refusal::NoDesk(desk)));
         };
         let Ok(name) = str::from_utf8(file) else {
@@ -240,13 +271,16 @@ impl Served {
 
 /// What a line that was read asks for, or `None` where nothing was left. Of a line that is too long nothing is known.
 fn asked_by(found: Option<&[u8]>) -> Option<StreamLine<'_>>
-    ensures { AsksBy (option_copied found) (option_map wish_of result) }
+    ensures asks { AsksBy (option_copied found) (option_map wish_of result) }
+    ensures only { IfSome result (λ asked. AsksOnly (wish_of asked)) }
 {
-    match found {
-        None => Some(StreamLine::Malformed { octets: 0 }),
-        Some([]) => None,
-        Some(line) => Some(StreamLine::of_line(line)),
+    let Some(line) = found else {
+        return Some(StreamLine::Malformed { octets: 0 });
+    };
+    if line.is_empty() {
+        return None;
     }
+    Some(StreamLine::of_line(line))
 }
 
 fn unwritten(desk: u64) -> Answer
