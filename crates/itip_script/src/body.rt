@@ -1,5 +1,5 @@
 //! The octets behind a line of a stream.
-ghost use Rattle.std.specs.Prelude.{◌≢◌, IfOk, IfErr};
+ghost use Rattle.std.specs.Prelude.{ℕ, ◌≢◌, ◌<◌, IfOk, IfErr};
 ghost use Rattle.itip_script.specs.Stream.{ReadsBody, body_of};
 
 use itip_streams::{StreamFault, pass_octets, read_octets};
@@ -30,13 +30,23 @@ pub fn read_body<R: Read>(
     ensures fault { IfErr result (λ fault. fault ≢ StreamFault.Write) }
 {
     if octets > limit as u64 {
-        return match pass_octets(reader, octets)? {
-            true => Ok(Body::Long),
-            false => Ok(Body::Cut),
-        };
+        return pass_body(reader, octets);
     }
     match read_octets(alloc, reader, octets as usize)? {
         Some(octets) => Ok(Body::Whole(octets)),
         None => Ok(Body::Cut),
+    }
+}
+
+/// Reads past so many octets, which are more than the limit.
+fn pass_body<R: Read>(reader: &mut R, octets: u64) -> Result<Body, StreamFault>
+    ensures reads { IfOk result (λ body. (limit : ℕ) → limit < octets
+        → ReadsBody limit octets (R.remaining reader.old) (R.remaining reader.new) (body_of body)) }
+    ensures fault { IfErr result (λ fault. fault ≢ StreamFault.Write) }
+{
+    if pass_octets(reader, octets)? {
+        Ok(Body::Long)
+    } else {
+        Ok(Body::Cut)
     }
 }

@@ -1,7 +1,8 @@
 //! What a line of a stream asks for: commands of which each is answered before the next is read.
 ghost use Rattle.std.specs.Prelude.{◌≡◌};
 ghost use Rattle.std.specs.Option.{option_map};
-ghost use Rattle.itip_script.specs.Stream.{wish_of, wish_at, wish_by, spelled_wish, following};
+ghost use Rattle.itip_script.specs.Orders.{order_of};
+ghost use Rattle.itip_script.specs.Stream.{asks, wish_of, wish_at, wish_by, spelled_wish, following};
 
 use crate::command::{Command, Verb, rest_of, spelled_by, verb_of};
 use crate::line::content;
@@ -98,11 +99,14 @@ fn spelled_with(verb: Verb, arguments: &[u8]) -> Option<StreamLine<'_>>
             let since = read_number(second)?;
             Some(StreamLine::Post { desk, since })
         }
-        _ => {
-            let command = spelled_by(verb, arguments, &[])?;
-            Some(StreamLine::Question(command))
-        }
+        _ => question(spelled_by(verb, arguments, &[])),
     }
+}
+
+fn question(asked: Option<Command<'_>>) -> Option<StreamLine<'_>>
+    ensures { option_map wish_of result ≡ option_map asks (option_map order_of asked) }
+{
+    Some(StreamLine::Question(asked?))
 }
 
 /// How many octets behind a line belong to it that spells no command: those that a `!take` or an `!arrive` names.
@@ -110,9 +114,9 @@ fn following(said: &[u8]) -> u64
     ensures { result ≡ following said.now }
 {
     let (word, arguments) = split_word(said);
-    if !is_word(word, b"!take") && !is_word(word, b"!arrive") {
-        return 0;
+    if is_word(word, b"!take") || is_word(word, b"!arrive") {
+        let (_, second) = split_word(arguments);
+        return read_number(second).unwrap_or(0);
     }
-    let (_, second) = split_word(arguments);
-    read_number(second).unwrap_or(0)
+    0
 }

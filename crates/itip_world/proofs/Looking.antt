@@ -145,7 +145,3 @@ look_told window order desks o kept rest answer why looks told = record {
   moved = moves_more o o kept kept (moves_none o kept) (answer_text answer) rest told.text_is;
   refusal_is = told.refusal_is;
 }
-
-pub on_err_then : {T E P Q : Type 0} (r : Result T E) → (P → Q) → OnErr r P → OnErr r Q
-on_err_then (Ok x) f p = tt
-on_err_then (Err e) f p = f p

@@ -1,10 +1,11 @@
 use Rattle.std.proofs.Common.{inl}
+use Rattle.std.proofs.lemmas.Result.{on_err_weaker}
 use Rattle.itip_script.specs.Orders.{order_of}
 use Rattle.itip_state.proofs.Members.{if_ok_then}
 use Rattle.itip_streams.proofs.Writing.{front_none}
 use Rattle.itip_world.specs.Running.{answer_of, IsTold, Replies}
 use Rattle.itip_world.proofs.Answering.{replies_told}
-use Rattle.itip_world.proofs.Looking.{replies_of_look, front_of_look, on_err_then}
+use Rattle.itip_world.proofs.Looking.{replies_of_look, front_of_look}
 use Rattle.itip_world.proofs.Runnings.{on_err}
 use Rattle.itip_world.proofs.asked.Desks.reply.Goals as goal
 
@@ -22,7 +23,7 @@ returns-then-only_asks-clause-replies g c =
 pub returns-then-only_asks-clause-front : goal.returns-then-only_asks-clause-front
 returns-then-only_asks-clause-front g c =
     let order = order_of c.args.command.now in
-    on_err_then c.reply.result
+    on_err_weaker c.reply.result
     (front_of_look c.args.self.now.window c.args.self.now.world order (g.W.Write.contents c.args.writer.now)
     (g.W.Write.contents c.reply.new.writer) c.args.kept.now.items)
     (rw (c.look.ensures.window, c.look.ensures.desks) at c.reply.ensures.front)

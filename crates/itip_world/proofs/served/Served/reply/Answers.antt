@@ -1,11 +1,11 @@
 use Rattle.std.proofs.Common.{inl, refl}
+use Rattle.std.proofs.lemmas.Result.{on_err_weaker}
 use Rattle.itip_desk.specs.declared.refusal.Refusal.TheVariants.{NoCommand}
 use Rattle.itip_script.specs.Orders.{order_of}
 use Rattle.itip_script.specs.Stream.{body_of, posts, saves}
 use Rattle.itip_state.proofs.Members.{if_ok_then}
 use Rattle.itip_streams.proofs.Writing.{front_none}
 use Rattle.itip_world.specs.Running.{answer_of}
-use Rattle.itip_world.proofs.Looking.{on_err_then}
 use Rattle.itip_world.proofs.Runnings.{on_err}
 use Rattle.itip_world.proofs.Telling.{none_behind, tells_told, tells_taken, tells_arrived, tells_no_command, tells_nothing, tells_look}
 use Rattle.itip_world.proofs.Telling.{front_of_question}
@@ -110,7 +110,7 @@ pub returns-in-Question-clause-front : goal.returns-in-Question-clause-front
 returns-in-Question-clause-front g c =
     let asked = c.args.self.now in
     let order = order_of c.in-Question.command.now in
-    on_err_then c.reply.result
+    on_err_weaker c.reply.result
     (front_of_question asked.window asked.desks.items (g.W.Write.contents c.args.writer.now) c.args.kept.now.items order
     (g.R.Read.remaining c.args.reader.now) (g.W.Write.contents c.reply.new.writer) c.requires)
     (rw (c.look.ensures.window, c.look.ensures.desks) at c.reply.ensures.front)
