@@ -96,6 +96,10 @@ put_in_order u tick was now order order' in_order updates put q t there above =
     move_put order order' (tick, u) updates (t, q)
     (in_order q t (sym (put q ∙ ap (λ (b : Bool). cond b (Some tick) (tick_at was q)) apart) ∙ there) above))
 
+pub none_in_order : (carried : Carried) (keys : List (ℕ × List ℕ)) → carried ≡ [] → AreInOrder carried keys
+none_in_order carried keys none q t there above =
+    absurd (none_some t (sym (ap (λ (es : Carried). tick_at es q) none) ∙ there))
+
 -- moves at ticks above 0 leave no place that carries nothing
 pub last_ticks : (moves carried : Carried) → All (λ (move : List ℕ × ℕ). 0 < move.1) moves → CarriesLast moves carried → AreTicks carried
 last_ticks moves carried above carries uid tick there =
