@@ -22,7 +22,7 @@ use Rattle.itip_desk.specs.DeskFile.{message_text, messages_text, moved_at, head
 use Rattle.itip_desk.specs.DeskFile.{NamesOtherForm, IsFileOf, IsTold, TellsDesk, AreAlike, RefusesFile, IfFileRefused}
 use Rattle.itip_desk.specs.FileReading.{IsHead, ReadsPart, IsNoPart, moves_at, ReadsParts, TellsTick, TellsMove, FileSoFar, ReadsFile, IsDeskOfParts}
 use Rattle.itip_desk.specs.FileReading.{AddsPart, first_text}
-use Rattle.itip_desk.specs.Moves.{tick_at, last_move, CarriesLast}
+use Rattle.itip_desk.specs.Moves.{tick_at, last_move, AreMovesTo, CarriesLast}
 use Rattle.itip_desk.specs.Octets.{AscendOctets}
 use Rattle.itip_desk.specs.declared.error.FileError.{FileError}
 use Rattle.itip_desk.specs.declared.error.FileError.TheVariants as error
@@ -296,10 +296,9 @@ moves_within tick (text ∷ texts) items moves (moved, given, others, rest, part
       | inr later ↦ moves_within tick texts others rest more move later
     ]
 
-pub moves_above : (octets : List ℕ) (parts : FileParts) → ReadsFile octets parts →
-    All (λ (move : List ℕ × ℕ). 0 < move.1) parts.moves.items
-moves_above octets parts reads = all_each (λ (move : List ℕ × ℕ). 0 < move.1) parts.moves.items
-    (λ move h. (moves_within parts.tick (messages_of octets) parts.items.items parts.moves.items reads.all move h).0)
+pub moves_are : (octets : List ℕ) (parts : FileParts) → ReadsFile octets parts → AreMovesTo parts.tick parts.moves.items
+moves_are octets parts reads = all_each (IsMoveOf parts.tick) parts.moves.items
+    (λ move h. moves_within parts.tick (messages_of octets) parts.items.items parts.moves.items reads.all move h)
 
 -- a move of a file is that of an item
 move_there : (changed : Carried) (items : List Item) (item : Item) → Contains items item →

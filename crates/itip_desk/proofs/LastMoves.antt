@@ -1,5 +1,5 @@
 -- The last move of each UID, of moves in their order.
-use Rattle.std.proofs.Common.{◌≡◌, ◌∙◌, sym, ap, refl, subst, ℕ, ◌<◌, Bool, true, false, List, [], ◌∷◌, ◌++◌, append_assoc, append-nil, Option, Some, None}
+use Rattle.std.proofs.Common.{◌≡◌, ◌∙◌, sym, ap, refl, subst, ℕ, ◌<◌, ◌≤◌, Bool, true, false, List, [], ◌∷◌, ◌++◌, append_assoc, append-nil, Option, Some, None}
 use Rattle.std.specs.Prelude.{cond, is_some}
 use Rattle.std.specs.List.{Contains, All}
 use Rattle.std.specs.Ordering.{nat_cmp, is_eq}
@@ -10,7 +10,7 @@ use Rattle.std.proofs.lemmas.List.Elements.{All-contains}
 use Rattle.std.proofs.lemmas.Map.Lookups.{exact_bytes}
 use Rattle.itip_state.proofs.Lookups.{one_key, itself}
 use Rattle.itip_state.proofs.Members.{by_bool, none_in, cons_cases, cons_first, cons_later}
-use Rattle.itip_desk.specs.Moves.{tick_at, move_cmp, has_move, AreInOrder, AreTicks, CarriesLast, last_move}
+use Rattle.itip_desk.specs.Moves.{tick_at, move_cmp, has_move, AreInOrder, AreTicks, AreMovesTo, CarriesLast, last_move}
 use Rattle.itip_desk.proofs.Ticking.{Carried, uid_cmp, move_put}
 
 one_uid : (q u : List ℕ) → is_eq (uid_cmp q u) ≡ true → q ≡ u
@@ -105,6 +105,13 @@ pub last_ticks : (moves carried : Carried) → All (λ (move : List ℕ × ℕ).
 last_ticks moves carried above carries uid tick there =
     let found = last_in moves uid tick (sym (carries uid) ∙ there) in
     All-contains (λ (move : List ℕ × ℕ). 0 < move.1) moves (found.0, tick) above found.1
+
+-- and none above their last tick
+pub last_up_to : (top : ℕ) (moves carried : Carried) → AreMovesTo top moves → CarriesLast moves carried → (uid : List ℕ) (tick : ℕ) →
+    tick_at carried uid ≡ Some tick → tick ≤ top
+last_up_to top moves carried are carries uid tick there =
+    let found = last_in moves uid tick (sym (carries uid) ∙ there) in
+    (All-contains (λ (move : List ℕ × ℕ). (0 < move.1) × (move.1 ≤ top)) moves (found.0, tick) are found.1).1
 
 -- Some of these moves were put in, and others are left.
 pub record PutSoFar (all left carried : Carried) : Type 0 where

@@ -1,7 +1,7 @@
 -- The UIDs that moved, each with the tick that it carries (our own form).
-use Rattle.std.specs.Prelude.{◌≡◌, ◌<◌, ◌⊎◌, ℕ, List, [], ◌∷◌, Bool, true, cond, Option, Some, None, is_some, refl}
+use Rattle.std.specs.Prelude.{◌≡◌, ◌<◌, ◌≤◌, ◌⊎◌, ℕ, List, [], ◌∷◌, Bool, true, cond, Option, Some, None, is_some, refl}
 use Rattle.std.specs.Coded.{Coded, code_by, coded×, coded_ℕ, coded_list}
-use Rattle.std.specs.List.{list_any}
+use Rattle.std.specs.List.{All, list_any}
 use Rattle.std.specs.List.Sorted.{IsStrictlySortedBy}
 use Rattle.std.specs.Map.{keys_of}
 use Rattle.std.specs.Ordering.{nat_cmp, ordering_then, is_eq}
@@ -67,3 +67,7 @@ last_move (move ∷ moves) uid = cond (is_some (last_move moves uid)) (last_move
 -- each UID carries the tick of the last of these moves that is of it
 abbrev pub CarriesLast : List (List ℕ × ℕ) → List (List ℕ × ℕ) → Type 0
 CarriesLast moves carried = (uid : List ℕ) → tick_at carried uid ≡ last_move moves uid
+
+-- moves at the ticks of a desk up to this one
+abbrev pub AreMovesTo : ℕ → List (List ℕ × ℕ) → Type 0
+AreMovesTo top moves = All (λ (move : List ℕ × ℕ). (0 < move.1) × (move.1 ≤ top)) moves

@@ -76,10 +76,10 @@ impl Model for Desk {
 impl Desk {
     ghost use Rattle.itip_state.specs.Kept.{AreKept, AreMoved, ArePartOf, Moves, HasEachOnce};
     ghost use Rattle.itip_desk.specs.Desk.{IsDeskOf, IsDeltaOf, IsCarriedOn};
-    ghost use Rattle.itip_desk.specs.Moves.{tick_at, CarriesLast};
+    ghost use Rattle.itip_desk.specs.Moves.{tick_at, AreMovesTo, CarriesLast};
     ghost use Rattle.itip_desk.specs.DeskFile.{IsTold};
     ghost use Rattle.itip_desk.specs.Heard.{TickStep};
-    ghost use Rattle.std.specs.List.{All, Contains};
+    ghost use Rattle.std.specs.List.{Contains};
     ghost use Rattle.itip_view.specs.ByUid.{AreAsked, AreLeft};
     ghost use Rattle.itip_view.specs.Rows.{IsRow, AreRows, AreTooMany};
     ghost use Rattle.itip_view.specs.Showing.{Shows, AreRowsWhere, AreTooManyWhere, IsListTextFor};
@@ -107,7 +107,7 @@ impl Desk {
         items: &Batch,
         moves: Vec<(Uid, u64)>,
     ) -> Result<Desk, AllocError>
-        requires { All (λ (move : List ℕ × ℕ). 0 < move.1) moves.items }
+        requires { AreMovesTo tick moves.items }
         ensures kept { IfOk result (λ desk. AreKept desk.kept items.now) }
         ensures tick { IfOk result (λ desk. desk.tick ≡ tick) }
         ensures changed { IfOk result (λ desk. CarriesLast moves.items desk.changed) }

@@ -1,7 +1,7 @@
 //! A desk out of its file.
 ghost use Rattle.std.specs.Prelude.{◌≡◌, ◌++◌, ◌<◌, ◌^◌, ℕ, List, Some, codes, IfOk, IfErr, OnOk, IfSome, IfNone};
 ghost use Rattle.std.specs.Option.{option_copied};
-ghost use Rattle.std.specs.List.{All};
+ghost use Rattle.itip_desk.specs.Moves.{AreMovesTo};
 ghost use Rattle.itip_desk.specs.DeskFile.{TellsDesk, RefusesFile, IfFileRefused, HasNumber, begins_text};
 ghost use Rattle.itip_desk.specs.FileReading.{ReadsFile, AddsPart, IsNoPart, IsDeskOfParts, TellsTick, TellsMove, FollowsProduct, first_text, moves_at};
 
@@ -46,7 +46,7 @@ pub fn read_desk(alloc: Global, octets: &[u8]) -> Result<Desk, FileError>
 }
 
 fn desk_of(alloc: Global, parts: FileParts) -> Result<Desk, FileError>
-    requires { All (λ (move : List ℕ × ℕ). 0 < move.1) parts.moves.items }
+    requires { AreMovesTo parts.tick parts.moves.items }
     ensures made { IfOk result (IsDeskOfParts parts) }
     ensures fault { IfErr result (λ e. e ≡ FileError.NoMemory) }
 {

@@ -1,9 +1,9 @@
 use Rattle.std.proofs.Common.{◌≡◌, ◌∙◌, sym, Bool, true, false, None}
-use Rattle.itip_desk.proofs.FileTexts.{moves_above, not_file, told_file}
+use Rattle.itip_desk.proofs.FileTexts.{moves_are, not_file, told_file}
 use Rattle.itip_desk.proofs.read_desk.read_desk.Goals as goal
 
 pub desk_of-requires : goal.desk_of-requires
-desk_of-requires c = moves_above c.args.octets.now c.in_ok-parts.parts c.in_ok-parts.ensures.found
+desk_of-requires c = moves_are c.args.octets.now c.in_ok-parts.parts c.in_ok-parts.ensures.found
 
 pub returns-then-is_file_of-clause-found : goal.returns-then-is_file_of-clause-found
 returns-then-is_file_of-clause-found c =

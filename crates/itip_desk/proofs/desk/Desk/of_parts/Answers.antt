@@ -1,7 +1,11 @@
 use Rattle.std.proofs.Common.{◌≡◌, ◌∙◌, ◌++◌, List, map, sym, ap, subst}
+use Rattle.std.proofs.lemmas.List.Elements.{All-weaker}
 use Rattle.itip_items.specs.declared.item.Item.{Item}
 use Rattle.itip_state.specs.Kept.{AreKept}
 use Rattle.itip_desk.proofs.desk.Desk.of_parts.Goals as goal
+
+pub of_moves-requires : goal.of_moves-requires
+of_moves-requires c = All-weaker _ _ (λ move is. is.0) c.args.moves.items c.requires
 
 pub returns-clause-kept : goal.returns-clause-kept
 returns-clause-kept c =
