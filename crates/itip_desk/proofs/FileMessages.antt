@@ -1,6 +1,6 @@
 -- A message of the file of a desk is the canonical form of its item, in which two lines have parameters: it is read as that item, and
 -- cut off what follows it.
-use Rattle.std.proofs.Common.{◌≡◌, ◌∙◌, sym, ap, refl, subst, ℕ, ◌+◌, ◌-◌, ◌<◌, ◌≤◌, ◌^◌, Bool, true, false, cond, ◌||◌, List, [], ◌∷◌, ◌++◌}
+use Rattle.std.proofs.Common.{◌≡◌, ◌∙◌, sym, ap, refl, subst, ℕ, ◌+◌, ◌-◌, ◌<◌, ◌≤◌, ◌^◌, Bool, true, false, cond, List, [], ◌∷◌, ◌++◌}
 use Rattle.std.proofs.Common.{length, map, drop, arith, append_assoc, append-nil, Option, Some, None}
 use Rattle.std.specs.Prelude.{IfSome, codes, nat_lt}
 use Rattle.std.specs.Fmt.{decimal}
@@ -12,12 +12,11 @@ use Rattle.std.proofs.lemmas.List.{length-append, length-drop, map-append}
 use Rattle.std.proofs.lemmas.List.Folds.{list_all-append}
 use Rattle.std.proofs.lemmas.Str.{IsUtf8-from_ascii}
 use Rattle.itip_lines.specs.Lawful as line
-use Rattle.itip_lines.specs.Lawful.{line_text, params_text, param_text, IsName, IsLawfulParam}
+use Rattle.itip_lines.specs.Lawful.{params_text, param_text, IsName, IsLawfulParam}
 use Rattle.itip_lines.specs.Octets.{is_quotable_octet, is_separator}
 use Rattle.itip_lines.specs.Writing.{fits, folded}
 use Rattle.itip_lines.specs.declared.line.Param.{Param}
 use Rattle.itip_todo.specs.Lawful.{IsLawfulContent}
-use Rattle.itip_todo.specs.Parts.{Parts}
 use Rattle.itip_todo.specs.PartsOf.{parts_of}
 use Rattle.itip_todo.specs.Written.{Content, content_octets, contents_octets, parts_contents}
 use Rattle.itip_items.specs.Items.{bare}

@@ -1,13 +1,13 @@
 -- The parameters of a message of a desk's file, as they are passed one after another.
-use Rattle.std.proofs.Common.{◌≡◌, ◌∙◌, sym, ap, refl, subst, ℕ, ◌<◌, ◌^◌, List, [], ◌∷◌, ◌++◌, drop, get_or, arith, append_assoc}
+use Rattle.std.proofs.Common.{◌≡◌, ◌∙◌, sym, ap, refl, ℕ, ◌<◌, ◌^◌, List, ◌++◌, drop, get_or, arith, append_assoc}
 use Rattle.std.proofs.Common.{Bor, Option, Some, None}
 use Rattle.std.proofs.lemmas.List.{append_cancel_left}
 use Rattle.std.specs.Prelude.{IfSome, IfNone, codes}
 use Rattle.std.specs.Option.{option_copied}
 use Rattle.std.specs.Fmt.{decimal}
 use Rattle.itip_desk.specs.declared.file_text.FileHead.{FileHead}
-use Rattle.itip_desk.specs.DeskFile.{parameter_text, product_parameters, version_parameters, begins_text, product_text, version_text}
-use Rattle.itip_desk.specs.DeskFile.{message_text, digits_before, HasNumber, NamesForm}
+use Rattle.itip_desk.specs.DeskFile.{product_parameters, begins_text, version_text}
+use Rattle.itip_desk.specs.DeskFile.{message_text, HasNumber}
 use Rattle.itip_desk.specs.FileReading.{IsBehind, IsHead, behind_product, FollowsProduct, TellsMove, first_text}
 use Rattle.itip_desk.proofs.FileNumbers.{has_number, one_number, written_once, differ_at, behind_same, behind_written}
 

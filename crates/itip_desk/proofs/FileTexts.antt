@@ -1,9 +1,9 @@
 -- The file of a desk, message by message: it is read as that desk, and no other text is.
-use Rattle.std.proofs.Common.{◌≡◌, ◌≢◌, ◌∙◌, sym, ap, refl, subst, ℕ, ◌+◌, ◌<◌, ◌≤◌, ◌^◌, Bool, true, false, List, [], ◌∷◌, ◌++◌, length, map, arith}
+use Rattle.std.proofs.Common.{◌≡◌, ◌∙◌, sym, ap, refl, subst, ℕ, ◌+◌, ◌<◌, ◌≤◌, ◌^◌, false, List, [], ◌∷◌, ◌++◌, length, map, arith}
 use Rattle.std.proofs.Common.{append_assoc, append-nil, Option, Some, None, inl, inr}
 use Rattle.std.specs.Prelude.{IfSome, unwrap_or, codes, ◌⊎◌, drop}
 use Rattle.std.specs.Fmt.{decimal}
-use Rattle.std.specs.List.{Contains, All}
+use Rattle.std.specs.List.{Contains}
 use Rattle.std.proofs.lemmas.List.Elements.{Contains-append_cases}
 use Rattle.itip_items.specs.KeyParts.{uid_of}
 use Rattle.itip_items.specs.declared.item.Item.{Item}
@@ -18,11 +18,11 @@ use Rattle.itip_state.proofs.Members.{none_in, cons_cases, cons_first, cons_late
 use Rattle.itip_desk.specs.Delta.{AreMessages, ReadsDelta}
 use Rattle.itip_desk.specs.Desk.{Shown, IsDeskOf, IsDeltaOf}
 use Rattle.itip_desk.specs.Heard.{Ticks}
-use Rattle.itip_desk.specs.DeskFile.{message_text, messages_text, moved_at, head_of, begins_text, product_text, version_text, HasNumber, NamesForm}
+use Rattle.itip_desk.specs.DeskFile.{message_text, messages_text, moved_at, head_of, begins_text, HasNumber}
 use Rattle.itip_desk.specs.DeskFile.{NamesOtherForm, IsFileOf, IsTold, TellsDesk, AreAlike, RefusesFile, IfFileRefused}
-use Rattle.itip_desk.specs.FileReading.{IsHead, ReadsPart, IsNoPart, moves_at, ReadsParts, TellsTick, TellsMove, FileSoFar, ReadsFile, IsDeskOfParts}
+use Rattle.itip_desk.specs.FileReading.{IsHead, IsNoPart, moves_at, ReadsParts, TellsTick, TellsMove, FileSoFar, ReadsFile, IsDeskOfParts}
 use Rattle.itip_desk.specs.FileReading.{AddsPart, first_text}
-use Rattle.itip_desk.specs.Moves.{tick_at, last_move, AreMovesTo, CarriesLast}
+use Rattle.itip_desk.specs.Moves.{tick_at, last_move, AreMovesTo}
 use Rattle.itip_desk.specs.Octets.{AscendOctets}
 use Rattle.itip_desk.specs.declared.error.FileError.{FileError}
 use Rattle.itip_desk.specs.declared.error.FileError.TheVariants as error

@@ -1,10 +1,10 @@
 -- The tick that the first message of a file tells.
-use Rattle.std.proofs.Common.{◌≡◌, ◌≢◌, ◌∙◌, sym, ap, refl, subst, ℕ, ◌<◌, ◌^◌, List, [], ◌∷◌, ◌++◌, length, drop, arith, inl, inr, Option, Some, None}
+use Rattle.std.proofs.Common.{◌≡◌, ◌≢◌, ◌∙◌, sym, ap, refl, subst, ℕ, ◌<◌, ◌^◌, List, [], ◌++◌, length, drop, arith, inl, inr, Option, Some, None}
 use Rattle.std.specs.Prelude.{codes}
 use Rattle.std.proofs.lemmas.List.{append_cancel_left}
 use Rattle.std.specs.Fmt.{decimal}
 use Rattle.itip_desk.specs.Desk.{Shown}
-use Rattle.itip_desk.specs.DeskFile.{begins_text, message_text, moved_at, HasNumber, NamesForm, NamesOtherForm, TellsDesk, RefusesFile}
+use Rattle.itip_desk.specs.DeskFile.{begins_text, message_text, moved_at, HasNumber, NamesOtherForm, TellsDesk, RefusesFile}
 use Rattle.itip_desk.specs.FileReading.{IsBehind, first_text, TellsTick}
 use Rattle.itip_desk.specs.declared.file_text.FileHead.{FileHead}
 use Rattle.itip_desk.specs.declared.refusal.FileRefusal.TheVariants.{Broken}

@@ -1,9 +1,9 @@
 -- The file of a desk, written and compared a message at a time.
-use Rattle.std.proofs.Common.{◌≡◌, ◌∙◌, sym, ap, refl, subst, ℕ, ◌+◌, ◌<◌, ◌≤◌, ◌^◌, List, [], ◌∷◌, ◌++◌, length, get_or, drop, append_assoc, append-nil}
+use Rattle.std.proofs.Common.{◌≡◌, ◌∙◌, sym, ap, refl, subst, ℕ, ◌+◌, ◌<◌, ◌≤◌, ◌^◌, List, [], ◌++◌, length, get_or, drop, append_assoc, append-nil}
 use Rattle.std.proofs.Common.{Option, Some, None, Result, Ok, Err, OnErr, ◌↔◌}
 use Rattle.std.proofs.lemmas.List.{append_cancel_left, at_drop_more, at_drop_all}
 use Rattle.itip_items.specs.declared.item.Item.{Item}
-use Rattle.itip_state.specs.Kept.{IsItemsOf, SameItems}
+use Rattle.itip_state.specs.Kept.{IsItemsOf}
 use Rattle.std.specs.Io.KnownBytes.{Appends}
 use Rattle.itip_streams.specs.Written.{AppendsFront, MovesOut}
 use Rattle.itip_streams.proofs.Writing.{front_longer, front_moved, front_none, moves_none, moves_more, moves_on, all_moved}

@@ -1,5 +1,5 @@
 //! A desk.
-ghost use Rattle.std.specs.Prelude.{◌≡◌, ◌↔◌, ◌<◌, [], ◌++◌, ◌∷◌, IfOk, OnOk, OnErr, length, map, min, unwrap_or, List, ℕ, IsErrOf};
+ghost use Rattle.std.specs.Prelude.{◌≡◌, ◌↔◌, [], ◌++◌, ◌∷◌, IfOk, OnOk, OnErr, length, map, min, unwrap_or, List, ℕ, IsErrOf};
 ghost use Rattle.itip_items.specs.declared.item.Item.{Item};
 ghost use Rattle.itip_state.specs.Kept.{AreUidsOf};
 ghost use Rattle.itip_view.specs.declared.row.Row.{Row};

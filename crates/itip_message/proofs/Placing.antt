@@ -1,5 +1,5 @@
 -- The lines of a canonical form are framed, have a head, and hold one to-do.
-use Rattle.std.proofs.Common.{◌≡◌, ◌∙◌, sym, ap, refl, ℕ, Bool, true, false, List, [], ◌∷◌, ◌++◌, length, map, append-nil, append_assoc}
+use Rattle.std.proofs.Common.{◌≡◌, ◌∙◌, sym, ap, refl, ℕ, Bool, true, false, List, [], ◌∷◌, ◌++◌, map, append-nil, append_assoc}
 use Rattle.std.proofs.Common.{subst, Option, Some, None, Ok, IsTrue}
 use Rattle.std.specs.Prelude.{Result, not, ◌||◌, codes}
 use Rattle.std.specs.List.{AllByRecursion, list_all}

@@ -5,7 +5,6 @@ use mathlib.Core.Bool.{Bool-set}
 use Rattle.std.specs.List.{AllByRecursion, list_all}
 use Rattle.std.proofs.Math.Logic.{∥∥₁_elim, ∥∥₁_map}
 use Rattle.itip_lines.specs.Reading.{ReadsLines, plain_lines}
-use Rattle.itip_lines.specs.declared.line.NumberedLine.{NumberedLine}
 use Rattle.itip_todo.specs.Lawful.{IsLawfulContent}
 use Rattle.itip_todo.specs.Parts.{Parts}
 use Rattle.itip_todo.specs.PartsOf.{parts_of}

@@ -7,7 +7,7 @@ use Rattle.itip_streams.specs.Parts.{ReadsOctets, PassesOctets}
 use Rattle.itip_script.specs.Lines.{content_of}
 use Rattle.itip_script.specs.Orders.{spelled_by}
 use Rattle.itip_script.specs.Stream.{Wish, asks, malformed, empty, wish_of, wish_by, spelled_wish, following, wish_said, wish_at}
-use Rattle.itip_script.specs.Stream.{Brought, whole, too_long, cut_off, brought, ReadsBody}
+use Rattle.itip_script.specs.Stream.{whole, too_long, cut_off, brought, ReadsBody}
 use Rattle.itip_script.specs.declared.command.Verb.{Verb}
 use Rattle.itip_script.specs.declared.command.Verb.TheVariants as verb
 use Rattle.itip_script.specs.declared.stream.StreamLine.{StreamLine}

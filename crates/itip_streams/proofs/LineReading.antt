@@ -1,11 +1,11 @@
 -- A line that is read octet by octet, and octets that are read until there are so many.
-use Rattle.std.proofs.Common.{◌≡◌, ◌≢◌, ◌∙◌, sym, ap, refl, subst, ℕ, ◌+◌, ◌-◌, ◌<◌, ◌≤◌, Bool, List, [], ◌∷◌, ◌++◌, length, take, get_or, arith}
+use Rattle.std.proofs.Common.{◌≡◌, ◌≢◌, ◌∙◌, sym, ap, refl, subst, ℕ, ◌+◌, ◌<◌, ◌≤◌, List, [], ◌∷◌, ◌++◌, length, take, get_or, arith}
 use Rattle.std.proofs.Common.{append_assoc, append-nil, inl, inr, Option, Some, None, true, false}
 use Rattle.std.specs.Io.KnownBytes.{Consumes, IsAtEnd}
 use Rattle.std.proofs.KnownBytes.{Consumes-nil, Consumes-trans}
-use Rattle.std.proofs.lemmas.List.{length-append, length-take-le}
+use Rattle.std.proofs.lemmas.List.{length-append}
 use Rattle.std.proofs.lemmas.List.Elements.{All-append, All-nil, All-push}
-use Rattle.itip_streams.specs.Parts.{HasNoLf, IsLine, EndsLine, ReadsLine, PassesLine, ReadsWithin, ReadsOctets, PassesOctets}
+use Rattle.itip_streams.specs.Parts.{HasNoLf, EndsLine, ReadsLine, PassesLine, ReadsWithin, ReadsOctets, PassesOctets}
 
 -- ---- a line so far
 

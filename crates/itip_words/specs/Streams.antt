@@ -1,5 +1,5 @@
 -- Which desks of a stream begin with a file, as words say it (our own form).
-use Rattle.std.specs.Prelude.{◌≢◌, ◌<◌, ◌==◌, ℕ, List, map, length, if◌then◌else◌, Option, Some, None, string_bytes, option_map}
+use Rattle.std.specs.Prelude.{◌≢◌, ◌<◌, ◌==◌, ℕ, List, map, length, if◌then◌else◌, Option, None, string_bytes, option_map}
 use Rattle.std.specs.List.{All, AllPairs, before_first, after_first}
 use Rattle.itip_script.specs.Orders.{number_of}
 use Rattle.itip_words.specs.declared.streamed.Load.{Load}

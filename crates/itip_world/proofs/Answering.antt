@@ -1,8 +1,7 @@
 -- The answer to one command, over a world, whatever happened before.
-use Rattle.std.proofs.Common.{◌≡◌, ℕ, suc, ◌≤◌, [], ◌∷◌, List, ◌++◌, length, sym, ap, subst, ◌∙◌, arith, refl, inl, inr}
-use Rattle.std.proofs.Common.{Option, Some, None}
-use Rattle.std.specs.Prelude.{slice_get, codes}
-use Rattle.std.specs.Option.{option_map}
+use Rattle.std.proofs.Common.{◌≡◌, ℕ, suc, ◌≤◌, [], ◌∷◌, List, length, sym, ap, subst, arith, refl}
+use Rattle.std.proofs.Common.{Option, Some}
+use Rattle.std.specs.Prelude.{slice_get}
 use Rattle.itip_view.specs.declared.window.Window.{Window}
 use Rattle.itip_view.specs.declared.row.Row.{Row}
 use Rattle.itip_view.specs.Rows.{AreTooMany}
@@ -27,7 +26,7 @@ use Rattle.itip_world.proofs.Desks.{history_at}
 use Rattle.itip_world.proofs.Packets.{texts_length}
 use Rattle.itip_script.specs.Orders.{Order, lists, lists_for, counts, reports, resends, asks_next, malformed}
 use Rattle.itip_world.specs.Running.{Answer, Happens, refused, listed, listed_for, counted, reported, resent, next_is, answer_to, event_of}
-use Rattle.itip_world.specs.Running.{HasTick, AreListed, AreListedFor, Step, Answers, answer_text, refusal_of, IsTold, Replies, RepliesFront}
+use Rattle.itip_world.specs.Running.{HasTick, AreListed, AreListedFor, Step, Answers, answer_text, IsTold, Replies}
 use Rattle.itip_world.specs.Running.Happens.{is_done, at_no_desk, of_no_packet, spends_ticks}
 use Rattle.itip_world.specs.Running.Step.{happens, lists_rows, lists_too_many, lists_no_desk, lists_rows_for, lists_too_many_for}
 use Rattle.itip_world.specs.Running.Step.{lists_no_desk_for, counts_kept, counts_no_desk, reports_lines, reports_too_many, reports_no_desk}

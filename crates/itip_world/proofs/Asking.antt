@@ -3,10 +3,10 @@ use Rattle.std.proofs.Common.{◌≡◌, true, false, cond, eqb, ℕ, List, [], 
 use Rattle.std.specs.Prelude.{IfSome, unwrap_or, option_map, codes}
 use Rattle.std.specs.Str.{bytes_eq}
 use Rattle.itip_script.specs.Lines.{content_of}
-use Rattle.itip_script.specs.Orders.{Order, before_space, after_space, number_of, rest_of, report_of, verb_of, spelled_by, ◌>>=◌}
+use Rattle.itip_script.specs.Orders.{Order, before_space, after_space, number_of, rest_of, report_of, verb_of, ◌>>=◌}
 use Rattle.itip_script.specs.Orders.{lists, lists_for, reports, resends, asks_next, counts}
 use Rattle.itip_script.specs.Stream.{Wish, asks, malformed, empty, saves, takes, arrives, posts, following, two_numbers, saving, wish_by}
-use Rattle.itip_script.specs.Stream.{spelled_wish, wish_said, wish_at, AsksBy}
+use Rattle.itip_script.specs.Stream.{spelled_wish, wish_at, AsksBy}
 use Rattle.itip_script.specs.declared.command.Verb.{Verb}
 use Rattle.itip_script.specs.declared.command.Verb.TheVariants as verb
 use Rattle.itip_world.specs.Looking.{OnlyAsks}

@@ -1,5 +1,5 @@
 -- Questions to desks: what they are answered, and that a world answers them so, whatever happened before.
-use Rattle.std.proofs.Common.{◌≡◌, ℕ, ◌≤◌, [], ◌∷◌, List, ◌++◌, length, sym, subst, ◌∙◌, refl, inl, inr, Option, Some, None}
+use Rattle.std.proofs.Common.{◌≡◌, ℕ, List, ◌++◌, sym, subst, ◌∙◌, refl, inl, inr, Option, Some, None}
 use Rattle.std.specs.Prelude.{slice_get, codes}
 use Rattle.std.specs.Option.{option_map}
 use Rattle.itip_view.specs.declared.by_uid.RowsByUid.{RowsByUid}

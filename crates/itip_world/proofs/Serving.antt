@@ -1,5 +1,5 @@
 -- What a stream answers where octets are brought to a desk.
-use Rattle.std.proofs.Common.{◌≡◌, ◌≢◌, ◌∙◌, sym, ap, refl, subst, ℕ, zero, suc, ◌<◌, ◌≤◌, List, [], ◌∷◌, length, Option, Some, None, Result, Ok, Err, inl, inr, arith}
+use Rattle.std.proofs.Common.{◌≡◌, ◌≢◌, ◌∙◌, sym, ap, refl, subst, ℕ, zero, suc, ◌<◌, ◌≤◌, List, [], ◌∷◌, length, Some, Result, Ok, Err, inl, inr, arith}
 use Rattle.std.specs.Prelude.{slice_get, slice_set, IfOk, OnOk}
 use Rattle.itip_view.specs.declared.window.Window.{Window}
 use Rattle.itip_items.specs.declared.item.Item.{Item}
@@ -7,7 +7,7 @@ use Rattle.itip_message.specs.declared.error.MessageRefusal.{MessageRefusal}
 use Rattle.itip_desk.specs.Desk.{Shown}
 use Rattle.itip_desk.specs.declared.refusal.Refusal.{Refusal}
 use Rattle.itip_desk.specs.declared.refusal.Refusal.TheVariants.{LongDelta, NoDesk}
-use Rattle.itip_script.specs.Stream.{Brought, whole, too_long, cut_off}
+use Rattle.itip_script.specs.Stream.{whole, too_long, cut_off}
 use Rattle.itip_world.specs.Looking.{StopsOctets, StopsFor}
 use Rattle.itip_world.specs.Running.{Answer, answer_of, refused}
 use Rattle.itip_world.specs.Serving.{Serving, Serves, RefusesAt, take, arrive, long_message}

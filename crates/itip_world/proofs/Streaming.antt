@@ -2,21 +2,19 @@
 use Rattle.std.proofs.Common.{◌≡◌, ◌∙◌, sym, ap, refl, subst, ℕ, ◌<◌, ◌≤◌, Bool, true, false, cond, ◌||◌, List, [], ◌∷◌, ◌++◌, length, arith}
 use Rattle.std.proofs.Common.{append-nil, inl, inr, Option, Some, None, lt-ltb, le-ltb}
 use Rattle.std.specs.Prelude.{is_some, ◌⊎◌}
-use Rattle.std.specs.List.{flat_map, list_any}
-use Rattle.std.specs.Option.{option_map}
 use Rattle.std.specs.Io.KnownBytes.{Appends, Consumes, Keeps}
 use Rattle.std.proofs.KnownBytes.{Appends-nil, Appends-trans}
 use Rattle.std.proofs.lemmas.List.Concat.{flat_map-append}
 use Rattle.std.proofs.lemmas.List.Folds.{list_any-append}
 use Rattle.itip_view.specs.declared.window.Window.{Window}
 use Rattle.itip_desk.specs.Desk.{Shown}
-use Rattle.itip_script.specs.Stream.{Wish, malformed, wish_at, wish_within, AsksBy, ReadsWish, ReadsNothing}
+use Rattle.itip_script.specs.Stream.{Wish, malformed, wish_at, AsksBy, ReadsWish, ReadsNothing}
 use Rattle.itip_streams.specs.Parts.{ReadsWithin}
-use Rattle.itip_streams.specs.Written.{AppendsFront, MovesOut}
+use Rattle.itip_streams.specs.Written.{AppendsFront}
 use Rattle.itip_streams.proofs.Writing.{all_moved, front_behind, front_moved, front_none}
 use Rattle.itip_world.specs.Running.{Answer}
 use Rattle.itip_world.specs.Serving.{Serves, serving_of, reply_text, refuses, reply_refusal, Served, ServesOne, EndsStream, FrontOfOne}
-use Rattle.itip_world.specs.Serving.{ServesFront, ReadsBehind, Tells, TellsOne, TellsSome, TellsFront, output_of, refusal_in, RunsStream}
+use Rattle.itip_world.specs.Serving.{ServesFront, ReadsBehind, Tells, TellsOne, TellsFront, output_of, refusal_in, RunsStream}
 use Rattle.itip_world.specs.Serving.{IsStream, IsStreamFront, StreamSoFar}
 use Rattle.itip_world.specs.declared.watch.Refused.{Refused as RefusedAs}
 use Rattle.itip_world.proofs.Runnings.{cause_of, some_mapped}

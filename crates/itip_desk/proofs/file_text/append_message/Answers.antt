@@ -1,4 +1,4 @@
-use Rattle.std.proofs.Common.{◌≡◌, ◌∙◌, ◌++◌, ℕ, List, drop, sym, ap, append_assoc}
+use Rattle.std.proofs.Common.{◌≡◌, ◌∙◌, ◌++◌, ℕ, List, drop, ap, append_assoc}
 use Rattle.std.proofs.lemmas.List.{drop_min}
 use Rattle.itip_state.proofs.Members.{on_ok_then}
 use Rattle.itip_desk.specs.DeskFile.{product_text, version_text}

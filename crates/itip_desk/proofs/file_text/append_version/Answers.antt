@@ -1,4 +1,3 @@
-use Rattle.std.proofs.Common.{◌≡◌, ◌∙◌, ◌++◌, List, ℕ, ap, append_assoc}
 use Rattle.std.specs.Prelude.{codes}
 use Rattle.itip_state.proofs.Members.{on_ok_then}
 use Rattle.itip_desk.specs.DeskFile.{tick_parameters, parameter_text}

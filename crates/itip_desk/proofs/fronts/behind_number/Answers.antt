@@ -1,4 +1,4 @@
-use Rattle.std.proofs.Common.{◌∙◌, refl, sym}
+use Rattle.std.proofs.Common.{refl}
 use Rattle.itip_desk.proofs.FileNumbers.{one_number}
 use Rattle.itip_desk.proofs.fronts.behind_number.Goals as goal
 

@@ -1,6 +1,4 @@
-use Rattle.std.proofs.Common.{ℕ, length, arith, rules}
-use Rattle.std.proofs.lemmas.List.Sums.{position_or_len_is}
-use Rattle.std.proofs.lemmas.Bool.Decides.{nat_tests}
+use Rattle.std.proofs.Common.{arith, rules}
 use Rattle.itip_desk.proofs.FileNumbers.{digits_at, all_digits}
 use Rattle.itip_desk.proofs.fronts.digits.Goals as goal
 

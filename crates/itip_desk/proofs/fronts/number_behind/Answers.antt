@@ -1,6 +1,6 @@
-use Rattle.std.proofs.Common.{◌≡◌, ◌∙◌, ◌++◌, List, ℕ, Bool, true, drop, sym, ap, subst}
+use Rattle.std.proofs.Common.{◌≡◌, ◌∙◌, ◌++◌, List, ℕ, true, sym, ap, subst}
 use Rattle.std.specs.List.{list_all}
-use Rattle.itip_desk.specs.DeskFile.{is_digit, digits_before, HasNumber}
+use Rattle.itip_desk.specs.DeskFile.{is_digit, HasNumber}
 use Rattle.itip_desk.specs.FileReading.{IsValue}
 use Rattle.itip_desk.proofs.FileNumbers.{taken_digits, number_made, number_parts}
 use Rattle.itip_desk.proofs.fronts.number_behind.Goals as goal

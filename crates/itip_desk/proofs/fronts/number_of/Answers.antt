@@ -1,6 +1,5 @@
-use Rattle.std.proofs.Common.{List, ℕ, ap, subst}
 use Rattle.std.specs.Str.{IsUtf8}
-use Rattle.itip_desk.proofs.FileNumbers.{digits_utf8, not_refused, parsed_value, unparsed}
+use Rattle.itip_desk.proofs.FileNumbers.{digits_utf8, not_refused}
 use Rattle.itip_desk.proofs.fronts.number_of.Goals as goal
 
 pub returns-in_err-ok-clause-none : goal.returns-in_err-ok-clause-none

@@ -1,4 +1,4 @@
-use Rattle.std.proofs.Common.{ℕ, ap, take, drop, sym, ◌∙◌, arith}
+use Rattle.std.proofs.Common.{ℕ, ap, take, drop, ◌∙◌}
 use Rattle.std.proofs.lemmas.List.{take_rest}
 use Rattle.itip_desk.proofs.fronts.split_digits.Goals as goal
 

@@ -1,4 +1,4 @@
-use Rattle.std.proofs.Common.{ℕ, List, true, subst, sym}
+use Rattle.std.proofs.Common.{ℕ, List, true, subst}
 use Rattle.std.specs.BTreeSet.{Updates}
 use Rattle.itip_desk.specs.Moves.{move_cmp}
 use Rattle.itip_desk.proofs.LastMoves.{put_in_order}

@@ -1,4 +1,3 @@
-use Rattle.itip_desk.proofs.FileNumbers.{if_none_then}
 use Rattle.itip_desk.proofs.FileParsing.{none_begins, follows_by}
 use Rattle.itip_desk.proofs.read_desk.after_product.Goals as goal
 

@@ -1,5 +1,3 @@
-use Rattle.std.proofs.Common.{◌≡◌, ◌∙◌, subst, List}
-use Rattle.itip_state.specs.Kept.{AreKept}
 use Rattle.itip_state.proofs.Keeping.{are_kept_same}
 use Rattle.itip_desk.proofs.read_desk.desk_of.Goals as goal
 

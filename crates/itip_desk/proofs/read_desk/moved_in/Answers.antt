@@ -1,5 +1,3 @@
-use Rattle.std.proofs.Common.{Option, List, ℕ, subst, sym, ap}
-use Rattle.itip_desk.specs.FileReading.{FollowsProduct}
 use Rattle.itip_desk.proofs.FileParsing.{none_follows, some_moved_at, no_move}
 use Rattle.itip_desk.proofs.read_desk.moved_in.Goals as goal
 

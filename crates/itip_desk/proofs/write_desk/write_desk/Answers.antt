@@ -1,9 +1,9 @@
-use Rattle.std.proofs.Common.{◌≡◌, ◌∙◌, ◌+◌, ◌≤◌, length, List, ℕ, Option, None, sym, subst, arith}
+use Rattle.std.proofs.Common.{◌+◌, ◌≤◌, length, List, ℕ, Option, None, sym, subst, arith}
 use Rattle.std.specs.Io.KnownBytes.{Appends}
 use Rattle.itip_state.proofs.Members.{on_ok_then}
 use Rattle.itip_streams.specs.Written.{AppendsFront}
 use Rattle.itip_streams.proofs.Writing.{front_none}
-use Rattle.itip_desk.specs.DeskFile.{head_of, messages_text, WritesFile}
+use Rattle.itip_desk.specs.DeskFile.{head_of}
 use Rattle.itip_desk.specs.declared.file_text.FileHead.{FileHead}
 use Rattle.itip_desk.proofs.FileWriting.{WritesSoFar, none_written, one_kept, one_written, front_so_far, still_front, written_all, one_file}
 use Rattle.itip_desk.proofs.FileWriting.{on_err_then, writes_file}

@@ -1,4 +1,4 @@
-use Rattle.std.proofs.Common.{rules, ◌≡◌, sym, List, [], length, arith}
+use Rattle.std.proofs.Common.{rules, ◌≡◌, sym, [], arith}
 use Rattle.std.proofs.lemmas.List.{nil_from_length}
 use Rattle.std.specs.Vec.Iter.{into_iter_items}
 use Rattle.itip_desk.proofs.LastMoves.{nothing_put, none_in_order, put_more, all_put, last_ticks}

@@ -1,5 +1,4 @@
-use Rattle.std.proofs.Common.{sym, ap, Some, None}
-use Rattle.itip_script.specs.Stream.{malformed}
+use Rattle.std.proofs.Common.{sym, Some, None}
 use Rattle.itip_script.proofs.Wishes.{empty_said, spelled_said}
 use Rattle.itip_script.proofs.stream.StreamLine.of_line.Goals as goal
 

@@ -1,4 +1,4 @@
-use Rattle.std.proofs.Common.{◌≡◌, ℕ, subst, sym}
+use Rattle.std.proofs.Common.{ℕ, subst, sym}
 use Rattle.itip_world.specs.Running.{counted}
 use Rattle.itip_world.specs.Looking.{Looks}
 use Rattle.itip_world.specs.Looking.Looks.{counts_kept, counts_no_desk}

@@ -1,4 +1,4 @@
-use Rattle.std.proofs.Common.{inl, subst, List, ℕ}
+use Rattle.std.proofs.Common.{subst, List, ℕ}
 use Rattle.std.specs.Io.KnownBytes.{Appends}
 use Rattle.itip_streams.specs.Written.{AppendsFront}
 use Rattle.itip_world.specs.Serving.{Tells, TellsFront}

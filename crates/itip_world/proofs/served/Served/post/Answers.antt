@@ -1,10 +1,7 @@
-use Rattle.std.proofs.Common.{◌≡◌, ◌≤◌, sym, ap, subst, ℕ, List, length, Some}
+use Rattle.std.proofs.Common.{◌≡◌, ◌≤◌, subst, List, length, Some}
 use Rattle.std.specs.Prelude.{slice_get}
 use Rattle.itip_items.specs.declared.item.Item.{Item}
 use Rattle.itip_desk.specs.Desk.{Shown}
-use Rattle.itip_desk.specs.Delta.{delta_octets}
-use Rattle.itip_world.specs.Running.{Answer, sent}
-use Rattle.itip_world.specs.Serving.{Serves, post}
 use Rattle.itip_world.specs.Serving.Serves.{posts_delta, posts_nothing}
 use Rattle.itip_world.proofs.served.Served.post.Goals as goal
 

@@ -1,6 +1,5 @@
 use Rattle.std.proofs.Common.{inl, refl}
 use Rattle.std.proofs.lemmas.Result.{on_err_weaker}
-use Rattle.itip_desk.specs.declared.refusal.Refusal.TheVariants.{NoCommand}
 use Rattle.itip_script.specs.Orders.{order_of}
 use Rattle.itip_script.specs.Stream.{body_of, posts, saves}
 use Rattle.itip_state.proofs.Members.{if_ok_then}

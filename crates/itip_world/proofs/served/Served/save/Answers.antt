@@ -1,4 +1,4 @@
-use Rattle.std.proofs.Common.{◌≡◌, ◌≤◌, ◌<◌, subst, ℕ, List, length, Some}
+use Rattle.std.proofs.Common.{◌≡◌, ◌≤◌, subst, List, length, Some}
 use Rattle.std.specs.Prelude.{slice_get}
 use Rattle.itip_desk.specs.Desk.{Shown}
 use Rattle.itip_world.specs.Serving.Serves.{saves_desk, saves_none, saves_nothing}

@@ -1,4 +1,4 @@
-use Rattle.std.proofs.Common.{refl, subst, Some, List, ℕ}
+use Rattle.std.proofs.Common.{subst, Some, List, ℕ}
 use Rattle.std.specs.Prelude.{IfOk}
 use Rattle.itip_view.specs.declared.window.Window.{Window}
 use Rattle.itip_script.specs.Stream.{whole}
