@@ -1,5 +1,5 @@
 -- What a stream is answered, behind what is kept to be written.
-use Rattle.std.proofs.Common.{◌≡◌, sym, subst, refl, ℕ, ◌<◌, List, [], length, append-nil, inl, inr, Option, Some, None, Result}
+use Rattle.std.proofs.Common.{◌≡◌, sym, subst, refl, ℕ, ◌<◌, List, [], length, append-nil, inl, inr, Option, Some, None, Result, ◌⊎◌}
 use Rattle.std.specs.Prelude.{IfOk, Bool, true, false}
 use Rattle.std.specs.Io.KnownBytes.{IsAtEnd}
 use Rattle.std.proofs.KnownBytes.{Consumes-nil}

@@ -1,4 +1,4 @@
-use Rattle.std.proofs.Common.{◌∙◌, append_assoc}
+use Rattle.std.proofs.Common.{◌∙◌, append_assoc, ◌++◌}
 use Rattle.std.specs.Prelude.{codes}
 use Rattle.itip_desk.specs.DeskFile.{begins_text}
 use Rattle.itip_desk.proofs.FileNumbers.{behind_first, with_first, if_some_then, if_none_then}

@@ -1,4 +1,4 @@
-use Rattle.std.proofs.Common.{◌≡◌, subst, arith, refl}
+use Rattle.std.proofs.Common.{◌≡◌, subst, arith, refl, ◌++◌}
 use Rattle.itip_desk.specs.FileReading.{moves_at}
 use Rattle.itip_desk.proofs.FileTexts.{no_move_part, other_move_part, refused_part}
 use Rattle.itip_desk.proofs.read_desk.read_part.Goals as goal

@@ -1,4 +1,4 @@
-use Rattle.std.proofs.Common.{refl}
+use Rattle.std.proofs.Common.{refl, None, Some, rules}
 use Rattle.itip_desk.proofs.FileTicks.{nothing_told_tick, no_form_named, other_form_named, tick_found, no_tick_found}
 use Rattle.itip_desk.proofs.FileNumbers.{no_octets_if, some_octets_if}
 use Rattle.itip_desk.proofs.read_desk.tick_of.Goals as goal

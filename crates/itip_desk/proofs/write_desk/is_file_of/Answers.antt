@@ -1,4 +1,4 @@
-use Rattle.std.proofs.Common.{◌≡◌, ◌≤◌, ◌<◌, ◌^◌, length, Option, true, false, sym, subst, arith}
+use Rattle.std.proofs.Common.{◌≡◌, ◌≤◌, ◌<◌, ◌^◌, length, Option, true, false, sym, subst, arith, rules}
 use Rattle.itip_desk.specs.DeskFile.{head_of}
 use Rattle.itip_desk.specs.declared.file_text.FileHead.{FileHead}
 use Rattle.itip_desk.proofs.FileWriting.{Completes, none_compared, one_compared, none_same, all_compared, file_where}

@@ -1,4 +1,4 @@
-use Rattle.std.proofs.Common.{arith, ◌++◌, take}
+use Rattle.std.proofs.Common.{arith, ◌++◌, take, []}
 use Rattle.std.proofs.KnownBytes.{Consumes-nil, Consumes-trans}
 use Rattle.itip_streams.proofs.LineReading.{none_read, fewer_passed, all_passed}
 use Rattle.itip_streams.proofs.input.pass_octets.Goals as goal

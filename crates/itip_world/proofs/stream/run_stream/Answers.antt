@@ -1,4 +1,4 @@
-use Rattle.std.proofs.Common.{subst}
+use Rattle.std.proofs.Common.{subst, refl, ◌∙◌}
 use Rattle.itip_view.specs.declared.window.Window.{Window}
 use Rattle.itip_world.specs.Serving.{ServesOne, ServesFront}
 use Rattle.itip_world.proofs.Runnings.{on_err}

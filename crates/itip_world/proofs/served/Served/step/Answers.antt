@@ -1,6 +1,6 @@
 use Rattle.itip_world.proofs.Runnings.{on_err}
 use Rattle.itip_streams.proofs.Writing.{front_none}
-use Rattle.std.proofs.Common.{inl}
+use Rattle.std.proofs.Common.{inl, refl, []}
 use Rattle.itip_world.proofs.Streaming.{nothing_read, serves_one, serves_front}
 use Rattle.itip_world.proofs.served.Served.step.Goals as goal
 
