@@ -103,13 +103,13 @@ impl Desk {
     /// Refused when out of memory.
     pub(crate) fn of_parts(
         alloc: Global,
-        tick: u64,
+        last: u64,
         items: &Batch,
         moves: Vec<(Uid, u64)>,
     ) -> Result<Desk, AllocError>
-        requires { AreMovesTo tick moves.items }
+        requires { AreMovesTo last moves.items }
         ensures kept { IfOk result (λ desk. AreKept desk.kept items.now) }
-        ensures tick { IfOk result (λ desk. desk.tick ≡ tick) }
+        ensures tick { IfOk result (λ desk. desk.tick ≡ last) }
         ensures changed { IfOk result (λ desk. CarriesLast moves.items desk.changed) }
     {
         let moves = MovedUids::of_moves(alloc, moves)?;
@@ -118,7 +118,7 @@ impl Desk {
         kept.hear(each.as_slice())?;
         Ok(Desk {
             kept,
-            tick,
+            tick: last,
             moves,
             alloc,
         })
