@@ -1,11 +1,18 @@
-use Rattle.std.proofs.Common.{arith}
+use Rattle.std.proofs.Common.{ℕ, ◌<◌, arith}
 use Rattle.std.proofs.lemmas.Result.{IfOk-weaker}
+use Rattle.itip_script.specs.Stream.{ReadsBody, body_of}
+use Rattle.itip_script.specs.declared.body.Body.{Body}
 use Rattle.itip_script.proofs.Wishes.{short_body, whole_body}
 use Rattle.itip_script.proofs.body.read_body.Goals as goal
 
 pub returns-then-octets-clause-reads : goal.returns-then-octets-clause-reads
 returns-then-octets-clause-reads g c =
-    IfOk-weaker c.pass_body.result _ _ (λ body reads. reads c.args.limit (omega arith)) c.pass_body.ensures.reads
+    let old = g.R.Read.remaining c.args.reader.now in
+    let new = g.R.Read.remaining c.pass_body.new.reader in
+    IfOk-weaker c.pass_body.result
+    (λ (body : Body). (limit : ℕ) → limit < c.args.octets → ReadsBody limit c.args.octets old new (body_of body))
+    (λ (body : Body). ReadsBody c.args.limit c.args.octets old new (body_of body)) (λ body reads. reads c.args.limit (omega arith))
+    c.pass_body.ensures.reads
 
 pub returns-in-Some-clause-reads : goal.returns-in-Some-clause-reads
 returns-in-Some-clause-reads g c =
