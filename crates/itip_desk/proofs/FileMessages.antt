@@ -118,7 +118,8 @@ product_size (Some head) is =
 
 version_size : (head : Option FileHead) (at : ℕ) → IfSome head IsHead → at < 2 ^ 64 → length (version_parameters head at) ≤ 57
 version_size None at is small =
-    let moved : length (parameter_text (codes ";X-MOVED=") at) ≤ 9 + 20 = parameter_size (codes ";X-MOVED=") at small in omega (arith, moved)
+    let moved : length (parameter_text (codes ";X-MOVED=") at) ≤ 9 + 20 = parameter_size (codes ";X-MOVED=") at small in omega
+    (arith, moved)
 version_size (Some head) at is small =
     let tick : length (parameter_text (codes ";X-TICK=") head.tick) ≤ 8 + 20 = parameter_size (codes ";X-TICK=") head.tick is.tick in
     let moved : length (parameter_text (codes ";X-MOVED=") at) ≤ 9 + 20 = parameter_size (codes ";X-MOVED=") at small in
@@ -183,7 +184,8 @@ in_row b p q v r t = simp append_assoc
 
 -- the lines behind VERSION
 abbrev tail_of : Item → List ℕ
-tail_of item = contents_octets (method_line item.kind ∷ (bare (codes "BEGIN") (codes "VTODO") ∷ (parts_contents (parts_of item.todo) ++ ends)))
+tail_of item = contents_octets (method_line item.kind ∷ (bare (codes "BEGIN")
+    (codes "VTODO") ∷ (parts_contents (parts_of item.todo) ++ ends)))
 
 tail_is : (item : Item) → drop 57 item.bytes ≡ tail_of item
 tail_is item = ap (drop 57) (bytes_are item)
@@ -247,7 +249,8 @@ module _ (head : Option FileHead) (at : ℕ) (item : Item) (is : IfSome head IsH
         each_param = product_each head is;
         octets = base.octets;
         utf8 = base.utf8;
-        short = subst (λ (t : List ℕ). length (codes "PRODID" ++ (t ++ codes ":-//itipdesk//1//EN")) ≤ 65536) (sym (product_text_is head is))
+        short = subst (λ (t : List ℕ). length (codes "PRODID" ++ (t ++ codes ":-//itipdesk//1//EN")) ≤ 65536)
+            (sym (product_text_is head is))
             (omega (
               arith,
               short,

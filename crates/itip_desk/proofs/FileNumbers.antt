@@ -10,7 +10,8 @@ use Rattle.std.specs.Str.{IsUtf8}
 use Rattle.std.specs.Str.Parse.{ParsesUnsigned}
 use Rattle.std.proofs.lemmas.Bool.{and_parts}
 use Rattle.std.proofs.lemmas.Bool.Decides.{nat_tests}
-use Rattle.std.proofs.lemmas.Fmt.{IsAscii-from_digits, decimal_by_steps, decimal_nonempty, digits_decimal, digits_value-decimal, length-decimal-le}
+use Rattle.std.proofs.lemmas.Fmt.{IsAscii-from_digits, decimal_by_steps, decimal_nonempty, digits_decimal}
+use Rattle.std.proofs.lemmas.Fmt.{digits_value-decimal, length-decimal-le}
 use Rattle.std.proofs.lemmas.List.{append_cancel_left, length-append, length-take-le, take_at}
 use Rattle.std.proofs.lemmas.List.Folds.{list_all-append, list_any-append}
 use Rattle.std.proofs.lemmas.Str.{IsUtf8-from_ascii}
@@ -77,7 +78,8 @@ all_before (b ∷ digits) after all stops =
     ap (λ (t : Bool). cond t (suc (digits_before (digits ++ after))) 0) p.0 ∙ ap suc (all_before digits after p.1 stops)
 
 -- what is written of a number is one, where no digit follows
-pub has_number : (name after : List ℕ) (n : ℕ) → n < 2 ^ 64 → digits_before after ≡ 0 → HasNumber (name ++ (decimal n ++ after)) name n after
+pub has_number : (name after : List ℕ) (n : ℕ) → n < 2 ^ 64 → digits_before after ≡ 0 → HasNumber (name ++ (decimal n ++ after)) name n
+    after
 has_number name after n fits stops = record {
   digits = decimal n;
   whole = refl;
@@ -162,7 +164,8 @@ taken_digits (b ∷ octets) =
 pub number_made : (octets name value : List ℕ) (number : ℕ) → octets ≡ name ++ value →
     IsValue (take (digits_before value) value) number → HasNumber octets name number (drop (digits_before value) value)
 number_made octets name value number whole is =
-    let parts : take (digits_before value) value ++ drop (digits_before value) value ≡ value = take-append-drop (digits_before value) value in
+    let parts : take (digits_before value) value ++ drop (digits_before value) value ≡ value = take-append-drop (digits_before value)
+    value in
     record {
       digits = take (digits_before value) value;
       whole = whole ∙ ap (λ (t : List ℕ). name ++ t) (sym parts);
@@ -260,7 +263,8 @@ digits_at (b ∷ octets) (suc at) within each stops =
     ap suc (digits_at octets at (omega arith) (λ k below. each (suc k) (omega arith)) stops)
     ∙ sym (ap (λ (t : Bool). cond t (suc (digits_before octets)) 0) (each 0 (omega arith)))
 
-pub all_digits : (octets : List ℕ) → ((k : ℕ) → k < length octets → is_digit (get_or octets k 0) ≡ true) → length octets ≡ digits_before octets
+pub all_digits : (octets : List ℕ) → ((k : ℕ) → k < length octets → is_digit (get_or octets k 0) ≡ true) → length octets ≡ digits_before
+    octets
 all_digits [] each = refl
 all_digits (b ∷ octets) each =
     ap suc (all_digits octets (λ k below. each (suc k) (omega arith)))

@@ -95,7 +95,8 @@ pub tick_passed : (head : Option FileHead) → IfSome head IsHead → (at : ℕ)
     → a ≡ codes ";X-MOVED=" ++ (decimal at ++ (version_end ++ drop 57 bytes))
 tick_passed None is at bytes a tick =
     let t : List ℕ = decimal at ++ (version_end ++ drop 57 bytes) in
-    (behind_same (behind_product None at bytes) (codes ";X-MOVED=" ++ t) (codes ";X-TICK=") a (version_flat_none at bytes) tick).none (no_tick t)
+    (behind_same (behind_product None at bytes) (codes ";X-MOVED=" ++ t) (codes ";X-TICK=") a (version_flat_none at bytes) tick).none
+    (no_tick t)
 tick_passed (Some head) is at bytes a tick =
     let rest : List ℕ = codes ";X-MOVED=" ++ (decimal at ++ (version_end ++ drop 57 bytes)) in
     behind_written (codes ";X-TICK=") rest a head.tick is.tick refl
@@ -138,7 +139,8 @@ no_list x e = cc
 pub none_follows : (text : List ℕ) → FollowsProduct text None → TellsMove text None
 none_follows text follows head at bytes fits is same = absurd (no_list (behind_product head at bytes) (follows head at bytes is same))
 
-module _ (text parameters a : List ℕ) (follows : FollowsProduct text (Some parameters)) (tick : IsBehind parameters (codes ";X-TICK=") a) where
+module _ (text parameters a : List ℕ) (follows : FollowsProduct text (Some parameters))
+    (tick : IsBehind parameters (codes ";X-TICK=") a) where
   moved_there : (head : Option FileHead) (at : ℕ) (bytes : List ℕ) → at < 2 ^ 64 → IfSome head IsHead → text ≡ message_text head at bytes →
       HasNumber a (codes ";X-MOVED=") at (version_end ++ drop 57 bytes)
   moved_there head at bytes fits is same =
@@ -260,7 +262,8 @@ moved_once (Some h) a x fits is None b y less are same =
 
 pub form_of_first : (octets : List ℕ) (head : FileHead) (at : ℕ) (bytes rest : List ℕ) →
     octets ≡ message_text (Some head) at bytes ++ rest →
-    HasNumber octets (begins_text ++ codes ";X-FORM=") 1 (first_text head.items head.tick (decimal at ++ (version_end ++ (drop 57 bytes ++ rest))))
+    HasNumber octets (begins_text ++ codes ";X-FORM=") 1 (first_text head.items head.tick
+    (decimal at ++ (version_end ++ (drop 57 bytes ++ rest))))
 form_of_first octets head at bytes rest same =
     let after : List ℕ = first_text head.items head.tick (decimal at ++ (version_end ++ (drop 57 bytes ++ rest))) in
     let h = has_number (begins_text ++ codes ";X-FORM=") after 1 one_fits refl in
@@ -275,7 +278,8 @@ form_of_first octets head at bytes rest same =
     record { digits = h.digits; whole = whole ∙ h.whole; all = h.all; some = h.some; value = h.value; fits = h.fits }
 
 -- what follows them, found or not
-pub follows_by : (text parameters a b : List ℕ) (begins : text ≡ begins_text ++ parameters) (form : IsBehind parameters (codes ";X-FORM=") a)
+pub follows_by : (text parameters a b : List ℕ) (begins : text ≡ begins_text ++ parameters)
+    (form : IsBehind parameters (codes ";X-FORM=") a)
     (items : IsBehind a (codes ";X-ITEMS=") b) (found : Option (Bor (List ℕ))) → IfSome found (λ after. b ≡ between ++ after.now) →
     IfNone found ((after : List ℕ) → b ≡ between ++ after → ⊥) → FollowsProduct text (option_copied found)
 follows_by text parameters a b begins form items None some none = none_product text parameters a b begins form items none

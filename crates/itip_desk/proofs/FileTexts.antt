@@ -114,7 +114,8 @@ module _ (octets : List ℕ) (desk : Shown) (tells : TellsDesk octets desk) wher
       file_cut desk.changed fit (head_of desk.tick tells.file.items) is_head tells.file.items
 
   -- when the UID of a kept item moved
-  pub told_move : (item : Item) → Contains tells.file.items item → (0 < moved_at desk.changed item) × (moved_at desk.changed item ≤ desk.tick)
+  pub told_move : (item : Item) → Contains tells.file.items item → (0 < moved_at desk.changed item) ×
+      (moved_at desk.changed item ≤ desk.tick)
   told_move item there =
       let kept : Contains desk.kept item = (tells.file.items_are.same item).0 there in
       let moved = tells.told.moved item kept in
@@ -218,7 +219,8 @@ module _ (octets : List ℕ) (desk : Shown) (tells : TellsDesk octets desk) wher
     | inr begins ↦
         let head : FileHead = record { items = length tells.file.items; tick = desk.tick } in
         other.2 (one_number octets (begins_text ++ codes ";X-FORM=") other.0 1 other.1.after
-        (first_text head.items head.tick (decimal (moved_at desk.changed begins.0) ++ (version_end ++ (drop 57 begins.0.bytes ++ begins.1))))
+        (first_text head.items head.tick (decimal (moved_at desk.changed begins.0) ++
+        (version_end ++ (drop 57 begins.0.bytes ++ begins.1))))
         other.1.named
         (form_of_first octets head (moved_at desk.changed begins.0) begins.0.bytes begins.1 begins.2)).0
   ]
@@ -256,12 +258,15 @@ all_read octets rest parts so_far tick none = record {
 }
 
 -- a message that is none of a file refuses it
-pub refuses_part : (octets rest message after : List ℕ) (tick : ℕ) (items : List Item) (moves : Carried) → FileSoFar octets rest tick items moves →
-    TellsTick octets tick → CutsMessage rest message after → IsNoPart tick message → (number : Option ℕ) → RefusesFile octets (Broken number)
+pub refuses_part : (octets rest message after : List ℕ) (tick : ℕ) (items : List Item) (moves : Carried) → FileSoFar octets rest tick
+    items moves →
+    TellsTick octets tick → CutsMessage rest message after → IsNoPart tick message → (number : Option ℕ) → RefusesFile octets
+    (Broken number)
 refuses_part octets rest message after tick items moves so_far told cut not number = (
   told.this_form,
   λ desk tells. no_part octets desk tells message
-      (so_far.there message (subst (λ (ts : List (List ℕ)). Contains ts message) (sym cut.messages) (cons_first message (messages_of after))))
+      (so_far.there message (subst (λ (ts : List (List ℕ)). Contains ts message) (sym cut.messages)
+      (cons_first message (messages_of after))))
       (subst (λ (t : ℕ). IsNoPart t message) (tick_told octets desk tells tick told) not),
 )
 
@@ -353,12 +358,15 @@ module _ (octets : List ℕ) (parts : FileParts) (desk : Shown) (reads : ReadsFi
       let kept : AreKept desk.kept items = subst (λ (is : List Item). AreKept desk.kept is) are.0 made.kept in
       let settled : AreKept other.kept other.kept = tells.told.settled in
       let same : SameItems items desk.kept = λ item. (
-        λ h. (kept item).1 (kept_of items other.kept tells.file.items_are.same item ((settled item).0 ((tells.file.items_are.same item).0 h))),
-        λ h. (tells.file.items_are.same item).1 ((settled item).1 (kept_to items other.kept tells.file.items_are.same item ((kept item).0 h))),
+        λ h. (kept item).1 (kept_of items other.kept tells.file.items_are.same item
+            ((settled item).0 ((tells.file.items_are.same item).0 h))),
+        λ h. (tells.file.items_are.same item).1 ((settled item).1 (kept_to items other.kept tells.file.items_are.same item
+            ((kept item).0 h))),
       ) in
       let moved : (item : Item) → Contains items item → moved_at other.changed item ≡ moved_at desk.changed item =
       λ item h. sym (ap (λ (o : Option ℕ). unwrap_or o 0)
-      (made.changed (uid_of item.key) ∙ ap (λ (ms : Carried). last_move ms (uid_of item.key)) are.1 ∙ last_is other.changed items item h)) in
+      (made.changed (uid_of item.key) ∙ ap (λ (ms : Carried). last_move ms (uid_of item.key)) are.1 ∙ last_is other.changed items item
+      h)) in
       record {
         items = items;
         items_are = record { ascend = tells.file.items_are.ascend; same = same };
@@ -466,7 +474,8 @@ module _ (octets : List ℕ) (a b : Shown) (tells : TellsDesk octets a) (also : 
       not_empty : {head : Option FileHead} {at : ℕ} {bytes rest : List ℕ} → [] ≡ message_text head at bytes ++ rest → ⊥
       not_empty e = cc
 
-  moved_alike : (x y : Shown) (is_told : IsTold x) (are_told : IsTold y) (items : List Item) → SameItems items x.kept → SameItems items y.kept →
+  moved_alike : (x y : Shown) (is_told : IsTold x) (are_told : IsTold y) (items : List Item) → SameItems items x.kept → SameItems items
+      y.kept →
       file_moves x.changed items ≡ file_moves y.changed items → (uid : List ℕ) (tick : ℕ) → tick_at x.changed uid ≡ Some tick →
       tick_at y.changed uid ≡ Some tick
   moved_alike x y is_told are_told items of_x of_y same uid tick at =
@@ -499,12 +508,14 @@ module _ (octets : List ℕ) (a b : Shown) (tells : TellsDesk octets a) (also : 
       at (Some t) p is are =
           is ∙ sym (moved_alike a b tells.told also.told tells.file.items tells.file.items_are.same of_b moves uid t is)
       at None (Some t) is are =
-          absurd (none_some t (sym is ∙ moved_alike b a also.told tells.told tells.file.items of_b tells.file.items_are.same (sym moves) uid t are))
+          absurd (none_some t (sym is ∙ moved_alike b a also.told tells.told tells.file.items of_b tells.file.items_are.same (sym moves)
+          uid t are))
 
   pub alike : AreAlike a b
   alike = record {
     kept = λ item. (
-      λ h. (also.file.items_are.same item).0 (subst (λ (is : List Item). Contains is item) one_items ((tells.file.items_are.same item).1 h)),
+      λ h. (also.file.items_are.same item).0 (subst (λ (is : List Item). Contains is item) one_items
+          ((tells.file.items_are.same item).1 h)),
       λ h. (tells.file.items_are.same item).0 (subst (λ (is : List Item). Contains is item) (sym one_items)
           ((also.file.items_are.same item).1 h)),
     );

@@ -1,5 +1,6 @@
 -- The file of a desk, written and compared a message at a time.
-use Rattle.std.proofs.Common.{◌≡◌, ◌∙◌, sym, ap, refl, subst, ℕ, ◌+◌, ◌<◌, ◌≤◌, ◌^◌, List, [], ◌++◌, length, get_or, drop, append_assoc, append-nil}
+use Rattle.std.proofs.Common.{◌≡◌, ◌∙◌, sym, ap, refl, subst, ℕ, ◌+◌, ◌<◌, ◌≤◌, ◌^◌, List}
+use Rattle.std.proofs.Common.{[], ◌++◌, length, get_or, drop, append_assoc, append-nil}
 use Rattle.std.proofs.Common.{Option, Some, None, Result, Ok, Err, OnErr, ◌↔◌}
 use Rattle.std.proofs.lemmas.List.{append_cancel_left, at_drop_more, at_drop_all}
 use Rattle.itip_items.specs.declared.item.Item.{Item}
@@ -68,7 +69,8 @@ module _ (changed : Carried) (first head : Option FileHead) (items : List Item) 
   pub written_all : length items ≤ i → (new : Option (List ℕ)) → Appends mid new kept → Appends old new (messages_text changed first items)
   written_all past new appended =
       subst (λ (t : List ℕ). Appends old new t)
-      (sym (append-nil so_far.done) ∙ ap (λ (t : List ℕ). so_far.done ++ t) (sym (no_message_left changed items i head past)) ∙ so_far.whole)
+      (sym (append-nil so_far.done) ∙ ap (λ (t : List ℕ). so_far.done ++ t) (sym (no_message_left changed items i head past))
+      ∙ so_far.whole)
       (all_moved old mid so_far.done kept so_far.moved new appended)
 
   module _ (item : Item) (within : i < length items) (is : item ≡ get_or items i item) (grown : List ℕ)
@@ -110,7 +112,8 @@ module _ (changed : Carried) (first head : Option FileHead) (items : List Item) 
     pub one_compared : (after : List ℕ) → rest ≡ message_text head (moved_at changed item) item.bytes ++ after →
         Completes changed first None items (i + 1) octets after
     one_compared after cut = (
-      λ same. append_cancel_left (message_text head (moved_at changed item) item.bytes) after (messages_text changed None (drop (i + 1) items))
+      λ same. append_cancel_left (message_text head (moved_at changed item) item.bytes) after
+          (messages_text changed None (drop (i + 1) items))
           (sym cut ∙ so_far.0 same ∙ next_message changed items i item within is head),
       λ same. so_far.1 (cut ∙ ap (λ (t : List ℕ). message_text head (moved_at changed item) item.bytes ++ t) same
           ∙ sym (next_message changed items i item within is head)),

@@ -1,5 +1,6 @@
 -- The last move of each UID, of moves in their order.
-use Rattle.std.proofs.Common.{◌≡◌, ◌∙◌, sym, ap, refl, subst, ℕ, ◌<◌, ◌≤◌, Bool, true, false, List, [], ◌∷◌, ◌++◌, append_assoc, append-nil, Option, Some, None}
+use Rattle.std.proofs.Common.{◌≡◌, ◌∙◌, sym, ap, refl, subst, ℕ, ◌<◌, ◌≤◌, Bool, true, false, List, []}
+use Rattle.std.proofs.Common.{◌∷◌, ◌++◌, append_assoc, append-nil, Option, Some, None}
 use Rattle.std.specs.Prelude.{cond, is_some}
 use Rattle.std.specs.List.{Contains, All}
 use Rattle.std.specs.Ordering.{is_eq}
@@ -35,7 +36,8 @@ last_more (move ∷ moves) u tick uid =
     (last_move (move ∷ moves) uid)) [ true ↦ refl | false ↦ refl ]
 
 -- it is one of the moves
-pub last_in : (moves : Carried) (uid : List ℕ) (tick : ℕ) → last_move moves uid ≡ Some tick → (u : List ℕ) × Contains moves (u, tick) × (u ≡ uid)
+pub last_in : (moves : Carried) (uid : List ℕ) (tick : ℕ) → last_move moves uid ≡ Some tick → (u : List ℕ) × Contains moves (u, tick) ×
+    (u ≡ uid)
 last_in [] uid tick e = absurd (none_some tick e)
 last_in (move ∷ moves) uid tick e = behind (last_move moves uid) refl e
   where

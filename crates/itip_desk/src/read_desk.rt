@@ -3,7 +3,8 @@ ghost use Rattle.std.specs.Prelude.{◌≡◌, ◌++◌, ◌<◌, ◌^◌, ℕ, 
 ghost use Rattle.std.specs.Option.{option_copied};
 ghost use Rattle.itip_desk.specs.Moves.{AreMovesTo};
 ghost use Rattle.itip_desk.specs.DeskFile.{TellsDesk, RefusesFile, IfFileRefused, HasNumber, begins_text};
-ghost use Rattle.itip_desk.specs.FileReading.{ReadsFile, AddsPart, IsNoPart, IsDeskOfParts, TellsTick, TellsMove, FollowsProduct, first_text, moves_at};
+ghost use Rattle.itip_desk.specs.FileReading.{ReadsFile, AddsPart, IsNoPart, IsDeskOfParts, TellsTick, TellsMove, FollowsProduct};
+ghost use Rattle.itip_desk.specs.FileReading.{first_text, moves_at};
 
 use crate::batch::Batch;
 use crate::desk::Desk;

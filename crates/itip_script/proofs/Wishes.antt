@@ -1,5 +1,6 @@
 -- A line of a stream gives the wish that it spells, and the octets behind it that belong to it.
-use Rattle.std.proofs.Common.{◌≡◌, ◌∙◌, sym, ap, refl, ℕ, ◌<◌, ◌≤◌, Bool, true, false, cond, eqb, nat_lt, List, [], length, take, take_all, arith}
+use Rattle.std.proofs.Common.{◌≡◌, ◌∙◌, sym, ap, refl, ℕ, ◌<◌, ◌≤◌, Bool, true, false, cond, eqb}
+use Rattle.std.proofs.Common.{nat_lt, List, [], length, take, take_all, arith}
 use Rattle.std.proofs.Common.{Option, Some, None, inl, inr}
 use Rattle.std.specs.Prelude.{option_map, unwrap_or}
 use Rattle.std.proofs.lemmas.Bool.{lt-ltb, le-ltb}
@@ -76,7 +77,8 @@ module _ (limit count : ℕ) (old new : Option (List ℕ)) where
   short_body reads =
       record { octets = reads.octets; consumed = reads.consumed; came_is = sym (few_came reads.octets reads.are.0); all = inr reads.are }
 
-  pub whole_body : (octets : List ℕ) → count ≤ limit → ReadsOctets count old new (Some octets) → ReadsBody limit count old new (whole octets)
+  pub whole_body : (octets : List ℕ) → count ≤ limit → ReadsOctets count old new (Some octets) → ReadsBody limit count old new
+      (whole octets)
   whole_body octets within reads =
       let is : octets ≡ reads.octets = reads.are.0 in
       let all : length reads.octets ≡ count = reads.are.1 in

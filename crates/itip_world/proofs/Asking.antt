@@ -26,7 +26,8 @@ two_only : (make : ℕ → ℕ → Wish) (arguments : List ℕ) → ((a b : ℕ)
 two_only make arguments each =
     some_bound AsksOnly (number_of (before_space arguments))
     (λ (first : ℕ). number_of (after_space arguments) >>= λ (second : ℕ). Some (make first second))
-    (λ first. some_bound AsksOnly (number_of (after_space arguments)) (λ (second : ℕ). Some (make first second)) (λ second. each first second))
+    (λ first. some_bound AsksOnly (number_of (after_space arguments)) (λ (second : ℕ). Some (make first second))
+    (λ second. each first second))
 
 saving_only : (arguments : List ℕ) → IfSome (saving arguments) AsksOnly
 saving_only arguments =
@@ -42,8 +43,10 @@ desk_only make arguments each =
     (some_bound OnlyAsks (number_of arguments) (λ (desk : ℕ). Some (make desk)) each)
 
 -- of a desk, with what stands behind it
-with_only : {A : Type 0} (make : ℕ → A → Order) (read : List ℕ → Option A) (arguments : List ℕ) → ((desk : ℕ) (a : A) → OnlyAsks (make desk a)) →
-    IfSome (option_map asks (number_of (before_space arguments) >>= λ (desk : ℕ). read (after_space arguments) >>= λ (a : A). Some (make desk a)))
+with_only : {A : Type 0} (make : ℕ → A → Order) (read : List ℕ → Option A) (arguments : List ℕ) →
+    ((desk : ℕ) (a : A) → OnlyAsks (make desk a)) →
+    IfSome (option_map asks (number_of (before_space arguments) >>= λ (desk : ℕ). read (after_space arguments) >>= λ (a : A). Some
+    (make desk a)))
     AsksOnly
 with_only {A} make read arguments each =
     asked_only (number_of (before_space arguments) >>= λ (desk : ℕ). read (after_space arguments) >>= λ (a : A). Some (make desk a))

@@ -75,7 +75,8 @@ pub record LooksSo (window : Window) (desks : List Shown) (order : Order) (most 
   pub text_is : answer_text answer ≡ text
   pub refusal_is : option_map (λ (m : MostRows). refusal.TooManyRows) most ≡ refusal_of answer
 
-module _ (window : Window) (desks : List Shown) (desk : ℕ) (shown : Shown) (at : slice_get desks desk ≡ Some shown) (asked : RowsByUid) where
+module _ (window : Window) (desks : List Shown) (desk : ℕ) (shown : Shown) (at : slice_get desks desk ≡ Some shown)
+    (asked : RowsByUid) where
   pub look_list : AreAsked (λ (row : Row). Unit {0}) shown.kept window asked → (most : Option MostRows) (text : List ℕ) →
       IsHeadedList (codes "list") desk asked most text → LooksSo window desks (lists desk) most text
   look_list are None text is = record {

@@ -1,5 +1,6 @@
 -- What a stream answers where octets are brought to a desk.
-use Rattle.std.proofs.Common.{◌≡◌, ◌≢◌, ◌∙◌, sym, ap, refl, subst, ℕ, zero, suc, ◌<◌, ◌≤◌, List, [], ◌∷◌, length, Some, Result, Ok, Err, inl, inr, arith}
+use Rattle.std.proofs.Common.{◌≡◌, ◌≢◌, ◌∙◌, sym, ap, refl, subst, ℕ, zero, suc, ◌<◌, ◌≤◌, List, [], ◌∷◌}
+use Rattle.std.proofs.Common.{length, Some, Result, Ok, Err, inl, inr, arith}
 use Rattle.std.specs.Prelude.{slice_get, slice_set, IfOk, OnOk}
 use Rattle.itip_view.specs.declared.window.Window.{Window}
 use Rattle.itip_items.specs.declared.item.Item.{Item}
@@ -60,7 +61,8 @@ module _ (old : List Shown) (desk : ℕ) (window : Window) where
   long_taken given (inl (within, is)) =
       subst (λ (a : Answer). Serves window old (take desk too_long) (Some a) old) (sym is) (long_take desk within)
   long_taken given (inr (missing, is)) =
-      subst (λ (a : Answer). Serves window old (take desk too_long) (Some a) old) (sym is) (takes_nowhere desk too_long long_is_read missing)
+      subst (λ (a : Answer). Serves window old (take desk too_long) (Some a) old) (sym is)
+      (takes_nowhere desk too_long long_is_read missing)
 
   pub long_arrived : (given : Answer) → RefusesAt old desk LongDelta given → Serves window old (arrive desk too_long) (Some given) old
   long_arrived given (inl (within, is)) =
@@ -69,7 +71,8 @@ module _ (old : List Shown) (desk : ℕ) (window : Window) where
       subst (λ (a : Answer). Serves window old (arrive desk too_long) (Some a) old) (sym is)
       (arrives_nowhere desk too_long long_is_read missing)
 
-  pub taken_nowhere : (octets : List ℕ) → length old ≤ desk → Serves window old (take desk (whole octets)) (Some (refused (NoDesk desk))) old
+  pub taken_nowhere : (octets : List ℕ) → length old ≤ desk → Serves window old (take desk (whole octets))
+      (Some (refused (NoDesk desk))) old
   taken_nowhere octets missing = takes_nowhere desk (whole octets) (whole_is_read octets) missing
 
   pub arrived_nowhere : (octets : List ℕ) → length old ≤ desk →

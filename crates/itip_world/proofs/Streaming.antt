@@ -1,5 +1,6 @@
 -- A stream of commands: one command, and one after another.
-use Rattle.std.proofs.Common.{◌≡◌, ◌∙◌, sym, ap, refl, subst, ℕ, ◌<◌, ◌≤◌, Bool, true, false, cond, ◌||◌, List, [], ◌∷◌, ◌++◌, length, arith}
+use Rattle.std.proofs.Common.{◌≡◌, ◌∙◌, sym, ap, refl, subst, ℕ, ◌<◌, ◌≤◌, Bool, true, false, cond}
+use Rattle.std.proofs.Common.{◌||◌, List, [], ◌∷◌, ◌++◌, length, arith}
 use Rattle.std.proofs.Common.{append-nil, inl, inr, Option, Some, None, lt-ltb, le-ltb}
 use Rattle.std.specs.Prelude.{is_some, ◌⊎◌}
 use Rattle.std.specs.Io.KnownBytes.{Appends, Consumes, Keeps}
@@ -179,7 +180,8 @@ stream_begins window desks input output =
 
 module _ (window : Window) (desks now : List Shown) (input mid output so : Option (List ℕ)) (refusal : Bool)
     (so_far : StreamSoFar window desks now input mid output so refusal) where
-  pub one_more : (new : List Shown) (left written : Option (List ℕ)) (refused : Bool) → ServesOne window now new mid left so written refused →
+  pub one_more : (new : List Shown) (left written : Option (List ℕ)) (refused : Bool) → ServesOne window now new mid left so written
+      refused →
       StreamSoFar window desks new input left output written (refusal || refused)
   one_more new left written refused serves = record {
     served = so_far.served ++ serves.one ∷ [];

@@ -7,7 +7,8 @@ use Rattle.itip_view.specs.declared.window.Window.{Window}
 use Rattle.itip_desk.specs.Desk.{Shown}
 use Rattle.itip_desk.specs.declared.refusal.Refusal.TheVariants.{NoCommand}
 use Rattle.itip_script.specs.Orders.{Order}
-use Rattle.itip_script.specs.Stream.{Wish, takes, arrives, asks, malformed, empty, Brought, message_limit, delta_limit, body_length, ReadsBody}
+use Rattle.itip_script.specs.Stream.{Wish, takes, arrives, asks, malformed, empty, Brought}
+use Rattle.itip_script.specs.Stream.{message_limit, delta_limit, body_length, ReadsBody}
 use Rattle.itip_state.proofs.Members.{if_ok_then}
 use Rattle.itip_streams.specs.Parts.{PassesOctets}
 use Rattle.itip_streams.specs.Written.{MovesOut}
@@ -40,7 +41,8 @@ passed_behind octets input left false passes = record { consumed = passes.consum
 module _ (window : Window) (old : List Shown) (output : Option (List ℕ)) (kept : List ℕ) where
   -- an answer is behind what is kept, and nothing was written
   pub tells_told : (wish : Wish) (new : List Shown) (input left : Option (List ℕ)) (behind : List ℕ) → ReadsBehind wish input left behind →
-      (answer : Answer) → Serves window old (serving_of wish behind) (Some answer) new → (rest : List ℕ) (r : Result (Option RefusedAs) StreamFault)
+      (answer : Answer) → Serves window old (serving_of wish behind) (Some answer) new → (rest : List ℕ)
+      (r : Result (Option RefusedAs) StreamFault)
       → IfOk r (IsTold answer kept rest) → IfOk r (Tells window wish old new input left output output kept rest)
   tells_told wish new input left behind reads answer serves rest r is =
       if_ok_then (IsTold answer kept rest) (Tells window wish old new input left output output kept rest) r
@@ -58,7 +60,8 @@ module _ (window : Window) (old : List Shown) (output : Option (List ℕ)) (kept
       (rest : List ℕ) (r : Result (Option RefusedAs) StreamFault) → IfOk r (IsTold answer kept rest) →
       IfOk r (Tells window (takes desk octets) old new input left output output kept rest)
   tells_taken desk octets new input left came reads answer serves rest r is =
-      tells_told (takes desk octets) new input left reads.octets (body_behind (takes desk octets) message_limit octets input left came refl reads)
+      tells_told (takes desk octets) new input left reads.octets (body_behind (takes desk octets) message_limit octets input left came
+      refl reads)
       answer (subst (λ (b : Brought). Serves window old (take desk b) (Some answer) new) reads.came_is serves) rest r is
 
   pub tells_arrived : (desk octets : ℕ) (new : List Shown) (input left : Option (List ℕ)) (came : Brought) →
@@ -66,14 +69,16 @@ module _ (window : Window) (old : List Shown) (output : Option (List ℕ)) (kept
       (rest : List ℕ) (r : Result (Option RefusedAs) StreamFault) → IfOk r (IsTold answer kept rest) →
       IfOk r (Tells window (arrives desk octets) old new input left output output kept rest)
   tells_arrived desk octets new input left came reads answer serves rest r is =
-      tells_told (arrives desk octets) new input left reads.octets (body_behind (arrives desk octets) delta_limit octets input left came refl reads)
+      tells_told (arrives desk octets) new input left reads.octets (body_behind (arrives desk octets) delta_limit octets input left came
+      refl reads)
       answer (subst (λ (b : Brought). Serves window old (arrive desk b) (Some answer) new) reads.came_is serves) rest r is
 
   pub tells_no_command : (octets : ℕ) (input left : Option (List ℕ)) (all : Bool) → PassesOctets octets input left all →
       (rest : List ℕ) (r : Result (Option RefusedAs) StreamFault) → IfOk r (IsTold (refused NoCommand) kept rest) →
       IfOk r (Tells window (malformed octets) old old input left output output kept rest)
   tells_no_command octets input left all passes rest r is =
-      tells_told (malformed octets) old input left passes.octets (passed_behind octets input left all passes) (refused NoCommand) knows_nothing
+      tells_told (malformed octets) old input left passes.octets (passed_behind octets input left all passes) (refused NoCommand)
+      knows_nothing
       rest r is
 
   pub tells_nothing : (input : Option (List ℕ)) → Tells window empty old old input input output output kept kept None
@@ -98,7 +103,8 @@ module _ (window : Window) (old : List Shown) (output : Option (List ℕ)) (kept
     refusal_is = look.refusal_is;
   }
 
-  pub front_of_question : (order : Order) (input written : Option (List ℕ)) → OnlyAsks order → LookFront window order old output written kept →
+  pub front_of_question : (order : Order) (input written : Option (List ℕ)) → OnlyAsks order → LookFront window order old output written
+      kept →
       TellsFront window (asks order) old input input output written kept
   front_of_question order input written only (inl front) = inl front
   front_of_question order input written only (inr (answer, looks, front)) =

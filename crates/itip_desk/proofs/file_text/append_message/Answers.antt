@@ -10,9 +10,11 @@ returns c =
     let product : List ℕ = product_text head in
     let version : List ℕ = version_text head c.args.moved in
     let bytes : c.as_slice-bytes.result.now ≡ c.args.item.now.bytes =
-    c.as_slice-bytes.ensures.value ∙ c.in_ok-append_to.ensures.ok ∙ ap (λ (t : List ℕ). t ++ c.args.item.now.bytes) c.new-canonical.ensures.items in
+    c.as_slice-bytes.ensures.value ∙ c.in_ok-append_to.ensures.ok ∙ ap (λ (t : List ℕ). t ++ c.args.item.now.bytes)
+    c.new-canonical.ensures.items in
     on_ok_then c.extend_from_slice.result (λ grown.
     grown ∙ ap (λ (t : List ℕ). t ++ _) (c.in_ok-append_version.ensures ∙ ap (λ (t : List ℕ). t ++ version) c.in_ok-append_product.ensures)
-    ∙ ap (λ (t : List ℕ). ((c.args.file.now.items ++ product) ++ version) ++ t) (drop_min 57 c.as_slice-bytes.result.now ∙ ap (drop 57) bytes)
+    ∙ ap (λ (t : List ℕ). ((c.args.file.now.items ++ product) ++ version) ++ t)
+    (drop_min 57 c.as_slice-bytes.result.now ∙ ap (drop 57) bytes)
     ∙ ap (λ (t : List ℕ). t ++ drop 57 c.args.item.now.bytes) (append_assoc c.args.file.now.items product version)
     ∙ append_assoc c.args.file.now.items (product ++ version) (drop 57 c.args.item.now.bytes)) c.extend_from_slice.ensures.ok

@@ -10,7 +10,8 @@ loop-message-init c = record {
   so_far =
       subst (λ (its : List Item). FileSoFar c.args.octets.now c.args.octets.now c.in_ok-tick.tick its c.new-moves.result.items)
       (sym c.new-items.ensures.items)
-      (subst (λ (ms : List (List ℕ × ℕ)). FileSoFar c.args.octets.now c.args.octets.now c.in_ok-tick.tick [] ms) (sym c.new-moves.ensures.items)
+      (subst (λ (ms : List (List ℕ × ℕ)). FileSoFar c.args.octets.now c.args.octets.now c.in_ok-tick.tick [] ms)
+      (sym c.new-moves.ensures.items)
       (none_read c.args.octets.now c.in_ok-tick.tick));
   tick = c.in_ok-tick.ensures.found;
 }

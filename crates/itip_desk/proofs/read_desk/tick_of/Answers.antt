@@ -8,7 +8,8 @@ returns-then-is_empty-clause-found c = nothing_told_tick c.args.octets.now (no_o
 
 pub returns-in_default-clause-fault : goal.returns-in_default-clause-fault
 returns-in_default-clause-fault c =
-    rw c.broken.ensures (no_form_named c.args.octets.now (some_octets_if c.args.octets.now (search rules)) c.in_default.ensures.none (Some 1))
+    rw c.broken.ensures (no_form_named c.args.octets.now (some_octets_if c.args.octets.now (search rules)) c.in_default.ensures.none
+    (Some 1))
 
 pub returns-then-form-clause-fault : goal.returns-then-form-clause-fault
 returns-then-form-clause-fault c =

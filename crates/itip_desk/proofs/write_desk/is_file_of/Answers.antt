@@ -9,7 +9,8 @@ pub loop-item-init : goal.loop-item-init
 loop-item-init c =
     subst (λ (head : Option FileHead). Completes c.args.desk.now.changed (head_of c.args.desk.now.tick c.in_ok-items.items.items) head
     c.in_ok-items.items.items 0 c.args.octets.now c.args.octets.now) (sym c.head_of.ensures)
-    (none_compared c.args.desk.now.changed (head_of c.args.desk.now.tick c.in_ok-items.items.items) c.in_ok-items.items.items c.args.octets.now)
+    (none_compared c.args.desk.now.changed (head_of c.args.desk.now.tick c.in_ok-items.items.items) c.in_ok-items.items.items
+    c.args.octets.now)
 
 pub returns-in_default : goal.returns-in_default
 returns-in_default c =

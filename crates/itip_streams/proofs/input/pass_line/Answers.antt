@@ -8,7 +8,8 @@ pub returns-then-last-clause-passes : goal.returns-then-last-clause-passes
 returns-then-last-clause-passes g c = passed_whole _ _ _ _ c.loop.invariant c.if-last.true
 
 pub loop-preserved : goal.loop-preserved
-loop-preserved g c = passed_more _ _ _ _ c.loop.invariant c.if-last.false _ c.in-Some.octet (rw c.in-Some.is at c.in_ok-read_octet.ensures.reads)
+loop-preserved g c = passed_more _ _ _ _ c.loop.invariant c.if-last.false _ c.in-Some.octet
+    (rw c.in-Some.is at c.in_ok-read_octet.ensures.reads)
 
 pub returns-in-None-clause-passes : goal.returns-in-None-clause-passes
 returns-in-None-clause-passes g c =

@@ -15,7 +15,8 @@ pub returns-in_err-refused-clause-front : goal.returns-in_err-refused-clause-fro
 returns-in_err-refused-clause-front g c =
     on_err c.from_residual.result
     (stream_front _ _ _ _ _ _ _ _ c.loop.invariant.so_far _ _
-    (subst (λ (w : Window). ServesFront w c.loop.served.desks.items (g.R.Read.remaining c.loop.reader) (g.R.Read.remaining c.step.new.reader)
+    (subst (λ (w : Window). ServesFront w c.loop.served.desks.items (g.R.Read.remaining c.loop.reader)
+    (g.R.Read.remaining c.step.new.reader)
     (g.W.Write.contents c.loop.writer) (g.W.Write.contents c.step.new.writer)) c.loop.invariant.window c.in_err-refused.ensures.front))
 
 pub returns-in_default-clause-all : goal.returns-in_default-clause-all

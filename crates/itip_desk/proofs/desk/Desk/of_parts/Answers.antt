@@ -13,5 +13,6 @@ pub returns-clause-kept : goal.returns-clause-kept
 returns-clause-kept c =
     let each : map (λ item. item.now) c.as_slice-2.result.now ≡ c.args.items.now =
     ap (map (λ item. item.now)) c.as_slice-2.ensures.value ∙ c.in_ok-each.ensures ∙ c.as_slice.ensures.items in
-    subst (λ (heard : List Item). AreKept c.hear.new.self heard) (ap (λ (before : List Item). before ++ map (λ item. item.now) c.as_slice-2.result.now)
+    subst (λ (heard : List Item). AreKept c.hear.new.self heard) (ap (λ (before : List Item). before ++ map (λ item. item.now)
+    c.as_slice-2.result.now)
     c.empty-kept.ensures ∙ each) c.in_ok-hear.ensures.ok

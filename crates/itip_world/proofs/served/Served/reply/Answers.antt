@@ -66,7 +66,8 @@ returns-in_ok-post-clause-tells g c =
     let asked = c.args.self.now in
     let input = g.R.Read.remaining c.args.reader.now in
     let wish = posts c.in-Post.desk c.in-Post.since in
-    tells_told asked.window asked.desks.items (g.W.Write.contents c.args.writer.now) c.args.kept.now.items wish asked.desks.items input input
+    tells_told asked.window asked.desks.items (g.W.Write.contents c.args.writer.now) c.args.kept.now.items wish asked.desks.items input
+    input
     _ (none_behind wish input refl) (answer_of c.in_ok-post.field-0) (c.in_ok-post.ensures.serves asked.window)
     c.told-in-Post.new.kept.items c.told-in-Post.result c.told-in-Post.ensures.told
 
@@ -83,7 +84,8 @@ returns-in_ok-save-clause-tells g c =
     let asked = c.args.self.now in
     let input = g.R.Read.remaining c.args.reader.now in
     let wish = saves c.in-Save.desk c.in-Save.file.now in
-    tells_told asked.window asked.desks.items (g.W.Write.contents c.args.writer.now) c.args.kept.now.items wish asked.desks.items input input
+    tells_told asked.window asked.desks.items (g.W.Write.contents c.args.writer.now) c.args.kept.now.items wish asked.desks.items input
+    input
     _ (none_behind wish input refl) (answer_of c.in_ok-save.field-0) (c.in_ok-save.ensures.serves asked.window)
     c.told-in-Save.new.kept.items c.told-in-Save.result c.told-in-Save.ensures.told
 

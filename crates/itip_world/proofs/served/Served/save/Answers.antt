@@ -14,7 +14,8 @@ pub returns-in_default-2-clause-serves : goal.returns-in_default-2-clause-serves
 returns-in_default-2-clause-serves c = λ window.
     let there = subst (λ (desks : List Shown). slice_get desks c.args.desk ≡ Some c.in-Some.saved.now) c.look-look.ensures.desks
     c.in-Some.ensures in
-    rw c.unwritten.ensures (saves_none c.args.desk c.args.file.now (within_if c.args.self.now.desks.items c.args.desk c.in-Some.saved.now there))
+    rw c.unwritten.ensures (saves_none c.args.desk c.args.file.now (within_if c.args.self.now.desks.items c.args.desk
+    c.in-Some.saved.now there))
 
 pub returns-in-Ok-clause-serves : goal.returns-in-Ok-clause-serves
 returns-in-Ok-clause-serves c = λ window.
