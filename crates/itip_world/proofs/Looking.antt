@@ -116,7 +116,8 @@ module _ (window : Window) (desks : List Shown) (desk : ℕ) (shown : Shown) (at
 module _ (window : Window) (desks : List Shown) (order : Order) (word : List ℕ) (desk : ℕ) (asked : RowsByUid)
     (gives : (most : Option MostRows) (text : List ℕ) → IsHeadedList word desk asked most text → LooksSo window desks order most text)
     (old new : Option (List ℕ)) (kept : List ℕ) where
-  pub replies_list : (rest : List ℕ) (most : Option MostRows) (why : Option RefusedAs) → WritesListed word desk asked old new kept rest most →
+  pub replies_list : (rest : List ℕ) (most : Option MostRows) (why : Option RefusedAs) →
+      WritesListed word desk asked old new kept rest most →
       option_map (λ (r : RefusedAs). r.refusal) why ≡ option_map (λ (m : MostRows). refusal.TooManyRows) most
       → LookReplies window order desks old new kept rest why
   replies_list rest most why writes same =
