@@ -1,6 +1,7 @@
 use Rattle.itip_world.proofs.Runnings.{on_err}
 use Rattle.itip_streams.proofs.Writing.{front_none}
 use Rattle.std.proofs.Common.{inl, refl, []}
+use Rattle.std.proofs.KnownBytes.{Keeps-refl}
 use Rattle.itip_world.proofs.Streaming.{nothing_read, serves_one, serves_front}
 use Rattle.itip_world.proofs.served.Served.step.Goals as goal
 
@@ -11,7 +12,7 @@ pub returns-in_default-clause-end : goal.returns-in_default-clause-end
 returns-in_default-clause-end g c = record {
   still = refl;
   reads = nothing_read _ _ _ c.in_ok-found.ensures.reads (rw c.as_deref.ensures.value at c.in_default.ensures.asks);
-  kept = refl;
+  kept = Keeps-refl (g.W.Write.contents c.args.writer.now);
 }
 
 pub returns-in_err-refused-clause-front : goal.returns-in_err-refused-clause-front
