@@ -8,6 +8,7 @@ ghost use Rattle.itip_words.specs.Words.{AreDesks, AreWorkers};
 ghost use Rattle.itip_app.specs.Status.{status_shown, IsStatusOfNoCall};
 
 use crate::filters::{filtered, refused_status};
+use crate::stream::stream;
 use crate::tell::{Explainer, complain};
 use itip_inbox::check;
 use itip_office::{ScriptError, run_jobs};
@@ -75,6 +76,7 @@ fn done<
 {
     match call {
         Ok(Call::Run(scripted)) => ended(rt, run(rt, scripted)),
+        Ok(Call::Stream(streamed)) => stream(rt, &streamed),
         Ok(Call::Office { scripted, workers }) => ended(rt, office(rt, scripted, workers)),
         Ok(Call::Check { why }) => ended(rt, show(rt, why)),
         Ok(Call::Filter(filter)) => filtered(rt, &filter, terminals),
@@ -178,7 +180,7 @@ fn show<R: AllocGlobal + Input + Print + Eprint>(rt: &R, why: bool) -> Result<bo
 }
 
 /// The status of what was done: 1 where a refusal was written.
-fn ended<R: Eprint, E: Display + Drop>(rt: &R, done: Result<bool, E>) -> u8
+pub(crate) fn ended<R: Eprint, E: Display + Drop>(rt: &R, done: Result<bool, E>) -> u8
     ensures { result ≡ status_shown done }
 {
     match done {

@@ -40,7 +40,7 @@ use Rattle.itip_message.proofs.Plain.{IsNotEnd, none_ends_both, parts_not_end}
 
 -- ---- the text of one item
 
-others : (item : Item) → IsTrue (list_all is_property item.todo.others)
+pub others : (item : Item) → IsTrue (list_all is_property item.todo.others)
 others item = ∥∥₁_elim item.canonical (Bool-set (list_all is_property item.todo.others) true)
     (λ (is : Is item). is.is_canonical.suits.others)
 
@@ -48,10 +48,10 @@ abbrev head : Kind → List Content
 head k = bare (codes "BEGIN") (codes "VCALENDAR") ∷ bare (codes "PRODID") (codes "-//itipdesk//1//EN") ∷
     bare (codes "VERSION") (codes "2.0") ∷ bare (codes "METHOD") (method_text (method_of k)) ∷ bare (codes "BEGIN") (codes "VTODO") ∷ []
 
-abbrev end_of_todo : Content
+abbrev pub end_of_todo : Content
 end_of_todo = bare (codes "END") (codes "VTODO")
 
-abbrev end_of_calendar : Content
+abbrev pub end_of_calendar : Content
 end_of_calendar = bare (codes "END") (codes "VCALENDAR")
 
 -- the lines before the last
@@ -61,7 +61,7 @@ front item = head item.kind ++ parts_contents (parts_of item.todo)
 whole : (item : Item) → contents item ≡ front item ++ (end_of_todo ∷ end_of_calendar ∷ [])
 whole item = sym (append_assoc (head item.kind) (parts_contents (parts_of item.todo)) (end_of_todo ∷ end_of_calendar ∷ []))
 
-lawful_front : (cs ds : List Content) → AllByRecursion IsLawfulContent (cs ++ ds) → AllByRecursion IsLawfulContent cs
+pub lawful_front : (cs ds : List Content) → AllByRecursion IsLawfulContent (cs ++ ds) → AllByRecursion IsLawfulContent cs
 lawful_front [] ds h = tt
 lawful_front (c ∷ cs) ds h = (h.0, lawful_front cs ds h.1)
 
@@ -74,11 +74,11 @@ map-append : {X Y : Type 0} (f : X → Y) (xs ys : List X) → map f (xs ++ ys) 
 map-append f [] ys = refl
 map-append f (x ∷ xs) ys = ap (λ zs. f x ∷ zs) (map-append f xs ys)
 
-concat_octets : (cs : List Content) → concat (map content_octets cs) ≡ contents_octets cs
+pub concat_octets : (cs : List Content) → concat (map content_octets cs) ≡ contents_octets cs
 concat_octets [] = refl
 concat_octets (c ∷ cs) = ap (λ (t : List ℕ). content_octets c ++ t) (concat_octets cs)
 
-none_more : (lines : List (List ℕ)) (line : List ℕ) → AllByRecursion (λ line. ends_calendar line ≡ false) lines →
+pub none_more : (lines : List (List ℕ)) (line : List ℕ) → AllByRecursion (λ line. ends_calendar line ≡ false) lines →
     ends_calendar line ≡ false → AllByRecursion (λ line. ends_calendar line ≡ false) (lines ++ line ∷ [])
 none_more [] line none not = (not, tt)
 none_more (l ∷ lines) line none not = (none.0, none_more lines line none.1 not)
@@ -131,14 +131,14 @@ messages_written [] = refl
 messages_written (item ∷ items) = one_text item (delta_octets items) (written_begins items) ∙
     ap (λ (ts : List (List ℕ)). item.bytes ∷ ts) (messages_written items)
 
-abbrev alone : List Item → List (List Item)
+abbrev pub alone : List Item → List (List Item)
 alone items = map (λ (i : Item). i ∷ []) items
 
 are_messages : (items : List Item) → AreMessages (map (λ (i : Item). i.bytes) items) (alone items)
 are_messages [] = tt
 are_messages (item ∷ items) = (reads_again item, are_messages items)
 
-concat_alone : (items : List Item) → all_of (alone items) ≡ items
+pub concat_alone : (items : List Item) → all_of (alone items) ≡ items
 concat_alone [] = refl
 concat_alone (item ∷ items) = ap (λ (is : List Item). item ∷ is) (concat_alone items)
 

@@ -1,5 +1,5 @@
 //! A desk.
-ghost use Rattle.std.specs.Prelude.{◌≡◌, ◌<◌, ◌≤◌, ◌↔◌, ◌⊎◌, [], ◌++◌, ◌∷◌, IfOk, OnOk, OnErr, IsOk, MatchBool, length, map, min, List, ℕ, IsErrOf};
+ghost use Rattle.std.specs.Prelude.{◌≡◌, ◌<◌, ◌≤◌, ◌↔◌, ◌⊎◌, [], ◌++◌, ◌∷◌, IfOk, OnOk, OnErr, IsOk, MatchBool, length, map, min, unwrap_or, List, ℕ, IsErrOf};
 ghost use Rattle.itip_items.specs.declared.item.Item.{Item};
 ghost use Rattle.itip_state.specs.Kept.{AreUidsOf};
 ghost use Rattle.itip_view.specs.declared.row.Row.{Row};
@@ -42,6 +42,17 @@ fn copies(alloc: Global, uids: &[&Uid]) -> Result<Vec<Uid>, AllocError>
     Ok(copies)
 }
 
+/// Each of these items.
+fn shared_each(alloc: Global, items: &[SharedItem]) -> Result<Vec<&SharedItem>, AllocError>
+    ensures { IfOk result (λ each. map (λ item. item.now) each.items ≡ items.now) }
+{
+    let mut each = Vec::with_capacity(alloc, items.len())?;
+    for item in items {
+        each.push(item)?;
+    }
+    Ok(each)
+}
+
 /// A replica: what it keeps of all that it has heard, its tick, and the UIDs that moved, each with the tick of its last move.
 #[derive(Debug, Drop)]
 pub struct Desk {
@@ -67,6 +78,8 @@ impl Model for Desk {
 impl Desk {
     ghost use Rattle.itip_state.specs.Kept.{AreKept, AreMoved, ArePartOf, Moves, HasEachOnce};
     ghost use Rattle.itip_desk.specs.Desk.{IsDeskOf, IsDeltaOf, IsCarriedOn};
+    ghost use Rattle.itip_desk.specs.Moves.{tick_at, AreMovesTo, CarriesLast};
+    ghost use Rattle.itip_desk.specs.DeskFile.{IsTold};
     ghost use Rattle.itip_desk.specs.Heard.{TickStep};
     ghost use Rattle.itip_state.specs.Order.{IsBelow};
     ghost use Rattle.std.specs.List.{Contains};
@@ -77,7 +90,8 @@ impl Desk {
 
     /// A desk that has heard nothing, at this tick. It takes no memory.
     pub fn empty_at(alloc: Global, tick: u64) -> Desk
-        ensures { IsDeskOf [] tick result }
+        ensures desk { IsDeskOf [] tick result }
+        ensures told { tick ≡ 0 → IsTold result }
     {
         Desk {
             kept: IndexedState::empty(alloc),
@@ -85,6 +99,39 @@ impl Desk {
             moves: MovedUids::new(alloc),
             alloc,
         }
+    }
+
+    /// A desk that keeps what is kept of these items, at this tick. Its UIDs moved last as these moves say, the last of each UID.
+    ///
+    /// Refused when out of memory.
+    pub(crate) fn of_parts(
+        alloc: Global,
+        last: u64,
+        items: &Batch,
+        moves: Vec<(Uid, u64)>,
+    ) -> Result<Desk, AllocError>
+        requires { AreMovesTo last moves.items }
+        ensures kept { IfOk result (λ desk. AreKept desk.kept items.now) }
+        ensures tick { IfOk result (λ desk. desk.tick ≡ last) }
+        ensures changed { IfOk result (λ desk. CarriesLast moves.items desk.changed) }
+    {
+        let moves = MovedUids::of_moves(alloc, moves)?;
+        let each = shared_each(alloc, items.as_slice())?;
+        let mut kept = IndexedState::empty(alloc);
+        kept.hear(each.as_slice())?;
+        Ok(Desk {
+            kept,
+            tick: last,
+            moves,
+            alloc,
+        })
+    }
+
+    /// The tick at which a UID moved last; 0 where it didn't.
+    pub(crate) fn moved_at(&self, uid: &Uid) -> u64
+        ensures { result ≡ unwrap_or (tick_at self.now.changed uid.now) 0 }
+    {
+        self.moves.tick_of(uid).unwrap_or(0)
     }
 
     /// The tick: the number of steps that moved a UID, above the first tick.
@@ -121,6 +168,7 @@ impl Desk {
         ensures carried { OnOk result (IsCarriedOn self.old self.new batch.now) }
         ensures step { OnOk result ((steps : List (List Item)) (start : ℕ)
             → IsDeskOf steps start self.old → IsDeskOf (steps ++ batch.now ∷ []) start self.new) }
+        ensures told { OnOk result (IsTold self.old → IsTold self.new) }
         ensures spent { IsErrOf result DeskError.TicksSpent
             → (self.old.tick ≡ u64.MAX) × ((uid : List ℕ) × Moves self.old.kept batch.now uid) }
         ensures succeeds { IsBelow batch.now self.old.kept → IsOk result }

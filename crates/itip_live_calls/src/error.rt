@@ -149,7 +149,8 @@ impl From<Refusal> for CallError {
             Refusal::TooManyRows => CallError::TooManyRows,
             Refusal::NoDesk(_) => CallError::NoDesk,
             Refusal::NoPacket(_) => CallError::NoPacket,
-            Refusal::NoCommand | Refusal::LongScript => CallError::NoSuchCall,
+            Refusal::NoCommand | Refusal::LongScript | Refusal::LongDelta | Refusal::File(_) =>
+                CallError::NoSuchCall,
         }
     }
 }

@@ -4,3 +4,4 @@ pub mod Visible
 pub mod Folders
 pub mod Sources
 pub mod Told
+pub mod Parts

@@ -32,6 +32,19 @@ pub fn write_output<W: Write + WriteOnce>(writer: &mut W, bytes: &[u8]) -> Resul
     Ok(())
 }
 
+/// Writes all octets, and has the writer hand them on. A fault is that of [`write_output`]; where handing on fails, all may be written.
+pub fn write_at_once<W: Write>(writer: &mut W, bytes: &[u8]) -> Result<(), StreamFault>
+    ensures all { OnOk result (Appends (W.contents writer.old) (W.contents writer.new) bytes.now) }
+    ensures front { OnErr result (AppendsFront (W.contents writer.old) (W.contents writer.new) bytes.now) }
+    ensures fault { IfErr result (λ fault. fault ≡ StreamFault.Write) }
+{
+    write_output(writer, bytes)?;
+    match writer.flush() {
+        Ok(()) => Ok(()),
+        Err(_) => Err(StreamFault::Write),
+    }
+}
+
 /// Writes the octets that are kept, and keeps none, once they are 65,536 or more. A fault is that of [`write_output`]; they are kept then.
 pub fn write_if_many<W: Write + WriteOnce>(
     writer: &mut W,

@@ -4,3 +4,4 @@ pub mod MomentNames
 pub mod Given
 pub mod Asking
 pub mod Programs
+pub mod Loading

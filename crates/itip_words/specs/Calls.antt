@@ -6,6 +6,8 @@ use Rattle.itip_words.specs.declared.filter.Written.TheVariants as written
 use Rattle.itip_words.specs.declared.words.Call.{Call}
 use Rattle.itip_words.specs.declared.words.Call.TheVariants as call
 use Rattle.itip_words.specs.declared.words.Scripted.{Scripted}
+use Rattle.itip_words.specs.declared.streamed.Streamed.{Streamed}
+use Rattle.itip_words.specs.Streams.{AreLoads, names_of}
 use Rattle.itip_words.specs.Words.{AreDesks, AreWorkers, AreThreads}
 use Rattle.itip_words.specs.Values.{inputs}
 use Rattle.itip_words.specs.Asked.{asked_word, inputs_of_draft}
@@ -13,13 +15,28 @@ use Rattle.itip_words.specs.Asked.{asked_word, inputs_of_draft}
 -- of a call: P of how a script is run, where one is
 abbrev pub IfRun : (Scripted → Type 0) → Call → Type 0
 IfRun P (call.Run scripted) = P scripted
+IfRun P (call.Stream streamed) = Unit {0}
 IfRun P (call.Office scripted workers) = Unit {0}
 IfRun P (call.Check why) = Unit {0}
 IfRun P (call.Filter f) = Unit {0}
 
+-- of a call: P of how a stream of commands is served, where one is
+abbrev pub IfStream : (Streamed → Type 0) → Call → Type 0
+IfStream P (call.Run scripted) = Unit {0}
+IfStream P (call.Stream streamed) = P streamed
+IfStream P (call.Office scripted workers) = Unit {0}
+IfStream P (call.Check why) = Unit {0}
+IfStream P (call.Filter f) = Unit {0}
+
+-- there can be such desks, and each that is read from a file is read from one
+pub record AreStreamed (streamed : Streamed) : Type 0 where
+  pub desks : AreDesks streamed.scripted.desks
+  pub loads : AreLoads streamed.scripted.desks (names_of streamed.loads.items)
+
 -- of a call: P of how the jobs of a script are run and by how many workers, where they are
 abbrev pub IfOffice : (Scripted → ℕ → Type 0) → Call → Type 0
 IfOffice P (call.Run scripted) = Unit {0}
+IfOffice P (call.Stream streamed) = Unit {0}
 IfOffice P (call.Office scripted workers) = P scripted workers
 IfOffice P (call.Check why) = Unit {0}
 IfOffice P (call.Filter f) = Unit {0}
@@ -27,6 +44,7 @@ IfOffice P (call.Filter f) = Unit {0}
 -- of a call: P of what is written of messages, where they are filtered
 abbrev pub IfFilter : (Filter → Type 0) → Call → Type 0
 IfFilter P (call.Run scripted) = Unit {0}
+IfFilter P (call.Stream streamed) = Unit {0}
 IfFilter P (call.Office scripted workers) = Unit {0}
 IfFilter P (call.Check why) = Unit {0}
 IfFilter P (call.Filter f) = P f

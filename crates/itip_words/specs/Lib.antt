@@ -7,4 +7,5 @@ pub mod Options
 pub mod Asking
 pub mod Program
 pub mod Calls
+pub mod Streams
 pub mod Told

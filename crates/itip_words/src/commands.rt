@@ -51,11 +51,26 @@ fn with_messages<'a>(alloc: Global, command: Command<'a>) -> Result<Command<'a>,
 fn run_command<'a>(alloc: Global) -> Result<Command<'a>, AllocError>
     ensures { IfOk result (IsWord run_word) }
 {
+    let stream = Arg::new(alloc, "stream")
+        .long("stream")
+        .action(ArgAction::SetTrue)
+        .help("Answers each command before the next is read, for as long as commands come");
+    let load = Arg::new(alloc, "load")
+        .long("load")
+        .value_name("D=FILE")
+        .action(ArgAction::Append)
+        .requires_arg("stream")?
+        .help(
+            "Desk D begins with what a `!save` wrote to this file; it may be given several times",
+        );
     let run = Command::new(alloc, "run")
-        .about("Runs a script from standard input")
+        .about("Runs a script from standard input, or serves a stream of commands")
         .after_help(RUN_HELP)
         .arg(desks_word(alloc))?;
-    days(alloc, run)?.arg(why_word(alloc))
+    days(alloc, run)?
+        .arg(stream)?
+        .arg(load)?
+        .arg(why_word(alloc))
 }
 
 fn office_command<'a>(alloc: Global) -> Result<Command<'a>, AllocError>

@@ -4,7 +4,7 @@ ghost use Rattle.std.specs.String.{string_bytes};
 ghost use Rattle.clap.specs.Simple.{subcommand_rows_of};
 ghost use Rattle.itip_moment.specs.declared.stamp.Stamp.{Stamp};
 ghost use Rattle.itip_words.specs.Words.{AreDesks, desks_of, workers_of, IsWindowOf, IsScriptedOf};
-ghost use Rattle.itip_words.specs.Calls.{IfRun, IfOffice, IfFilter, AreOffice, CanFilter};
+ghost use Rattle.itip_words.specs.Calls.{IfRun, IfStream, IfOffice, IfFilter, AreStreamed, AreOffice, CanFilter};
 ghost use Rattle.itip_words.specs.Options.{options_of};
 ghost use Rattle.itip_words.specs.Asking.{AsksScript, Asks, IsAsked};
 ghost use Rattle.itip_words.specs.Program.{IsAskedBy};
@@ -15,6 +15,7 @@ use crate::commands::command;
 use crate::filter::{Filter, filter_of};
 use crate::no_call::{NoCall, no_call};
 use crate::options::{is_set, value_of, word_of};
+use crate::streamed::{Streamed, streamed_of};
 use crate::wrong::what_is_wrong;
 use clap::ArgMatches;
 use itip_moment::{Stamp, read_date};
@@ -33,6 +34,8 @@ const MAX_WORKERS: u64 = 8;
 pub enum Call {
     /// A script is run.
     Run(Scripted),
+    /// A stream of commands is served.
+    Stream(Streamed),
     /// The jobs of a script are run, by so many workers.
     Office { scripted: Scripted, workers: u64 },
     /// A message is read, and its items are shown.
@@ -53,6 +56,7 @@ pub struct Scripted {
 /// Reads the words, the first of which is the program's name. `clock` is the present moment, where it is known.
 pub fn read_words(alloc: Global, words: &[String], clock: Option<Stamp>) -> Result<Call, NoCall>
     ensures run { IfOk result (IfRun (λ scripted. AreDesks scripted.desks)) }
+    ensures stream { IfOk result (IfStream AreStreamed) }
     ensures office { IfOk result (IfOffice AreOffice) }
     ensures filter { IfOk result (IfFilter CanFilter) }
     ensures asked { IfOk result (IsAskedBy (map string_bytes words.now) clock) }
@@ -74,6 +78,7 @@ fn call_of(
     clock: Option<Stamp>,
 ) -> Result<Option<Call>, NoCall>
     ensures run { IfOk result (λ found. IfSome found (IfRun (λ scripted. AreDesks scripted.desks))) }
+    ensures stream { IfOk result (λ found. IfSome found (IfStream AreStreamed)) }
     ensures office { IfOk result (λ found. IfSome found (IfOffice AreOffice)) }
     ensures filter { IfOk result (λ found. IfSome found (IfFilter CanFilter)) }
     ensures asked { IfOk result (λ found. IfSome found (IsAsked (subcommand_rows_of matches.now) clock)) }
@@ -101,7 +106,7 @@ fn named_call(
         return Ok(Some(Call::Check { why }));
     }
     if word == "run" {
-        return Ok(run_of(words));
+        return run_of(alloc, words);
     }
     if word == "office" {
         return Ok(office_of(words));
@@ -112,19 +117,27 @@ fn named_call(
     }
 }
 
-fn run_of(words: &ArgMatches<'_>) -> Option<Call>
-    ensures run { IfSome result (IfRun (λ scripted. AreDesks scripted.desks)) }
-    ensures office { IfSome result (IfOffice AreOffice) }
-    ensures filter { IfSome result (IfFilter CanFilter) }
+fn run_of(alloc: Global, words: &ArgMatches<'_>) -> Result<Option<Call>, NoCall>
+    ensures run { IfOk result (λ found. IfSome found (IfRun (λ scripted. AreDesks scripted.desks))) }
+    ensures stream { IfOk result (λ found. IfSome found (IfStream AreStreamed)) }
+    ensures office { IfOk result (λ found. IfSome found (IfOffice AreOffice)) }
+    ensures filter { IfOk result (λ found. IfSome found (IfFilter CanFilter)) }
     ensures asked { IfSome result (λ call. (clock : Option Stamp) → Asks (codes "run") (options_of words.now) clock call) }
     ensures none { IfNone result ((scripted : Scripted) → AsksScript (options_of words.now) scripted → ⊥) }
 {
-    let scripted = scripted_of(words)?;
-    Some(Call::Run(scripted))
+    if !words.get_flag("stream") {
+        return Ok(scripted_of(words).map(Call::Run));
+    }
+    match streamed_of(alloc, words)? {
+        Some(streamed) => Ok(Some(Call::Stream(streamed))),
+        None => Ok(None),
+    }
 }
 
-fn office_of(words: &ArgMatches<'_>) -> Option<Call>
+/// How the words have a script run.
+pub(crate) fn office_of(words: &ArgMatches<'_>) -> Option<Call>
     ensures run { IfSome result (IfRun (λ scripted. AreDesks scripted.desks)) }
+    ensures stream { IfSome result (IfStream AreStreamed) }
     ensures office { IfSome result (IfOffice AreOffice) }
     ensures filter { IfSome result (IfFilter CanFilter) }
     ensures asked { IfSome result (λ call. (clock : Option Stamp) → Asks (codes "office") (options_of words.now) clock call) }

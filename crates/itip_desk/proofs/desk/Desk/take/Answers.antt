@@ -11,6 +11,7 @@ use Rattle.itip_desk.specs.Desk.{Shown}
 use Rattle.itip_desk.specs.Moves.{is_listed, tick_at, HavePlaces, AreReady}
 use Rattle.itip_desk.proofs.Ticking.{carried_on, carry_step, marked_ticks, marked_up_to, nothing_carried}
 use Rattle.itip_desk.proofs.Steps.{moved_by_news, none_moved, none_in, some_moved, still_carry, one_more_step}
+use Rattle.itip_desk.proofs.FileTold.{told_on}
 use Rattle.itip_desk.proofs.desk.Desk.take.Goals as goal
 use Rattle.itip_desk.proofs.desk.Desk.take.Goals.{In_ok-uids}
 
@@ -181,3 +182,26 @@ pub returns-in-Err-clause-succeeds : goal.returns-in-Err-clause-succeeds
 returns-in-Err-clause-succeeds c = λ below.
     let some : ¬ (length c.in_ok-uids.uids.items ≡ 0) = grind arith in
     absurd (some (still (goal.at.returns-in-Err-clause-succeeds c).In_ok-uids below))
+
+pub returns-clause-told : goal.returns-clause-told
+returns-clause-told c = λ told.
+    let before = (goal.at.returns-clause-told c).In_ok-uids in
+    let some : ¬ (length c.in_ok-uids.uids.items ≡ 0) = grind arith in
+    let at : c.self.inside.tick ≡ c.args.self.now.tick = ap (λ (d : Shown). d.tick) c.self.view_is in
+    let fits = told.fits in
+    let new : Shown = record { kept = c.hear.new.self; tick = c.self.inside.tick + 1; changed = c.mark.new.self.carried } in
+    told_on c.args.self.now new c.args.batch.now told
+    (kept_with before c.hear.new.self (subst (λ xs. AreKept c.hear.new.self (c.self.inside.kept ++ map (λ item. item.now) xs))
+    c.deref-3.ensures.value c.in_default.ensures.ok))
+    (inl (some_moved c.in_ok-uids.uids.items c.args.self.now.kept c.args.batch.now (moved before) some, ap (λ t. t + 1) at))
+    (carried_on c.in_ok-uids.uids.items c.self.inside.moves.carried c.prepare.new.self.carried c.mark.new.self.carried
+    (subst (λ us. HavePlaces us c.self.inside.moves.carried c.prepare.new.self.carried) c.deref-2.ensures.value c.prepare.ensures.places) (c.self.inside.tick + 1)
+    (λ uid. c.mark.ensures uid ∙ ap (λ us. cond (is_listed us uid) (Some (c.self.inside.tick + 1))
+    (tick_at c.prepare.new.self.carried uid)) c.deref-4.ensures.value)
+    c.args.self.now new c.args.batch.now (sym (ap (λ (d : Shown). d.changed) c.self.view_is)) refl refl (moved before))
+    (marked_ticks c.in_ok-uids.uids.items c.self.inside.moves.carried c.prepare.new.self.carried c.mark.new.self.carried
+    (c.self.inside.tick + 1) (omega arith) c.self.invariant.0
+    (subst (λ us. HavePlaces us c.self.inside.moves.carried c.prepare.new.self.carried) c.deref-2.ensures.value c.prepare.ensures.places)
+    (λ uid. c.mark.ensures uid ∙ ap (λ us. cond (is_listed us uid) (Some (c.self.inside.tick + 1))
+    (tick_at c.prepare.new.self.carried uid)) c.deref-4.ensures.value))
+    (omega (arith, at, fits, c.if-self.false))
