@@ -1,5 +1,5 @@
 -- What the options of a call ask for, by docs/USING.md (our own rule).
-use Rattle.std.specs.Prelude.{◌≡◌, ◌⊎◌, ℕ, nat_eq, ℤ, Bool, false, ◌||◌, if◌then◌else◌, List, [], ◌∷◌, map, codes, string_bytes}
+use Rattle.std.specs.Prelude.{◌≡◌, ◌⊎◌, ℕ, nat_eq, ℤ, Bool, true, false, ◌||◌, if◌then◌else◌, List, [], ◌∷◌, map, codes, string_bytes}
 use Rattle.std.specs.Prelude.{Option, Some, None, is_some, option_map, unwrap_or, IsSomeAnd, MatchBool}
 use Rattle.std.specs.Option.{option_map_or}
 use Rattle.std.specs.Cmp.Lexicographic.{pointwise}
@@ -27,6 +27,8 @@ use Rattle.itip_words.specs.declared.filter.Written.TheVariants as written
 use Rattle.itip_words.specs.declared.words.Call.{Call}
 use Rattle.itip_words.specs.declared.words.Call.TheVariants as call
 use Rattle.itip_words.specs.declared.words.Scripted.{Scripted}
+use Rattle.itip_words.specs.declared.streamed.Streamed.{Streamed}
+use Rattle.itip_words.specs.Streams.{load_of, names_of}
 
 -- A value is there exactly where its text is given, and then the text stands for it.
 abbrev pub IsRead : {T : Type 0} → (List ℕ → T → Type 0) → Option (List ℕ) → Option T → Type 0
@@ -43,6 +45,11 @@ pub record AsksScript (options : Options) (scripted : Scripted) : Type 0 where
   pub first : IsSomeAnd (value_of (codes "from") options) (λ text. IsDateText text scripted.window.from)
   pub after : IsSomeAnd (value_of (codes "to") options) (λ text. IsDateText text scripted.window.to)
   pub why : scripted.why ≡ is_set (codes "why") options
+
+-- The same of a stream, of which the desks that `--load` names begin with its files.
+pub record AsksStream (options : Options) (streamed : Streamed) : Type 0 where
+  pub script : AsksScript options streamed.scripted
+  pub loads : map load_of (unwrap_or (values_of (codes "load") options) []) ≡ map Some (names_of streamed.loads.items)
 
 -- the workers of `--workers`
 abbrev pub AsksWorkers : Options → ℕ → Type 0
@@ -185,7 +192,10 @@ AsksFilter word options clock filter = AsksIntake options filter.intake × AsksW
 
 -- The call that a word asks for with its options, at the moment of a clock.
 abbrev pub Asks : List ℕ → Options → Option Stamp → Call → Type 0
-Asks word options clock (call.Run scripted) = (word ≡ codes "run") × AsksScript options scripted
+Asks word options clock (call.Run scripted) =
+    (word ≡ codes "run") × (is_set (codes "stream") options ≡ false) × AsksScript options scripted
+Asks word options clock (call.Stream streamed) =
+    (word ≡ codes "run") × (is_set (codes "stream") options ≡ true) × AsksStream options streamed
 Asks word options clock (call.Office scripted workers) =
     (word ≡ codes "office") × AsksScript options scripted × AsksWorkers options workers
 Asks word options clock (call.Check why) = (word ≡ codes "check") × (why ≡ is_set (codes "why") options)

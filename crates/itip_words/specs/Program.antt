@@ -58,6 +58,10 @@ intake_rules = record (repeated (positional (codes "source"))) { required = fals
 abbrev pub onward_rule : Rule
 onward_rule = record (flag (codes "onward")) { is_free = false }
 
+-- `--load`, which needs `--stream`
+abbrev pub load_rule : Rule
+load_rule = record (repeated (option (codes "load"))) { is_free = false }
+
 -- ---- words
 
 abbrev pub with_rules : List Rule → App → App
@@ -68,7 +72,8 @@ abbrev pub word_with : List ℕ → List Rule → App
 word_with name rules = with_rules rules (new_app name)
 
 abbrev pub run_word : App
-run_word = with_rule (with_rules days_rules (with_rule (new_app (codes "run")) desks_rule)) (flag (codes "why"))
+run_word = with_rule (with_rule (with_rule (with_rules days_rules (with_rule (new_app (codes "run")) desks_rule))
+    (flag (codes "stream"))) load_rule) (flag (codes "why"))
 
 abbrev pub office_word : App
 office_word =

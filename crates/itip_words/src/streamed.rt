@@ -1,10 +1,13 @@
 //! How a stream of commands is served.
-ghost use Rattle.std.specs.Prelude.{◌≡◌, ◌≢◌, ◌<◌, Some, IfOk, IfSome};
+ghost use Rattle.std.specs.Prelude.{◌≡◌, ◌≢◌, ◌<◌, [], Some, IfOk, IfSome, codes, map, unwrap_or};
 ghost use Rattle.std.specs.List.{All};
 ghost use Rattle.std.specs.Option.{option_map};
 ghost use Rattle.itip_words.specs.Words.{AreDesks};
+ghost use Rattle.itip_words.specs.Asking.{AsksStream};
+ghost use Rattle.itip_words.specs.Options.{options_of, values_of};
 ghost use Rattle.itip_words.specs.Streams.{AreLoads, load_of, names_of};
 
+use crate::options::values_of;
 use crate::words::{Scripted, scripted_of};
 use clap::ArgMatches;
 use itip_script::read_number;
@@ -30,6 +33,7 @@ pub(crate) fn streamed_of(
     words: &ArgMatches<'_>,
 ) -> Result<Option<Streamed>, AllocError>
     ensures desks { IfOk result (λ found. IfSome found (λ streamed. AreDesks streamed.scripted.desks)) }
+    ensures asked { IfOk result (λ found. IfSome found (AsksStream (options_of words.now))) }
     ensures loads { IfOk result (λ found. IfSome found (λ streamed. AreLoads streamed.scripted.desks (names_of streamed.loads.items))) }
 {
     let Some(scripted) = scripted_of(words) else {
@@ -48,8 +52,10 @@ pub(crate) fn streamed_of(
 }
 
 /// What the words name for desks to begin with.
-pub(crate) fn loads_named<'m, 'a>(words: &'m ArgMatches<'a>) -> &'m [&'a str] {
-    match words.get_strs("load") {
+pub(crate) fn loads_named<'m, 'a>(words: &'m ArgMatches<'a>) -> &'m [&'a str]
+    ensures { map (λ text. text.now) result.now ≡ unwrap_or (values_of (codes "load") (options_of words.now)) [] }
+{
+    match values_of(words, "load") {
         Some(named) => named,
         None => &[],
     }

@@ -97,6 +97,7 @@ fn named_call(
     clock: Option<Stamp>,
 ) -> Result<Option<Call>, NoCall>
     ensures run { IfOk result (λ found. IfSome found (IfRun (λ scripted. AreDesks scripted.desks))) }
+    ensures stream { IfOk result (λ found. IfSome found (IfStream AreStreamed)) }
     ensures office { IfOk result (λ found. IfSome found (IfOffice AreOffice)) }
     ensures filter { IfOk result (λ found. IfSome found (IfFilter CanFilter)) }
     ensures asked { IfOk result (λ found. IfSome found (Asks word.now (options_of words.now) clock)) }
@@ -122,10 +123,10 @@ fn run_of(alloc: Global, words: &ArgMatches<'_>) -> Result<Option<Call>, NoCall>
     ensures stream { IfOk result (λ found. IfSome found (IfStream AreStreamed)) }
     ensures office { IfOk result (λ found. IfSome found (IfOffice AreOffice)) }
     ensures filter { IfOk result (λ found. IfSome found (IfFilter CanFilter)) }
-    ensures asked { IfSome result (λ call. (clock : Option Stamp) → Asks (codes "run") (options_of words.now) clock call) }
-    ensures none { IfNone result ((scripted : Scripted) → AsksScript (options_of words.now) scripted → ⊥) }
+    ensures asked { IfOk result (λ found. IfSome found (λ call. (clock : Option Stamp) →
+        Asks (codes "run") (options_of words.now) clock call)) }
 {
-    if !words.get_flag("stream") {
+    if !is_set(words, "stream") {
         return Ok(scripted_of(words).map(Call::Run));
     }
     match streamed_of(alloc, words)? {
@@ -149,7 +150,7 @@ pub(crate) fn office_of(words: &ArgMatches<'_>) -> Option<Call>
 }
 
 /// How a script is run. `None` where a value is bad.
-fn scripted_of(words: &ArgMatches<'_>) -> Option<Scripted>
+pub(crate) fn scripted_of(words: &ArgMatches<'_>) -> Option<Scripted>
     ensures asked { IfSome result (AsksScript (options_of words.now)) }
     ensures none { IfNone result ((scripted : Scripted) → AsksScript (options_of words.now) scripted → ⊥) }
     ensures desks { IfSome result (λ scripted. AreDesks scripted.desks) }
