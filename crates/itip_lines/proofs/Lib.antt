@@ -12,6 +12,7 @@ pub mod Scans
 pub mod Cuttings
 pub mod Written
 pub mod Rooms
+pub mod Cases
 pub mod Unfolding
 pub mod Roundtrip
 pub mod ParamTexts

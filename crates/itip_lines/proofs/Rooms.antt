@@ -112,7 +112,7 @@ pub room_at : {Z : Type 0} (old new : Vec ℕ Z) (used : ℕ) (bs : List ℕ) (i
     Writes old.items used (take i bs) new.items now → KeepsRoom old new
     → HasRoomFor old (folded used bs) → HasRoomFor new (folded now (get_or bs i 0 ∷ []))
 room_at old new used bs i now less wrote keeps room =
-    let here : drop i bs ≡ get_or bs i 0 ∷ drop (i + 1) bs = at_drop_more (λ (xs : List ℕ). xs) bs i (get_or bs i 0) less in
+    let here : drop i bs ≡ get_or bs i 0 ∷ drop (i + 1) bs = at_drop_more (λ (xs : List ℕ). xs) bs i 0 less in
     let whole : bs ≡ take i bs ++ drop i bs = sym (take-append-drop i bs) in
     room_front new now (get_or bs i 0 ∷ []) (drop (i + 1) bs)
     (subst (λ (rest : List ℕ). HasRoomFor new (folded now rest)) here

@@ -31,24 +31,24 @@ named (Some tzid) text zone e same = ap Some (sym e ∙ Some-one same)
 -- a text that spells no local time is read alike beside any TZID
 unzoned : (text : List ℕ) (a b : Option (List ℕ)) → ((day : ℤ) (second : ℕ) → IsLocalText text day second → ⊥) → (m : Moment) →
     MomentText text a m → MomentText text b m
-unzoned text a b no (Date day) is = is
-unzoned text a b no (Floating stamp) is = absurd (no stamp.day stamp.second is.0)
-unzoned text a b no (Utc stamp) is = is
-unzoned text a b no (Zoned zone stamp) is = absurd (no stamp.day stamp.second is.0)
+unzoned text a b local (Date day) is = is
+unzoned text a b local (Floating stamp) is = absurd (local stamp.day stamp.second is.0)
+unzoned text a b local (Utc stamp) is = is
+unzoned text a b local (Zoned zone stamp) is = absurd (local stamp.day stamp.second is.0)
 
 pub found_unzoned : {E : Type 0} (r : Result (Option Moment) E) (text : List ℕ) (a b : Option (List ℕ)) →
     ((day : ℤ) (second : ℕ) → IsLocalText text day second → ⊥) → IfOk r (λ o. IfSome o (MomentText text a)) →
     IfOk r (λ o. IfSome o (MomentText text b))
-found_unzoned (Ok (Some m)) text a b no is = unzoned text a b no m is
-found_unzoned (Ok None) text a b no is = tt
-found_unzoned (Err error) text a b no is = tt
+found_unzoned (Ok (Some m)) text a b local is = unzoned text a b local m is
+found_unzoned (Ok None) text a b local is = tt
+found_unzoned (Err error) text a b local is = tt
 
 pub none_unzoned : {E : Type 0} (r : Result (Option Moment) E) (text : List ℕ) (a b : Option (List ℕ)) →
     ((day : ℤ) (second : ℕ) → IsLocalText text day second → ⊥) → IfOk r (λ o. IfNone o ((m : Moment) → MomentText text a m → ⊥)) →
     IfOk r (λ o. IfNone o ((m : Moment) → MomentText text b m → ⊥))
-none_unzoned (Ok (Some m)) text a b no none = tt
-none_unzoned (Ok None) text a b no none = λ m is. none m (unzoned text b a no m is)
-none_unzoned (Err error) text a b no none = tt
+none_unzoned (Ok (Some m)) text a b local none = tt
+none_unzoned (Ok None) text a b local none = λ m is. none m (unzoned text b a local m is)
+none_unzoned (Err error) text a b local none = tt
 
 -- a local time is the moment in the zone that TZID names
 pub local_found : (text : List ℕ) (tzid : Option (List ℕ)) (zone : Option Name) (stamp : Stamp) →

@@ -9,8 +9,8 @@ returns-in_default-local-clause-none c =
     rw (← c.as_bytes-bytes.ensures.value) (no_moment _ (Some (zone_text (option_copied c.args.zone))) c.in_default.ensures.none
     c.in_default-utc.ensures.none c.in_default-local.ensures.none)
 
-pub returns-in_err-clone-clause-room : goal.returns-in_err-clone-clause-room
-returns-in_err-clone-clause-room c = λ unzoned. absurd (unzoned (record {
+pub returns-in_err-clone-in-Some-zone-clause-room : goal.returns-in_err-clone-in-Some-zone-clause-room
+returns-in_err-clone-in-Some-zone-clause-room c = λ unzoned. absurd (unzoned (record {
   day = c.in-Some-local.stamp.day;
   second = c.in-Some-local.stamp.second;
   local = rw c.as_bytes-bytes.ensures.value at c.in-Some-local.ensures.found;

@@ -1,7 +1,7 @@
 use Rattle.std.proofs.Common.{◌≡◌, ◌∙◌, ℕ, List, true, false, map, sym, ap, subst}
 use Rattle.std.specs.Char.{to_ascii_uppercase}
 use Rattle.std.specs.Str.{IsUtf8}
-use Rattle.std_alloc.proofs.string.Cased.{raised}
+use Rattle.itip_lines.proofs.Cases.{raised}
 use Rattle.itip_lines.specs.Room.{StandsInPlace}
 use Rattle.itip_lines.proofs.text.Text.upper.Goals as goal
 
