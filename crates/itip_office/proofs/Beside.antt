@@ -16,11 +16,6 @@ pub no_more : {X : Type 0} (xs : List X) → length xs ≡ 0 → xs ≡ []
 no_more [] none = refl
 no_more (x ∷ xs) none = absurd (omega (arith, none))
 
-pub take_length : {X : Type 0} (n : ℕ) (xs : List X) → n ≤ length xs → length (take n xs) ≡ n
-take_length zero xs le = refl
-take_length (suc n) [] le = absurd (omega (arith, le))
-take_length (suc n) (x ∷ xs) le = ap suc (take_length n xs (omega (arith, le)))
-
 -- what holds at each place of two lists holds of the lists
 pub zip_at : {A B : Type 0} (R : A → B → Type 0) (xs : List A) (ys : List B) → length ys ≡ length xs →
     ((i : ℕ) (a : A) (b : B) → i < length xs → R (slice_index_or xs i a) (slice_index_or ys i b)) → AllZip R xs ys
