@@ -12,10 +12,6 @@ use Rattle.itip_office.specs.Ended.{all_heard}
 use Rattle.itip_office.specs.Exchanged.{AreNoLoops, GivesDelta, TakesAll}
 use Rattle.itip_office.proofs.Sharing.{History, AreDesksOf, AreDeltasOf, AreLeft, IsNext, left_some, left_next, shared}
 
-pub no_more : {X : Type 0} (xs : List X) → length xs ≡ 0 → xs ≡ []
-no_more [] none = refl
-no_more (x ∷ xs) none = absurd (omega (arith, none))
-
 -- what holds at each place of two lists holds of the lists
 pub zip_at : {A B : Type 0} (R : A → B → Type 0) (xs : List A) (ys : List B) → length ys ≡ length xs →
     ((i : ℕ) (a : A) (b : B) → i < length xs → R (slice_index_or xs i a) (slice_index_or ys i b)) → AllZip R xs ys
