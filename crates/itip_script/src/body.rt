@@ -44,9 +44,6 @@ fn pass_body<R: Read>(reader: &mut R, octets: u64) -> Result<Body, StreamFault>
         → ReadsBody limit octets (R.remaining reader.old) (R.remaining reader.new) (body_of body)) }
     ensures fault { IfErr result (λ fault. fault ≢ StreamFault.Write) }
 {
-    if pass_octets(reader, octets)? {
-        Ok(Body::Long)
-    } else {
-        Ok(Body::Cut)
-    }
+    let all = pass_octets(reader, octets)?;
+    if all { Ok(Body::Long) } else { Ok(Body::Cut) }
 }

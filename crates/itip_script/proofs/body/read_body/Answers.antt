@@ -5,8 +5,8 @@ use Rattle.itip_script.specs.declared.body.Body.{Body}
 use Rattle.itip_script.proofs.Wishes.{short_body, whole_body}
 use Rattle.itip_script.proofs.body.read_body.Goals as goal
 
-pub returns-then-octets-clause-reads : goal.returns-then-octets-clause-reads
-returns-then-octets-clause-reads g c =
+pub returns-then-octets-limit-clause-reads : goal.returns-then-octets-limit-clause-reads
+returns-then-octets-limit-clause-reads g c =
     let old = g.R.Read.remaining c.args.reader.now in
     let new = g.R.Read.remaining c.pass_body.new.reader in
     IfOk-weaker c.pass_body.result

@@ -8,8 +8,8 @@ use Rattle.itip_world.proofs.Desks.{slice_get-get_or}
 use Rattle.itip_world.proofs.Serving.{unheard_serves, arrived_nowhere}
 use Rattle.itip_world.proofs.served.Served.arrive_octets.Goals as goal
 
-pub returns-then-number-clause-serves : goal.returns-then-number-clause-serves
-returns-then-number-clause-serves c = λ window. arrived_nowhere c.args.self.now.desks.items c.args.desk window c.args.octets.now
+pub returns-then-number-len-clause-serves : goal.returns-then-number-len-clause-serves
+returns-then-number-len-clause-serves c = λ window. arrived_nowhere c.args.self.now.desks.items c.args.desk window c.args.octets.now
     (omega arith)
 
 pub returns-in-Ok-clause-serves : goal.returns-in-Ok-clause-serves

@@ -9,8 +9,8 @@ use Rattle.itip_world.proofs.Desks.{slice_get-get_or}
 use Rattle.itip_world.proofs.Serving.{unheard_serves, taken_nowhere}
 use Rattle.itip_world.proofs.served.Served.take_text.Goals as goal
 
-pub returns-then-number-clause-serves : goal.returns-then-number-clause-serves
-returns-then-number-clause-serves c = λ window. taken_nowhere c.args.self.now.desks.items c.args.desk window c.args.text.now (omega arith)
+pub returns-then-number-len-clause-serves : goal.returns-then-number-len-clause-serves
+returns-then-number-len-clause-serves c = λ window. taken_nowhere c.args.self.now.desks.items c.args.desk window c.args.text.now (omega arith)
 
 pub returns-in-Ok-clause-serves : goal.returns-in-Ok-clause-serves
 returns-in-Ok-clause-serves c = λ window.
