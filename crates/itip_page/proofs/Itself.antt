@@ -38,7 +38,7 @@ itself octet ampersand less quote null carriage =
 
 -- it is no octet of which the test says otherwise
 pub differs : (octet other : ℕ) → is_itself octet ≡ true → is_itself other ≡ false → octet ≢ other
-differs octet other so no = λ e. true≢false (sym so ∙ ap is_itself e ∙ no)
+differs octet other so fails = λ e. true≢false (sym so ∙ ap is_itself e ∙ fails)
 
 -- ---- lists of them
 
@@ -96,7 +96,7 @@ stamp_itself : (octet : ℕ) → is_stamp_octet octet ≡ true → is_itself oct
 stamp_itself octet so = itself octet (other 38 refl) (other 60 refl) (other 34 refl) (other 0 refl) (other 13 refl)
   where
     other : (n : ℕ) → is_stamp_octet n ≡ false → octet ≢ n
-    other n no = λ e. true≢false (sym so ∙ ap is_stamp_octet e ∙ no)
+    other n fails = λ e. true≢false (sym so ∙ ap is_stamp_octet e ∙ fails)
 
 pub day_itself : (day : ℤ) → IsDayNumber day → list_all is_itself (day_text day) ≡ true
 day_itself day within =
