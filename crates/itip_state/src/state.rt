@@ -141,8 +141,8 @@ impl State {
         hear_all(&mut self.held, self.alloc, items)
     }
 
-    /// The kept items that can give way to these, shared with this state: those at their keys, and those that are dead below
-    /// them. In no particular order, and perhaps more than once. No other is looked at where they are many.
+    /// The kept items that can give way to these, and perhaps others, shared with this state: those at their keys, and those that
+    /// are dead below them. In no particular order, and perhaps more than once. No other is looked at where they are many.
     pub fn giving_way(&self, news: &[&SharedItem]) -> Result<Vec<SharedItem>, NoMemory>
         ensures { IfOk result (λ items. AreGivingWay self.now (map (λ item. item.now) news.now) items.items) }
     {

@@ -1,6 +1,4 @@
 use Rattle.std.proofs.Common.{◌≡◌, ◌≤◌, ◌<◌, ◌+◌, ◌++◌, ◌∙◌, ◌∷◌, ℕ, List, length, map, drop, get_or, refl, sym, ap, subst, arith}
-use Rattle.std.proofs.Common.{Result, Ok, Err}
-use Rattle.std.specs.Prelude.{OnErr}
 use Rattle.std.specs.Ordering.{nat_cmp}
 use Rattle.std.specs.Cmp.Lexicographic.{slice_cmp}
 use Rattle.std.specs.declared.cmp.Ordering.TheVariants.{Less}
@@ -66,10 +64,3 @@ returns-clause-fewer c =
     let one : length (drop asked.done all) ≡ length (get_or all asked.done uid ∷ drop (asked.done + 1) all) =
     ap length (drop_more all asked.done uid below) in
     omega (arith, one)
-
-on_err : {X E : Type 0} (r : Result X E) {P : Type 0} → P → OnErr r P
-on_err (Ok x) p = tt
-on_err (Err e) p = p
-
-pub returns-in_err-rows-clause-err : goal.returns-in_err-rows-clause-err
-returns-in_err-rows-clause-err c = on_err c.from_residual.result (λ rows. (λ left. left, λ left. left))
