@@ -3,7 +3,7 @@ use Rattle.std.proofs.Common.{◌≡◌, ℕ, List, [], ◌∷◌, ◌++◌, ◌
 use Rattle.clap.specs.Built.{AddsArg, AddsSubcommand}
 use Rattle.clap.specs.Simple.{App, HasMatchesOf, Shape, app_of, app_of_fields, is_simple, shape_of, subcommand_of, subcommand_rows_of}
 use Rattle.clap.specs.Simple.{with_rule, with_subcommand}
-use Rattle.clap.specs.Walk.{Rule}
+use Rattle.clap.specs.Walk.{Rule, rule_of}
 use Rattle.clap.specs.declared.builder.arg.Arg.{Arg}
 use Rattle.clap.specs.declared.builder.command.Command.{Command}
 use Rattle.clap.specs.declared.builder.command.Command.TheOpen.{Command-F}
@@ -45,6 +45,22 @@ pub word_more : (app : App) (rules : List Rule) (old new : Command) → IsWord a
     IsWord (with_rules rules app) new
 word_more app rules old new word adds =
     record { app_is = adds.app_is ∙ ap (with_rules rules) word.app_is; local = adds.local word.local }
+
+-- a setting of an argument
+pub rule_set : (rule : Rule) (change : Rule → Rule) (old new set : Arg) → IsRule rule old → new ≡ set → rule_of set ≡ change (rule_of old) →
+    set.global ≡ old.global → IsRule (change rule) new
+rule_set rule change old new set is are same local = record {
+  rule_is = ap rule_of are ∙ same ∙ ap change is.rule_is;
+  local = ap (λ (a : Arg). a.global) are ∙ local ∙ is.local;
+}
+
+-- a setting of a word that changes what is read
+pub word_set : (app : App) (change : App → App) (old new : Command) (fields : Command-F Command) → IsWord app old → fields_of new ≡ fields →
+    app_of_fields fields ≡ change (app_of old) → fields.has_globals ≡ (fields_of old).has_globals → IsWord (change app) new
+word_set app change old new fields word are same local = record {
+  app_is = ap app_of_fields are ∙ same ∙ ap change word.app_is;
+  local = ap (λ (f : Command-F Command). f.has_globals) are ∙ local ∙ word.local;
+}
 
 -- texts and settings that are no option leave the word as it is
 pub word_kept : (app : App) (old new : Command) (fields : Command-F Command) → IsWord app old → fields_of new ≡ fields →
