@@ -1,10 +1,12 @@
 -- Commands as they are built, and what `clap` reads by them.
-use Rattle.std.proofs.Common.{◌≡◌, ℕ, List, [], ◌∷◌, ◌++◌, ◌||◌, true, false, refl, sym, ap, ap₂, ◌∙◌}
+use Rattle.std.proofs.Common.{◌≡◌, ℕ, Bool, Bor, List, [], ◌∷◌, ◌++◌, ◌||◌, ◌&&◌, not, true, false, refl, sym, ap, ap₂, ◌∙◌}
 use Rattle.clap.specs.Built.{AddsArg, AddsSubcommand}
 use Rattle.clap.specs.Simple.{App, HasMatchesOf, Shape, app_of, app_of_fields, is_simple, shape_of, subcommand_of, subcommand_rows_of}
 use Rattle.clap.specs.Simple.{with_rule, with_subcommand}
-use Rattle.clap.specs.Walk.{Rule}
+use Rattle.clap.specs.Adds.{AddsConflicts, AddsRequirements}
+use Rattle.clap.specs.Walk.{Rule, is_empty, rule_of}
 use Rattle.clap.specs.declared.builder.arg.Arg.{Arg}
+use Rattle.clap.specs.declared.builder.arg.ArgPredicate.{ArgPredicate}
 use Rattle.clap.specs.declared.builder.command.Command.{Command}
 use Rattle.clap.specs.declared.builder.command.Command.TheOpen.{Command-F}
 use Rattle.clap.specs.declared.builder.command.Command.TheViews.{out-Command as fields_of}
@@ -45,6 +47,65 @@ pub word_more : (app : App) (rules : List Rule) (old new : Command) → IsWord a
     IsWord (with_rules rules app) new
 word_more app rules old new word adds =
     record { app_is = adds.app_is ∙ ap (with_rules rules) word.app_is; local = adds.local word.local }
+
+-- a setting of an argument
+pub rule_set : (rule : Rule) (change : Rule → Rule) (old new set : Arg) → IsRule rule old → new ≡ set → rule_of set ≡ change (rule_of old) →
+    set.global ≡ old.global → IsRule (change rule) new
+rule_set rule change old new set is are same local = record {
+  rule_is = ap rule_of are ∙ same ∙ ap change is.rule_is;
+  local = ap (λ (a : Arg). a.global) are ∙ local ∙ is.local;
+}
+
+-- ---- options that ask for another, or stand beside none
+
+last_some : {A : Type 0} (xs : List A) (x : A) → is_empty (xs ++ x ∷ []) ≡ false
+last_some [] x = refl
+last_some (first ∷ xs) x = refl
+
+second_false : (a c : Bool) → (a && (false && c)) ≡ false
+second_false true c = refl
+second_false false c = refl
+
+third_false : (a b c : Bool) → (a && (b && (false && c))) ≡ false
+third_false true b c = second_false b c
+third_false false b c = refl
+
+abbrev bound : Rule → Bool → Rule
+bound rule free = record rule { is_free = free }
+
+pub rule_needs : (rule : Rule) (old new : Arg) (x : ArgPredicate × Bor (List ℕ)) → IsRule rule old → AddsRequirements old new (x ∷ []) →
+    IsRule (record rule { is_free = false }) new
+rule_needs rule old new x is adds = record {
+  rule_is = ap rule_of adds.0 ∙
+      ap (bound (rule_of old))
+      (ap (λ b. not old.exclusive && (is_empty old.conflicts.items && (b && (is_empty old.r_ifs.items && (is_empty old.r_ifs_all.items
+      && (is_empty old.r_unless.items && is_empty old.r_unless_all.items)))))) (ap is_empty adds.1 ∙ last_some old.needs.items x) ∙
+      third_false (not old.exclusive) (is_empty old.conflicts.items) _) ∙
+      ap (λ (r : Rule). bound r false) is.rule_is;
+  local = ap (λ (a : Arg). a.global) adds.0 ∙ is.local;
+}
+
+pub rule_conflicts : (rule : Rule) (old new : Arg) (x : Bor (List ℕ)) → IsRule rule old → AddsConflicts old new (x ∷ []) →
+    IsRule (record rule { is_free = false }) new
+rule_conflicts rule old new x is adds = record {
+  rule_is = ap rule_of adds.0 ∙
+      ap (bound (rule_of old))
+      (ap (λ b. not old.exclusive && (b && (is_empty old.needs.items && (is_empty old.r_ifs.items && (is_empty old.r_ifs_all.items
+      && (is_empty old.r_unless.items && is_empty old.r_unless_all.items)))))) (ap is_empty adds.1 ∙ last_some old.conflicts.items x) ∙
+      second_false (not old.exclusive) _) ∙
+      ap (λ (r : Rule). bound r false) is.rule_is;
+  local = ap (λ (a : Arg). a.global) adds.0 ∙ is.local;
+}
+
+-- ---- words
+
+-- a setting of a word that changes what is read
+pub word_set : (app : App) (change : App → App) (old new : Command) (fields : Command-F Command) → IsWord app old → fields_of new ≡ fields →
+    app_of_fields fields ≡ change (app_of old) → fields.has_globals ≡ (fields_of old).has_globals → IsWord (change app) new
+word_set app change old new fields word are same local = record {
+  app_is = ap app_of_fields are ∙ same ∙ ap change word.app_is;
+  local = ap (λ (f : Command-F Command). f.has_globals) are ∙ local ∙ word.local;
+}
 
 -- texts and settings that are no option leave the word as it is
 pub word_kept : (app : App) (old new : Command) (fields : Command-F Command) → IsWord app old → fields_of new ≡ fields →

@@ -6,12 +6,19 @@ loop-init g c = record { given = search rules; few = search rules; well = (0, re
 
 pub loop-preserved : goal.loop-preserved
 loop-preserved g c = record {
-  given = search rules;
+  given = ?;
   few = search rules;
   well = (
     suc c.loop.invariant.well.0,
-    c.loop.reader,
-    c.loop.invariant.well.1,
-    record { count = c.in_ok-count.count; some = omega arith; buffer = c.read_some-count.new.buffer; read = c.in_ok-count.ensures.once },
+    (
+      c.loop.reader,
+      c.loop.invariant.well.1,
+      record {
+        count = c.in_ok-count.count;
+        some = omega arith;
+        buffer = c.read_some-count.new.buffer;
+        read = c.in_ok-count.ensures.once;
+      },
+    ),
   );
 }

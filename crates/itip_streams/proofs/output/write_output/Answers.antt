@@ -10,12 +10,14 @@ loop-rest-preserved g c = record {
   moved = wrote_more _ _ _ _ c.loop-rest.rest.now c.in_ok-count.count c.loop-rest.invariant.moved c.in_ok-count.ensures.bytes;
   well = (
     suc c.loop-rest.invariant.well.0,
-    c.loop-rest.writer,
-    c.loop-rest.rest.now,
-    c.in_ok-count.count,
-    c.loop-rest.invariant.well.1,
-    omega arith,
-    c.in_ok-count.ensures.once,
-    search rules,
+    (
+      c.loop-rest.writer,
+      c.loop-rest.rest.now,
+      c.in_ok-count.count,
+      c.loop-rest.invariant.well.1,
+      omega arith,
+      c.in_ok-count.ensures.once,
+      search rules,
+    ),
   );
 }
