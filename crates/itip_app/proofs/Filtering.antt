@@ -2,9 +2,7 @@
 use Rattle.std.proofs.Common.{◌≡◌, ℕ, Bool, List, [], Option, Some, None, Result, Ok, Err, refl, sym, ap, subst, ◌∙◌}
 use Rattle.std.specs.Prelude.{IfOk}
 use Rattle.itip_streams.specs.Written.{WritesOutput}
-use Rattle.itip_words.specs.declared.filter.Format.{Format}
-use Rattle.itip_words.specs.declared.filter.Listing.{Listing}
-use Rattle.itip_app.specs.Filtered.{Writes, WritesList, octets_in}
+use Rattle.itip_app.specs.Filtered.{Writes}
 use Rattle.itip_app.specs.declared.filters.Outcome.{Outcome}
 
 -- what is said of an outcome in three clauses
@@ -25,7 +23,11 @@ written Is old new is_refused outcome refused whole done output = record {
   is_done = done;
 }
 
--- a list in the format that is asked for
-pub in_format : {E : Type 0} (P : Format → Outcome → Type 0) (format asked : Format) (r : Result Outcome E) → asked ≡ format →
-    IfOk r (P format) → IfOk r (P asked)
-in_format P format asked r e h = subst (λ (f : Format). IfOk r (P f)) (sym e) h
+-- what is said of what is asked for, by its case
+pub as_asked : {X E : Type 0} (P : X → Outcome → Type 0) (x asked : X) (r : Result Outcome E) → asked ≡ x → IfOk r (P x) → IfOk r (P asked)
+as_asked P x asked r e h = subst (λ (y : _). IfOk r (P y)) (sym e) h
+
+-- an outcome of which more is said
+pub outcome_more : {E : Type 0} (P Q : Outcome → Type 0) (r : Result Outcome E) → ((outcome : Outcome) → P outcome → Q outcome) → IfOk r P → IfOk r Q
+outcome_more P Q (Ok outcome) more h = more outcome h
+outcome_more P Q (Err fault) more h = tt
