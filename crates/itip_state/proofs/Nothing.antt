@@ -1,5 +1,5 @@
 -- Where nothing is news, or nothing is there.
-use Rattle.std.proofs.Common.{◌≡◌, ◌↔◌, ℕ, List, [], ◌∷◌, ◌++◌, ◌<◌, ◌≤◌, ◌⊎◌, inl, inr, refl, sym, ◌∙◌, ap, subst, true, false, nat_lt, length, map, get_or, arith, append-nil}
+use Rattle.std.proofs.Common.{◌≡◌, ◌↔◌, ℕ, List, [], ◌∷◌, ◌++◌, ◌<◌, ◌≤◌, ◌⊎◌, inl, inr, refl, sym, ◌∙◌, ap, subst, Bool, true, false, nat_lt, length, map, get_or, arith, append-nil}
 use Rattle.std.specs.List.{Contains}
 use Rattle.std.specs.Ordering.{nat_cmp}
 use Rattle.std.specs.Cmp.Lexicographic.{slice_cmp}
@@ -92,6 +92,10 @@ outdone_hold es heard items outdone hold = record { held = hold.held; kept = kep
           λ h. beside.0 (alone.0 (subst (λ (xs : List Item). IsKept xs i) (sym (append-nil set)) (state.0 h))),
           λ k. state.1 (subst (λ (xs : List Item). IsKept xs i) (append-nil set) (alone.1 (beside.1 k))),
         )
+
+-- a call that failed did not succeed
+pub not_ok : {G : Type 0} → ◌≡◌ {A = Bool} false true → G
+not_ok e = absurd (cc)
 
 -- ---- lists
 pub nothing_of_none : (items : List Item) → IsItemsOf items [] → items ≡ []

@@ -1,11 +1,11 @@
 use Rattle.std.proofs.Common.{◌≡◌, ◌∙◌, ◌∷◌, [], ℕ, List, map, ap, subst, sym}
 use Rattle.itip_items.specs.declared.item.Item.{Item}
 use Rattle.itip_state.specs.Kept.{AreUidsOf}
-use Rattle.itip_state.proofs.Nothing.{no_uids, no_view}
+use Rattle.itip_state.proofs.Nothing.{no_uids, no_view, not_ok}
 use Rattle.itip_desk.proofs.desk.copies_of_uids.Goals as goal
 
 pub returns-in_err-uids-clause-succeeds : goal.returns-in_err-uids-clause-succeeds
-returns-in_err-uids-clause-succeeds c = λ none. c.in_err-uids.ensures.succeeds none
+returns-in_err-uids-clause-succeeds c = λ none. not_ok (c.in_err-uids.ensures.succeeds none)
 
 pub returns-clause-succeeds : goal.returns-clause-succeeds
 returns-clause-succeeds c = λ none.

@@ -7,6 +7,7 @@ use Rattle.std.proofs.lemmas.Map.Lookups.{exact_bytes, CmpEqualImpliesEq}
 use Rattle.std.proofs.lemmas.Map.Views.{tells_apart}
 use Rattle.itip_items.specs.OctetOrder.{octets_cmp, octets_total}
 use Rattle.itip_items.proofs.SameItem.{same_item}
+use Rattle.itip_state.proofs.Nothing.{not_ok}
 use Rattle.itip_state.proofs.Ascending.{pairs_ascend}
 use Rattle.itip_state.proofs.shared.by_octets.Goals as goal
 
@@ -30,4 +31,4 @@ returns-clause-items c =
 pub returns-in_err-sort-clause-succeeds : goal.returns-in_err-sort-clause-succeeds
 returns-in_err-sort-clause-succeeds c = λ none.
     let empty : length c.args.items.items ≡ 0 = ap length none in
-    c.in_err-sort.ensures.succeeds (omega (arith, empty, c.args.items.ok))
+    not_ok (c.in_err-sort.ensures.succeeds (omega (arith, empty, c.args.items.ok)))

@@ -11,7 +11,7 @@ use Rattle.std.proofs.lemmas.Map.Lookups.{exact_bytes}
 use Rattle.std.proofs.lemmas.Map.Views.{tells_apart}
 use Rattle.itip_items.specs.KeyParts.{uid_of}
 use Rattle.itip_state.proofs.Ascending.{pairs_ascend}
-use Rattle.itip_state.proofs.Nothing.{none_left}
+use Rattle.itip_state.proofs.Nothing.{none_left, not_ok}
 use Rattle.itip_state.proofs.Once.{dedup_map, sorted_map}
 use Rattle.itip_state.proofs.UidSets.{uid_from, uid_among}
 use Rattle.itip_state.proofs.shared.uids.Goals as goal
@@ -47,7 +47,7 @@ returns-clause-uids c =
     }
 
 pub returns-in_err-uids-clause-succeeds : goal.returns-in_err-uids-clause-succeeds
-returns-in_err-uids-clause-succeeds c = λ none. c.in_err-uids.ensures.succeeds (c.len.ensures ∙ ap length none)
+returns-in_err-uids-clause-succeeds c = λ none. not_ok (c.in_err-uids.ensures.succeeds (ap length none))
 
 pub returns-in_err-push-clause-succeeds : goal.returns-in_err-push-clause-succeeds
 returns-in_err-push-clause-succeeds c = λ none. absurd (none_left c.args.items.now c.loop-item.item-index c.loop-item-test.true none)
@@ -58,4 +58,4 @@ returns-in_err-sort-clause-succeeds c = λ none.
     c.loop-item.invariant ∙ ap (map (λ item. uid_of item.now.key))
     (take_all c.loop-item.item-index c.args.items.now c.loop-item-test.false ∙ none) in
     let empty : length c.loop-item.uids.items ≡ 0 = sym (length-map c.loop-item.uids.items (λ uid. uid.now)) ∙ ap length raw in
-    c.in_err-sort.ensures.succeeds (omega (arith, empty, c.loop-item.uids.ok))
+    not_ok (c.in_err-sort.ensures.succeeds (omega (arith, empty, c.loop-item.uids.ok)))

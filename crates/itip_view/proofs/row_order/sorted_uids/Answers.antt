@@ -9,6 +9,7 @@ use Rattle.std.proofs.lemmas.Map.Lookups.{exact_bytes}
 use Rattle.std.proofs.lemmas.Map.Views.{tells_apart}
 use Rattle.itip_state.proofs.Ascending.{pairs_ascend}
 use Rattle.itip_state.proofs.Once.{dedup_map, sorted_map}
+use Rattle.itip_state.proofs.Nothing.{not_ok}
 use Rattle.itip_view.proofs.row_order.sorted_uids.Goals as goal
 
 pub returns-clause-ascend : goal.returns-clause-ascend
@@ -32,4 +33,4 @@ returns-clause-same c = λ uid.
 pub returns-in_err-sort-clause-succeeds : goal.returns-in_err-sort-clause-succeeds
 returns-in_err-sort-clause-succeeds c = λ none.
     let empty : length c.args.uids.items ≡ 0 = ap length none in
-    c.in_err-sort.ensures.succeeds (omega (arith, empty, c.args.uids.ok))
+    not_ok (c.in_err-sort.ensures.succeeds (omega (arith, empty, c.args.uids.ok)))

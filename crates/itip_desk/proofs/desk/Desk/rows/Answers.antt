@@ -4,7 +4,7 @@ use Rattle.std.specs.List.{Contains}
 use Rattle.itip_items.specs.declared.item.Item.{Item}
 use Rattle.itip_state.specs.Kept.{AreUidsOf}
 use Rattle.itip_state.proofs.Members.{if_ok_then}
-use Rattle.itip_state.proofs.Nothing.{uids_of_nothing}
+use Rattle.itip_state.proofs.Nothing.{uids_of_nothing, not_ok}
 use Rattle.itip_view.specs.ByUid.{AreAsked, AreLeft}
 use Rattle.itip_view.specs.RowDays.{HasRowsIn}
 use Rattle.itip_view.specs.Rows.{AreRows}
@@ -48,7 +48,7 @@ returns-clause-asked c =
     (AreAsked (λ row. Unit {0}) c.args.self.now.kept c.args.window) c.among.result (asked_is at) c.among.ensures.asked
 
 pub returns-in_err-uids-clause-succeeds : goal.returns-in_err-uids-clause-succeeds
-returns-in_err-uids-clause-succeeds c = λ none. c.in_err-uids.ensures.succeeds (ap (λ (d : Shown). d.kept) c.self.view_is ∙ none)
+returns-in_err-uids-clause-succeeds c = λ none. not_ok (c.in_err-uids.ensures.succeeds (ap (λ (d : Shown). d.kept) c.self.view_is ∙ none))
 
 pub returns-clause-none : goal.returns-clause-none
 returns-clause-none c = λ none.

@@ -12,6 +12,7 @@ use Rattle.itip_view.specs.declared.row.Row.{Row}
 use Rattle.itip_view.proofs.Left.{asked_as, left_where}
 use Rattle.itip_desk.specs.Desk.{Shown}
 use Rattle.itip_desk.proofs.Between.{row_naming}
+use Rattle.itip_state.proofs.Nothing.{not_ok}
 use Rattle.itip_desk.proofs.desk.Desk.rows_for.Goals as goal
 use Rattle.itip_desk.proofs.desk.Desk.rows_for.Goals.{After-among}
 
@@ -45,7 +46,7 @@ returns-clause-asked c =
     (AreAsked (Shows c.args.address.now) c.args.self.now.kept c.args.window) c.among.result (asked_is at) c.among.ensures.asked
 
 pub returns-in_err-uids-clause-succeeds : goal.returns-in_err-uids-clause-succeeds
-returns-in_err-uids-clause-succeeds c = λ none. c.in_err-uids.ensures.succeeds (ap (λ (d : Shown). d.kept) c.self.view_is ∙ none)
+returns-in_err-uids-clause-succeeds c = λ none. not_ok (c.in_err-uids.ensures.succeeds (ap (λ (d : Shown). d.kept) c.self.view_is ∙ none))
 
 pub returns-clause-none : goal.returns-clause-none
 returns-clause-none c = λ none.

@@ -5,7 +5,7 @@ use Rattle.itip_state.specs.Order.{IsState, IsBelow}
 use Rattle.itip_state.specs.Told.{AreNews}
 use Rattle.itip_state.proofs.Keeping.{are_kept_by}
 use Rattle.itip_state.proofs.News.{news_kept, news_move}
-use Rattle.itip_state.proofs.Nothing.{no_news, no_uids, no_view}
+use Rattle.itip_state.proofs.Nothing.{no_news, no_uids, no_view, not_ok}
 use Rattle.std.specs.Prelude.{cond, Some}
 use Rattle.itip_desk.specs.Desk.{Shown}
 use Rattle.itip_desk.specs.Moves.{is_listed, tick_at, HavePlaces, AreReady}
@@ -156,8 +156,8 @@ still c below =
 pub returns-in_err-news-clause-succeeds : goal.returns-in_err-news-clause-succeeds
 returns-in_err-news-clause-succeeds c = λ below.
     let kept : c.state.result.now ≡ c.args.self.now.kept = c.state.ensures ∙ ap (λ (d : Shown). d.kept) c.self.view_is in
-    c.in_err-news.ensures.succeeds (subst (λ (k : List Item). IsBelow c.as_slice.result.now k) (sym kept)
-    (subst (λ (step : List Item). IsBelow step c.args.self.now.kept) (sym c.as_slice.ensures.items) below))
+    not_ok (c.in_err-news.ensures.succeeds (subst (λ (k : List Item). IsBelow c.as_slice.result.now k) (sym kept)
+    (subst (λ (step : List Item). IsBelow step c.args.self.now.kept) (sym c.as_slice.ensures.items) below)))
 
 pub returns-in_err-uids-clause-succeeds : goal.returns-in_err-uids-clause-succeeds
 returns-in_err-uids-clause-succeeds c = λ below.
@@ -165,8 +165,8 @@ returns-in_err-uids-clause-succeeds c = λ below.
     let told : List Item = map (λ item. item.now) c.in_ok-news.news.items in
     let are : AreNews c.args.self.now.kept c.args.batch.now told = subst (λ (k : List Item). AreNews k c.args.batch.now told) kept
     (subst (λ (step : List Item). AreNews c.state.result.now step told) c.as_slice.ensures.items c.in_ok-news.ensures.news) in
-    c.in_err-uids.ensures.succeeds (c.deref.ensures.value ∙ no_view (λ item. item.now) c.in_ok-news.news.items
-    (no_news c.args.self.now.kept c.args.batch.now told are below))
+    not_ok (c.in_err-uids.ensures.succeeds (c.deref.ensures.value ∙ no_view (λ item. item.now) c.in_ok-news.news.items
+    (no_news c.args.self.now.kept c.args.batch.now told are below)))
 
 pub returns-then-self-clause-succeeds : goal.returns-then-self-clause-succeeds
 returns-then-self-clause-succeeds c = λ below.
