@@ -27,7 +27,7 @@ use Rattle.itip_desk.specs.Octets.{AscendOctets}
 use Rattle.itip_desk.specs.declared.error.FileError.{FileError}
 use Rattle.itip_desk.specs.declared.error.FileError.TheVariants as error
 use Rattle.itip_desk.specs.declared.file_text.FileHead.{FileHead}
-use Rattle.itip_desk.specs.declared.read_desk.FileParts.{FileParts}
+use Rattle.itip_desk.specs.declared.file_reading.FileParts.{FileParts}
 use Rattle.itip_desk.specs.declared.refusal.FileRefusal.{FileRefusal}
 use Rattle.itip_desk.specs.declared.refusal.FileRefusal.TheVariants.{OtherForm, Broken, Unwritten}
 use Rattle.itip_desk.proofs.FileMessages.{message_read, message_cut}

@@ -10,7 +10,7 @@ use Rattle.itip_desk.specs.Desk.{Shown}
 use Rattle.itip_desk.specs.Moves.{CarriesLast}
 use Rattle.itip_desk.specs.DeskFile.{parameter_text, version_text, message_text, digits_value, HasNumber, NamesOtherForm}
 use Rattle.itip_desk.specs.declared.file_text.FileHead.{FileHead}
-use Rattle.itip_desk.specs.declared.read_desk.FileParts.{FileParts}
+use Rattle.itip_desk.specs.declared.file_reading.FileParts.{FileParts}
 
 -- the number of 64 bits that digits say
 pub record IsValue (digits : List ℕ) (number : ℕ) : Type 0 where

@@ -7,7 +7,9 @@ mod delta;
 mod desk;
 mod entry;
 mod error;
+mod file_reading;
 mod file_text;
+mod file_writing;
 mod found;
 mod fronts;
 mod index;
@@ -17,22 +19,20 @@ mod listed;
 mod listed_lines;
 mod moves;
 mod number;
-mod read_desk;
 mod refusal;
 mod row_writing;
-mod write_desk;
 
 pub use batch::Batch;
 pub use delta::{read_batch, read_delta, write_delta};
 pub use desk::{Changed, Desk};
 pub use error::{DeskError, FileError};
+pub use file_reading::read_desk;
+pub use file_writing::write_desk;
 pub use laws::{
     delta_brings_up_to_date, delta_read_again, desk_read_again, desks_converge, one_delta,
 };
 pub use listed::write_head;
 pub use listed_lines::heads_count_lines;
-pub use read_desk::read_desk;
 pub use refusal::{FileRefusal, Refusal};
 pub use row_writing::{write_listed, write_rows, write_some_rows};
 pub use std::alloc::AllocError as NoMemory;
-pub use write_desk::write_desk;

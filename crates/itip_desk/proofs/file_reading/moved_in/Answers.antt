@@ -1,5 +1,5 @@
 use Rattle.itip_desk.proofs.FileParsing.{none_follows, some_moved_at, no_move}
-use Rattle.itip_desk.proofs.read_desk.moved_in.Goals as goal
+use Rattle.itip_desk.proofs.file_reading.moved_in.Goals as goal
 
 pub returns-in_err-parameters : goal.returns-in_err-parameters
 returns-in_err-parameters c = rw c.from_residual.ensures (none_follows c.args.message.now c.in_err-parameters.ensures)

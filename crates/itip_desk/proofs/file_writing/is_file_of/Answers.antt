@@ -3,7 +3,7 @@ use Rattle.itip_desk.specs.DeskFile.{head_of}
 use Rattle.itip_desk.specs.declared.file_text.FileHead.{FileHead}
 use Rattle.itip_desk.proofs.FileWriting.{Completes, none_compared, one_compared, none_same, all_compared, file_where}
 use Rattle.itip_desk.proofs.FileNumbers.{no_octets_if}
-use Rattle.itip_desk.proofs.write_desk.is_file_of.Goals as goal
+use Rattle.itip_desk.proofs.file_writing.is_file_of.Goals as goal
 
 pub loop-item-init : goal.loop-item-init
 loop-item-init c =

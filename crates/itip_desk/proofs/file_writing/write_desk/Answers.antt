@@ -8,8 +8,8 @@ use Rattle.itip_desk.specs.declared.file_text.FileHead.{FileHead}
 use Rattle.itip_desk.proofs.FileWriting.{WritesSoFar, none_written, one_kept, one_written, front_so_far, still_front, written_all, one_file}
 use Rattle.itip_desk.proofs.FileWriting.{on_err_then, writes_file}
 use Rattle.itip_desk.proofs.Refusals.{on_err_always}
-use Rattle.itip_desk.proofs.write_desk.write_desk.Goals as goal
-use Rattle.itip_desk.proofs.write_desk.write_desk.Goals.{In_ok-append_item}
+use Rattle.itip_desk.proofs.file_writing.write_desk.Goals as goal
+use Rattle.itip_desk.proofs.file_writing.write_desk.Goals.{In_ok-append_item}
 
 -- with one message more
 more : (g : _) (c : In_ok-append_item g) →

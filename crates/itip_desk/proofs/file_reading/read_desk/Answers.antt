@@ -1,6 +1,6 @@
 use Rattle.std.proofs.Common.{◌≡◌, ◌∙◌, sym, Bool, true, false, None}
 use Rattle.itip_desk.proofs.FileTexts.{moves_are, not_file, told_file}
-use Rattle.itip_desk.proofs.read_desk.read_desk.Goals as goal
+use Rattle.itip_desk.proofs.file_reading.read_desk.Goals as goal
 
 pub desk_of-requires : goal.desk_of-requires
 desk_of-requires c = moves_are c.args.octets.now c.in_ok-parts.parts c.in_ok-parts.ensures.found

@@ -1,7 +1,7 @@
 use Rattle.std.proofs.Common.{◌≡◌, subst, arith, refl, ◌++◌}
 use Rattle.itip_desk.specs.FileReading.{moves_at}
 use Rattle.itip_desk.proofs.FileTexts.{no_move_part, other_move_part, refused_part}
-use Rattle.itip_desk.proofs.read_desk.read_part.Goals as goal
+use Rattle.itip_desk.proofs.file_reading.read_part.Goals as goal
 
 pub returns-in_default-clause-fault : goal.returns-in_default-clause-fault
 returns-in_default-clause-fault c =

@@ -1,7 +1,7 @@
 use Rattle.std.proofs.Common.{refl, None, Some, rules}
 use Rattle.itip_desk.proofs.FileTicks.{nothing_told_tick, no_form_named, other_form_named, tick_found, no_tick_found}
 use Rattle.itip_desk.proofs.FileNumbers.{no_octets_if, some_octets_if}
-use Rattle.itip_desk.proofs.read_desk.tick_of.Goals as goal
+use Rattle.itip_desk.proofs.file_reading.tick_of.Goals as goal
 
 pub returns-then-is_empty-clause-found : goal.returns-then-is_empty-clause-found
 returns-then-is_empty-clause-found c = nothing_told_tick c.args.octets.now (no_octets_if c.args.octets.now (search rules))

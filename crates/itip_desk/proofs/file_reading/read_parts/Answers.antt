@@ -3,7 +3,7 @@ use Rattle.std.proofs.lemmas.Result.{err_from_is_err_and}
 use Rattle.itip_items.specs.declared.item.Item.{Item}
 use Rattle.itip_desk.specs.FileReading.{FileSoFar, TellsTick}
 use Rattle.itip_desk.proofs.FileTexts.{none_read, one_read, all_read, refuses_if}
-use Rattle.itip_desk.proofs.read_desk.read_parts.Goals as goal
+use Rattle.itip_desk.proofs.file_reading.read_parts.Goals as goal
 
 pub loop-message-init : goal.loop-message-init
 loop-message-init c = record {

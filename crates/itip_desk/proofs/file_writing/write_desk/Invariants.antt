@@ -1,6 +1,6 @@
 use Rattle.itip_desk.specs.DeskFile.{head_of}
 use Rattle.itip_desk.proofs.FileWriting.{WritesSoFar}
-use Rattle.itip_desk.proofs.write_desk.write_desk.Given as goal
+use Rattle.itip_desk.proofs.file_writing.write_desk.Given as goal
 
 abbrev pub invariant-loop-item : goal.invariant-loop-item
 invariant-loop-item g l =

@@ -1,5 +1,5 @@
 use Rattle.itip_state.proofs.Keeping.{are_kept_same}
-use Rattle.itip_desk.proofs.read_desk.desk_of.Goals as goal
+use Rattle.itip_desk.proofs.file_reading.desk_of.Goals as goal
 
 pub returns-clause-made : goal.returns-clause-made
 returns-clause-made c = record {

@@ -3,7 +3,7 @@ use Rattle.std.proofs.lemmas.List.{map_more, take_all}
 use Rattle.itip_items.specs.KeyParts.{uid_of}
 use Rattle.itip_items.specs.declared.item.Item.{Item}
 use Rattle.itip_desk.specs.FileReading.{moves_at}
-use Rattle.itip_desk.proofs.read_desk.push_moves.Goals as goal
+use Rattle.itip_desk.proofs.file_reading.push_moves.Goals as goal
 
 pub loop-item-init : goal.loop-item-init
 loop-item-init c = sym (append-nil c.args.moves.now.items)

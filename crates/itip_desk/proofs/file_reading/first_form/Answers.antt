@@ -2,7 +2,7 @@ use Rattle.std.proofs.Common.{◌∙◌, append_assoc, ◌++◌}
 use Rattle.std.specs.Prelude.{codes}
 use Rattle.itip_desk.specs.DeskFile.{begins_text}
 use Rattle.itip_desk.proofs.FileNumbers.{behind_first, with_first, if_some_then, if_none_then}
-use Rattle.itip_desk.proofs.read_desk.first_form.Goals as goal
+use Rattle.itip_desk.proofs.file_reading.first_form.Goals as goal
 
 pub returns-in_err-parameters-clause-none : goal.returns-in_err-parameters-clause-none
 unfolding lib.Utf8.encode

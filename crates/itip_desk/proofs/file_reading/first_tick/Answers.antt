@@ -1,5 +1,5 @@
 use Rattle.itip_desk.proofs.FileTicks.{no_product, no_tick_number, tick_read}
-use Rattle.itip_desk.proofs.read_desk.first_tick.Goals as goal
+use Rattle.itip_desk.proofs.file_reading.first_tick.Goals as goal
 
 pub returns-in_err-parameters : goal.returns-in_err-parameters
 unfolding lib.Utf8.encode

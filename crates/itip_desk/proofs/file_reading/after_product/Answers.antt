@@ -1,5 +1,5 @@
 use Rattle.itip_desk.proofs.FileParsing.{none_begins, follows_by}
-use Rattle.itip_desk.proofs.read_desk.after_product.Goals as goal
+use Rattle.itip_desk.proofs.file_reading.after_product.Goals as goal
 
 pub returns-in_err-parameters : goal.returns-in_err-parameters
 unfolding lib.Utf8.encode

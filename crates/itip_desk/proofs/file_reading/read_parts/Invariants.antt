@@ -1,6 +1,6 @@
 use Rattle.std.proofs.Common.{length}
 use Rattle.itip_desk.specs.FileReading.{FileSoFar, TellsTick}
-use Rattle.itip_desk.proofs.read_desk.read_parts.Given as goal
+use Rattle.itip_desk.proofs.file_reading.read_parts.Given as goal
 
 abbrev pub invariant-loop-message : goal.invariant-loop-message
 invariant-loop-message l = record {
