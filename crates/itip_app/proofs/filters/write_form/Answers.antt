@@ -14,6 +14,6 @@ returns g c =
         due = c.wanted-wanted.ensures.due;
       };
       writes = written (IsTaskList (g.F.ListForm.octets c.args.form.now) (Wants c.wanted-wanted.result) inputs c.args.asked.now.window)
-          (g.W.Write.contents c.args.writer.now) (g.W.Write.contents c.list-done.new.writer) c.in_ok-done.done outcome refused whole done
+          (g.W.Write.contents c.args.writer.now) (g.W.Write.contents c.list.new.writer) c.in_ok-done.done outcome refused whole done
           (c.in_ok-done.ensures.output inputs are);
     })

@@ -1,4 +1,5 @@
-use Rattle.std.proofs.Common.{suc, refl, arith, rules}
+use Rattle.std.proofs.Common.{suc, refl, arith}
+use Rattle.std.proofs.lemmas.List.{take_rest}
 use Rattle.itip_streams.proofs.Writing.{moves_none, wrote_more}
 use Rattle.itip_streams.proofs.output.write_output.Goals as goal
 
@@ -17,7 +18,7 @@ loop-rest-preserved g c = record {
       c.loop-rest.invariant.well.1,
       omega arith,
       c.in_ok-count.ensures.once,
-      search rules,
+      take_rest c.loop-rest.rest.now c.in_ok-count.count,
     ),
   );
 }
