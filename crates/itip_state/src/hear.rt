@@ -22,7 +22,6 @@ use crate::slot::Slot;
 use crate::told::outdoes_all;
 use itip_join::{Exact, Greatest, Join};
 use itip_todo::Uid;
-use crate::told::outdoes_all;
 use std::alloc::Global;
 
 /// What was held of a UID before an item was heard, as far as hearing it changes that.
