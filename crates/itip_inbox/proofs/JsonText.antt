@@ -1,5 +1,5 @@
 -- Objects as they are written, and as they are read.
-use Rattle.std.proofs.Common.{◌≡◌, ◌≤◌, ◌<◌, ◌^◌, ℕ, List, [], ◌∷◌, ◌++◌, map, refl, sym, ap, subst, ◌∙◌, arith, append_assoc, append-nil}
+use Rattle.std.proofs.Common.{◌≡◌, ◌≤◌, ◌<◌, ◌^◌, ◌-◌, ℕ, length, take, drop, get_or, take_all, ap₂, List, [], ◌∷◌, ◌++◌, map, refl, sym, ap, subst, ◌∙◌, arith, append_assoc, append-nil}
 use Rattle.std.proofs.Common.{Option, Some, None, lit<}
 use Rattle.std.specs.Prelude.{IfSome, codes, option_map}
 use Rattle.std.specs.Fmt.{decimal}
@@ -171,6 +171,22 @@ no_rows old new done all are =
     )
 
 -- ---- the array
+
+-- some rows are the first of them and the others
+pub first_of : (rows : List Row) (first : Row) → 1 ≤ length rows → first ≡ get_or rows 0 first →
+    rows ≡ first ∷ take (length rows - 1) (drop 1 rows)
+first_of [] first some is = absurd (omega (arith, some))
+first_of (row ∷ rows) first some is =
+    ap₂ (λ (r : Row) (rs : List Row). r ∷ rs) (sym is) (sym (take_all (length (row ∷ rows) - 1) rows (omega arith)))
+
+-- it is opened with the first object, and the others stand behind it
+pub opened_again : (old p mid : List ℕ) (row : Row) (others rows : List Row) → p ≡ old ++ codes "[\n" → mid ≡ p ++ object_text row →
+    rows ≡ row ∷ others → mid ++ flat_map object_behind others ≡ old ++ opened_text rows
+opened_again old p mid row others rows first second are =
+    ap (λ (t : List ℕ). t ++ flat_map object_behind others) second ∙ append_assoc p (object_text row) (flat_map object_behind others) ∙
+    ap (λ (t : List ℕ). t ++ (object_text row ++ flat_map object_behind others)) first ∙
+    append_assoc old (codes "[\n") (object_text row ++ flat_map object_behind others) ∙
+    ap (λ (rs : List Row). old ++ opened_text rs) (sym are)
 
 -- where it is opened with the first of all rows
 module _ (old mid : Option (List ℕ)) (first rest all : List Row) (kept : List ℕ) (some : first ≡ [] → ⊥) (whole : all ≡ first ++ rest) where

@@ -1,5 +1,5 @@
+use Rattle.std.specs.Prelude.{false, codes, Some}
 use Rattle.std.proofs.Common.{refl}
-use Rattle.std.specs.Prelude.{codes, Some}
 use Rattle.std.proofs.lemmas.Result.{IfOk-weaker}
 use Rattle.clap.specs.Simple.{new_rule}
 use Rattle.clap.specs.declared.builder.action.ArgAction.TheVariants.{Append, SetTrue}
