@@ -32,10 +32,10 @@ pub record PutUpTo (wanted : Wanted) (part : UidPart) (window : Window) (done : 
   pub few : number ≤ length done + 1
 
 module _ (wanted : Wanted) (part : UidPart) (window : Window) where
-  pub put_begins : (place : Option RowPlace) → IsPlaceAt part window None place → (old new : List ℕ) (yes : Bool) →
-      IsPlacePut wanted part place old new yes → PutUpTo wanted part window [] old new (from_bool yes)
-  put_begins place is old new yes put =
-      let one : from_bool yes ≤ 1 = one_at_most yes in
+  pub put_begins : (place : Option RowPlace) → IsPlaceAt part window None place → (old new : List ℕ) (is_put : Bool) →
+      IsPlacePut wanted part place old new is_put → PutUpTo wanted part window [] old new (from_bool is_put)
+  put_begins place is old new is_put put =
+      let one : from_bool is_put ≤ 1 = one_at_most is_put in
       record {
         rows = option_to_list put.row;
         up_to = rows_begin part.items window part.uid put.row (made_at part window None place is put.row put.made);
@@ -46,9 +46,9 @@ module _ (wanted : Wanted) (part : UidPart) (window : Window) where
 
   pub put_more : (done : List Moment) (next : Moment) (old mid new : List ℕ) (number : ℕ) → PutUpTo wanted part window done old mid number →
       ((at : Moment) → Contains done at → moment_cmp at next ≡ Less) → (place : Option RowPlace) →
-      IsPlaceAt part window (Some next) place → (yes : Bool) → IsPlacePut wanted part place mid new yes →
-      PutUpTo wanted part window (done ++ next ∷ []) old new (number + from_bool yes)
-  put_more done next old mid new number so later place is yes put =
+      IsPlaceAt part window (Some next) place → (is_put : Bool) → IsPlacePut wanted part place mid new is_put →
+      PutUpTo wanted part window (done ++ next ∷ []) old new (number + from_bool is_put)
+  put_more done next old mid new number so later place is is_put put =
       let before : List Row = filter (wants wanted) so.rows in
       let here : List Row = filter (wants wanted) (option_to_list put.row) in
       let both : filter (wants wanted) (so.rows ++ option_to_list put.row) ≡ before ++ here =
@@ -56,8 +56,8 @@ module _ (wanted : Wanted) (part : UidPart) (window : Window) where
       let sum : length (filter (wants wanted) (so.rows ++ option_to_list put.row)) ≡ length before + length here = ap length both ∙
       length-append before here in
       let number_before : length before ≡ number = so.number_is in
-      let number_here : length here ≡ from_bool yes = put.put.number_is in
-      let one : from_bool yes ≤ 1 = one_at_most yes in
+      let number_here : length here ≡ from_bool is_put = put.put.number_is in
+      let one : from_bool is_put ≤ 1 = one_at_most is_put in
       let long : length (done ++ next ∷ []) ≡ length done + 1 = length_push done next in
       let few : number ≤ length done + 1 = so.few in
       record {

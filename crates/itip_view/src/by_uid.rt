@@ -73,8 +73,8 @@ impl<'s, 'w> RowsByUid<'s, 'w> {
         ensures rows { IfOk result (λ asked. (rows : List Row) → AreLeft asked rows
             ↔ AreRowsWhere (IsAmong (map (λ uid. uid.now) uids.entry.items) (Wants wanted.now)) state.now window rows) }
         ensures asked { IfOk result (AreAsked (IsAmong (map (λ uid. uid.now) uids.entry.items) (Wants wanted.now)) state.now window) }
-        ensures none { uids.items ≡ [] → IfOk result (λ asked. uids_of asked ≡ []) }
-        ensures succeeds { uids.items ≡ [] → IsOk result }
+        ensures none { uids.entry.items ≡ [] → IfOk result (λ asked. uids_of asked ≡ []) }
+        ensures succeeds { uids.entry.items ≡ [] → IsOk result }
     {
         let uids = sorted_uids(uids)?;
         Ok(RowsByUid {

@@ -21,7 +21,7 @@ pub fn sorted_uids<'a>(uids: Vec<&'a Uid>) -> Result<Vec<&'a Uid>, NoMemory>
     ensures ascend { IfOk result (λ sorted. AscendTexts (map (λ uid. uid.now) sorted.items)) }
     ensures same { IfOk result (λ sorted. (uid : List ℕ)
         → Contains (map (λ uid. uid.now) sorted.items) uid ↔ Contains (map (λ uid. uid.now) uids.entry.items) uid) }
-    ensures succeeds { uids.items ≡ [] → IsOk result }
+    ensures succeeds { uids.entry.items ≡ [] → IsOk result }
 {
     let mut uids = uids;
     uids.sort()?;

@@ -4,6 +4,8 @@ use Rattle.std.specs.Cmp.Lexicographic.{slice_cmp}
 use Rattle.std.specs.declared.cmp.Ordering.TheVariants.{Less}
 use Rattle.std.proofs.lemmas.List.{drop_all, drop_more, length-map}
 use Rattle.std.proofs.Math.ListN.{get_or-map}
+use Rattle.std.proofs.Common.{Result, Ok, Err}
+use Rattle.std.specs.Prelude.{OnErr}
 use Rattle.itip_state.proofs.Ascending.{pairs_ascend}
 use Rattle.itip_state.specs.Kept.{AscendTexts}
 use Rattle.itip_view.specs.Showing.{AreRowsWhere, IsAmong}
@@ -64,3 +66,10 @@ returns-clause-fewer c =
     let one : length (drop asked.done all) ≡ length (get_or all asked.done uid ∷ drop (asked.done + 1) all) =
     ap length (drop_more all asked.done uid below) in
     omega (arith, one)
+
+on_err : {X E : Type 0} (r : Result X E) {P : Type 0} → P → OnErr r P
+on_err (Ok x) p = tt
+on_err (Err e) p = p
+
+pub returns-in_err-rows-clause-err : goal.returns-in_err-rows-clause-err
+returns-in_err-rows-clause-err c = on_err c.from_residual.result refl
