@@ -3,6 +3,8 @@ use Rattle.std.specs.Prelude.{ℕ}
 use Rattle.itip_desk.specs.Refusals as refusals
 use Rattle.itip_desk.specs.declared.error.DeskError.{DeskError}
 use Rattle.itip_desk.specs.declared.error.DeskError.TheVariants as desk
+use Rattle.itip_desk.specs.declared.error.FileError.{FileError}
+use Rattle.itip_desk.specs.declared.error.FileError.TheVariants as file
 use Rattle.itip_desk.specs.declared.refusal.Refusal.TheVariants as refusal
 use Rattle.itip_message.specs.declared.error.MessageRefusal.{MessageRefusal}
 use Rattle.itip_message.specs.declared.error.ReadError.{ReadError}
@@ -45,6 +47,10 @@ of_reading (reading.Refused cause) = of_message cause
 abbrev pub of_desk : DeskError → Error
 of_desk desk.NoMemory = error.NoMemory
 of_desk desk.TicksSpent = error.Spent
+
+abbrev pub of_file : FileError → Error
+of_file file.NoMemory = error.NoMemory
+of_file (file.Refused cause) = error.Refused (refusal.File cause)
 
 abbrev pub of_view : ViewError → Error
 of_view view.TooManyRows = error.Refused refusal.TooManyRows

@@ -2,7 +2,7 @@
 ghost use Rattle.std.specs.Prelude.{◌≡◌};
 ghost use Rattle.itipdesk.specs.declared.error.Error.TheVariants as gives;
 
-use itip_desk::{DeskError, Refusal};
+use itip_desk::{DeskError, FileError, Refusal};
 use itip_message::{MessageRefusal, ReadError};
 use itip_moment::BadText;
 use itip_office::OfficeError;
@@ -16,7 +16,7 @@ use std::fmt;
 /// Why a call refused: what is wrong, under the number that the program shows for it.
 #[derive(Clone, Copy, PartialEq, Eq, Debug)]
 pub enum Error {
-    /// A message, a list, or what a desk or a packet was asked for (1 to 15, 21, 31, 50, 51).
+    /// A message, a list, the file of a desk, or what a desk or a packet was asked for (1 to 15, 21, 31, 50, 51, 70 to 72).
     Refused(Refusal),
     /// A count is spent: the ticks of a desk, or the batches of a running desk or of an office (21).
     Spent,
@@ -156,6 +156,19 @@ impl From<DeskError> for Error {
         match error {
             DeskError::NoMemory => Error::NoMemory,
             DeskError::TicksSpent => Error::Spent,
+        }
+    }
+}
+
+impl From<FileError> for Error {
+    ghost use Rattle.itipdesk.specs.Errors.{of_file};
+
+    ghost from_gives = { λ error e. e ≡ of_file error };
+
+    fn from(error: FileError) -> Error {
+        match error {
+            FileError::NoMemory => Error::NoMemory,
+            FileError::Refused(refusal) => Error::Refused(Refusal::File(refusal)),
         }
     }
 }

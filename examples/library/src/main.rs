@@ -3,10 +3,10 @@
 
 use itipdesk::Error;
 use itipdesk::deltas::{read_delta, write_delta};
-use itipdesk::desks::{Batch, Desk, read_batch};
+use itipdesk::desks::{Batch, Desk, read_batch, read_desk, write_desk};
 use itipdesk::lists::Window;
 use itipdesk::messages::{Moment, TodoBuilder};
-use itipdesk::running::{Receipt, meet, start_desk};
+use itipdesk::running::{OpenDesk, Receipt, with_desk};
 use std::alloc::Global;
 use std::io;
 use std::sync::Wait;
@@ -31,18 +31,18 @@ fn play<R: AllocGlobal + Threads + Wait + Sync>(rt: &R) -> Result<String, Error>
     let delta = write_delta(alloc, &desk.delta_since(0)?)?;
     let other = desk_of(alloc, &delta)?;
     // One thread writes to a running desk, and others list it.
-    let (mut keeper, mut passes) = start_desk(rt, 2)?;
-    let mut write = || -> Result<Receipt, Error> {
-        keeper.submit(other.delta_since(0)?)?;
-        Ok(keeper.publish(rt)?)
-    };
-    let mut read = || for_each_mut(rt, &mut passes, 2, &|_, pass| drop(pass.list(year)));
-    let (published, ()) = join_mut(rt, &mut write, &mut read);
-    let ended = meet(rt, keeper, Vec::new(alloc))?.desk;
-    let _receipt = published?;
+    let (_published, met) = with_desk(rt, 2, |desk| -> Result<Receipt, Error> {
+        let OpenDesk { keeper, passes } = desk;
+        let mut write = || -> Result<Receipt, Error> {
+            keeper.submit(other.delta_since(0)?)?;
+            Ok(keeper.publish(rt)?)
+        };
+        let mut read = || for_each_mut(rt, passes, 2, &|_, pass| drop(pass.list(year)));
+        join_mut(rt, &mut write, &mut read).0
+    })?;
     // The program ends here, and goes on with the file that it wrote.
-    let file = write_delta(alloc, &ended.delta_since(0)?)?;
-    Ok(String::from_utf8_lossy(alloc, &desk_of(alloc, &file)?.list(year)?)?)
+    let file = write_desk(alloc, &met.desk)?;
+    Ok(String::from_utf8_lossy(alloc, &read_desk(alloc, &file)?.list(year)?)?)
 }
 
 fn own_batch(alloc: Global) -> Result<Batch, Error> {
