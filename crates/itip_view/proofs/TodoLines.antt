@@ -6,7 +6,7 @@ use Rattle.std.specs.Fmt.{decimal}
 use Rattle.std.specs.List.{flat_map, AllByRecursion}
 use Rattle.std.proofs.lemmas.Bool.{ne_eqb, cases_Bool, eq-eqb}
 use Rattle.std.proofs.lemmas.Fmt.{decimal_digit, decimal-digits_of}
-use Rattle.core.specs.Int.Digits.{digits_of}
+use Rattle.std.specs.Int.Digits.{digits_of}
 use Rattle.itip_moment.specs.Shown.{shown_moment}
 use Rattle.itip_moment.specs.declared.moment.Moment.{Moment}
 use Rattle.itip_todo.specs.Participation.{partstat_text}

@@ -102,11 +102,11 @@ impl<'s, 'w> RowsByUid<'s, 'w> {
 
     /// The rows of the next UID, in their order, perhaps none; `None` where no UID is left, from then on.
     ///
-    /// After an error (out of memory) nothing has changed: the UID is the next one still.
+    /// After an error (out of memory) the same UIDs and rows are left: the UID is the next one still.
     pub fn next(&mut self) -> Result<Option<Vec<Row>>, NoMemory>
         ensures rows { IfOk result (λ rows. IsNextOf self.old self.new (option_map (λ r. r.items) rows)) }
         ensures fewer { IfOk result (λ rows. IfSome rows (λ _. uids_left self.new < uids_left self.old)) }
-        ensures err { OnErr result (self.new ≡ self.old) }
+        ensures err { OnErr result ((uids_of self.new ≡ uids_of self.old) × ((rows : List Row) → AreLeft self.new rows ↔ AreLeft self.old rows)) }
     {
         if self.done == self.uids.len() {
             return Ok(None);

@@ -72,4 +72,4 @@ on_err (Ok x) p = tt
 on_err (Err e) p = p
 
 pub returns-in_err-rows-clause-err : goal.returns-in_err-rows-clause-err
-returns-in_err-rows-clause-err c = on_err c.from_residual.result refl
+returns-in_err-rows-clause-err c = on_err c.from_residual.result (refl, λ rows. (λ left. left, λ left. left))

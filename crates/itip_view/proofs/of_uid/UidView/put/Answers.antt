@@ -67,7 +67,7 @@ loop-at-preserved c =
     earlier_before (λ (a b : Moment). moment_cmp a b ≡ Less) moments i at pairs c.loop-at-test.true c.at-item.is in
     let old : List ℕ = c.args.out.now.items in
     let mid : List ℕ = c.loop-at.out.items in
-    let new : List ℕ = c.put_place-2.new.out.items in
+    let new : List ℕ = c.put_place-in-loop-at.new.out.items in
     subst (λ (n : ℕ). PutUpTo wanted part window (take (i + 1) moments) old new (c.loop-at.number + n)) (sym c.from-number-in-loop-at.ensures)
     (subst (λ (ms : List Moment). PutUpTo wanted part window ms old new (c.loop-at.number + from_bool c.in_ok-is_put-2.is_put)) (sym done)
     (put_more wanted part window (take i moments) at old mid new c.loop-at.number c.loop-at.invariant later c.place_at.result

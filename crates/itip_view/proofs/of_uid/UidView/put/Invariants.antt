@@ -4,4 +4,4 @@ use Rattle.itip_view.proofs.of_uid.UidView.put.Given as goal
 
 abbrev pub invariant-loop-at : goal.invariant-loop-at
 invariant-loop-at l =
-    PutUpTo l.wanted l.self.items.now l.self.window (take l.at-index l.at-items) l.initial.out.items l.out.items l.number
+    PutUpTo l.wanted l.self.items.now l.self.window (take l.at-index l.at-items) l.fn.out.items l.out.items l.number
