@@ -1,5 +1,5 @@
 -- Records as they are written, and as a reader of comma-separated fields reads them.
-use Rattle.std.proofs.Common.{◌≡◌, ◌≤◌, ◌+◌, ◌-◌, ◌==◌, ◌||◌, ℕ, zero, suc, cond, List, [], ◌∷◌, ◌++◌, map, length}
+use Rattle.std.proofs.Common.{◌≡◌, ◌≤◌, ◌+◌, ◌-◌, ◌==◌, ◌||◌, ℕ, zero, suc, cond, false, List, [], ◌∷◌, ◌++◌, map, length}
 use Rattle.std.proofs.Common.{Option, Some, None, refl, sym, ap, ap₂, inl, inr, ◌∙◌, arith, append_assoc, append-nil, length-append, zero-add, suc-add}
 use Rattle.std.specs.List.{flat_map, list_any}
 use Rattle.std.proofs.lemmas.List.Concat.{flat_map-append}
@@ -17,6 +17,12 @@ use Rattle.itip_inbox.specs.Csv.{is_special, doubled, field_text, field_behind, 
 use Rattle.itip_inbox.specs.Csv.{record_of, records_for, records_of, records_of_rows, attendee_record_text, row_records_text}
 use Rattle.itip_inbox.specs.Csv.{name_fields, number_fields, date_fields, last_fields, attendee_fields}
 use Rattle.itip_inbox.proofs.Pieces.{join_five}
+
+-- ---- a field
+
+-- one that stands without quotes
+pub plain_field : (field : List ℕ) → list_any is_special field ≡ false → field_text field ≡ field
+plain_field field none = ap (λ b. cond b (34 ∷ (flat_map doubled field ++ 34 ∷ [])) field) none
 
 -- ---- a record
 

@@ -1,8 +1,15 @@
 -- Pieces that are put one behind the other.
-use Rattle.std.proofs.Common.{◌≡◌, List, [], ◌∷◌, ◌++◌, sym, ap, ◌∙◌, append_assoc, append-nil}
+use Rattle.std.proofs.Common.{◌≡◌, List, [], ◌∷◌, ◌++◌, if◌then◌else◌, Result, Ok, Err, sym, ap, ◌∙◌, append_assoc, append-nil}
+use Rattle.std.specs.Prelude.{OnOk}
+use Rattle.std.specs.Result.{is_ok}
 use Rattle.std.specs.List.{flat_map}
 use Rattle.std.proofs.lemmas.List.Concat.{flat_map-append}
 use Rattle.itip_view.proofs.FlatMap.{then_more}
+
+-- what is appended where memory isn't refused
+pub put_ok : {T E A : Type 0} (r : Result T E) (new whole old : List A) → new ≡ (if is_ok r then whole else old) → OnOk r (new ≡ whole)
+put_ok (Ok x) new whole old is = is
+put_ok (Err e) new whole old is = tt
 
 module _ {X A : Type 0} (f : X → List A) where
   -- the pieces of two lists, and an end

@@ -1,7 +1,7 @@
 //! Rows as records of comma-separated fields (RFC 4180).
 ghost use Rattle.std.specs.Prelude.{◌≡◌, ◌++◌, ◌∷◌, [], List, Some, OnOk};
 ghost use Rattle.std.specs.Fmt.{decimal};
-ghost use Rattle.std.specs.List.{flat_map};
+ghost use Rattle.std.specs.List.{flat_map, list_any};
 ghost use Rattle.std.specs.Option.{option_copied};
 ghost use Rattle.csv.specs.Reading.{default_config, records};
 ghost use Rattle.itip_moment.specs.Shown.{shown_moment};
@@ -209,10 +209,16 @@ fn put_field(out: &mut Vec<u8>, field: &str) -> Result<(), AllocError>
     ensures { OnOk result (out.new.items ≡ out.old.items ++ field_text field.now) }
 {
     let octets = field.as_bytes();
-    if octets.iter().any(|octet| is_special(*octet)) {
+    if needs_quotes(octets) {
         return put_quoted(out, octets);
     }
     out.extend_from_slice(octets)
+}
+
+fn needs_quotes(octets: &[u8]) -> bool
+    ensures { result ≡ list_any is_special octets.now }
+{
+    octets.iter().any(|octet| is_special(*octet))
 }
 
 fn is_special(octet: u8) -> bool

@@ -3,6 +3,7 @@ use Rattle.std.specs.Option.{option_copied}
 use Rattle.std.proofs.lemmas.Result.{on_ok_weaker}
 use Rattle.itip_inbox.specs.Csv.{field_text}
 use Rattle.itip_inbox.proofs.CsvText.{record_put}
+use Rattle.itip_inbox.proofs.Pieces.{put_ok}
 use Rattle.itip_inbox.proofs.csv_records.put_record.Goals as goal
 
 pub returns : goal.returns
@@ -14,4 +15,4 @@ returns c =
     (c.in_ok-put_field.ensures ∙ ap (λ (t : List ℕ). c.args.out.now.items ++ field_text t) c.as_str.ensures)
     c.in_ok-put_names.ensures c.in_ok-put_numbers.ensures c.in_ok-put_dates.ensures c.in_ok-put_last.ensures
     c.in_ok-put_attendee.ensures last)
-    c.extend_from_slice.ensures.items
+    (put_ok c.extend_from_slice.result c.extend_from_slice.new.self.items _ _ c.extend_from_slice.ensures.items)
