@@ -9,7 +9,7 @@ use Rattle.std.proofs.lemmas.Bool.{true≢false, and_from, and_parts, not_from_f
 use Rattle.std.proofs.lemmas.Int.{ints}
 use Rattle.std.proofs.lemmas.List.Folds.{list_all-append}
 use Rattle.itip_moment.specs.Digits.{two_digits, four_digits}
-use Rattle.itip_moment.specs.Written.{date_of, date_text, clock_text, local_text, stamp_text}
+use Rattle.itip_moment.specs.Written.{date_of, date_text, clock_text, local_text}
 use Rattle.itip_moment.specs.Years.{IsDayNumber}
 use Rattle.itip_moment.specs.declared.stamp.Stamp.{Stamp}
 use Rattle.itip_moment.proofs.WrittenOctets.{is_stamp_octet, stamp_text_octets}

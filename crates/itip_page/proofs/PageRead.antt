@@ -8,12 +8,12 @@ use Rattle.itip_moment.specs.declared.day.Day.{Day}
 use Rattle.itip_view.specs.declared.row.Row.{Row}
 use Rattle.itip_view.specs.declared.window.Window.{Window}
 use Rattle.itip_page.specs.Dates.{day_text}
-use Rattle.itip_page.specs.Page.{days_text, count_text, title_markup, heading_markup, counted_markup, head_markup, foot_markup}
+use Rattle.itip_page.specs.Page.{days_text, count_text, title_markup, heading_markup, counted_markup}
 use Rattle.itip_page.specs.Page.{page_markup}
 use Rattle.itip_page.specs.PageTokens.{characters, line_end, attribute, void, meta_tokens, column, column_names, style_sheet, style_text}
 use Rattle.itip_page.specs.PageTokens.{document_tokens, page_tokens, row_tokens, is_of_page, fetches_nothing}
 use Rattle.itip_page.specs.RowMarkup.{row_markup}
-use Rattle.itip_page.specs.Tokens.{State, data_state, rcdata, rawtext, Token, doctype, start_tag, end_tag, character, Reached, run, tokens}
+use Rattle.itip_page.specs.Tokens.{data_state, rcdata, rawtext, Token, doctype, end_tag, Reached, run, tokens}
 use Rattle.itip_page.specs.Tokens.{ended_in}
 use Rattle.itip_page.specs.declared.frame.TheConstants.{OPENING, COLUMNS, CLOSING}
 use Rattle.itip_page.specs.declared.style.TheConstants.{STYLE}

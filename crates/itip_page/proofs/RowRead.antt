@@ -1,5 +1,5 @@
 -- What a parser takes a row of the table for.
-use Rattle.std.proofs.Common.{◌≡◌, ℕ, Bool, true, false, List, [], ◌∷◌, ◌++◌, refl, ap, sym, ◌∙◌, append_assoc}
+use Rattle.std.proofs.Common.{◌≡◌, ℕ, Bool, true, false, List, [], ◌∷◌, ◌++◌, refl, ap, sym, append_assoc}
 use Rattle.std.specs.Prelude.{codes, ℤ, Option, Some, None}
 use Rattle.std.specs.Fmt.{decimal}
 use Rattle.std.specs.List.{flat_map}
@@ -13,19 +13,18 @@ use Rattle.itip_view.specs.declared.row.Row.{Row}
 use Rattle.itip_view.specs.declared.row.RowId.{RowId}
 use Rattle.itip_view.specs.declared.row.RowId.TheVariants.{Single, At, Opaque}
 use Rattle.itip_view.specs.declared.row.ShownAttendee.{ShownAttendee}
-use Rattle.itip_page.specs.Dates.{day_text, local_markup, zoned_markup, moment_markup}
+use Rattle.itip_page.specs.Dates.{day_text, local_markup, moment_markup}
 use Rattle.itip_page.specs.Escaped.{escaped}
 use Rattle.itip_page.specs.RowMarkup.{row_markup, opening_markup, dated_markup, done_markup, name_cell, name_of, when_cell, start_markup}
 use Rattle.itip_page.specs.RowMarkup.{repeats_markup, due_cell, due_markup, late_markup, status_cell, status_words, progress_cell}
 use Rattle.itip_page.specs.RowMarkup.{bar_markup, own_markup, who_cell, attendee_markup, answer_markup, bare_address}
-use Rattle.itip_page.specs.PageTokens.{characters, shown, line_end, attribute, element, small, isolated, value_tokens, moment_tokens}
+use Rattle.itip_page.specs.PageTokens.{characters, shown, line_end, attribute, small, isolated, value_tokens, moment_tokens}
 use Rattle.itip_page.specs.PageTokens.{name_tokens, cell, start_tokens, repeats_tokens, due_tokens, late_tokens, percent_tokens}
 use Rattle.itip_page.specs.PageTokens.{bar_tokens, own_tokens, attendee_tokens, who_tokens, dated_tokens, done_tokens, row_class}
 use Rattle.itip_page.specs.PageTokens.{row_tokens}
-use Rattle.itip_page.specs.Tokens.{State, data_state, attribute_value, Token, start_tag, end_tag, character, Tag, run}
-use Rattle.itip_page.specs.Value.{value_markup}
+use Rattle.itip_page.specs.Tokens.{data_state, attribute_value, Token, start_tag, end_tag, character, Tag, run}
 use Rattle.itip_page.proofs.Itself.{day_itself, local_itself, status_itself, decimal_itself, answer_itself}
-use Rattle.itip_page.proofs.Pieces.{Pieces, piece, both, regrouped}
+use Rattle.itip_page.proofs.Pieces.{piece, both, regrouped}
 use Rattle.itip_page.proofs.Reading.{Reads, then_reads, as_tokens, nothing, each_reads, in_data, in_value}
 use Rattle.itip_page.proofs.Taken.{text_read, value_read, text_in_value}
 

@@ -1,14 +1,14 @@
 -- What a parser takes an escaped text for.
 use Rattle.std.proofs.Common.{◌≡◌, ℕ, true, List, [], ◌∷◌, ◌++◌, refl, subst, sym, inl, inr, arith, append_assoc, append-nil}
 use Rattle.std.specs.Prelude.{◌≢◌, codes}
-use Rattle.std.specs.List.{All, flat_map, list_all}
+use Rattle.std.specs.List.{All, flat_map}
 use Rattle.std.proofs.lemmas.Bool.{and_from, ne_eqb}
 use Rattle.std.proofs.lemmas.Bool.Decides.{eqb_tells}
 use Rattle.std.proofs.lemmas.List.Elements.{All-head, All-tail}
 use Rattle.itip_streams.specs.Visible.{visible}
 use Rattle.itip_page.specs.Escaped.{escaped, octet_markup}
 use Rattle.itip_page.specs.PageTokens.{characters, shown, lines_tokens, value_tokens}
-use Rattle.itip_page.specs.Tokens.{State, data_state, attribute_value, Token, start_tag, character, Tag, run, IsReadAs}
+use Rattle.itip_page.specs.Tokens.{data_state, attribute_value, start_tag, character, Tag, run, IsReadAs}
 use Rattle.itip_page.specs.Value.{Lines, lines_of, lines_markup, value_markup}
 use Rattle.itip_page.proofs.Itself.{is_itself, itself}
 use Rattle.itip_page.proofs.Reading.{Reads, then_reads, of_source, nothing, each_reads, in_data, in_value}
