@@ -1,14 +1,14 @@
 -- Numbers in the file of a desk: what is written of one is read as it, and octets begin with one number.
 use Rattle.std.proofs.Common.{◌≡◌, ◌∙◌, sym, ap, refl, ℕ, zero, suc, ◌+◌, ◌%◌, ◌<◌, ◌≤◌, ◌^◌, Bool, true, false, cond, ◌&&◌, ◌||◌}
 use Rattle.std.proofs.Common.{List, [], ◌∷◌, ◌++◌, length, get_or, take, drop, arith, subst, append_assoc, take-append-drop}
-use Rattle.std.proofs.Common.{Option, Some, None, MatchOption, IfSome, IfNone, Result, Ok, Err, MatchResult}
+use Rattle.std.proofs.Common.{Option, Some, None, MatchOption, IfSome, IfNone, Result, Ok, Err, ltb}
 use Rattle.std.specs.Fmt.{decimal}
 use Rattle.std.specs.Int.{IsInRange}
 use Rattle.std.specs.List.{list_all, list_any}
 use Rattle.std.specs.Result.{result_ok}
 use Rattle.std.specs.Str.{IsUtf8}
 use Rattle.std.specs.Str.Parse.{ParsesUnsigned}
-use Rattle.std.proofs.lemmas.Bool.{and_parts}
+use Rattle.std.proofs.lemmas.Bool.{and_parts, ltb-true, ltb-false}
 use Rattle.std.proofs.lemmas.Bool.Decides.{nat_tests}
 use Rattle.std.proofs.lemmas.Fmt.{IsAscii-from_digits, decimal_by_steps, decimal_nonempty, digits_decimal}
 use Rattle.std.proofs.lemmas.Fmt.{digits_value-decimal, length-decimal-le}
@@ -199,17 +199,11 @@ if_none (Some x) P Q h = tt
 pub digits_utf8 : (ds : List ℕ) → list_all is_digit ds ≡ true → IsUtf8 ds
 digits_utf8 ds h = IsUtf8-from_ascii ds (IsAscii-from_digits ds (own.to ds h))
 
--- what is text is not refused as none
-pub not_refused : {T E : Type 0} (r : Result T E) (P : T → Type 0) (Q : Type 0) (V : E → Type 0) → None ≡ result_ok r →
-    MatchResult r P (λ e. (Q → ⊥) × V e) → Q → ⊥
-not_refused (Ok x) P Q V none h q = cc
-not_refused (Err e) P Q V none h q = h.0 q
-
 -- what is parsed of digits is their value
 pub parsed_value : {E : Type 0} (ds : List ℕ) (number : ℕ) (r : Result ℕ E) → r ≡ Ok number → ParsesUnsigned 64 10 ds r →
     list_all is_digit ds ≡ true → IsValue ds number
-parsed_value ds number (Ok n) is parses digits =
-    let given = parse_digits own 64 ds (Ok n) parses digits in
+parsed_value {E} ds number (Ok n) is parses digits =
+    let given = parse_digits own {E = E} 64 ds (Ok n) parses digits in
     let same : n ≡ number = cc in
     record { some = given.0.0; value = sym same ∙ given.1; fits = subst (λ (m : ℕ). m < 2 ^ 64) (sym given.1 ∙ same) given.0.1 }
 parsed_value ds number (Err e) is parses digits = absurd (apart is)
@@ -225,6 +219,18 @@ unparsed ds number (Ok n) e is parses digits value = apart is
     apart e = cc
 unparsed ds number (Err x) e is parses digits value =
     parse_digits own 64 ds (Err x) parses digits (value.some, subst (λ (m : ℕ). m < 2 ^ 64) value.value value.fits)
+
+pub parsed_some : {E : Type 0} (ds text : List ℕ) → text ≡ ds → (r : Result ℕ E) → ParsesUnsigned 64 10 text r →
+    IfSome (result_ok r) (λ number. list_all is_digit ds ≡ true → IsValue ds number)
+parsed_some {E} ds text same (Ok n) parses =
+    parsed_value {E = E} ds n (Ok n) refl (subst (λ (t : List ℕ). ParsesUnsigned {E = E} 64 10 t (Ok n)) same parses)
+parsed_some ds text same (Err e) parses = tt
+
+pub parsed_none : {E : Type 0} (ds text : List ℕ) → text ≡ ds → (r : Result ℕ E) → ParsesUnsigned 64 10 text r →
+    IfNone (result_ok r) (list_all is_digit ds ≡ true → (number : ℕ) → IsValue ds number → ⊥)
+parsed_none ds text same (Ok n) parses = tt
+parsed_none {E} ds text same (Err e) parses =
+    λ digits number. unparsed {E = E} ds number (Err e) e refl (subst (λ (t : List ℕ). ParsesUnsigned {E = E} 64 10 t (Err e)) same parses) digits
 
 -- ---- one name behind another
 
@@ -262,6 +268,16 @@ digits_at (b ∷ octets) zero within each stops = sym (ap (λ (t : Bool). cond t
 digits_at (b ∷ octets) (suc at) within each stops =
     ap suc (digits_at octets at (omega arith) (λ k below. each (suc k) (omega arith)) stops)
     ∙ sym (ap (λ (t : Bool). cond t (suc (digits_before octets)) 0) (each 0 (omega arith)))
+
+-- one digit more
+pub each_more : (octets : List ℕ) (i : ℕ) → ((k : ℕ) → k < i → is_digit (get_or octets k 0) ≡ true) →
+    is_digit (get_or octets i 0) ≡ true → (k : ℕ) → k < i + 1 → is_digit (get_or octets k 0) ≡ true
+each_more octets i each more k below = elim (ltb k i) as (λ b. ltb k i ≡ b → is_digit (get_or octets k 0) ≡ true) [
+  | true ↦ λ e. each k (ltb-true k i e)
+  | false ↦ λ e.
+      let same : i ≡ k = omega (arith, below, ltb-false k i e) in
+      subst (λ (j : ℕ). is_digit (get_or octets j 0) ≡ true) same more
+] refl
 
 pub all_digits : (octets : List ℕ) → ((k : ℕ) → k < length octets → is_digit (get_or octets k 0) ≡ true) → length octets ≡ digits_before
     octets

@@ -28,10 +28,10 @@ fn number_of(digits: &[u8]) -> Option<u64>
     ensures found { IfSome result (λ number. list_all is_digit digits.now ≡ true → IsValue digits.now number) }
     ensures none { IfNone result (list_all is_digit digits.now ≡ true → (number : ℕ) → IsValue digits.now number → ⊥) }
 {
-    match str::from_utf8(digits).ok()?.parse::<u64>() {
-        Ok(number) => Some(number),
-        Err(_) => None,
-    }
+    let Ok(text) = str::from_utf8(digits) else {
+        return None;
+    };
+    text.parse::<u64>().ok()
 }
 
 /// The digits that octets begin with, and what follows them.
@@ -58,8 +58,12 @@ fn digits(octets: &[u8]) -> usize
     ensures within { result ≤ length octets.now }
     ensures exact { result ≡ digits_before octets.now }
 {
-    match octets.iter().position(|octet| !octet.is_ascii_digit()) {
-        Some(at) => at,
-        None => octets.len(),
+    let mut end = 0;
+    for octet in octets {
+        if !octet.is_ascii_digit() {
+            break;
+        }
+        end += 1;
     }
+    end
 }

@@ -17,4 +17,4 @@ returns c =
     ∙ ap (λ (t : List ℕ). ((c.args.file.now.items ++ product) ++ version) ++ t)
     (drop_min 57 c.as_slice-bytes.result.now ∙ ap (drop 57) bytes)
     ∙ ap (λ (t : List ℕ). t ++ drop 57 c.args.item.now.bytes) (append_assoc c.args.file.now.items product version)
-    ∙ append_assoc c.args.file.now.items (product ++ version) (drop 57 c.args.item.now.bytes)) c.extend_from_slice.ensures.ok
+    ∙ append_assoc c.args.file.now.items (product ++ version) (drop 57 c.args.item.now.bytes)) c.extend_from_slice.ensures.items

@@ -9,6 +9,6 @@ unfolding lib.Utf8.encode
 returns c =
     on_ok_then c.extend_from_slice-2.result (λ grown.
     in_three c.args.file.now.items begins_text (product_parameters c.args.head) (codes ":-//itipdesk//1//EN\r\nVERSION")
-    c.extend_from_slice.new.self.items c.append_form.new.file.items _ c.in_ok-extend_from_slice.ensures.ok c.in_ok-append_form.ensures
+    c.extend_from_slice.new.self.items c.append_form.new.file.items _ c.in_ok-extend_from_slice.ensures.items c.in_ok-append_form.ensures
     grown)
-    c.extend_from_slice-2.ensures.ok
+    c.extend_from_slice-2.ensures.items

@@ -10,4 +10,4 @@ returns c =
     on_ok_then c.extend_from_slice.result (λ grown.
     in_three c.args.file.now.items (tick_parameters c.args.head) (parameter_text (codes ";X-MOVED=") c.args.moved) (codes ":2.0\r\n")
     c.append_tick.new.file.items c.append_parameter.new.file.items _ c.in_ok-append_tick.ensures c.in_ok-append_parameter.ensures grown)
-    c.extend_from_slice.ensures.ok
+    c.extend_from_slice.ensures.items
