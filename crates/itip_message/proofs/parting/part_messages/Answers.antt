@@ -11,12 +11,12 @@ loop-line-init c = record {
 
 pub loop-line-preserved : goal.loop-line-preserved
 loop-line-preserved c = record {
-  at = at_line c.args.bytes.now c.loop-line.invariant.at.front c.loop-line.rest.now c.in-Some-2.line.now c.in-Some-2.after.now
-      c.loop-line.invariant.at.whole c.in-Some-2.ensures.stays c.in-Some-2.ensures.ends;
-  within = omega (arith, c.in-Some-2.ensures.shorter, c.loop-line.invariant.within);
+  at = at_line c.args.bytes.now c.loop-line.invariant.at.front c.loop-line.rest.now c.in-Some-whole_line.line.now c.in-Some-whole_line.after.now
+      c.loop-line.invariant.at.whole c.in-Some-whole_line.ensures.stays c.in-Some-whole_line.ensures.ends;
+  within = omega (arith, c.in-Some-whole_line.ensures.shorter, c.loop-line.invariant.within);
 }
 
 pub returns-then-ends_calendar : goal.returns-then-ends_calendar
 returns-then-ends_calendar c =
-    parted_at c.args.bytes.now c.loop-line.rest.now c.in-Some-2.line.now c.in-Some-2.after.now _ c.loop-line.invariant.at
-    c.in-Some-2.ensures.stays c.in-Some-2.ensures.ends c.in-Some-2.ensures.some (sym c.ends_calendar.ensures ∙ c.if-ends_calendar.true) refl
+    parted_at c.args.bytes.now c.loop-line.rest.now c.in-Some-whole_line.line.now c.in-Some-whole_line.after.now _ c.loop-line.invariant.at
+    c.in-Some-whole_line.ensures.stays c.in-Some-whole_line.ensures.ends c.in-Some-whole_line.ensures.some (sym c.ends_calendar.ensures ∙ c.if-ends_calendar.true) refl
