@@ -1,5 +1,5 @@
 -- What comes of a filter, from what its call gives.
-use Rattle.std.proofs.Common.{◌≡◌, ℕ, Bool, List, [], Option, Some, None, Result, Ok, Err, refl, sym, ap, subst, ◌∙◌}
+use Rattle.std.proofs.Common.{◌≡◌, ℕ, Bool, List, [], Option, None, Result, Ok, Err, sym, subst}
 use Rattle.std.specs.Prelude.{IfOk}
 use Rattle.itip_streams.specs.Written.{WritesOutput}
 use Rattle.itip_app.specs.Filtered.{Writes}

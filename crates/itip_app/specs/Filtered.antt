@@ -1,5 +1,5 @@
 -- What the words that read messages write, and what comes of them (docs/USING.md; our own rule).
-use Rattle.std.specs.Prelude.{◌≡◌, ℕ, Bool, false, List, [], Option, Some, None, option_map, string_bytes}
+use Rattle.std.specs.Prelude.{◌≡◌, ℕ, Bool, List, [], Option, Some, None, option_map, string_bytes}
 use Rattle.std.specs.Option.{option_copied}
 use Rattle.std.specs.Io.KnownBytes.{Appends}
 use Rattle.itip_message.specs.declared.error.MessageRefusal.{MessageRefusal}

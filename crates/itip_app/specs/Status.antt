@@ -1,5 +1,5 @@
 -- The exit status (docs/USING.md; our own rule).
-use Rattle.std.specs.Prelude.{◌≡◌, ◌⊎◌, ℕ, Bool, true, false, if◌then◌else◌, Option, Some, None, Result, Ok, Err}
+use Rattle.std.specs.Prelude.{◌≡◌, ◌⊎◌, ℕ, Bool, if◌then◌else◌, Option, Some, None, Result, Ok, Err}
 use Rattle.itip_app.specs.declared.filters.Outcome.{Outcome}
 use Rattle.itip_app.specs.declared.filters.Undone.{Undone}
 use Rattle.itip_words.specs.declared.no_call.NoCall.{NoCall}

@@ -1,15 +1,15 @@
 -- The array of a list, as it is read.
-use Rattle.std.proofs.Common.{◌≡◌, ◌≤◌, ◌&&◌, ℕ, Bool, true, false, List, [], ◌∷◌, ◌++◌, map, refl, sym, ap, subst, inr, ◌∙◌}
-use Rattle.std.proofs.Common.{Some, arith, append_assoc, append-nil}
+use Rattle.std.proofs.Common.{◌≡◌, ◌≤◌, ℕ, Bool, true, false, List, [], ◌∷◌, ◌++◌, map, refl, sym, ap, subst, inr, ◌∙◌}
+use Rattle.std.proofs.Common.{Some, arith, append_assoc}
 use Rattle.std.specs.Prelude.{codes, fold, option_and_then}
 use Rattle.std.specs.List.{flat_map, AllByRecursion}
 use Rattle.std.proofs.lemmas.List.{map-append}
 use Rattle.json.specs.Json.{document, if_last, max_depth, value}
-use Rattle.json.specs.Print.{print, print_from, separator, token_text, ends, ArePrintable}
+use Rattle.json.specs.Print.{print_from, separator, token_text, ends, ArePrintable}
 use Rattle.json.specs.Spaced.{AreGaps, print_spaced}
 use Rattle.json.specs.Token.{Token, begin_object, end_object, begin_array, end_array}
 use Rattle.json.specs.Lex.{tokens}
-use Rattle.json.specs.Tree.{json_tokens, items_tokens, members_tokens, depth, items_depth, ItemsHaveNumbers}
+use Rattle.json.specs.Tree.{json_tokens, items_tokens, members_tokens, items_depth, ItemsHaveNumbers}
 use Rattle.json.proofs.Printed.Tokens.{ends_push, tokens-print, tokens-print_spaced}
 use Rattle.json.proofs.Printed.Trees.{document-print, ArePrintable-json_tokens}
 use Rattle.itip_view.specs.declared.row.Row.{Row}

@@ -1,14 +1,12 @@
 -- Objects as they are written, and as they are read.
-use Rattle.std.proofs.Common.{◌≡◌, ◌≤◌, ◌<◌, ◌^◌, ◌-◌, ℕ, length, take, drop, get_or, take_all, ap₂, List, [], ◌∷◌, ◌++◌, map, refl, sym, ap, subst, ◌∙◌, arith, append_assoc, append-nil}
-use Rattle.std.proofs.Common.{Option, Some, None, lit<}
+use Rattle.std.proofs.Common.{◌≡◌, ◌≤◌, ◌-◌, ℕ, length, take, drop, get_or, take_all, ap₂, List, [], ◌∷◌, ◌++◌, map, refl, sym, ap, subst, ◌∙◌, arith, append_assoc}
+use Rattle.std.proofs.Common.{Option, Some, None}
 use Rattle.std.specs.Prelude.{IfSome, codes, option_map}
-use Rattle.std.specs.Fmt.{decimal}
 use Rattle.std.specs.List.{flat_map, AllByRecursion}
 use Rattle.std.proofs.lemmas.List.Concat.{flat_map-append}
-use Rattle.json.specs.Json.{Json, null, number, string, array, object, Items, item, Members, member, document}
-use Rattle.json.specs.Print.{print, IsNumber}
+use Rattle.json.specs.Json.{array, object, document}
 use Rattle.json.specs.Token.{Token, begin_object, end_object, begin_array, end_array}
-use Rattle.json.specs.Tree.{json_tokens, items_tokens, members_tokens, depth, items_depth, members_depth, HasNumbers, ItemsHaveNumbers}
+use Rattle.json.specs.Tree.{json_tokens, items_tokens, members_tokens, depth, items_depth, HasNumbers, ItemsHaveNumbers}
 use Rattle.json.proofs.Printed.Decimals.{IsNumber-decimal}
 use Rattle.json.proofs.Printed.Trees.{document-print}
 use Rattle.std.specs.Io.KnownBytes.{Appends}
@@ -22,7 +20,7 @@ use Rattle.itip_view.specs.declared.row.Row.{Row}
 use Rattle.itip_view.specs.declared.row.ShownAttendee.{ShownAttendee}
 use Rattle.itip_view.proofs.FlatMap.{then_more}
 use Rattle.itip_inbox.specs.Json.{Member, members_of, items_of, number_json, text_json, attendee_object, row_object, object_text, object_behind}
-use Rattle.itip_inbox.specs.Json.{name_members, number_members, date_members, last_members, json_text, HasSmallNumbers, IsSmall}
+use Rattle.itip_inbox.specs.Json.{json_text, HasSmallNumbers, IsSmall}
 use Rattle.itip_inbox.specs.Csv.{row_name}
 use Rattle.itip_inbox.specs.JsonTokens.{named_tokens, attendee_tokens, member_tokens, opened_text, IsFrontOf}
 use Rattle.itip_inbox.proofs.Pieces.{join_four}

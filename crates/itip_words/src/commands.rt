@@ -1,10 +1,9 @@
 //! The words that there are, each with its help.
-ghost use Rattle.std.specs.Prelude.{◌∷◌, [], IfOk, codes};
-ghost use Rattle.itip_words.specs.Program.{program, no_word, with_words, message_words, IsRule, IsWord, AddsRules};
+ghost use Rattle.std.specs.Prelude.{IfOk, codes};
+ghost use Rattle.itip_words.specs.Program.{program, with_words, message_words, IsRule, IsWord, AddsRules};
 ghost use Rattle.itip_words.specs.Program.{run_word, office_word, check_word, compact_word, list_word, report_word, news_word};
 ghost use Rattle.itip_words.specs.Program.{explain_word, resend_word, request_word, reply_word, refresh_word, cancel_word};
 ghost use Rattle.itip_words.specs.Program.{positional, option, needed, flag, desks_rule, days_rules, window_rules, row_rules, intake_rules};
-ghost use Rattle.itip_words.specs.Program.{onward_rule};
 ghost use Rattle.clap.specs.Simple.{App};
 
 use crate::help::{

@@ -1,4 +1,4 @@
-use Rattle.std.proofs.Common.{◌≡◌, ◌∙◌, ℕ, List, Option, codes, subst}
+use Rattle.std.proofs.Common.{◌∙◌, ℕ, List, Option, codes, subst}
 use Rattle.itip_words.specs.Asking.{IsRead}
 use Rattle.itip_words.specs.AskedValues.{IsMomentName}
 use Rattle.itip_words.specs.Options.{options_of}

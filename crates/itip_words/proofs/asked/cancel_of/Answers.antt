@@ -1,4 +1,4 @@
-use Rattle.std.proofs.Common.{◌≡◌, ◌∙◌, ℕ, List, Option, None, Some, map, refl, sym, ap, subst}
+use Rattle.std.proofs.Common.{◌∙◌, Option, map, refl, sym, ap, subst}
 use Rattle.std.specs.Option.{option_map}
 use Rattle.itip_moment.specs.declared.moment.Moment.{Moment}
 use Rattle.itip_words.specs.Asking.{AsksAbout}

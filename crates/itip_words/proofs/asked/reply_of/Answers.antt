@@ -1,4 +1,4 @@
-use Rattle.std.proofs.Common.{◌∙◌, ℕ, List, Option, ap, sym, refl, subst}
+use Rattle.std.proofs.Common.{ℕ, List, Option, ap, refl, subst}
 use Rattle.std.specs.Option.{option_copied, option_map}
 use Rattle.std.specs.String.{string_bytes}
 use Rattle.itip_words.specs.Asking.{IsRead, IsPercent}

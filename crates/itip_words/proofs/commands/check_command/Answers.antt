@@ -2,7 +2,7 @@ use Rattle.std.proofs.Common.{refl, codes}
 use Rattle.std.proofs.lemmas.Result.{IfOk-weaker}
 use Rattle.clap.specs.Simple.{new_app}
 use Rattle.itip_words.specs.Program.{IsWord, flag}
-use Rattle.itip_words.proofs.Programs.{word_kept, word_one, word_more}
+use Rattle.itip_words.proofs.Programs.{word_kept, word_one}
 use Rattle.itip_words.proofs.commands.check_command.Goals as goal
 
 pub returns : goal.returns

@@ -2,7 +2,6 @@ use Rattle.std.proofs.Common.{◌∙◌, ℕ, List, Option, ap, subst}
 use Rattle.std.specs.Option.{option_map}
 use Rattle.itip_words.specs.Asking.{IsRead, IsDueDay}
 use Rattle.itip_words.specs.Days.{numbered, IsAskedWindow}
-use Rattle.itip_words.specs.Options.{options_of, value_of}
 use Rattle.itip_words.specs.Values.{address_of}
 use Rattle.itip_words.proofs.filter.listing_of.Goals as goal
 

@@ -2,7 +2,6 @@ use Rattle.std.proofs.Common.{ℕ, List, Option, subst}
 use Rattle.std.specs.Prelude.{IfSome}
 use Rattle.std.specs.Option.{option_copied}
 use Rattle.itip_words.specs.Days.{numbered, IsAskedWindow}
-use Rattle.itip_words.specs.Options.{options_of, value_of}
 use Rattle.itip_words.proofs.filter.window_in.Goals as goal
 
 pub returns : goal.returns

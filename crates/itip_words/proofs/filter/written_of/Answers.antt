@@ -1,4 +1,4 @@
-use Rattle.std.proofs.Common.{◌≡◌, codes}
+use Rattle.std.proofs.Common.{codes}
 use Rattle.itip_words.specs.Options.{options_of}
 use Rattle.itip_words.proofs.Asking.{named, for_word, for_word_now}
 use Rattle.itip_words.proofs.filter.written_of.Goals as goal

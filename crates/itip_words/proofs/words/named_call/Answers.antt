@@ -1,4 +1,4 @@
-use Rattle.std.proofs.Common.{◌≡◌, codes}
+use Rattle.std.proofs.Common.{codes}
 use Rattle.itip_words.specs.Options.{options_of}
 use Rattle.itip_words.proofs.Asking.{named, call_for_word}
 use Rattle.itip_words.proofs.words.named_call.Goals as goal

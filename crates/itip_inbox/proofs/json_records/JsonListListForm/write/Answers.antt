@@ -1,4 +1,4 @@
-use Rattle.std.proofs.Common.{◌≡◌, ◌==◌, true, ⊥, ◌++◌, ◌∙◌, List, [], ℕ, sym, ap, subst, length}
+use Rattle.std.proofs.Common.{◌≡◌, ◌==◌, true, ◌++◌, ◌∙◌, List, [], ℕ, sym, ap, subst, length}
 use Rattle.std.specs.Io.KnownBytes.{Appends}
 use Rattle.std.proofs.lemmas.Bool.{eqb-true, eqb-false}
 use Rattle.std.proofs.lemmas.List.{nil_from_length}
