@@ -1,5 +1,5 @@
 -- Where a report tells something, and so may ask for memory.
-use Rattle.std.proofs.Common.{◌≡◌, ◌∙◌, refl, sym, ap, ℕ, suc, ◌<◌, List, [], ◌∷◌, ◌++◌, length, map, get_or, subst, inl, inr, Option, Some, None, arith}
+use Rattle.std.proofs.Common.{◌≡◌, ◌∙◌, refl, sym, ap, ℕ, zero, suc, ◌<◌, List, [], ◌∷◌, ◌++◌, length, map, get_or, subst, inl, inr, Option, Some, None, arith}
 use Rattle.std.specs.Prelude.{◌≢◌, option_to_list}
 use Rattle.std.specs.List.{Contains, flat_map}
 use Rattle.std.specs.Option.{option_map}
@@ -37,6 +37,14 @@ given_by_one f [] i x below is some none = absurd (omega (arith, below))
 given_by_one f (y ∷ ys) zero x below is some none = some (ap f is ∙ (both_none (f y) (flat_map f ys) none).0)
 given_by_one f (y ∷ ys) (suc i) x below is some none =
     given_by_one f ys i x (omega (arith, below)) is some (both_none (f y) (flat_map f ys) none).1
+
+-- where all give nothing, each does
+pub none_given : {X Y : Type 0} (f : X → List Y) (xs : List X) (i : ℕ) (x : X) → i < length xs → x ≡ get_or xs i x →
+    flat_map f xs ≡ [] → f x ≡ []
+none_given f [] i x below is none = absurd (omega (arith, below))
+none_given f (y ∷ ys) zero x below is none = ap f is ∙ (both_none (f y) (flat_map f ys) none).0
+none_given f (y ∷ ys) (suc i) x below is none =
+    none_given f ys i x (omega (arith, below)) is (both_none (f y) (flat_map f ys) none).1
 
 none_first : (texts : List (List ℕ)) → firsts texts ≡ [] → texts ≡ []
 unfolding firsts

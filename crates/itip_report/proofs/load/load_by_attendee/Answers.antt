@@ -1,6 +1,7 @@
 use Rattle.std.proofs.Common.{◌≡◌, ◌≤◌, ◌+◌, [], List, length, map, arith}
 use Rattle.std.specs.String.{string_bytes}
 use Rattle.itip_state.proofs.Members.{if_ok_then}
+use Rattle.itip_state.proofs.Nothing.{not_ok}
 use Rattle.itip_view.specs.declared.row.Row.{Row}
 use Rattle.itip_report.specs.Load.{load_lines}
 use Rattle.itip_report.specs.Tally.{AreTallied}
@@ -22,4 +23,4 @@ returns-clause-succeeds c = λ none.
     (none_counted c.args.rows.now c.count_rows.new.tally (c.in_ok-count_rows.ensures.counted [] few c.new-tally.ensures) none)
 
 pub returns-in_err-count_rows-clause-succeeds : goal.returns-in_err-count_rows-clause-succeeds
-returns-in_err-count_rows-clause-succeeds c = λ none. c.in_err-count_rows.ensures.succeeds (none_shown c.args.rows.now none)
+returns-in_err-count_rows-clause-succeeds c = λ none. not_ok (c.in_err-count_rows.ensures.succeeds (none_shown c.args.rows.now none))

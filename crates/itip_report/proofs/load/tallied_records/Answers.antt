@@ -7,6 +7,9 @@ use Rattle.itip_report.proofs.Mapped.{map_both}
 use Rattle.itip_report.proofs.Tallying.{rows_told, tally_records}
 use Rattle.itip_report.proofs.load.tallied_records.Goals as goal
 
+abbrev load_with : List ℕ → ℕ → AttendeeLoad
+load_with key n = record { attendee = key; rows = n }
+
 pub loop-key-init : goal.loop-key-init
 loop-key-init c = λ done are. c.new-loads.ensures.items
 
@@ -17,8 +20,7 @@ loop-key-preserved c = λ done are.
     let key : List ℕ = c.key-item.result in
     let tally : IsTally done [] keys c.args.tally.now.counts =
     subst (λ (ks : List (List ℕ)). IsTally done [] ks c.args.tally.now.counts) (sym c.deref-key-items.ensures.value) are.counted in
-    let counted : (λ (n : ℕ). record { attendee = key; rows = n }) c.rows_of.result ≡ load_of done key =
-    ap (λ (n : ℕ). record { attendee = key; rows = n }) (c.rows_of.ensures ∙
+    let counted : load_with key c.rows_of.result ≡ load_of done key = ap (load_with key) (c.rows_of.ensures ∙
     rows_told done keys c.args.tally.now.counts tally i key c.loop-key-test.true c.key-item.is) in
     ap (λ v. v) c.in_ok-push.ensures.items ∙
     (λ j. c.loop-key.invariant done are j ++ counted j ∷ []) ∙ sym (map_both (load_of done) (take i keys) (key ∷ [])) ∙
