@@ -22,7 +22,8 @@ loop-key-preserved c = λ done are.
     subst (λ (ks : List (List ℕ)). IsTally done [] ks c.args.tally.now.counts) (sym c.deref-key-items.ensures.value) are.counted in
     let counted : load_with key c.rows_of.result ≡ load_of done key = ap (load_with key) (c.rows_of.ensures ∙
     rows_told done keys c.args.tally.now.counts tally i key c.loop-key-test.true c.key-item.is) in
-    ap (λ v. v) c.in_ok-push.ensures.items ∙
+    c.in_ok-push.ensures.items ∙
+    ap (λ (a : List ℕ). c.loop-key.loads.items ++ load_with a c.rows_of.result ∷ []) c.in_ok-clone.ensures ∙
     (λ j. c.loop-key.invariant done are j ++ counted j ∷ []) ∙ sym (map_both (load_of done) (take i keys) (key ∷ [])) ∙
     ap (map (load_of done))
     (sym (take_more keys i key c.loop-key-test.true ∙ ap (λ (k : List ℕ). take i keys ++ k ∷ []) (sym c.key-item.is)))
