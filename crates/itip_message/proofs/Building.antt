@@ -1,5 +1,5 @@
 -- What the lines of a to-do that a program makes give.
-use Rattle.std.proofs.Common.{◌≡◌, ◌∙◌, refl, sym, ap, subst, ℕ, ◌+◌, ◌<◌, List, [], ◌∷◌, ◌++◌, length, map, take, get_or, IsTrue, arith}
+use Rattle.std.proofs.Common.{◌≡◌, ◌∙◌, refl, sym, ap, subst, ℕ, suc, ◌+◌, ◌<◌, List, [], ◌∷◌, ◌++◌, length, map, take, get_or, IsTrue, arith}
 use Rattle.std.proofs.lemmas.List.{length-append, flat_map_more, take_more}
 use Rattle.std.specs.List.{AllByRecursion, flat_map}
 use Rattle.itip_lines.specs.Reading as lines
@@ -55,7 +55,7 @@ as_many : (given : List ItemDraft) (items : List Item) → AreItemsOf given item
 as_many [] [] h = refl
 as_many [] (item ∷ items) h = absurd h
 as_many (draft ∷ given) [] h = absurd h
-as_many (draft ∷ given) (item ∷ items) h = ap (λ n. n + 1) (as_many given items h.1)
+as_many (draft ∷ given) (item ∷ items) h = ap suc (as_many given items h.1)
 
 given_of : (todo : Todo) (all : List Todo) (items : List Item) → all ≡ todo ∷ [] →
     GivesItems (drafts method.Request (map parts_of all)) items → GivesItems (drafts method.Request (parts_of todo ∷ [])) items
