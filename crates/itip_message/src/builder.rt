@@ -1,7 +1,7 @@
 //! A to-do that a program makes.
 ghost use Rattle.std.specs.Prelude.{◌≡◌, ◌≢◌, ◌++◌, ◌∷◌, [], ◌+◌, length, codes, IfOk, IfErr, OnOk, OnErr, MatchOption, IsTrue};
 ghost use Rattle.std.specs.Fmt.{decimal};
-ghost use Rattle.std.specs.List.{flat_map};
+ghost use Rattle.std.specs.List.{list_all};
 ghost use Rattle.itip_lines.specs.Lawful.{params_text};
 ghost use Rattle.itip_lines.specs.Reading.{plain_lines};
 ghost use Rattle.itip_lines.specs.declared.line.Line.{Line};
@@ -185,7 +185,10 @@ impl TodoBuilder {
         }
     }
 
-    fn alloc(&self) -> Global {
+    /// The allocator. None of the lines begins or ends a component.
+    fn alloc(&self) -> Global
+        ensures { IsTrue (list_all is_property (plain_lines self.now)) }
+    {
         *self.lines.allocator()
     }
 

@@ -1,4 +1,4 @@
-use Rattle.std.proofs.Common.{sym, subst, List}
+use Rattle.std.proofs.Common.{◌∙◌, sym, subst, List}
 use Rattle.itip_lines.specs.declared.line.NumberedLine.{NumberedLine}
 use Rattle.itip_todo.specs.Reading as todo_reading
 use Rattle.itip_message.specs.Building.{RefusesMade}
@@ -11,5 +11,5 @@ pub returns-in-Err-clause-fault : goal.returns-in-Err-clause-fault
 returns-in-Err-clause-fault c =
     subst (λ (e : ReadError). IfRefused e (RefusesMade c.args.self.now)) (sym c.todo_gives.ensures)
     (made_refused c.in-Err.error c.args.self.now
-    (subst (λ (ls : List NumberedLine). todo_reading.IfRefused c.in-Err.error (todo_reading.RefusesTodo ls)) c.as_slice.ensures
-    c.in-Err.ensures.refused))
+    (subst (λ (ls : List NumberedLine). todo_reading.IfRefused c.in-Err.error (todo_reading.RefusesTodo ls))
+    (c.as_slice.ensures.value ∙ c.self.view_is) c.in-Err.ensures.refused))
