@@ -23,7 +23,7 @@ loop-key-preserved c = λ done are.
     let counted : load_with key c.rows_of.result ≡ load_of done key = ap (load_with key) (c.rows_of.ensures ∙
     rows_told done keys c.args.tally.now.counts tally i key c.loop-key-test.true c.key-item.is) in
     c.in_ok-push.ensures.items ∙
-    ap (λ (a : List ℕ). c.loop-key.loads.items ++ load_with a c.rows_of.result ∷ []) c.in_ok-clone.ensures ∙
+    ap (λ (a : List ℕ). c.loop-key.loads.items ++ load_with a c.rows_of.result ∷ []) c.in_ok-clone.ensures.cases ∙
     (λ j. c.loop-key.invariant done are j ++ counted j ∷ []) ∙ sym (map_both (load_of done) (take i keys) (key ∷ [])) ∙
     ap (map (load_of done))
     (sym (take_more keys i key c.loop-key-test.true ∙ ap (λ (k : List ℕ). take i keys ++ k ∷ []) (sym c.key-item.is)))
