@@ -214,6 +214,7 @@ known_by_octets a b up_a up_b same =
     one_batch (delta_octets b) a b (subst (λ (t : List ℕ). ReadsDelta t a) same (written_read a up_a)) (written_read b up_b)
 
 pub empty_batch : (batch : List Item) → AscendOctets batch → delta_octets batch ≡ [] → batch ≡ []
+unfolding delta_octets
 empty_batch batch ascend none = known_by_octets batch [] ascend (no_pairs (λ (a b : Item). slice_cmp nat_cmp a.bytes b.bytes ≡ Less)) none
 
 -- ---- one message after another

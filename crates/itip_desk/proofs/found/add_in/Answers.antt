@@ -31,13 +31,14 @@ find_between-requires-2 c =
     (subst (λ (high : DayEntry). IsLeBy day_cmp (day_bound Always 0 any) high) (sym c.in_ok-to-2.ensures) (mark_forward any Always))
 
 pub returns-clause-days : goal.returns-clause-days
-returns-clause-days c = on_ok_then c.find_between-2.result
-    (λ found item day low high there.
+returns-clause-days c =
     let any : Item = c.args.any.now.owner.item in
     let first : SFits w32 c.args.window.from = search rules in
     let last : SFits w32 c.args.window.to = search rules in
     let from : c.in_ok-from.from ≡ day_bound (Day c.args.window.from) 0 any = simp to_z-of_z at c.in_ok-from.ensures in
     let to : c.in_ok-to.to ≡ day_bound (Day c.args.window.to) 0 any = simp to_z-of_z at c.in_ok-to.ensures in
+    on_ok_then c.find_between-2.result
+    (λ found item day low high there.
     let e : DayEntry = day_entry item (Day day) in
     let inside : range_contains day_cmp (Included c.in_ok-from.from) (Excluded c.in_ok-to.to) e ≡ true =
     subst (λ (l : DayEntry). range_contains day_cmp (Included l) (Excluded c.in_ok-to.to) e ≡ true) (sym from)
