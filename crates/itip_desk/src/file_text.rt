@@ -53,7 +53,8 @@ pub(crate) fn append_message(
     let mut canonical = Vec::new(*file.allocator());
     item.bytes.append_to(&mut canonical)?;
     let bytes = canonical.as_slice();
-    file.extend_from_slice(&bytes[HEAD_OCTETS.min(bytes.len())..])
+    file.extend_from_slice(&bytes[HEAD_OCTETS.min(bytes.len())..])?;
+    Ok(())
 }
 
 /// Appends the lines up to that of PRODID, and the name of VERSION.
@@ -62,7 +63,8 @@ fn append_product(file: &mut Vec<u8>, head: Option<FileHead>) -> Result<(), Allo
 {
     file.extend_from_slice(BEGINS.as_bytes())?;
     append_form(file, head)?;
-    file.extend_from_slice(PRODUCT.as_bytes())
+    file.extend_from_slice(PRODUCT.as_bytes())?;
+    Ok(())
 }
 
 /// Appends the parameters of PRODID.
@@ -82,7 +84,8 @@ fn append_version(file: &mut Vec<u8>, head: Option<FileHead>, moved: u64) -> Res
 {
     append_tick(file, head)?;
     append_parameter(file, MOVED_NAME, moved)?;
-    file.extend_from_slice(VERSION.as_bytes())
+    file.extend_from_slice(VERSION.as_bytes())?;
+    Ok(())
 }
 
 /// Appends the parameter of VERSION that tells the tick of the desk.
