@@ -29,7 +29,7 @@ question_wish verb.Next arguments take arrive post = refl
 question_wish verb.Entries arguments take arrive post = refl
 
 module _ (line said : List ℕ) (is : said ≡ content_of line) where
-  or_so : Wish
+  abbrev or_so : Wish
   or_so = unwrap_or (spelled_wish said) (malformed (following said))
 
   pub empty_said : (eqb (length said) 0) ≡ true → empty ≡ wish_at line

@@ -104,7 +104,7 @@ fn spelled_with(verb: Verb, arguments: &[u8]) -> Option<StreamLine<'_>>
 }
 
 fn question(asked: Option<Command<'_>>) -> Option<StreamLine<'_>>
-    ensures { option_map wish_of result ≡ option_map asks (option_map order_of asked) }
+    ensures { option_map wish_of result ≡ option_map asks (option_map order_of asked.entry) }
 {
     Some(StreamLine::Question(asked?))
 }

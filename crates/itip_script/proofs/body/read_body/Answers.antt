@@ -17,9 +17,9 @@ returns-then-octets-limit-clause-reads g c =
 pub returns-in-Some-clause-reads : goal.returns-in-Some-clause-reads
 returns-in-Some-clause-reads g c =
     whole_body c.args.limit c.args.octets (g.R.Read.remaining c.args.reader.now) (g.R.Read.remaining c.read_octets.new.reader)
-    c.in-Some.octets.items (omega arith) (rw c.in-Some.is at c.in_ok-read_octets.ensures.reads)
+    c.in-Some.octets.items (omega arith) (rw c.in-Some.is at c.in_ok-octets.ensures.reads)
 
 pub returns-in-None-clause-reads : goal.returns-in-None-clause-reads
 returns-in-None-clause-reads g c =
     short_body c.args.limit c.args.octets (g.R.Read.remaining c.args.reader.now) (g.R.Read.remaining c.read_octets.new.reader)
-    (rw c.in-None.is at c.in_ok-read_octets.ensures.reads)
+    (rw c.in-None.is at c.in_ok-octets.ensures.reads)
