@@ -30,7 +30,6 @@ pub mod Made
 pub mod Asked
 pub mod Counting
 pub mod Putting
-pub mod Digits
 pub mod Tallies
 pub mod Texts
 pub mod Left

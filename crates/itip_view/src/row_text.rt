@@ -1,5 +1,5 @@
 //! The text of rows.
-ghost use Rattle.std.specs.Prelude.{◌≡◌, ◌<◌, ◌++◌, [], OnErr, OnOk, IsOk, Option, Some, None};
+ghost use Rattle.std.specs.Prelude.{◌≡◌, ◌++◌, [], OnErr, OnOk, IsOk, Option, Some, None};
 ghost use Rattle.std.specs.Fmt.{decimal};
 ghost use Rattle.std.specs.List.{flat_map};
 ghost use Rattle.itip_lines.specs.Writing.{Extends};
@@ -184,20 +184,8 @@ fn put_shown_number(out: &mut Vec<u8>, number: Option<u8>) -> Result<(), AllocEr
 fn put_number(out: &mut Vec<u8>, number: u32) -> Result<(), AllocError>
     ensures { OnOk result (out.new.items ≡ out.old.items ++ decimal number) }
 {
-    // Most have one digit.
-    if number < 10 {
-        return put_digit(out, number as u8);
-    }
     let mut digits = Buffer::new();
     put(out, digits.format(number))
-}
-
-fn put_digit(out: &mut Vec<u8>, digit: u8) -> Result<(), AllocError>
-    requires { digit < 10 }
-    ensures { OnOk result (out.new.items ≡ out.old.items ++ decimal digit) }
-{
-    out.push(b'0' + digit)?;
-    Ok(())
 }
 
 fn put(out: &mut Vec<u8>, text: &str) -> Result<(), AllocError>
