@@ -13,7 +13,7 @@ returns-in_default c =
 
 pub returns-then-not-has : goal.returns-then-not-has
 returns-then-not-has c =
-    let row : Row = c.in-Some.row.now in
+    let row : Row = c.in-Some.row in
     let off : wants c.args.wanted.now row ≡ false = sym c.has.ensures ∙ c.if-not-has.true in
     subst (λ (row : Option Row). IsPut c.args.wanted.now row c.args.out.now.items c.args.out.now.items false) (sym c.in-Some.is)
     (record {
@@ -23,7 +23,7 @@ returns-then-not-has c =
 
 pub returns : goal.returns
 returns c =
-    let row : Row = c.in-Some.row.now in
+    let row : Row = c.in-Some.row in
     let on : wants c.args.wanted.now row ≡ true = sym c.has.ensures ∙ c.if-not-has.false in
     subst (λ (row : Option Row). IsPut c.args.wanted.now row c.args.out.now.items c.write_row.new.out.items true) (sym c.in-Some.is)
     (record {
