@@ -179,7 +179,7 @@ tick_there after a is items tick rest fits same =
 
 -- ---- two messages that are one text
 
-fronts_differ : 58 ≡ 59 → ⊥
+fronts_differ : ◌≡◌ {A = ℕ} 58 59 → ⊥
 fronts_differ e = omega (arith, e)
 
 -- behind the parameters of PRODID they are one text too

@@ -1,6 +1,6 @@
 -- The last move of each UID, of moves in their order.
 use Rattle.std.proofs.Common.{◌≡◌, ◌∙◌, sym, ap, refl, subst, ℕ, ◌<◌, ◌≤◌, Bool, true, false, List, []}
-use Rattle.std.proofs.Common.{◌∷◌, ◌++◌, append_assoc, append-nil, Option, Some, None}
+use Rattle.std.proofs.Common.{◌∷◌, ◌++◌, append_assoc, append-nil, Option, Some, None, inl, inr}
 use Rattle.std.specs.Prelude.{cond, is_some}
 use Rattle.std.specs.List.{Contains, All}
 use Rattle.std.specs.Ordering.{is_eq}
@@ -39,15 +39,16 @@ last_more (move ∷ moves) u tick uid =
 pub last_in : (moves : Carried) (uid : List ℕ) (tick : ℕ) → last_move moves uid ≡ Some tick → (u : List ℕ) × Contains moves (u, tick) ×
     (u ≡ uid)
 last_in [] uid tick e = absurd (none_some tick e)
-last_in (move ∷ moves) uid tick e = behind (last_move moves uid) refl e
+last_in (move ∷ moves) uid tick e = behind (last_move moves uid) refl (λ t is. last_in moves uid t is) e
   where
     behind : (o : Option ℕ) → last_move moves uid ≡ o →
+        ((t : ℕ) → last_move moves uid ≡ Some t → (u : List ℕ) × Contains moves (u, t) × (u ≡ uid)) →
         cond (is_some o) o (cond (is_eq (uid_cmp move.0 uid)) (Some move.1) None) ≡ Some tick →
         (u : List ℕ) × Contains (move ∷ moves) (u, tick) × (u ≡ uid)
-    behind (Some t) is same =
-        let found = last_in moves uid tick (is ∙ same) in
+    behind (Some t) is before same =
+        let found = before tick (is ∙ same) in
         (found.0, cons_later move moves (found.0, tick) found.1, found.2)
-    behind None is same = by_bool (is_eq (uid_cmp move.0 uid)) ((u : List ℕ) × Contains (move ∷ moves) (u, tick) × (u ≡ uid))
+    behind None is before same = by_bool (is_eq (uid_cmp move.0 uid)) ((u : List ℕ) × Contains (move ∷ moves) (u, tick) × (u ≡ uid))
         (λ one.
         let ticks : move.1 ≡ tick = some_same move.1 tick (sym (ap (λ (b : Bool). cond b (Some move.1) None) one) ∙ same) in
         (move.0, subst (λ (t : ℕ). Contains (move ∷ moves) (move.0, t)) ticks (cons_first move moves), one_uid move.0 uid one))
@@ -56,12 +57,13 @@ last_in (move ∷ moves) uid tick e = behind (last_move moves uid) refl e
 -- and there is one where a move is of the UID
 pub last_there : (moves : Carried) (uid : List ℕ) (tick : ℕ) → Contains moves (uid, tick) → (t : ℕ) × (last_move moves uid ≡ Some t)
 last_there [] uid tick h = absurd (none_in (uid, tick) h)
-last_there (move ∷ moves) uid tick h = behind (last_move moves uid) refl
+last_there (move ∷ moves) uid tick h = behind (last_move moves uid) refl (λ later. last_there moves uid tick later)
   where
-    behind : (o : Option ℕ) → last_move moves uid ≡ o → (t : ℕ) × (last_move (move ∷ moves) uid ≡ Some t)
-    behind (Some t) is =
+    behind : (o : Option ℕ) → last_move moves uid ≡ o → (Contains moves (uid, tick) → (t : ℕ) × (last_move moves uid ≡ Some t)) →
+        (t : ℕ) × (last_move (move ∷ moves) uid ≡ Some t)
+    behind (Some t) is before =
         (t, ap (λ (o : Option ℕ). cond (is_some o) o (cond (is_eq (uid_cmp move.0 uid)) (Some move.1) None)) is)
-    behind None is = elim (cons_cases move moves (uid, tick) h) [
+    behind None is before = elim (cons_cases move moves (uid, tick) h) [
       | inl same ↦
           let u : move.0 ≡ uid = ap (λ (m : List ℕ × ℕ). m.0) same in (
             move.1,
@@ -69,7 +71,7 @@ last_there (move ∷ moves) uid tick h = behind (last_move moves uid) refl
                 ∙ ap (λ (b : Bool). cond b (Some move.1) None) (subst (λ (v : List ℕ). is_eq (uid_cmp move.0 v) ≡ true) u (own_uid move.0)),
           )
       | inr later ↦
-          let found = last_there moves uid tick later in
+          let found = before later in
           absurd (none_some found.0 (sym is ∙ found.1))
     ]
 

@@ -6,7 +6,7 @@ use Rattle.itip_desk.proofs.found.find_named.Goals.{in-Some+in_ok-add_named, in_
 
 pub returns-clause-names : goal.returns-clause-names
 returns-clause-names c = λ item names there. elim c.match-first.branch [
-  | in-Some+in_ok-add_named w ↦ rw (← w.uids-is) (w.in_ok-add_named.ensures item names there)
+  | in-Some+in_ok-add_named w ↦ rw (w.uids-is) (w.in_ok-add_named.ensures item names there)
   | in_default w ↦ absurd (none_there name_cmp c.args.names.now (name_entry item (address_number c.args.address.now))
       (nil_if _ w.in_default.ensures.variant.1) there)
 ]
