@@ -9,7 +9,7 @@ use Rattle.itip_running.proofs.look.Look.list_for.Goals as goal
 
 pub returns-in-Ok-clause-text : goal.returns-in-Ok-clause-text
 returns-in-Ok-clause-text c =
-    let part = c.in-Ok-part.part in
+    let part = c.in-Ok.part in
     let address = c.args.address.now in
     let all = heard (reader_seen c.part_naming-end.result.0) in
     let same : HasRowsFor address part all = search rules in
@@ -19,7 +19,7 @@ returns-in-Ok-clause-text c =
 
 pub returns-in-Ok-clause-many : goal.returns-in-Ok-clause-many
 returns-in-Ok-clause-many c e =
-    let part = c.in-Ok-part.part in
+    let part = c.in-Ok.part in
     let address = c.args.address.now in
     let all = heard (reader_seen c.part_naming-end.result.0) in
     let same : HasRowsFor address part all = search rules in

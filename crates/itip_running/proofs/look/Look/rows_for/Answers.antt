@@ -10,7 +10,7 @@ use Rattle.itip_running.proofs.look.Look.rows_for.Goals as goal
 
 pub returns-in-Ok-clause-rows : goal.returns-in-Ok-clause-rows
 returns-in-Ok-clause-rows c =
-    let part = c.in-Ok-part.part in
+    let part = c.in-Ok.part in
     let address = c.args.address.now in
     let all = heard (reader_seen c.part_naming-end.result.0) in
     let same : HasRowsFor address part all = search rules in
@@ -21,7 +21,7 @@ returns-in-Ok-clause-rows c =
 
 pub returns-in-Ok-clause-many : goal.returns-in-Ok-clause-many
 returns-in-Ok-clause-many c e =
-    let part = c.in-Ok-part.part in
+    let part = c.in-Ok.part in
     let address = c.args.address.now in
     let all = heard (reader_seen c.part_naming-end.result.0) in
     let same : HasRowsFor address part all = search rules in
