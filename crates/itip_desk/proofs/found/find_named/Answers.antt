@@ -1,4 +1,5 @@
 use Rattle.std.proofs.Common.{◌≡◌, [], List, refl}
+use Rattle.itip_state.proofs.Nothing.{not_ok}
 use Rattle.itip_desk.specs.Entries.{name_cmp, name_entry, address_number}
 use Rattle.itip_desk.proofs.Finding.{none_there, nil_if, not_nil}
 use Rattle.itip_desk.proofs.found.find_named.Goals as goal
@@ -8,7 +9,7 @@ pub returns-clause-names : goal.returns-clause-names
 returns-clause-names c = λ item names there. elim c.match-first.branch [
   | in-Some+in_ok-add_named w ↦ rw (w.uids-is) (w.in_ok-add_named.ensures item names there)
   | in_default w ↦ absurd (none_there name_cmp c.args.names.now (name_entry item (address_number c.args.address.now))
-      (nil_if _ w.in_default.ensures.variant.1) there)
+      (nil_if c.args.names.now.keys (λ some. not_ok (w.in_default.ensures.variant.1 some))) there)
 ]
 
 pub returns-clause-none : goal.returns-clause-none
