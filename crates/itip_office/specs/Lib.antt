@@ -5,6 +5,7 @@ pub mod Texts
 pub mod Answers
 pub mod Taken
 pub mod Steps
+pub mod Seen
 pub mod Merged
 pub mod Ended
 pub mod Exchanged

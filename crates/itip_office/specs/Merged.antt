@@ -9,6 +9,7 @@ use Rattle.itip_office.specs.declared.job.Work.{Work}
 use Rattle.itip_office.specs.declared.job.Work.TheVariants.{Text, Carry, Look}
 use Rattle.itip_office.specs.Answers.{Answer, AnswersMerged}
 use Rattle.itip_office.specs.Taken.{AreTaken}
+use Rattle.itip_office.specs.Seen.{Source, IsFrom, IsCarryShown}
 
 -- These jobs were merged by these batches, one for each, in order.
 abbrev pub AreMerged : ℕ → List Answer → List (List Item) → Type 0
@@ -22,11 +23,6 @@ pub record GrewBy (desk : ℕ) (old new : List (List Item)) (answers : List Answ
   pub batches : List (List Item)
   pub merged : AreMerged desk answers batches
   pub whole : new ≡ old ++ batches
-
--- the running desk of a keeper, where it has one, has nothing pending
-abbrev pub IsIdle : Option Keeper → Type 0
-IsIdle None = Unit {0}
-IsIdle (Some keeper) = pending keeper ≡ []
 
 -- It published one more batch, by itself, and has nothing pending.
 abbrev pub ShowsOne : Option Keeper → Option Keeper → List Item → Type 0
@@ -56,12 +52,14 @@ TookText (Carry from to) old new batch = new ≡ old
 TookText (Look at window) old new batch = Unit {0}
 
 -- One job was merged: by its batch, which the desk of texts took where the job is a text, and which was published where there is a running
--- desk.
-pub record MergedOne (desk : ℕ) (old new : Shown) (was now : Option Keeper) (answer : Answer) : Type 0 where
+-- desk. Where it is a carry there is one, and the batch is from this source.
+pub record MergedOne (desk : ℕ) (old new : Shown) (was now : Option Keeper) (answer : Answer) (source : Option Source) : Type 0 where
   pub batch : List Item
   pub answers : AnswersMerged desk batch answer.0.work answer.1
   pub texts : TookText answer.0.work old new batch
   pub shown : ShowsOne was now batch
+  pub there : IsCarryShown answer.0.work was
+  pub from : ∥ IsFrom answer.0.work batch source ∥₁
 
 -- The desk of texts took the texts of these jobs, which were all merged.
 pub record GrewTexts (desk : ℕ) (old new : Shown) (answers : List Answer) : Type 0 where

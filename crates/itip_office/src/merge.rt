@@ -1,25 +1,30 @@
 //! What a worker sends to a keeper.
-ghost use Rattle.std.specs.Prelude.{◌≡◌};
 ghost use Rattle.itip_office.specs.Texts.{Merges};
+ghost use Rattle.itip_office.specs.Seen.{IsFrom};
 
 use crate::job::Job;
+use crate::pairs::Pairs;
+use crate::source::Source;
 use itip_desk::Batch;
 
-/// A job, and the batch that its desk is to merge. The job is a text or a carry, and the batch of a text has the items that the text
-/// reads as.
+/// A job, and the batch that its desk is to merge. The job is a text or a carry. The batch of a text has the items that the text reads as,
+/// and that of a carry all that is kept of its source.
 #[derive(Drop)]
-pub struct Merge {
+pub struct Merge<N: Pairs> {
     job: Job,
     batch: Batch,
+    source: Option<Source<N>>,
     ghost is: { ∥ Merges job.work batch ∥₁ },
+    ghost from: { ∥ IsFrom job.work batch source ∥₁ },
 }
 
-impl Merge {
+impl<N: Pairs> Merge<N> {
     /// The merge of a text or a carry.
-    pub(crate) fn new(job: Job, batch: Batch) -> Merge
-        requires { Merges job.work batch }
+    pub(crate) fn new(job: Job, batch: Batch, source: Option<Source<N>>) -> Merge<N>
+        requires merges { Merges job.work batch }
+        requires from { IsFrom job.work batch source }
     {
-        Merge { job, batch }
+        Merge { job, batch, source }
     }
 
     /// Which of so many shares it is in, by the UID of its items, the first where they have several. The first share where there is one or
@@ -34,12 +39,13 @@ impl Merge {
         }
     }
 
-    pub(crate) fn into_parts(self) -> (Job, Batch)
-        ensures { Merges result.0.work result.1 }
+    pub(crate) fn into_parts(self) -> (Job, Batch, Option<Source<N>>)
+        ensures merges { Merges result.0.work result.1 }
+        ensures from { ∥ IsFrom result.0.work result.1 result.2 ∥₁ }
     {
-        let Merge { job, batch } = self;
+        let Merge { job, batch, source } = self;
         batch.lawful();
-        (job, batch)
+        (job, batch, source)
     }
 }
 

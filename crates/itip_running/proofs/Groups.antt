@@ -12,6 +12,9 @@ batches_more (g ∷ gs) hs = ap (λ (l : List Items). g ++ l) (batches_more gs h
 pub batches_push : (gs : List Group) (g : Group) → batches_of (gs ++ g ∷ []) ≡ batches_of gs ++ g
 batches_push gs g = batches_more gs (g ∷ []) ∙ ap (λ (l : List Items). batches_of gs ++ l) (append-nil g)
 
+pub batches_none : (gs : List Group) → gs ≡ [] → batches_of gs ≡ []
+batches_none gs none = ap batches_of none
+
 -- where some groups begin others, so do their batches
 pub prefix_batches : (xs ys : List Group) → IsPrefix xs ys → IsPrefix (batches_of xs) (batches_of ys)
 prefix_batches xs ys p = (batches_of p.0, sym (batches_more xs p.0) ∙ ap batches_of p.1)

@@ -1,8 +1,17 @@
 -- What a call of `publish` leaves, once its group is among those of all calls.
-use Rattle.std.proofs.Common.{◌≡◌, List, [], ◌∷◌, ◌++◌, length, drop, ap, sym, ◌∙◌, subst, inr, append_assoc}
+use Rattle.std.proofs.Common.{◌≡◌, List, [], ◌∷◌, ◌++◌, length, drop, ap, sym, ◌∙◌, subst, inr, append_assoc, Result, Ok, Err}
+use Rattle.std.specs.Prelude.{OnOk, OnErr}
 use mathlib.Core.List.{IsPrefix}
 use Rattle.itip_running.specs.History.{Group}
 use Rattle.itip_running.specs.Ends.{IsShownCall, IsRefusedCall}
+
+pub ok_then : {T E P Q : Type 0} (r : Result T E) → (P → Q) → OnOk r P → OnOk r Q
+ok_then (Ok x) f h = f h
+ok_then (Err e) f h = tt
+
+pub err_then : {T E P Q : Type 0} (r : Result T E) → (P → Q) → OnErr r P → OnErr r Q
+err_then (Ok x) f h = tt
+err_then (Err e) f h = f h
 
 -- groups that begin those of all calls begin these with one more
 goes_on : (gs all : List Group) (g : Group) → all ≡ gs ++ drop (length gs) all → IsPrefix gs (all ++ g ∷ [])

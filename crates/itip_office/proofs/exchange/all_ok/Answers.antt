@@ -1,8 +1,8 @@
 use Rattle.std.proofs.Common.{rules, ◌≡◌, List, [], ◌∷◌, ◌++◌, map, ap, sym, ◌∙◌, append_assoc, append-nil, Result, Ok, Err, arith}
 use Rattle.std.specs.Vec.Iter.{into_iter_items}
-use Rattle.std.proofs.lemmas.List.{map-append, nil_from_length}
+use Rattle.std.proofs.lemmas.List.{map-append}
 use Rattle.itip_office.specs.declared.error.OfficeError.{OfficeError}
-use Rattle.itip_office.proofs.Beside.{error_among}
+use Rattle.itip_office.proofs.Beside.{no_more, error_among}
 use Rattle.itip_office.proofs.exchange.all_ok.Goals as goal
 
 pub loop-one-preserved : goal.loop-one-preserved
@@ -19,7 +19,7 @@ pub returns-clause-all : goal.returns-clause-all
 returns-clause-all g c =
     let ended = c.in-None.ensures.steps.0 in
     let long = c.loop-one.one-iterator.rest.ok.0 in
-    let none : into_iter_items c.loop-one.one-iterator ≡ [] = nil_from_length (into_iter_items c.loop-one.one-iterator) (omega (arith, ended, long)) in
+    let none : into_iter_items c.loop-one.one-iterator ≡ [] = no_more (into_iter_items c.loop-one.one-iterator) (omega (arith, ended, long)) in
     sym c.loop-one.invariant ∙ ap (λ (l : List (Result g.row.T.Denot OfficeError)). map Ok c.loop-one.values.items ++ l) none ∙
     append-nil (map Ok c.loop-one.values.items)
 

@@ -1,12 +1,11 @@
 use Rattle.std.proofs.Common.{rules, ◌≡◌, ◌<◌, ◌∙◌, ℕ, List, length, take, ap, subst, arith, Result}
 use Rattle.std.specs.Prelude.{slice_index_or}
-use Rattle.std.proofs.lemmas.List.{length-take-le}
 use Rattle.itip_items.specs.declared.item.Item.{Item}
 use Rattle.itip_desk.specs.Desk.{Shown}
 use Rattle.itip_office.specs.declared.error.OfficeError.{OfficeError}
 use Rattle.itip_office.specs.Exchanged.{GivesDelta, TakesAll}
 use Rattle.itip_office.proofs.Sharing.{AreDeltasOf, alone_kept}
-use Rattle.itip_office.proofs.Beside.{are_deltas, all_kept_alike, as_many, delta_errors, take_errors}
+use Rattle.itip_office.proofs.Beside.{are_deltas, all_kept_alike, as_many, take_length, delta_errors, take_errors}
 use Rattle.itip_office.proofs.exchange.exchange.Goals as goal
 use Rattle.itip_office.proofs.exchange.exchange.Goals.{After-given, After-taken}
 
@@ -47,7 +46,7 @@ pub returns-clause-count : goal.returns-clause-count
 returns-clause-count g c =
     let first : c.truncate.new.self.items ≡ take c.args.desks c.args.parts.items = search rules in
     let some : length (take c.args.desks c.args.parts.items) ≡ c.args.desks =
-    length-take-le c.args.desks c.args.parts.items (search (rules, arith)) in
+    take_length c.args.desks c.args.parts.items (search (rules, arith)) in
     as_many c.args.desks c.in_ok-taken.taken.items c.in_ok-ended.ended.items (c.in_ok-taken.ensures.count ∙ (ap length first ∙ some))
     c.in_ok-ended.ensures.all
 

@@ -10,7 +10,7 @@ returns-in-Ok-TooMany-clause-many c e =
     let state = c.args.state.now in
     let wants = Wants c.showing-shown.result in
     many_alike wants (Shows c.args.address.now) c.showing-shown.ensures state c.args.window
-    (too_many_where wants state c.args.window c.in-Ok.rows c.in-Ok.ensures.asked c.in-Ok-TooMany.ensures.count.0)
+    (too_many_where wants state c.args.window c.in-Ok.rows c.in-Ok.ensures.asked c.in-Ok-TooMany.ensures.0)
 
 pub returns-in-Ok-to_vec-clause-rows : goal.returns-in-Ok-to_vec-clause-rows
 returns-in-Ok-to_vec-clause-rows c =

@@ -4,9 +4,9 @@ use Rattle.itip_running.specs.History.{Items, batches_of}
 use Rattle.itip_running.proofs.Seeing.{delta_after}
 use Rattle.itip_running.proofs.look.Look.delta_since.Goals as goal
 
-pub returns-in-Ok-clause-delta : goal.returns-in-Ok-clause-delta
-returns-in-Ok-clause-delta c =
+pub returns-in-Ok-delta-clause-delta : goal.returns-in-Ok-delta-clause-delta
+returns-in-Ok-delta-clause-delta c =
     let same : batches_of c.close-end.result.front.seen.log ≡ batches_of c.args.self.front.seen.log =
     ap (λ s. batches_of s.log) c.close-end.ensures in
-    subst (λ (l : List Items). IsDeltaAfter l c.args.tick c.in-Ok.delta) (sym same)
-    (delta_after (batches_of c.args.self.front.seen.log) c.desk.result.now c.args.tick c.in-Ok.delta c.in-Ok.ensures c.desk.ensures)
+    subst (λ (l : List Items). IsDeltaAfter l c.args.tick c.in-Ok-delta.delta) (sym same)
+    (delta_after (batches_of c.args.self.front.seen.log) c.desk.result.now c.args.tick c.in-Ok-delta.delta c.in-Ok-delta.ensures c.desk.ensures)

@@ -6,12 +6,12 @@ use Rattle.itip_running.specs.Parts.{AreKeptOf}
 use Rattle.itip_running.proofs.Seeing.{part_of_one}
 use Rattle.itip_running.proofs.look.Look.items_of.Goals as goal
 
-pub returns-in-Ok-clause-items : goal.returns-in-Ok-clause-items
-returns-in-Ok-clause-items c =
+pub returns-in-Ok-items-clause-items : goal.returns-in-Ok-items-clause-items
+returns-in-Ok-items-clause-items c =
     let same : batches_of c.close-end.result.front.seen.log ≡ batches_of c.args.self.front.seen.log =
     ap (λ s. batches_of s.log) c.close-end.ensures in
     let uid = c.args.uid.now in
-    let items = c.in-Ok.items.items in
+    let items = c.in-Ok-items.items.items in
     let kept = c.desk.result.now.kept in
     let of : ArePartOf items kept (uid ∷ []) = search rules in
     subst (λ (l : List Items). AreKeptOf uid items (heard l)) (sym same)

@@ -7,9 +7,9 @@ use Rattle.itip_running.specs.Ends.{reader_seen}
 use Rattle.itip_running.specs.Parts.{HasRowsFor}
 use Rattle.itip_running.proofs.look.Look.list_for.Goals as goal
 
-pub returns-in-Ok-clause-text : goal.returns-in-Ok-clause-text
-returns-in-Ok-clause-text c =
-    let part = c.in-Ok.part in
+pub returns-in-Ok-part-clause-text : goal.returns-in-Ok-part-clause-text
+returns-in-Ok-part-clause-text c =
+    let part = c.in-Ok-part.part in
     let address = c.args.address.now in
     let all = heard (reader_seen c.part_naming-end.result.0) in
     let same : HasRowsFor address part all = search rules in
@@ -17,9 +17,9 @@ returns-in-Ok-clause-text c =
     c.text_for-text.result (λ text is. text_for_of_same_rows address part all c.args.window (same c.args.window) text.items is)
     c.text_for-text.ensures.text
 
-pub returns-in-Ok-clause-many : goal.returns-in-Ok-clause-many
-returns-in-Ok-clause-many c e =
-    let part = c.in-Ok.part in
+pub returns-in-Ok-part-clause-many : goal.returns-in-Ok-part-clause-many
+returns-in-Ok-part-clause-many c e =
+    let part = c.in-Ok-part.part in
     let address = c.args.address.now in
     let all = heard (reader_seen c.part_naming-end.result.0) in
     let same : HasRowsFor address part all = search rules in

@@ -8,9 +8,9 @@ use Rattle.itip_running.specs.Parts.{HasRowsFor}
 use Rattle.itip_running.proofs.Seeing.{rows_for_there}
 use Rattle.itip_running.proofs.look.Look.rows_for.Goals as goal
 
-pub returns-in-Ok-clause-rows : goal.returns-in-Ok-clause-rows
-returns-in-Ok-clause-rows c =
-    let part = c.in-Ok.part in
+pub returns-in-Ok-part-clause-rows : goal.returns-in-Ok-part-clause-rows
+returns-in-Ok-part-clause-rows c =
+    let part = c.in-Ok-part.part in
     let address = c.args.address.now in
     let all = heard (reader_seen c.part_naming-end.result.0) in
     let same : HasRowsFor address part all = search rules in
@@ -19,9 +19,9 @@ returns-in-Ok-clause-rows c =
     (λ rows are. rows_for_there address part all c.args.window same rows.items are)
     c.rows_for-rows.ensures.rows
 
-pub returns-in-Ok-clause-many : goal.returns-in-Ok-clause-many
-returns-in-Ok-clause-many c e =
-    let part = c.in-Ok.part in
+pub returns-in-Ok-part-clause-many : goal.returns-in-Ok-part-clause-many
+returns-in-Ok-part-clause-many c e =
+    let part = c.in-Ok-part.part in
     let address = c.args.address.now in
     let all = heard (reader_seen c.part_naming-end.result.0) in
     let same : HasRowsFor address part all = search rules in

@@ -12,8 +12,8 @@ followed_by-requires-clause-batches c =
     total_is (batches_of k.last.seen.log) k.fresh shown pending c.args.total k.whole c.requires.total
     ∙ ap (λ (l : List Items). length (batches_of k.last.seen.log) + length l) (sym c.of-group.ensures)
 
-pub invariant_of-self : goal.invariant_of-self
-invariant_of-self c =
+pub invariant_of-self-in-Some : goal.invariant_of-self-in-Some
+invariant_of-self-in-Some c =
     let k = c.args.self.now in
     let gs : List Group = published_groups k.writer.desk.shown.value in
     let more : c.in-Some.last.seen.log ≡ k.last.seen.log ++ k.fresh ∷ [] =
