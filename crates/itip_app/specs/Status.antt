@@ -2,6 +2,10 @@
 use Rattle.std.specs.Prelude.{◌≡◌, ◌⊎◌, ℕ, Bool, if◌then◌else◌, Option, Some, None, Result, Ok, Err}
 use Rattle.itip_app.specs.declared.filters.Outcome.{Outcome}
 use Rattle.itip_app.specs.declared.filters.Undone.{Undone}
+use Rattle.itip_app.specs.declared.stream.LoadFault.{LoadFault}
+use Rattle.itip_app.specs.declared.stream.LoadFault.TheVariants as load
+use Rattle.itip_app.specs.declared.stream.Unserved.{Unserved}
+use Rattle.itip_app.specs.declared.stream.Unserved.TheVariants as unserved
 use Rattle.itip_words.specs.declared.no_call.NoCall.{NoCall}
 use Rattle.itip_words.specs.declared.no_call.NoCall.TheVariants as no_call
 
@@ -32,3 +36,18 @@ IsStatusOfNoCall (no_call.Refused error) status = status ≡ 2
 IsStatusOfNoCall (no_call.BadValue text) status = status ≡ 2
 IsStatusOfNoCall no_call.NoClock status = status ≡ 3
 IsStatusOfNoCall no_call.NoMemory status = status ≡ 3
+
+-- where a desk doesn't begin with its file: 4 where that is refused, else 3
+abbrev pub status_unloaded : LoadFault → ℕ
+status_unloaded load.Read = 3
+status_unloaded (load.Refused refusal) = 4
+status_unloaded load.NoMemory = 3
+
+abbrev pub status_unserved : Unserved → ℕ
+status_unserved (unserved.Load file fault) = status_unloaded fault
+status_unserved (unserved.Stream fault) = 3
+
+-- of a stream: 3 after a fault
+abbrev pub status_served : Result Bool Unserved → ℕ
+status_served (Ok is_refused) = status_refused is_refused
+status_served (Err why) = status_unserved why

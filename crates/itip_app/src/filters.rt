@@ -1,6 +1,8 @@
 //! The words that read messages: their sources, and what comes of them.
 ghost use Rattle.std.specs.Prelude.{◌≡◌, ℕ, List, [], Some, None, IfOk, IfSome};
 ghost use Rattle.itip_inbox.specs.Inbox.{AreInputs};
+ghost use Rattle.itip_inbox.specs.Compaction.{IsCompaction};
+ghost use Rattle.itip_inbox.specs.News.{IsNews};
 ghost use Rattle.itip_inbox.specs.Reports.{IsReport};
 ghost use Rattle.itip_app.specs.Status.{status_refused, status_done, status_filtered};
 ghost use Rattle.itip_app.specs.Filtered.{octets_in, Writes, WritesList, WritesExplanation, WritesMessage, Filters};
@@ -229,16 +231,11 @@ fn write_filtered<R: AllocGlobal + Threads + Sync, I: io::Read + Drop, W: io::Wr
         AreInputs I.remaining than.items known → AreInputs I.remaining sources.items inputs →
         Filters written.now draft.now names.now known inputs (W.contents writer.old) (W.contents writer.new) outcome) }
 {
-    let alloc = rt.alloc();
     match written {
-        Written::Compaction { .. } => {
-            done_with(rt, compact(rt, alloc, sources, writer, threads, watch)?)
-        }
+        Written::Compaction { .. } => write_compaction(rt, sources, writer, threads, watch),
         Written::List(asked) => write_list(rt, sources, writer, asked, threads, watch),
         Written::Report(asked) => write_report(rt, sources, writer, asked, threads, watch),
-        Written::News { .. } => {
-            done_with(rt, news(rt, alloc, than, sources, writer, threads, watch)?)
-        }
+        Written::News { .. } => write_news(rt, than, sources, writer, threads, watch),
         Written::Explanation { uid } => {
             write_explanation(rt, names, sources, writer, uid, threads, watch)
         }
@@ -246,6 +243,36 @@ fn write_filtered<R: AllocGlobal + Threads + Sync, I: io::Read + Drop, W: io::Wr
             write_message(rt, draft, sources, writer, asked, *at, threads, watch)
         }
     }
+}
+
+fn write_compaction<R: AllocGlobal + Threads + Sync, I: io::Read + Drop, W: io::Write, S: Watch>(
+    rt: &R,
+    sources: Vec<I>,
+    writer: &mut W,
+    threads: usize,
+    watch: &mut S,
+) -> Result<Outcome, StreamFault>
+    ensures { IfOk result (λ outcome. (inputs : List (List ℕ)) → AreInputs I.remaining sources.items inputs →
+        Writes (IsCompaction inputs) (W.contents writer.old) (W.contents writer.new) outcome) }
+{
+    let done = compact(rt, rt.alloc(), sources, writer, threads, watch)?;
+    done_with(rt, done)
+}
+
+fn write_news<R: AllocGlobal + Threads + Sync, I: io::Read + Drop, W: io::Write, S: Watch>(
+    rt: &R,
+    than: Vec<I>,
+    sources: Vec<I>,
+    writer: &mut W,
+    threads: usize,
+    watch: &mut S,
+) -> Result<Outcome, StreamFault>
+    ensures { IfOk result (λ outcome. (known inputs : List (List ℕ)) →
+        AreInputs I.remaining than.items known → AreInputs I.remaining sources.items inputs →
+        Writes (IsNews known inputs) (W.contents writer.old) (W.contents writer.new) outcome) }
+{
+    let done = news(rt, rt.alloc(), than, sources, writer, threads, watch)?;
+    done_with(rt, done)
 }
 
 fn write_list<R: AllocGlobal + Threads + Sync, I: io::Read + Drop, W: io::Write, S: Watch>(

@@ -1,8 +1,10 @@
 //! One run of the program: its words, and what they ask for.
-ghost use Rattle.std.specs.Prelude.{◌≡◌, IfOk, IfErr, IfSome};
+ghost use Rattle.std.specs.Prelude.{◌≡◌, IfOk, IfErr, OnErr, IfSome, IsErrOf};
+ghost use Rattle.std.specs.Io.KnownBytes.{Keeps};
 ghost use Rattle.itip_streams.specs.Written.{WritesOutput};
-ghost use Rattle.itip_world.specs.Running.{IsOutput};
-ghost use Rattle.itip_office.specs.Scripts.{IsScriptOutput};
+ghost use Rattle.itip_world.specs.Running.{IsOutput, WritesRunFront};
+ghost use Rattle.itip_office.specs.Scripts.{IsScriptOutput, WritesScriptFront};
+ghost use Rattle.itip_office.specs.declared.error.OfficeError.{OfficeError};
 ghost use Rattle.itip_words.specs.Calls.{IfRun, IfOffice, AreOffice};
 ghost use Rattle.itip_words.specs.Words.{AreDesks, AreWorkers};
 ghost use Rattle.itip_app.specs.Status.{status_shown, IsStatusOfNoCall};
@@ -127,8 +129,11 @@ fn run_on<I: io::Read, W: io::Write, S: itip_world::Watch>(
     watch: &mut S,
 ) -> Result<bool, StreamFault>
     requires { AreDesks asked.desks }
-    ensures { IfOk result (λ refusal. IfSome (I.remaining reader.old) (λ script.
+    ensures output { IfOk result (λ refusal. IfSome (I.remaining reader.old) (λ script.
         WritesOutput (IsOutput asked.window asked.desks script) (W.contents writer.old) (W.contents writer.new) refusal)) }
+    ensures front { OnErr result (IfSome (I.remaining reader.old) (λ script.
+        WritesRunFront asked.window asked.desks (W.contents writer.old) (W.contents writer.new) script)) }
+    ensures unread { IsErrOf result StreamFault.Read → Keeps (W.contents writer.old) (W.contents writer.new) }
 {
     let desks = asked.desks as usize;
     run_script_watched(alloc, reader, writer, desks, asked.window, watch)
@@ -164,8 +169,13 @@ fn office_on<
 ) -> Result<bool, ScriptError>
     requires desks { AreDesks asked.desks }
     requires workers { AreWorkers workers }
-    ensures { IfOk result (λ refusal. IfSome (I.remaining reader.old) (λ script.
+    ensures output { IfOk result (λ refusal. IfSome (I.remaining reader.old) (λ script.
         WritesOutput (IsScriptOutput asked.window asked.desks script) (W.contents writer.old) (W.contents writer.new) refusal)) }
+    ensures front { OnErr result (IfSome (I.remaining reader.old) (λ script.
+        WritesScriptFront asked.window asked.desks (W.contents writer.old) (W.contents writer.new) script)) }
+    ensures unread { IsErrOf result (ScriptError.Stream StreamFault.Read) → Keeps (W.contents writer.old) (W.contents writer.new) }
+    ensures unended { (error : OfficeError) → IsErrOf result (ScriptError.Office error) →
+        Keeps (W.contents writer.old) (W.contents writer.new) }
 {
     let desks = asked.desks as usize;
     let workers = workers as usize;
@@ -180,7 +190,7 @@ fn show<R: AllocGlobal + Input + Print + Eprint>(rt: &R, why: bool) -> Result<bo
 }
 
 /// The status of what was done: 1 where a refusal was written.
-pub(crate) fn ended<R: Eprint, E: Display + Drop>(rt: &R, done: Result<bool, E>) -> u8
+fn ended<R: Eprint, E: Display + Drop>(rt: &R, done: Result<bool, E>) -> u8
     ensures { result ≡ status_shown done }
 {
     match done {

@@ -232,6 +232,15 @@ parsed_none ds text same (Ok n) parses = tt
 parsed_none {E} ds text same (Err e) parses =
     λ digits number. unparsed {E = E} ds number (Err e) e refl (subst (λ (t : List ℕ). ParsesUnsigned {E = E} 64 10 t (Err e)) same parses) digits
 
+-- ---- a beginning that is some text
+
+pub begins_as : (octets begins text rest : List ℕ) → begins ≡ text → octets ≡ begins ++ rest → octets ≡ text ++ rest
+begins_as octets begins text rest is cut = cut ∙ ap (λ (t : List ℕ). t ++ rest) is
+
+pub begins_not : (octets begins text : List ℕ) → begins ≡ text → ((rest : List ℕ) → octets ≡ begins ++ rest → ⊥) →
+    (rest : List ℕ) → octets ≡ text ++ rest → ⊥
+begins_not octets begins text is none rest cut = none rest (cut ∙ ap (λ (t : List ℕ). t ++ rest) (sym is))
+
 -- ---- one name behind another
 
 -- a number behind two names is one behind the second, where the first stands

@@ -22,6 +22,16 @@ one_file desk items octets are file =
     (λ item. (λ h. (are.same item).1 ((file.items_are.same item).0 h), λ h. (file.items_are.same item).1 ((are.same item).0 h))) in
     file.octets_are ∙ ap (λ (is : List Item). messages_text desk.changed (head_of desk.tick is) is) same
 
+-- shared items of what a desk keeps, seen as a slice
+pub items_seen : (seen items held kept : List Item) → seen ≡ items → held ≡ kept → IsItemsOf items held → IsItemsOf seen kept
+items_seen seen items held kept same of are =
+    subst (λ (is : List Item). IsItemsOf is kept) (sym same) (subst (λ (k : List Item). IsItemsOf items k) of are)
+
+-- and what their file begins with
+pub head_seen : (tick : ℕ) (seen items given : List Item) → seen ≡ items → given ≡ items → {head : Option FileHead} →
+    head ≡ head_of tick given → head_of tick seen ≡ head
+head_seen tick seen items given same also is = ap (λ (is : List Item). head_of tick is) (same ∙ sym also) ∙ sym is
+
 -- the messages from one item on, of which the first has the head
 module _ (changed : Carried) (items : List Item) (i : ℕ) (item : Item) (within : i < length items) (is : item ≡ get_or items i item)
     (head : Option FileHead) where

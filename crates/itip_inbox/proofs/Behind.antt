@@ -1,13 +1,12 @@
 -- Messages before which others of their input come.
 use Rattle.std.proofs.Common.{◌≡◌, ◌∙◌, sym, ap, refl, ℕ, ◌+◌, List, [], ◌∷◌, ◌++◌, map, subst, arith, Option, Result, Ok, Err}
 use Rattle.std.proofs.lemmas.List.{map-append}
-use Rattle.itip_explain.specs.declared.told.Place.{Place}
 use Rattle.itip_explain.specs.declared.told.ToldItem.{ToldItem}
 use Rattle.itip_items.specs.declared.item.Item.{Item}
 use Rattle.itip_message.specs.declared.error.MessageRefusal.{MessageRefusal}
 use Rattle.itip_inbox.specs.declared.refused.RefusedMessage.{RefusedMessage}
-use Rattle.itip_inbox.specs.Following.{items_about, told_in, told_item, told_at, AreTold}
-use Rattle.itip_inbox.specs.Inbox.{Placed, placed_from, AreAnswers, refusals_at, Hears}
+use Rattle.itip_inbox.specs.Following.{items_about, told_in, told_item, told_at}
+use Rattle.itip_inbox.specs.Inbox.{placed_from, AreAnswers, refusals_at}
 use Rattle.itip_inbox.specs.Placing.{later_refusal, later_told}
 use Rattle.itip_inbox.specs.Streaming.{TellBeside}
 

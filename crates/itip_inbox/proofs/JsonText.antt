@@ -1,16 +1,19 @@
 -- Objects as they are written, and as they are read.
-use Rattle.std.proofs.Common.{◌≡◌, ◌≤◌, ◌-◌, ℕ, length, take, drop, get_or, take_all, ap₂, List, [], ◌∷◌, ◌++◌, map, refl, sym, ap, subst, ◌∙◌, arith, append_assoc}
+use Rattle.std.proofs.Common.{◌≡◌, ◌==◌, true, false, ◌≤◌, ◌-◌, ℕ, length, take, drop, get_or, take_all, ap₂, List, [], ◌∷◌, ◌++◌, map, refl, sym, ap, subst, ◌∙◌, arith, append_assoc}
 use Rattle.std.proofs.Common.{Option, Some, None}
 use Rattle.std.specs.Prelude.{IfSome, codes, option_map}
 use Rattle.std.specs.List.{flat_map, AllByRecursion}
+use Rattle.std.proofs.lemmas.Bool.{eqb-true, eqb-false}
+use Rattle.std.proofs.lemmas.List.{nil_from_length}
 use Rattle.std.proofs.lemmas.List.Concat.{flat_map-append}
-use Rattle.json.specs.Json.{array, object, document}
+use Rattle.json.specs.Json.{string, array, object, document}
 use Rattle.json.specs.Token.{Token, begin_object, end_object, begin_array, end_array}
 use Rattle.json.specs.Tree.{json_tokens, items_tokens, members_tokens, depth, items_depth, HasNumbers, ItemsHaveNumbers}
 use Rattle.json.proofs.Printed.Decimals.{IsNumber-decimal}
 use Rattle.json.proofs.Printed.Trees.{document-print}
 use Rattle.std.specs.Io.KnownBytes.{Appends}
 use Rattle.itip_moment.specs.Shown.{shown_moment}
+use Rattle.itip_todo.specs.Participation.{partstat_text}
 use Rattle.itip_todo.specs.StatusText.{status_text}
 use Rattle.itip_streams.specs.Written.{AppendsFront, MovesOut}
 use Rattle.itip_streams.proofs.Writing.{moves_more, moves_on, all_moved, front_moved, front_longer, front_none}
@@ -20,10 +23,10 @@ use Rattle.itip_view.specs.declared.row.Row.{Row}
 use Rattle.itip_view.specs.declared.row.ShownAttendee.{ShownAttendee}
 use Rattle.itip_view.proofs.FlatMap.{then_more}
 use Rattle.itip_inbox.specs.Json.{Member, members_of, items_of, number_json, text_json, attendee_object, row_object, object_text, object_behind}
-use Rattle.itip_inbox.specs.Json.{json_text, HasSmallNumbers, IsSmall}
+use Rattle.itip_inbox.specs.Json.{json_text, attendee_members, HasSmallNumbers, IsSmall}
 use Rattle.itip_inbox.specs.Csv.{row_name}
 use Rattle.itip_inbox.specs.JsonTokens.{named_tokens, attendee_tokens, member_tokens, opened_text, IsFrontOf}
-use Rattle.itip_inbox.proofs.Pieces.{join_four}
+use Rattle.itip_inbox.proofs.Pieces.{join_four, three_put}
 
 -- ---- tokens
 
@@ -56,6 +59,22 @@ object_written a b c d old t0 t1 t2 t3 t4 new first one two three four last =
     then_more old t0 new (begin_object ∷ []) (named_tokens a ++ (named_tokens b ++ (named_tokens c ++ (named_tokens d ++ end)))) first whole ∙
     ap (λ (t : List Token). old ++ begin_object ∷ t)
     (join_four member_tokens a b c d end ∙ sym (members_are (a ++ (b ++ (c ++ d)))))
+
+-- so is that of an attendee
+pub attendee_written : (attendee : ShownAttendee) (old t0 t1 t2 t3 new : List Token) → t0 ≡ old ++ begin_object ∷ [] →
+    t1 ≡ t0 ++ member_tokens (codes "address", string attendee.address) →
+    t2 ≡ t1 ++ member_tokens (codes "partstat", string (partstat_text attendee.partstat)) →
+    t3 ≡ t2 ++ member_tokens (codes "percent", number_json attendee.percent) → new ≡ t3 ++ end_object ∷ [] →
+    new ≡ old ++ attendee_tokens attendee
+attendee_written attendee old t0 t1 t2 t3 new first one two three last =
+    let members : List Member = attendee_members attendee in
+    let named : t3 ≡ t0 ++ named_tokens members =
+    three_put member_tokens (codes "address", string attendee.address) (codes "partstat", string (partstat_text attendee.partstat))
+    (codes "percent", number_json attendee.percent) t0 t1 t2 t3 one two three in
+    let all : new ≡ t0 ++ (named_tokens members ++ end_object ∷ []) =
+    then_more t0 t3 new (named_tokens members) (end_object ∷ []) named last in
+    then_more old t0 new (begin_object ∷ []) (named_tokens members ++ end_object ∷ []) first all ∙
+    ap (λ (t : List Token). old ++ begin_object ∷ t) (sym (members_are members))
 
 -- an array of attendees is the value of a name
 pub array_written : (name : Token) (attendees : List ShownAttendee) (old t0 t1 t2 new : List Token) → t0 ≡ old ++ name ∷ [] →
@@ -148,6 +167,13 @@ pub object_read : (row : Row) → HasSmallNumbers row → document (object_text 
 object_read row small = document-print (row_object row) (row_ok row small) (omega (arith, row_shallow row))
 
 -- ---- the first rows
+
+-- a vector of this length has no element, or some
+pub empty_by : {X : Type 0} (xs : List X) (long : ℕ) → long ≡ length xs → (long == 0) ≡ true → xs ≡ []
+empty_by xs long is none = nil_from_length xs (sym is ∙ eqb-true long 0 none)
+
+pub some_by : {X : Type 0} (xs : List X) (long : ℕ) → long ≡ length xs → (long == 0) ≡ false → xs ≡ [] → ⊥
+some_by xs long is some none = eqb-false long 0 some (is ∙ ap length none)
 
 pub front_part : (old new : RowsByUid) (some : List Row) → IsPart old new some → (some ≡ [] → ⊥) → (all : List Row) → AreLeft old all →
     IsFrontOf new some all

@@ -1,7 +1,8 @@
 -- What is kept in shards is what is kept of all.
-use Rattle.std.proofs.Common.{◌≡◌, ◌∙◌, ◌↔◌, ◌<◌, ◌%◌, sym, ap, subst, refl, ℕ, zero, suc, List, [], ◌∷◌, ◌++◌, length, slice_index_or}
-use Rattle.std.proofs.Common.{inl, inr, ◌⊎◌, ◌||◌, arith, Bool, true, false, append_assoc, append-nil, nat_eq}
-use Rattle.std.proofs.Common.{Result, Ok, Err}
+use Rattle.std.proofs.Common.{◌≡◌, ◌∙◌, ◌↔◌, ◌<◌, ◌≤◌, sym, ap, subst, refl, ℕ, zero, suc, List, [], ◌∷◌, ◌++◌, length, slice_index_or}
+use Rattle.std.proofs.Common.{get_or, inl, inr, ◌||◌, arith, Bool, true, false, append_assoc, append-nil, nat_eq}
+use Rattle.std.proofs.Common.{Result, Ok, Err, take, drop, take_all}
+use Rattle.std.proofs.lemmas.List.{drop_all}
 use Rattle.std.specs.Prelude.{OnOk, is_err}
 use Rattle.std.specs.List.{Contains, filter, list_any}
 use Rattle.std.proofs.lemmas.List.Elements.{Contains-append_cases, Contains-append_left, Contains-append_right}
@@ -9,17 +10,16 @@ use Rattle.std.proofs.lemmas.Nat.{mod_below}
 use Rattle.std.proofs.lemmas.Bool.Decides.{Decides-eqb}
 use Rattle.std.proofs.lemmas.Slice.Eq.{bytes_eq-Decides}
 use Rattle.itip_items.specs.KeyParts.{uid_of}
-use Rattle.itip_items.specs.Later.{IsLater}
 use Rattle.itip_items.specs.declared.item.Item.{Item}
 use Rattle.itip_items.specs.declared.key.Key.{Key}
 use Rattle.itip_items.specs.declared.key.Key.TheVariants.{Series}
-use Rattle.itip_state.specs.Kept.{IsBest, IsDead, IsKept, AreKept, ArePart, IsItemsOf}
-use Rattle.itip_state.specs.Told.{IsTold, IsOutdone, AreNews}
+use Rattle.itip_state.specs.Kept.{IsBest, IsKept, AreKept, ArePart, IsItemsOf}
+use Rattle.itip_state.specs.Told.{IsOutdone, AreNews}
 use Rattle.itip_state.proofs.Keeping.{kept_in_part, kept_beside, are_kept_by, are_kept_same, same_swapped}
 use Rattle.itip_state.proofs.Members.{none_in, cons_first, cons_cases}
 use Rattle.itip_view.proofs.Showing.{in_filter, passes, into_filter}
 use Rattle.itip_inbox.specs.Following.{is_about}
-use Rattle.itip_inbox.specs.ShardOf.{shard_of, of_shard, AreOfShard}
+use Rattle.itip_inbox.specs.ShardOf.{shard_of, of_shard}
 use Rattle.itip_inbox.specs.Shards.{kept_in, AreSharded, HearsShard}
 use Rattle.itip_inbox.specs.declared.shard.Shard.{Shard}
 
@@ -134,6 +134,14 @@ module _ (shards : List Shard) (d : Shard) (are : AreSharded shards) where
 
 -- ---- shards that hear
 
+-- what was lent as a whole comes back as a whole
+pub back_whole : {X : Type 0} (news olds : List X) (long : ℕ) → long ≡ length olds → length news ≡ length olds →
+    take long (news ++ drop (length news) olds) ≡ news
+back_whole {X} news olds long is same =
+    let past : length olds ≤ length news = omega (arith, same) in
+    let all : length news ≤ long = omega (arith, is, same) in
+    ap (λ (t : List X). take long (news ++ t)) (drop_all (length news) olds past) ∙ ap (take long) (append-nil news) ∙ take_all long news all
+
 module _ (olds news : List Shard) (items : List Item) (are : AreSharded olds) (many : length news ≡ length olds)
     (each : (n : ℕ) (d : Shard) → n < length olds →
     HearsShard (length olds) n items (slice_index_or olds n d) (slice_index_or news n d)) where
@@ -221,6 +229,12 @@ items_both all front back first second items cut one two both = record {
       );
 }
 
+-- of one shard alone
+pub only_one : (shards : List Shard) (d : Shard) → length shards ≡ 1 → kept_in shards ≡ (get_or shards 0 d).state
+only_one [] d long = absurd (omega (arith, long))
+only_one (s ∷ []) d long = append-nil s.state
+only_one (s ∷ (t ∷ ss)) d long = absurd (omega (arith, long))
+
 -- nothing is kept of nothing
 pub are_none : (state all : List Item) → state ≡ [] → all ≡ [] → AreKept state all
 are_none state all empty none =
@@ -237,7 +251,7 @@ merged_one state now behind one keeps merged =
 pub outdone_at : (shards : List Shard) (are : AreSharded shards) (n count : ℕ) (uid : List ℕ) (i : Item) (one : Shard) →
     n ≡ shard_of count uid → count ≡ length shards → uid ≡ uid_of i.key → one ≡ slice_index_or shards n one →
     IsOutdone one.state i ↔ IsOutdone (kept_in shards) i
-outdone_at shards are n count uid i one number many about at =
+outdone_at shards are n amount uid i one number many about at =
     let own_is : n ≡ shard_of (length shards) (uid_of i.key) =
     number ∙ ap (λ (k : ℕ). shard_of k uid) many ∙ ap (shard_of (length shards)) about in
     let here : one ≡ slice_index_or shards (shard_of (length shards) (uid_of i.key)) one =

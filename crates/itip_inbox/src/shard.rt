@@ -1,8 +1,8 @@
 //! What is kept of the UIDs of one number.
-ghost use Rattle.std.specs.Prelude.{◌≡◌, ◌<◌, ◌++◌, false, nat_eq, OnOk};
+ghost use Rattle.std.specs.Prelude.{◌≡◌, ◌<◌, ◌++◌, [], false, nat_eq, OnOk};
 ghost use Rattle.itip_items.specs.KeyParts.{uid_of};
 ghost use Rattle.itip_state.specs.Kept.{AreKept};
-ghost use Rattle.itip_inbox.specs.ShardOf.{AreOfShard, of_shard, shard_of};
+ghost use Rattle.itip_inbox.specs.ShardOf.{AreOfShard, number_of, of_shard, shard_of};
 
 use itip_state::{SharedItem, State};
 use itip_todo::Uid;

@@ -80,8 +80,14 @@ fn run<N: Naming + Send + Sync, R: AllocGlobal + Threads + Wait + Sync>(
     let mut to: Option<Sender<NamedReceipt<N>>> = Some(to);
     let (published, are_right) = join_mut(
         rt,
-        &mut || publish_all::<N, R>(rt, keeper, to.take(), publishes),
-        &mut || listen_both::<N, R>(rt, first, second, &from),
+        &mut || -> Result<(), CallError>
+            requires { keeper_pair keeper.now ≡ N.pair }
+            ensures { keeper_pair keeper.exit.now ≡ N.pair }
+        { publish_all::<N, R>(rt, keeper, to.take(), publishes) },
+        &mut || -> bool
+            requires { (pass_pair first.now ≡ N.pair) × (pass_pair second.now ≡ N.pair) }
+            ensures { (pass_pair first.exit.now ≡ N.pair) × (pass_pair second.exit.now ≡ N.pair) }
+        { listen_both::<N, R>(rt, first, second, &from) },
     );
     published?;
     Ok(are_right)

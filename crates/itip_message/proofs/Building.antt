@@ -1,5 +1,8 @@
 -- What the lines of a to-do that a program makes give.
 use Rattle.std.proofs.Common.{◌≡◌, ◌∙◌, refl, sym, ap, subst, ℕ, suc, ◌+◌, ◌<◌, List, [], ◌∷◌, ◌++◌, length, map, take, get_or, IsTrue, arith}
+use Rattle.std.proofs.Common.{inl, inr, Result, Ok, Err}
+use Rattle.std.specs.Prelude.{codes}
+use Rattle.std.specs.Result.{OnOk, IfErr}
 use Rattle.std.proofs.lemmas.List.{length-append, flat_map_more, take_more}
 use Rattle.std.specs.List.{AllByRecursion, flat_map}
 use Rattle.itip_lines.specs.Reading as lines
@@ -19,12 +22,39 @@ use Rattle.itip_items.specs.declared.error.FormError.TheVariants as form_error
 use Rattle.itip_items.specs.declared.item.Item.{Item}
 use Rattle.itip_items.specs.declared.kind.Method.TheVariants as method
 use Rattle.itip_message.specs.Building.{Adds, IsOneProperty, RefusesText, RefusesMade, RefusesItem, GivesItem, next_number, bad_line, not_one, of_component, no_todo, too_large}
+use Rattle.itip_message.specs.Building.{RefusesValue, RefusesBeginning, broken_value, no_line}
 use Rattle.itip_message.specs.Message.{ReadsComponent}
 use Rattle.itip_message.specs.Refusals.{IfRefused, todo_gives, form_gives}
 use Rattle.itip_message.specs.declared.error.ReadError.{ReadError}
 use Rattle.itip_message.specs.declared.error.ReadError.TheVariants as error
 use Rattle.itip_message.specs.declared.sort.Component.{Component}
 use Rattle.itip_message.proofs.Properties.{AreProperties, all_suit, properties_more}
+
+pub on_ok_always : {A E P : Type 0} (r : Result A E) → P → OnOk r P
+on_ok_always (Ok a) p = p
+on_ok_always (Err e) p = tt
+
+-- what is no line gives no line behind its front
+refused_value : (e : ReadError) (front value : List ℕ) (number : ℕ) → IfRefused e (RefusesText (front ++ value) number) →
+    IfRefused e (RefusesValue front value number)
+refused_value error.NoMemory front value number h = tt
+refused_value (error.Refused refusal) front value number h = no_line refusal h
+
+pub value_refused : {A : Type 0} (r : Result A ReadError) (front value : List ℕ) (number : ℕ) →
+    IfErr r (λ e. IfRefused e (RefusesText (front ++ value) number)) → IfErr r (λ e. IfRefused e (RefusesValue front value number))
+value_refused (Ok a) front value number h = tt
+value_refused (Err e) front value number h = refused_value e front value number h
+
+-- a beginning is refused for its first line, or for its second
+pub first_refused : (e : ReadError) (uid stamp : List ℕ) → IfRefused e (RefusesValue (codes "UID:") uid 1) →
+    IfRefused e (RefusesBeginning uid stamp)
+first_refused error.NoMemory uid stamp h = tt
+first_refused (error.Refused refusal) uid stamp h = inl h
+
+pub second_refused : (e : ReadError) (uid stamp : List ℕ) → IfRefused e (RefusesText (codes "DTSTAMP:" ++ stamp) 2) →
+    IfRefused e (RefusesBeginning uid stamp)
+second_refused error.NoMemory uid stamp h = tt
+second_refused (error.Refused refusal) uid stamp h = inr h
 
 -- a value that is popped off one value is that one
 pub only_value : {T : Type 0} (old new : List T) (value : T) → old ≡ new ++ value ∷ [] → length old ≡ 1 → old ≡ value ∷ []

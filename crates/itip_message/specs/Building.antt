@@ -1,6 +1,8 @@
 -- A to-do that a program makes, of content lines as they stand in a message (RFC 5545 3.6.2), and the item that a REQUEST of it gives.
-use Rattle.std.specs.Prelude.{◌≡◌, ◌≢◌, ℕ, ◌+◌, ◌==◌, false, IsTrue, List, [], ◌∷◌, ◌++◌, length, codes, Some, if◌then◌else◌}
+use Rattle.std.specs.Prelude.{◌≡◌, ◌≢◌, ◌⊎◌, ℕ, ◌+◌, ◌==◌, false, IsTrue, List, [], ◌∷◌, ◌++◌, length, codes, Some}
+use Rattle.std.specs.Prelude.{if◌then◌else◌}
 use Rattle.std.specs.List.{flat_map}
+use Rattle.itip_lines.specs.Cutting.{HasNoLf}
 use Rattle.itip_lines.specs.Lawful.{params_text}
 use Rattle.itip_lines.specs.Reading as lines
 use Rattle.itip_lines.specs.Reading.{line_at, plain_lines}
@@ -39,6 +41,11 @@ pub data RefusesText (text : List ℕ) (number : ℕ) : MessageRefusal → Type 
   of_component : (at : ℕ) (line : Line) → lines.Reads text (line_at at line ∷ []) → is_property line ≡ false
       → RefusesText text number (at_line cause.Nesting (Some number))
 
+-- A value gives no line behind a front: it has a line feed, which a folded line could pass over, or together they are none.
+pub data RefusesValue (front value : List ℕ) (number : ℕ) : MessageRefusal → Type 0 where
+  broken_value : ¬ HasNoLf value → RefusesValue front value number (at_line (cause.Lines BadLine) (Some number))
+  no_line : (refusal : MessageRefusal) → RefusesText (front ++ value) number refusal → RefusesValue front value number refusal
+
 -- the number of the next line
 abbrev pub next_number : List NumberedLine → ℕ
 next_number given = length given + 1
@@ -49,11 +56,17 @@ pub record Adds (text : List ℕ) (old new : List NumberedLine) : Type 0 where
   pub is : IsOneProperty text line
   pub whole : new ≡ old ++ line_at (next_number old) line ∷ []
 
--- the lines of a UID and of a DTSTAMP, and no others
+-- the lines of a UID, which has no line feed, and of a DTSTAMP, and no others
 pub record BeginsWith (uid stamp : List ℕ) (given : List NumberedLine) : Type 0 where
+  pub whole : HasNoLf uid
   pub before : List NumberedLine
   pub uid_is : Adds (codes "UID:" ++ uid) [] before
   pub stamp_is : Adds (codes "DTSTAMP:" ++ stamp) before given
+
+-- nothing begins with a UID and a DTSTAMP: the UID gives no first line, or the DTSTAMP no second
+abbrev pub RefusesBeginning : List ℕ → List ℕ → MessageRefusal → Type 0
+RefusesBeginning uid stamp refusal =
+    RefusesValue (codes "UID:") uid 1 refusal ⊎ RefusesText (codes "DTSTAMP:" ++ stamp) 2 refusal
 
 -- the lines are no to-do, for this cause in the line of this number
 abbrev pub RefusesMade : List NumberedLine → MessageRefusal → Type 0

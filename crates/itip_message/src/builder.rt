@@ -1,7 +1,8 @@
 //! A to-do that a program makes.
-ghost use Rattle.std.specs.Prelude.{◌≡◌, ◌≢◌, ◌++◌, ◌∷◌, [], ◌+◌, length, codes, IfOk, IfErr, OnOk, OnErr, MatchOption, IsTrue};
+ghost use Rattle.std.specs.Prelude.{◌≡◌, ◌≢◌, ◌↔◌, ◌++◌, ◌∷◌, [], ◌+◌, length, codes, IfOk, IfErr, OnOk, OnErr, MatchOption, IsTrue};
 ghost use Rattle.std.specs.Fmt.{decimal};
 ghost use Rattle.std.specs.List.{list_all};
+ghost use Rattle.itip_lines.specs.Cutting.{HasNoLf};
 ghost use Rattle.itip_lines.specs.Lawful.{params_text};
 ghost use Rattle.itip_lines.specs.Reading.{plain_lines};
 ghost use Rattle.itip_lines.specs.declared.line.Line.{Line};
@@ -26,7 +27,7 @@ use std::marker::Model;
 /// Each line is read at once, as a content line of a message (RFC 5545 3.1): what isn't one is refused, and so is a line that begins
 /// or ends a component. [`todo`](TodoBuilder::todo) and [`item`](TodoBuilder::item) read the lines together, as those of a VTODO of
 /// a REQUEST, and refuse what a message would be refused for. A refusal has the number of the line, from 1 for that of UID and 2 for
-/// that of DTSTAMP.
+/// that of DTSTAMP. UIDs, addresses and rules have no line break (2), so that none is folded into another.
 #[derive(Debug, Drop)]
 pub struct TodoBuilder {
     lines: Vec<NumberedLine>,
@@ -53,17 +54,22 @@ impl Model for TodoBuilder {
 }
 
 impl TodoBuilder {
-    ghost use Rattle.itip_message.specs.Building.{Adds, BeginsWith, RefusesText, moment_line_text, next_number, RefusesMade, GivesItem, RefusesItem};
+    ghost use Rattle.itip_lines.specs.Cutting.{HasNoLf};
+    ghost use Rattle.itip_message.specs.Building.{Adds, BeginsWith, RefusesText, RefusesValue, RefusesBeginning};
+    ghost use Rattle.itip_message.specs.Building.{moment_line_text, next_number, RefusesMade, GivesItem, RefusesItem};
     ghost use Rattle.itip_message.specs.Message.{ReadsMessage};
 
     /// A to-do of a UID and a DTSTAMP.
+    ///
+    /// Refused where the UID has a line break or gives no line (2, 3, 14).
     pub fn new(alloc: Global, uid: &str, stamp: Stamp) -> Result<TodoBuilder, ReadError>
-        ensures { IfOk result (BeginsWith uid.now (stamp_text stamp)) }
+        ensures begun { IfOk result (BeginsWith uid.now (stamp_text stamp)) }
+        ensures refused { IfErr result (λ e. IfRefused e (RefusesBeginning uid.now (stamp_text stamp))) }
     {
         let mut builder = TodoBuilder {
             lines: Vec::new(alloc),
         };
-        builder.put("UID:", uid)?;
+        builder.put_value("UID:", uid)?;
         let stamp = stamp.to_string(alloc)?;
         builder.put("DTSTAMP:", stamp.as_str())?;
         Ok(builder)
@@ -82,19 +88,21 @@ impl TodoBuilder {
     /// Adds ORGANIZER with an address, as `mailto:ines@example.com`.
     pub fn organizer(&mut self, address: &str) -> Result<(), ReadError>
         ensures added { OnOk result (Adds (codes "ORGANIZER:" ++ address.now) self.old self.new) }
-        ensures refused { IfErr result (λ e. IfRefused e (RefusesText (codes "ORGANIZER:" ++ address.now) (next_number self.old))) }
+        ensures whole { OnOk result (HasNoLf address.now) }
+        ensures refused { IfErr result (λ e. IfRefused e (RefusesValue (codes "ORGANIZER:") address.now (next_number self.old))) }
         ensures err { OnErr result (self.new ≡ self.old) }
     {
-        self.put("ORGANIZER:", address)
+        self.put_value("ORGANIZER:", address)
     }
 
     /// Adds an ATTENDEE with an address, as `mailto:omar@example.com`. One with parameters is a [`line`](TodoBuilder::line).
     pub fn attendee(&mut self, address: &str) -> Result<(), ReadError>
         ensures added { OnOk result (Adds (codes "ATTENDEE:" ++ address.now) self.old self.new) }
-        ensures refused { IfErr result (λ e. IfRefused e (RefusesText (codes "ATTENDEE:" ++ address.now) (next_number self.old))) }
+        ensures whole { OnOk result (HasNoLf address.now) }
+        ensures refused { IfErr result (λ e. IfRefused e (RefusesValue (codes "ATTENDEE:") address.now (next_number self.old))) }
         ensures err { OnErr result (self.new ≡ self.old) }
     {
-        self.put("ATTENDEE:", address)
+        self.put_value("ATTENDEE:", address)
     }
 
     /// Adds DTSTART.
@@ -127,13 +135,15 @@ impl TodoBuilder {
     /// Adds RRULE, as `FREQ=WEEKLY;COUNT=3`.
     pub fn rule(&mut self, rule: &str) -> Result<(), ReadError>
         ensures added { OnOk result (Adds (codes "RRULE:" ++ rule.now) self.old self.new) }
-        ensures refused { IfErr result (λ e. IfRefused e (RefusesText (codes "RRULE:" ++ rule.now) (next_number self.old))) }
+        ensures whole { OnOk result (HasNoLf rule.now) }
+        ensures refused { IfErr result (λ e. IfRefused e (RefusesValue (codes "RRULE:") rule.now (next_number self.old))) }
         ensures err { OnErr result (self.new ≡ self.old) }
     {
-        self.put("RRULE:", rule)
+        self.put_value("RRULE:", rule)
     }
 
-    /// Adds SUMMARY of a text, whose backslashes, semicolons, commas and line feeds are written as RFC 5545 3.3.11 has them.
+    /// Adds SUMMARY of a text, whose backslashes, semicolons, commas and line feeds are written as RFC 5545 3.3.11 has them. A carriage
+    /// return is refused (2), as every other control character but a tab.
     pub fn summary(&mut self, words: &str) -> Result<(), ReadError>
         ensures added { OnOk result (Adds (codes "SUMMARY:" ++ text_value words.now) self.old self.new) }
         ensures refused { IfErr result (λ e. IfRefused e (RefusesText (codes "SUMMARY:" ++ text_value words.now) (next_number self.old))) }
@@ -192,6 +202,20 @@ impl TodoBuilder {
         *self.lines.allocator()
     }
 
+    /// Adds the line of a front, which ends in a colon, and a value that has no line break.
+    fn put_value(&mut self, front: &str, value: &str) -> Result<(), ReadError>
+        ensures added { OnOk result (Adds (front.now ++ value.now) self.old self.new) }
+        ensures whole { OnOk result (HasNoLf value.now) }
+        ensures refused { IfErr result (λ e. IfRefused e (RefusesValue front.now value.now (next_number self.old))) }
+        ensures err { OnErr result (self.new ≡ self.old) }
+    {
+        if is_unbroken(value) {
+            return self.put(front, value);
+        }
+        let number = self.lines.len() + 1;
+        Err(refused(MessageCause::Lines(LineCause::BadLine), number))
+    }
+
     /// Adds the line of a front, which ends in a colon, and a value.
     fn put(&mut self, front: &str, value: &str) -> Result<(), ReadError>
         ensures added { OnOk result (Adds (front.now ++ value.now) self.old self.new) }
@@ -225,6 +249,13 @@ impl TodoBuilder {
         self.lines.push(NumberedLine { number, line })?;
         Ok(())
     }
+}
+
+/// Whether a text has no line feed.
+fn is_unbroken(text: &str) -> bool
+    ensures { IsTrue result ↔ HasNoLf text.now }
+{
+    text.as_bytes().iter().all(|octet| *octet != b'\n')
 }
 
 /// The property that a text is, as the line of a number.

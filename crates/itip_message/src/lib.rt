@@ -12,7 +12,6 @@ mod error;
 mod frame;
 mod head;
 mod laws;
-
 mod parting;
 mod read;
 mod sort;

@@ -1,8 +1,11 @@
 -- Offices that end with the same jobs end alike.
-use Rattle.std.proofs.Common.{◌≡◌, ℕ, List, [], ◌∷◌, length, map, inl, inr, sym, ap, subst, ◌∙◌, arith}
+use Rattle.std.proofs.Common.{◌≡◌, ℕ, suc, ◌<◌, List, [], ◌∷◌, length, map, inl, inr, sym, ap, subst, ◌∙◌, arith}
 use Rattle.std.specs.Prelude.{IsPermutation}
-use Rattle.std.specs.List.{Contains}
+use Rattle.std.specs.List.{Contains, AllPairs}
+use Rattle.std.specs.List.Sorted.{IsStrictlyIncreasing}
+use Rattle.std.proofs.lemmas.List.{get_or-map, length-map}
 use Rattle.std.proofs.lemmas.List.Elements.{All-contains}
+use Rattle.std.proofs.lemmas.List.Kept.{AllPairs-from_increasing}
 use Rattle.std.proofs.lemmas.List.Sorted.{Contains-permutation, IsPermutation-sym}
 use Rattle.itip_message.specs.declared.error.MessageRefusal.{MessageRefusal}
 use Rattle.itip_message.proofs.OneMessage.{one_message, one_cause, message_apart}
@@ -21,7 +24,7 @@ use Rattle.itip_office.specs.declared.outcome.Outcome.TheVariants.{Took, Refused
 use Rattle.itip_office.specs.Texts.{IsBatchOf, IsText}
 use Rattle.itip_office.specs.Answers.{Answer, IsOutcome, IsTook}
 use Rattle.itip_office.specs.Taken.{ReadsWork, IsTaken}
-use Rattle.itip_office.specs.Ended.{HasEnded}
+use Rattle.itip_office.specs.Ended.{HasEnded, AreReplies}
 
 -- the batches of one text are one
 one_batch : (bytes : List ℕ) (batch other : List Item) → IsBatchOf bytes batch → IsBatchOf bytes other → batch ≡ other
@@ -83,6 +86,73 @@ job_among (b ∷ answers) a h = elim (cons_cases b answers a h) [
   | inr later ↦ cons_later b.0 (map job_of answers) a.0 (job_among answers a later)
 ]
 
+-- answers whose numbers rise are told apart by them
+abbrev number_of : Answer → ℕ
+number_of a = a.0.number
+
+later_above : (a : Answer) (answers : List Answer) → AllPairs (λ (x y : ℕ). x < y) (map number_of (a ∷ answers)) → (b : Answer) →
+    Contains answers b → number_of a < number_of b
+later_above a answers rise b there =
+    All-contains (λ (x : Answer). number_of a < number_of x) answers b (λ k d low.
+    let count : length (map number_of answers) ≡ length answers = length-map answers number_of in
+    let at : 0 < suc k = omega arith in
+    let within : suc k < length (map number_of (a ∷ answers)) = omega (arith, low, count) in
+    subst (λ (n : ℕ). number_of a < n) (get_or-map number_of answers k d 0 low) (rise 0 (suc k) 0 at within)) there
+
+rise_later : (a : Answer) (answers : List Answer) → AllPairs (λ (x y : ℕ). x < y) (map number_of (a ∷ answers)) →
+    AllPairs (λ (x y : ℕ). x < y) (map number_of answers)
+rise_later a answers rise i j d less within = rise (suc i) (suc j) d (omega (arith, less)) (omega (arith, within))
+
+one_of_number : (answers : List Answer) → AllPairs (λ (x y : ℕ). x < y) (map number_of answers) → (a b : Answer) → Contains answers a →
+    Contains answers b → number_of a ≡ number_of b → a ≡ b
+one_of_number [] rise a b in_a in_b same = absurd (none_in a in_a)
+one_of_number (c ∷ answers) rise a b in_a in_b same = elim (cons_cases c answers a in_a) [
+  | inl is_a ↦ elim (cons_cases c answers b in_b) [
+    | inl is_b ↦ sym is_a ∙ is_b
+    | inr later ↦ (let less = later_above c answers rise b later in
+        let first : number_of c ≡ number_of a = ap number_of is_a in absurd (omega (arith, less, first, same)))
+  ]
+  | inr later_a ↦ elim (cons_cases c answers b in_b) [
+    | inl is_b ↦ (let less = later_above c answers rise a later_a in
+        let first : number_of c ≡ number_of b = ap number_of is_b in absurd (omega (arith, less, first, same)))
+    | inr later_b ↦ one_of_number answers (rise_later c answers rise) a b later_a later_b same
+  ]
+]
+
+abbrev reply_of : Answer → ℕ × Outcome
+reply_of a = (a.0.number, a.1)
+
+-- the answer that a reply is of
+pub record HasReply (answers : List Answer) (reply : ℕ × Outcome) : Type 0 where
+  pub answer : Answer
+  pub among : Contains answers answer
+  pub of_reply : reply_of answer ≡ reply
+
+replied : (answers : List Answer) (reply : ℕ × Outcome) → Contains (map reply_of answers) reply → HasReply answers reply
+replied [] reply h = absurd (none_in reply h)
+replied (a ∷ answers) reply h = elim (cons_cases (reply_of a) (map reply_of answers) reply h) [
+  | inl same ↦ record { answer = a; among = cons_first a answers; of_reply = same }
+  | inr later ↦ (let found = replied answers reply later in
+      record { answer = found.answer; among = cons_later a answers found.answer found.among; of_reply = found.of_reply })
+]
+
+-- a reply under the number of a job is its answer
+told : (jobs : List Job) (answers : List Answer) (replies : List (ℕ × Outcome)) → AreReplies jobs answers replies → (job : Job)
+    (outcome : Outcome) → Contains jobs job → Contains replies (job.number, outcome)
+    → Contains answers (job, outcome)
+told jobs answers replies are job outcome in_jobs in_replies =
+    let found : HasAnswer answers job = answer_of answers job (Contains-permutation jobs (map job_of answers) job are.jobs_are in_jobs) in
+    let reply : HasReply answers (job.number, outcome) =
+    replied answers (job.number, outcome) (subst (λ (l : List (ℕ × Outcome)). Contains l (job.number, outcome)) are.replies_are in_replies) in
+    let rise = AllPairs-from_increasing (map number_of answers) are.ascend in
+    let numbers : number_of reply.answer ≡ number_of found.answer =
+    ap (λ (p : ℕ × Outcome). p.0) reply.of_reply ∙ sym (ap (λ (j : Job). j.number) found.of_job) in
+    let same : reply.answer ≡ found.answer = one_of_number answers rise reply.answer found.answer reply.among found.among numbers in
+    let outcomes : found.answer.1 ≡ outcome =
+    ap (λ (a : Answer). a.1) (sym same) ∙ ap (λ (p : ℕ × Outcome). p.1) reply.of_reply in
+    subst (λ (o : Outcome). Contains answers (job, o)) outcomes
+    (subst (λ (j : Job). Contains answers (j, found.answer.1)) found.of_job found.among)
+
 module _ (desks : ℕ) (jobs others : List Job) (replies answered : List (ℕ × Outcome)) (ended apart : List Shown)
     (one : HasEnded desks jobs replies ended) (two : HasEnded desks others answered apart) where
   pub same_texts : (job : Job) (outcome other : Outcome) → IsText job.work → Contains one.answers (job, outcome) →
@@ -91,6 +161,13 @@ module _ (desks : ℕ) (jobs others : List Job) (replies answered : List (ℕ ×
       let P : Answer → Type 0 = λ a. IsOutcome desks a.0.work a.1 in
       one_outcome desks job.work outcome other text (All-contains P one.answers (job, outcome) one.tells.each is)
       (All-contains P two.answers (job, other) two.tells.each of)
+
+  pub same_replies : IsPermutation jobs others → (job : Job) (outcome other : Outcome) → Contains jobs job → IsText job.work →
+      Contains replies (job.number, outcome)
+      → Contains answered (job.number, other) → outcome ≡ other
+  same_replies order job outcome other in_jobs text is of =
+      same_texts job outcome other text (told jobs one.answers replies one.are_replies job outcome in_jobs is)
+      (told others two.answers answered two.are_replies job other (Contains-permutation jobs others job order in_jobs) of)
 
   -- what was taken in the one was taken in the other
   taken_too : IsPermutation jobs others → (item : Item) → IsTaken one.answers item → IsTaken two.answers item

@@ -13,7 +13,7 @@ use Rattle.itip_office.specs.declared.outcome.Outcome.{Outcome}
 use Rattle.itip_office.specs.Texts.{IsBatchOf, IsText}
 use Rattle.itip_office.specs.Answers.{Answer, AnswersMerged, IsTook}
 use Rattle.itip_office.specs.Taken.{ReadsWork, IsTaken, AreTaken}
-use Rattle.itip_office.specs.Merged.{IsMerged, TookText, GrewTexts, HasMerged}
+use Rattle.itip_office.specs.Merged.{IsMerged, TookText, TextThen, AreTexts, GrewTexts, HasMerged}
 
 pub heard_both : (steps more : List (List Item)) → heard (steps ++ more) ≡ heard steps ++ heard more
 heard_both [] more = refl
@@ -123,11 +123,58 @@ module _ (desk : ℕ) (batch : List Item) (a : Answer) where
     λ taken. absurd (not (subst (λ (b : Answer). IsTook b.1) (sym (is_first taken.answer taken.among)) taken.took)),
   )
 
+-- one more batch behind those of a job and of the others
+then_more : (P Q : List (List Item) → Type 0) (batch : List Item) → ((batches : List (List Item)) → P batches → Q (batches ++ batch ∷ [])) →
+    (work : Work) (batches : List (List Item)) → TextThen work P batches
+    → TextThen work Q (batches ++ batch ∷ [])
+then_more P Q batch more (Text at bytes) [] has = absurd has
+then_more P Q batch more (Text at bytes) (b ∷ batches) has = (has.0, more batches has.1)
+then_more P Q batch more (Carry from to) batches has = more batches has
+then_more P Q batch more (Look at window) batches has = more batches has
+
+then_same : (P Q : List (List Item) → Type 0) → ((batches : List (List Item)) → P batches → Q batches) → (work : Work)
+    (batches : List (List Item)) → TextThen work P batches → TextThen work Q batches
+then_same P Q more (Text at bytes) [] has = absurd has
+then_same P Q more (Text at bytes) (b ∷ batches) has = (has.0, more batches has.1)
+then_same P Q more (Carry from to) batches has = more batches has
+then_same P Q more (Look at window) batches has = more batches has
+
+-- the last job is a text
+last_text : (desk : ℕ) (batch : List Item) (outcome : Outcome) (work : Work) → IsText work → AnswersMerged desk batch work outcome →
+    (batches : List (List Item)) → batches ≡ []
+    → TextThen work (λ (l : List (List Item)). l ≡ []) (batches ++ batch ∷ [])
+last_text desk batch outcome (Text at bytes) text merged [] none = (merged.0, refl)
+last_text desk batch outcome (Text at bytes) text merged (b ∷ batches) none = absurd (cc)
+last_text desk batch outcome (Carry from to) text merged batches none = absurd text
+last_text desk batch outcome (Look at window) text merged batches none = absurd text
+
+-- the last job takes no text
+last_other : (desk : ℕ) (batch : List Item) (outcome : Outcome) (work : Work) → (IsTook outcome → ⊥) → AnswersMerged desk batch work outcome →
+    (batches : List (List Item)) → batches ≡ []
+    → TextThen work (λ (l : List (List Item)). l ≡ []) batches
+last_other desk batch outcome (Text at bytes) not merged batches none = absurd (not (subst IsTook (sym merged.1) tt))
+last_other desk batch outcome (Carry from to) not merged batches none = none
+last_other desk batch outcome (Look at window) not merged batches none = none
+
+module _ (desk : ℕ) (batch : List Item) (a : Answer) (merged : AnswersMerged desk batch a.0.work a.1) where
+  texts_text : IsText a.0.work → (answers : List Answer) (batches : List (List Item)) → AreTexts answers batches →
+      AreTexts (answers ++ a ∷ []) (batches ++ batch ∷ [])
+  texts_text text [] batches are = last_text desk batch a.1 a.0.work text merged batches are
+  texts_text text (b ∷ answers) batches are =
+      then_more (AreTexts answers) (AreTexts (answers ++ a ∷ [])) batch (texts_text text answers) b.0.work batches are
+
+  texts_other : (IsTook a.1 → ⊥) → (answers : List Answer) (batches : List (List Item)) → AreTexts answers batches →
+      AreTexts (answers ++ a ∷ []) batches
+  texts_other not [] batches are = last_other desk batch a.1 a.0.work not merged batches are
+  texts_other not (b ∷ answers) batches are =
+      then_same (AreTexts answers) (AreTexts (answers ++ a ∷ [])) (texts_other not answers) b.0.work batches are
+
 pub grew_texts_none : (desk : ℕ) (texts : Shown) → GrewTexts desk texts texts []
 grew_texts_none desk texts = record {
   batches = [];
   step = λ steps start is. subst (λ (l : List (List Item)). IsDeskOf l start texts) (sym (append-nil steps)) is;
   each = All-nil (IsMerged desk);
+  in_order = refl;
   taken = taken_none;
 }
 
@@ -144,6 +191,7 @@ module _ (desk : ℕ) (old mid new : Shown) (answers : List Answer) (a : Answer)
         subst (λ (l : List (List Item)). IsDeskOf l start new) (append_assoc steps grew.batches (batch ∷ []))
         (took (steps ++ grew.batches) start (grew.step steps start is));
     each = each;
+    in_order = texts_text desk batch a merged text answers grew.batches grew.in_order;
     taken = subst (AreTaken (answers ++ a ∷ [])) (sym (heard_push grew.batches batch))
         (taken_both answers (a ∷ []) (heard grew.batches) batch grew.taken (taken_text desk batch a merged text));
   }
@@ -153,6 +201,7 @@ module _ (desk : ℕ) (old mid new : Shown) (answers : List Answer) (a : Answer)
     batches = grew.batches;
     step = λ steps start is. subst (λ (d : Shown). IsDeskOf (steps ++ grew.batches) start d) (sym same) (grew.step steps start is);
     each = each;
+    in_order = texts_other desk batch a merged not answers grew.batches grew.in_order;
     taken = subst (AreTaken (answers ++ a ∷ [])) (append-nil (heard grew.batches))
         (taken_both answers (a ∷ []) (heard grew.batches) [] grew.taken (taken_other desk batch a not));
   }
@@ -170,4 +219,4 @@ module _ (desk : ℕ) (old mid new : Shown) (answers : List Answer) (a : Answer)
 pub has_merged : (desk : ℕ) (old new : Shown) (answers : List Answer) → IsDeskOf [] 0 old → GrewTexts desk old new answers →
     HasMerged desk answers new
 has_merged desk old new answers empty grew =
-    record { batches = grew.batches; is = grew.step [] 0 empty; each = grew.each; taken = grew.taken }
+    record { batches = grew.batches; is = grew.step [] 0 empty; each = grew.each; in_order = grew.in_order; taken = grew.taken }

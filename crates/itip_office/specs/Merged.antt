@@ -7,6 +7,7 @@ use Rattle.itip_running.specs.Ends.{published, pending, keeper_pair}
 use Rattle.itip_running.specs.declared.keeper.Keeper.{Keeper}
 use Rattle.itip_office.specs.declared.job.Work.{Work}
 use Rattle.itip_office.specs.declared.job.Work.TheVariants.{Text, Carry, Look}
+use Rattle.itip_office.specs.Texts.{IsBatchOf}
 use Rattle.itip_office.specs.Answers.{Answer, AnswersMerged}
 use Rattle.itip_office.specs.Taken.{AreTaken}
 
@@ -63,16 +64,30 @@ pub record MergedOne (desk : ℕ) (old new : Shown) (was now : Option Keeper) (a
   pub texts : TookText answer.0.work old new batch
   pub shown : ShowsOne was now batch
 
--- The desk of texts took the texts of these jobs, which were all merged.
+-- Where the job is a text the first batch is its own, and this holds of the others; another job has no batch.
+abbrev pub TextThen : Work → (List (List Item) → Type 0) → List (List Item) → Type 0
+TextThen (Text at bytes) Rest [] = ⊥
+TextThen (Text at bytes) Rest (batch ∷ batches) = IsBatchOf bytes batch × Rest batches
+TextThen (Carry from to) Rest batches = Rest batches
+TextThen (Look at window) Rest batches = Rest batches
+
+-- These are the batches of the texts among these jobs, in order.
+abbrev pub AreTexts : List Answer → List (List Item) → Type 0
+AreTexts [] batches = batches ≡ []
+AreTexts (answer ∷ answers) batches = TextThen answer.0.work (AreTexts answers) batches
+
+-- The desk of texts took the texts of these jobs, one after another, and the jobs were all merged.
 pub record GrewTexts (desk : ℕ) (old new : Shown) (answers : List Answer) : Type 0 where
   pub batches : List (List Item)
   pub step : (steps : List (List Item)) (start : ℕ) → IsDeskOf steps start old → IsDeskOf (steps ++ batches) start new
   pub each : All (IsMerged desk) answers
+  pub in_order : AreTexts answers batches
   pub taken : AreTaken answers (heard batches)
 
--- The desk of texts, from tick 0, is that of the texts of these jobs, which were all merged.
+-- The desk of texts, from tick 0, is that of the texts of these jobs, one after another, and the jobs were all merged.
 pub record HasMerged (desk : ℕ) (answers : List Answer) (texts : Shown) : Type 0 where
   pub batches : List (List Item)
   pub is : IsDeskOf batches 0 texts
   pub each : All (IsMerged desk) answers
+  pub in_order : AreTexts answers batches
   pub taken : AreTaken answers (heard batches)

@@ -18,4 +18,8 @@ pub fn one_end()
         (one : HasEnded desks jobs replies ended) (two : HasEnded desks others answered apart) →
         (job : Job) (outcome other : Outcome) → IsText job.work → Contains one.answers (job, outcome) → Contains two.answers (job, other) →
         outcome ≡ other }
+    ensures replies { (desks : ℕ) (jobs others : List Job) (replies answered : List (ℕ × Outcome)) (ended apart : List Shown)
+        (one : HasEnded desks jobs replies ended) (two : HasEnded desks others answered apart) → IsPermutation jobs others →
+        (job : Job) (outcome other : Outcome) → Contains jobs job → IsText job.work → Contains replies (job.number, outcome) →
+        Contains answered (job.number, other) → outcome ≡ other }
 {}

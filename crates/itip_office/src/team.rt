@@ -37,6 +37,8 @@ pub(crate) struct OfTexts<G: Gate> {
 }
 
 impl<R: AllocGlobal + Wait + Copy, G: Gate> Promise<Result<Merged<R>, OfficeError>> for OfTexts<G> {
+    ghost use Rattle.itip_office.specs.declared.error.OfficeError.{OfficeError};
+
     ghost kept_by = { λ p r. IfOk r (λ kept. HasMerged kept.desk kept.answers.items kept.held.texts)
         × (IsErrOf r OfficeError.GateClosed → G.may_close) };
 }
@@ -49,6 +51,8 @@ pub(crate) struct OfDesks<G: Gate> {
 }
 
 impl<G: Gate> Promise<Result<Vec<(Job, Outcome)>, OfficeError>> for OfDesks<G> {
+    ghost use Rattle.itip_office.specs.declared.error.OfficeError.{OfficeError};
+
     ghost kept_by = { λ p r. IfOk r (λ answers. All (λ a. AnswersAlone p.desks a.0.work a.1) answers.items)
         × (IsErrOf r OfficeError.GateClosed → G.may_close) };
 }
@@ -57,8 +61,7 @@ type KeeperThread<R, G> = PromisedHandle<Result<Merged<R>, OfficeError>, OfTexts
 
 type WorkerThread<G> = PromisedHandle<Result<Vec<(Job, Outcome)>, OfficeError>, OfDesks<G>>;
 
-/// The threads that were made.
-#[derive(Drop)]
+/// The threads that were made. It can't be let go: whoever has it has to join them.
 pub(crate) struct Team<R: AllocGlobal + Wait + Copy, G: Gate> {
     keepers: Vec<KeeperThread<R, G>>,
     workers: Vec<WorkerThread<G>>,

@@ -2,7 +2,7 @@
 -- attributes in double quotes, four references, the text of a title and of a style. Of any other form nothing is said, and the
 -- document has no tokens here, though a parser makes something of it: a comment, a script, a value in other quotes or in none, a
 -- name in upper case, a tag that closes itself, an attribute that stands twice.
--- Octets from 128 on are of characters that mean nothing in any of these states, so all is said of the octets of UTF-8.
+-- Octets from 128 on are of characters that mean nothing in any of these states, so all is said of octets.
 use Rattle.std.specs.Prelude.{◌≡◌, ◌≢◌, ◌≤◌, ℕ, Bool, ◌&&◌, ◌||◌, ◌==◌, nat_eq, nat_le, List, [], ◌∷◌, ◌++◌, codes, map}
 use Rattle.std.specs.Prelude.{Option, Some, None, option_map, if◌then◌else◌}
 use Rattle.std.specs.Cmp.Lexicographic.{pointwise}

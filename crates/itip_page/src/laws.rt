@@ -13,8 +13,7 @@ ghost use Rattle.itip_page.specs.Tokens.{Tag, tokens, data_state, attribute_valu
 ghost use Rattle.itip_page.specs.Value.{value_markup};
 
 /// A page is read as its elements, each in its place, with the texts of messages as characters between them or as the value of a
-/// `title`. Its elements and attributes have names of two lists, in which there is no script, nothing that runs, and nothing that is
-/// fetched.
+/// `title`. Its elements and attributes have names of two lists, in which there is no `script`, no `src` and no `href`.
 pub fn page_has_its_tokens()
     ensures read { (window : Window) (today : Day) (rows : List Row)
         → tokens (page_markup window today.number rows) ≡ Some (page_tokens window today.number rows) }

@@ -1,5 +1,6 @@
 -- The commands of a stream: a line each, and behind those that bring a message or a delta so many octets (our own format).
-use Rattle.std.specs.Prelude.{◌≡◌, ◌<◌, ◌⊎◌, ℕ, ◌||◌, ◌==◌, nat_lt, List, [], ◌∷◌, length, take}
+use Rattle.std.specs.Prelude.{◌≡◌, ◌<◌, ◌⊎◌, ℕ, Bool, ◌||◌, ◌==◌, nat_eq, nat_lt, List, [], ◌∷◌, length, take}
+use Rattle.std.specs.List.{ends_with}
 use Rattle.std.specs.Prelude.{if◌then◌else◌, Option, Some, None, unwrap_or, option_map, codes}
 use Rattle.std.specs.Str.{bytes_eq}
 use Rattle.std.specs.Io.KnownBytes.{Consumes, IsAtEnd}
@@ -85,15 +86,23 @@ wish_said said = if length said == 0 then empty else unwrap_or (spelled_wish sai
 abbrev pub wish_at : List ℕ → Wish
 wish_at bytes = wish_said (content_of bytes)
 
+-- whether octets end with a line end; a last line may have none
+abbrev pub ends_line : List ℕ → Bool
+ends_line bytes = ends_with nat_eq bytes (10 ∷ [])
+
+-- what a line asks for, as it was read: nothing that is known where it has no line end, since it may have been cut off
+abbrev pub wish_ended : List ℕ → Wish
+wish_ended bytes = if ends_line bytes then wish_at bytes else malformed 0
+
 -- the same of a line that is longer than is read
 abbrev pub wish_within : List ℕ → Wish
-wish_within bytes = if nat_lt line_limit (length bytes) then malformed 0 else wish_at bytes
+wish_within bytes = if nat_lt line_limit (length bytes) then malformed 0 else wish_ended bytes
 
--- what is asked for by the line that was found: nothing by no octets, and nothing that is known by a line that is too long
+-- What is asked for by the line that was found: nothing by no octets, and nothing that is known by a line that is too long.
 abbrev pub AsksBy : Option (List ℕ) → Option Wish → Type 0
 AsksBy None asked = asked ≡ Some (malformed 0)
 AsksBy (Some []) asked = asked ≡ None
-AsksBy (Some (b ∷ bytes)) asked = asked ≡ Some (wish_at (b ∷ bytes))
+AsksBy (Some (b ∷ bytes)) asked = asked ≡ Some (wish_ended (b ∷ bytes))
 
 -- how many octets follow a line
 abbrev pub body_length : Wish → ℕ

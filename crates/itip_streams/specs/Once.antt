@@ -24,7 +24,7 @@ module _ {R : Type 0} (reads : R → Option ℕ → R → List ℕ → Type 0) w
     pub buffer : List ℕ
     pub read : reads mid last new buffer
 
-  -- A failed read is the last; or there were too many, none of which failed.
+  -- A failed read is the last, or none failed.
   abbrev pub FailsReading : R → R → Type 0
   FailsReading old new = ReadsTo None old new ⊎ ((times : ℕ) × ReadsOn times old new)
 

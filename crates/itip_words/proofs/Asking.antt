@@ -1,15 +1,17 @@
 -- What options ask for, from what their values are read as.
 use Rattle.std.proofs.Common.{◌≡◌, ℕ, List, Bool, true, false, Option, Some, None, Result, Ok, Err, refl, sym, ap, subst, ◌∙◌}
-use Rattle.std.specs.Prelude.{IfOk, IfSome, IfNone, IsSomeAnd, MatchBool, ℤ, codes, is_some, nat_eq}
+use Rattle.std.specs.Prelude.{IfOk, IfSome, IfNone, IsSomeAnd, MatchBool, MatchOption, codes, is_some, nat_eq}
 use Rattle.std.specs.Borrow.{Bor}
 use Rattle.std.specs.Option.{option_copied, option_map}
 use Rattle.std.specs.Cmp.Lexicographic.{pointwise}
+use Rattle.std.proofs.lemmas.Option.{none-some}
 use Rattle.std.proofs.lemmas.Slice.Eq.{bytes_eq-Decides}
 use Rattle.itip_moment.specs.Spelling.{IsDateText}
+use Rattle.itip_moment.specs.declared.day.Day.{Day}
 use Rattle.itip_moment.specs.declared.stamp.Stamp.{Stamp}
 use Rattle.itip_view.specs.declared.window.Window.{Window}
 use Rattle.itip_words.specs.Asking.{IsDueDay, AsksScript, AsksWritten, AsksFilter, AsksMessage, AsksWho, Asks}
-use Rattle.itip_words.specs.Days.{is_today}
+use Rattle.itip_words.specs.Days.{numbered, is_today}
 use Rattle.itip_words.specs.Options.{Options, value_of, is_set}
 use Rattle.itip_words.specs.Words.{IsScriptedOf}
 use Rattle.itip_words.specs.Values.{address_of}
@@ -17,12 +19,13 @@ use Rattle.itip_words.specs.declared.asked.Asked.{Asked}
 use Rattle.itip_words.specs.declared.filter.Filter.{Filter}
 use Rattle.itip_words.specs.declared.filter.Written.{Written}
 use Rattle.itip_words.specs.declared.words.Call.{Call}
+use Rattle.itip_words.specs.declared.words.Call.TheVariants.{Run}
 use Rattle.itip_words.specs.declared.words.Scripted.{Scripted}
 use Rattle.itip_words.proofs.Given.{given, of_given}
 
 -- what a test of a word tells
 pub named : (word name : List ℕ) (test : Bool) → test ≡ pointwise nat_eq word name → test ≡ true → word ≡ name
-named word name test is yes = (bytes_eq-Decides word name).0 (sym is ∙ yes)
+named word name test is holds = (bytes_eq-Decides word name).0 (sym is ∙ holds)
 
 pub some_copied : {T : Type 0} (o : Option (Bor T)) → is_some o ≡ is_some (option_copied o)
 some_copied None = refl
@@ -40,6 +43,14 @@ pub found_weaker : {T E : Type 0} (P Q : T → Type 0) (r : Result (Option T) E)
 found_weaker P Q (Ok None) more h = tt
 found_weaker P Q (Ok (Some x)) more h = more x h
 found_weaker P Q (Err e) more h = tt
+
+-- what is made of a value has what follows from the value
+pub mapped : {T U : Type 0} (make : T → U) (P : U → Type 0) (r : Option T) (o : Option U) →
+    MatchOption r (o ≡ None) (λ x. IsSomeAnd o (λ y. y ≡ make x)) → IfSome r (λ x. P (make x)) → IfSome o P
+mapped make P None None is h = tt
+mapped make P None (Some y) is h = absurd (none-some y (sym is))
+mapped make P (Some x) None is h = tt
+mapped make P (Some x) (Some y) is h = subst P (sym is) h
 
 -- ---- scripts
 
@@ -64,14 +75,26 @@ module _ (options : Options) (desks from to : List ℕ) (desks_is : Some desks �
   })
   no_script (Some scripted) never = tt
 
+-- a script that is asked for is run where no stream is
+pub run_asked : (options : Options) (r : Option Scripted) → is_set (codes "stream") options ≡ false → IfSome r (AsksScript options) →
+    IfSome r (λ scripted. (clock : Option Stamp) → Asks (codes "run") options clock (Run scripted))
+run_asked options None none asks = tt
+run_asked options (Some scripted) none asks = λ clock. (refl, none, asks)
+
+-- what always holds
+pub some_said : {T : Type 0} (P : T → Type 0) (r : Option T) → ((x : T) → P x) → IfSome r P
+some_said P None said = tt
+some_said P (Some x) said = said x
+
 -- ---- days
 
 -- the day that rows are due before
-pub due_day_is : (today : Option ℤ) (text : List ℕ) (day : ℤ) → MatchBool (is_today text) (Some day ≡ today) (IsDateText text day) →
-    IsDueDay today text day
+pub due_day_is : (today : Option Day) (text : List ℕ) (day : Day) →
+    MatchBool (is_today text) (Some day ≡ today) (IsDateText text day.number) → IsDueDay (numbered today) text day.number
 due_day_is today text day is =
-    elim (is_today text) as (λ (b : Bool). MatchBool b (Some day ≡ today) (IsDateText text day) → MatchBool b (today ≡ Some day) (IsDateText text day)) [
-      | true ↦ λ e. sym e
+    elim (is_today text) as (λ (b : Bool). MatchBool b (Some day ≡ today) (IsDateText text day.number) →
+    MatchBool b (numbered today ≡ Some day.number) (IsDateText text day.number)) [
+      | true ↦ λ e. sym (ap numbered e)
       | false ↦ λ h. h
     ] is
 
@@ -96,6 +119,13 @@ module _ (options : Options) (clock : Option Stamp) where
       IfSome r (λ call. (now : Option Stamp) → Asks name options now call) → IfSome r (Asks word options clock)
   call_for_word name word None e h = tt
   call_for_word name word (Some call) e h = subst (λ (w : List ℕ). Asks w options clock call) (sym e) (h clock)
+
+  pub calls_for_word : {E : Type 0} (name word : List ℕ) (r : Result (Option Call) E) → word ≡ name →
+      IfOk r (λ found. IfSome found (λ call. (now : Option Stamp) → Asks name options now call)) →
+      IfOk r (λ found. IfSome found (Asks word options clock))
+  calls_for_word name word r e h =
+      found_weaker (λ call. (now : Option Stamp) → Asks name options now call) (Asks word options clock) r
+      (λ call asks. subst (λ (w : List ℕ). Asks w options clock call) (sym e) (asks clock)) h
 
   -- the filter that is asked for is given, or none
   pub same_filter : {E : Type 0} (word : List ℕ) (filter : Filter) (r : Result (Option Filter) E) → AsksFilter word options clock filter →

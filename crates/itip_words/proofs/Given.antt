@@ -18,8 +18,8 @@ none_given o P e p = subst (λ (v : Option (List ℕ)). IsSomeAnd v P) (sym e) p
 
 -- what stands there has the two parts of one
 pub both_parts : {R B X Y : Type 0} (a : R → X) (b : R → Y) (f : B → X) (g : B → Y) (r : Option R) (o : Option B) →
-    option_map a r ≡ option_map f o → option_map b r ≡ option_map (λ (p : X × Y). p.1) (option_map (λ x. (f x, g x)) o) →
-    option_map (λ p. (a p, b p)) r ≡ option_map (λ x. (f x, g x)) o
+    option_map a r ≡ option_map f o → option_map b r ≡ option_map (λ (p : X × Y). p.1) (option_map {U = X × Y} (λ x. (f x, g x)) o) →
+    option_map {U = X × Y} (λ p. (a p, b p)) r ≡ option_map (λ x. (f x, g x)) o
 both_parts a b f g None None first second = refl
 both_parts a b f g None (Some x) first second = absurd (none-some (f x) first)
 both_parts a b f g (Some p) None first second = absurd (none-some (a p) (sym first))

@@ -1,5 +1,6 @@
 -- Commands as they are built, and what `clap` reads by them.
-use Rattle.std.proofs.Common.{◌≡◌, ℕ, Bool, Bor, List, [], ◌∷◌, ◌++◌, ◌||◌, ◌&&◌, not, true, false, refl, sym, ap, ap₂, ◌∙◌}
+use Rattle.std.proofs.Common.{◌≡◌, ℕ, Bool, Bor, List, [], ◌∷◌, ◌++◌, ◌||◌, ◌&&◌, not, true, false, length, refl, sym, ap, ap₂, ◌∙◌}
+use Rattle.std.proofs.Math.Dec.{eqb-suc-zero}
 use Rattle.clap.specs.Built.{AddsArg, AddsSubcommand}
 use Rattle.clap.specs.Simple.{App, HasMatchesOf, Shape, app_of, app_of_fields, is_simple, subcommand_of, subcommand_rows_of}
 use Rattle.clap.specs.Simple.{with_rule, with_subcommand}
@@ -60,7 +61,7 @@ rule_set rule change old new set is are same local = record {
 
 last_some : {A : Type 0} (xs : List A) (x : A) → is_empty (xs ++ x ∷ []) ≡ false
 last_some [] x = refl
-last_some (first ∷ xs) x = refl
+last_some (first ∷ xs) x = eqb-suc-zero (length (xs ++ x ∷ []))
 
 second_false : (a c : Bool) → (a && (false && c)) ≡ false
 second_false true c = refl
@@ -80,7 +81,8 @@ rule_needs rule old new x is adds = record {
       ap (bound (rule_of old))
       (ap (λ b. not old.exclusive && (is_empty old.conflicts.items && (b && (is_empty old.r_ifs.items && (is_empty old.r_ifs_all.items
       && (is_empty old.r_unless.items && is_empty old.r_unless_all.items)))))) (ap is_empty adds.1 ∙ last_some old.needs.items x) ∙
-      third_false (not old.exclusive) (is_empty old.conflicts.items) _) ∙
+      third_false (not old.exclusive) (is_empty old.conflicts.items) (is_empty old.r_ifs.items && (is_empty old.r_ifs_all.items
+      && (is_empty old.r_unless.items && is_empty old.r_unless_all.items)))) ∙
       ap (λ (r : Rule). bound r false) is.rule_is;
   local = ap (λ (a : Arg). a.global) adds.0 ∙ is.local;
 }
@@ -92,7 +94,8 @@ rule_conflicts rule old new x is adds = record {
       ap (bound (rule_of old))
       (ap (λ b. not old.exclusive && (b && (is_empty old.needs.items && (is_empty old.r_ifs.items && (is_empty old.r_ifs_all.items
       && (is_empty old.r_unless.items && is_empty old.r_unless_all.items)))))) (ap is_empty adds.1 ∙ last_some old.conflicts.items x) ∙
-      second_false (not old.exclusive) _) ∙
+      second_false (not old.exclusive) (is_empty old.needs.items && (is_empty old.r_ifs.items && (is_empty old.r_ifs_all.items
+      && (is_empty old.r_unless.items && is_empty old.r_unless_all.items))))) ∙
       ap (λ (r : Rule). bound r false) is.rule_is;
   local = ap (λ (a : Arg). a.global) adds.0 ∙ is.local;
 }

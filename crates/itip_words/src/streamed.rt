@@ -1,6 +1,6 @@
 //! How a stream of commands is served.
-ghost use Rattle.std.specs.Prelude.{◌≡◌, ◌≢◌, ◌<◌, [], Some, IfOk, IfSome, codes, map, unwrap_or};
-ghost use Rattle.std.specs.List.{All};
+ghost use Rattle.std.specs.Prelude.{◌≡◌, ◌≢◌, ◌<◌, ◌==◌, [], Some, IfOk, IfSome, codes, map, unwrap_or};
+ghost use Rattle.std.specs.List.{All, list_any};
 ghost use Rattle.std.specs.Option.{option_map};
 ghost use Rattle.itip_words.specs.Words.{AreDesks};
 ghost use Rattle.itip_words.specs.Asking.{AsksStream};
@@ -55,10 +55,7 @@ pub(crate) fn streamed_of(
 pub(crate) fn loads_named<'m, 'a>(words: &'m ArgMatches<'a>) -> &'m [&'a str]
     ensures { map (λ text. text.now) result.now ≡ unwrap_or (values_of (codes "load") (options_of words.now)) [] }
 {
-    match values_of(words, "load") {
-        Some(named) => named,
-        None => &[],
-    }
+    values_of(words, "load").unwrap_or_default()
 }
 
 /// The desk and the file that a word names, where there are so many desks and none of these was named before.
@@ -68,10 +65,19 @@ pub(crate) fn next_load<'a>(text: &'a str, desks: u64, before: &[Load]) -> Optio
     ensures once { IfSome result (λ load. All (λ l. l.desk ≢ load.0) before.now) }
 {
     let (desk, file) = load_of(text)?;
-    if desk >= desks || before.iter().any(|load| load.desk == desk) {
+    if desk >= desks {
+        return None;
+    }
+    if is_named(desk, before) {
         return None;
     }
     Some((desk, file))
+}
+
+fn is_named(desk: u64, loads: &[Load]) -> bool
+    ensures { result ≡ list_any (λ load. load.desk == desk) loads.now }
+{
+    loads.iter().any(|load| load.desk == desk)
 }
 
 /// The desk and the file of `D=FILE`.

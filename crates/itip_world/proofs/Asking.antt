@@ -1,14 +1,13 @@
 -- What a line of a stream asks of a desk leaves it as it is.
-use Rattle.std.proofs.Common.{◌≡◌, true, false, cond, eqb, ℕ, List, [], ◌∷◌, length, Option, Some, None, refl, ap}
-use Rattle.std.specs.Prelude.{IfSome, unwrap_or, option_map, codes}
+use Rattle.std.proofs.Common.{◌≡◌, ◌∙◌, Bool, true, false, cond, eqb, ℕ, List, [], ◌∷◌, length, Option, Some, None, refl, ap, sym}
+use Rattle.std.proofs.Common.{arith, eqb-true}
+use Rattle.std.specs.Prelude.{IfSome, unwrap_or, option_map, codes, if◌then◌else◌}
 use Rattle.std.specs.Str.{bytes_eq}
 use Rattle.itip_script.specs.Lines.{content_of}
 use Rattle.itip_script.specs.Orders.{Order, before_space, after_space, number_of, rest_of, report_of, verb_of, ◌>>=◌}
 use Rattle.itip_script.specs.Orders.{lists, lists_for, reports, resends, asks_next, counts}
 use Rattle.itip_script.specs.Stream.{Wish, asks, malformed, empty, saves, takes, arrives, posts, following, two_numbers, saving, wish_by}
-use Rattle.itip_script.specs.Stream.{spelled_wish, wish_at, AsksBy}
-use Rattle.itip_script.specs.declared.command.Verb.{Verb}
-use Rattle.itip_script.specs.declared.command.Verb.TheVariants as verb
+use Rattle.itip_script.specs.Stream.{spelled_wish, wish_at, ends_line, AsksBy}
 use Rattle.itip_world.specs.Looking.{OnlyAsks}
 use Rattle.itip_world.specs.Serving.{AsksOnly}
 
@@ -53,24 +52,40 @@ with_only {A} make read arguments each =
     (some_bound OnlyAsks (number_of (before_space arguments)) (λ (desk : ℕ). read (after_space arguments) >>= λ (a : A). Some (make desk a))
     (λ desk. some_bound OnlyAsks (read (after_space arguments)) (λ (a : A). Some (make desk a)) (λ a. each desk a)))
 
-verb_only : (v : Verb) (arguments : List ℕ) → IfSome (wish_by v arguments) AsksOnly
-verb_only verb.Take arguments = two_only takes arguments (λ a b. tt)
-verb_only verb.Arrive arguments = two_only arrives arguments (λ a b. tt)
-verb_only verb.Post arguments = two_only posts arguments (λ a b. tt)
-verb_only verb.List arguments = desk_only lists arguments (λ desk. tt)
-verb_only verb.Mine arguments = with_only lists_for rest_of arguments (λ desk address. tt)
-verb_only verb.Report arguments = with_only reports report_of arguments (λ desk named. tt)
-verb_only verb.Resend arguments = with_only resends rest_of arguments (λ desk uid. tt)
-verb_only verb.Next arguments = with_only asks_next rest_of arguments (λ desk uid. tt)
-verb_only verb.Entries arguments = desk_only counts arguments (λ desk. tt)
+-- where a test chooses between two words
+either : {A : Type 0} (t : Bool) (first other : Option A) (f : A → Option Wish) → IfSome (first >>= f) AsksOnly →
+    IfSome (other >>= f) AsksOnly → IfSome ((if t then first else other) >>= f) AsksOnly
+either true first other f here there = here
+either false first other f here there = there
+
+-- each word that begins a command; `verb_of` gives of its own spelling what stands for it
+verb_only : (word arguments : List ℕ) → IfSome (verb_of word >>= λ v. wish_by v arguments) AsksOnly
+verb_only word arguments =
+    either (bytes_eq word (codes "!take")) (verb_of (codes "!take")) _ (λ v. wish_by v arguments)
+    (two_only takes arguments (λ a b. tt))
+    (either (bytes_eq word (codes "!list")) (verb_of (codes "!list")) _ (λ v. wish_by v arguments)
+    (desk_only lists arguments (λ desk. tt))
+    (either (bytes_eq word (codes "!mine")) (verb_of (codes "!mine")) _ (λ v. wish_by v arguments)
+    (with_only lists_for rest_of arguments (λ desk address. tt))
+    (either (bytes_eq word (codes "!post")) (verb_of (codes "!post")) _ (λ v. wish_by v arguments)
+    (two_only posts arguments (λ a b. tt))
+    (either (bytes_eq word (codes "!arrive")) (verb_of (codes "!arrive")) _ (λ v. wish_by v arguments)
+    (two_only arrives arguments (λ a b. tt))
+    (either (bytes_eq word (codes "!report")) (verb_of (codes "!report")) _ (λ v. wish_by v arguments)
+    (with_only reports report_of arguments (λ desk named. tt))
+    (either (bytes_eq word (codes "!resend")) (verb_of (codes "!resend")) _ (λ v. wish_by v arguments)
+    (with_only resends rest_of arguments (λ desk uid. tt))
+    (either (bytes_eq word (codes "!next")) (verb_of (codes "!next")) _ (λ v. wish_by v arguments)
+    (with_only asks_next rest_of arguments (λ desk uid. tt))
+    (either (bytes_eq word (codes "!entries")) (verb_of (codes "!entries")) None (λ v. wish_by v arguments)
+    (desk_only counts arguments (λ desk. tt)) tt))))))))
 
 spelled_only : (said : List ℕ) → IfSome (spelled_wish said) AsksOnly
 spelled_only said =
     elim (bytes_eq (before_space said) (codes "!save")) as (λ t. IfSome
-    (cond t (saving (after_space said)) (verb_of (before_space said) >>= λ (v : Verb). wish_by v (after_space said))) AsksOnly) [
+    (cond t (saving (after_space said)) (verb_of (before_space said) >>= λ v. wish_by v (after_space said))) AsksOnly) [
       | true ↦ saving_only (after_space said)
-      | false ↦ some_bound AsksOnly (verb_of (before_space said)) (λ (v : Verb). wish_by v (after_space said))
-          (λ v. verb_only v (after_space said))
+      | false ↦ verb_only (before_space said) (after_space said)
     ]
 
 or_malformed : (o : Option Wish) (octets : ℕ) → IfSome o AsksOnly → AsksOnly (unwrap_or o (malformed octets))
@@ -89,8 +104,14 @@ wish_only bytes =
 
 pub asks_nothing : (line : List ℕ) → (eqb (length line) 0) ≡ true → AsksBy (Some line) None
 asks_nothing [] none = refl
-asks_nothing (b ∷ line) none = absurd cc
+asks_nothing (b ∷ line) none = absurd (omega (arith, eqb-true (length (b ∷ line)) 0 none))
 
-pub asks_line : (line : List ℕ) (asked : Wish) → (eqb (length line) 0) ≡ false → asked ≡ wish_at line → AsksBy (Some line) (Some asked)
-asks_line [] asked some is = absurd cc
-asks_line (b ∷ line) asked some is = ap Some is
+pub asks_line : (line : List ℕ) (asked : Wish) → (eqb (length line) 0) ≡ false → ends_line line ≡ true → asked ≡ wish_at line →
+    AsksBy (Some line) (Some asked)
+asks_line [] asked some ended is = absurd cc
+asks_line (b ∷ line) asked some ended is =
+    ap Some (is ∙ sym (ap (λ (t : Bool). cond t (wish_at (b ∷ line)) (malformed 0)) ended))
+
+pub asks_cut : (line : List ℕ) → (eqb (length line) 0) ≡ false → ends_line line ≡ false → AsksBy (Some line) (Some (malformed 0))
+asks_cut [] some cut = absurd cc
+asks_cut (b ∷ line) some cut = ap Some (sym (ap (λ (t : Bool). cond t (wish_at (b ∷ line)) (malformed 0)) cut))

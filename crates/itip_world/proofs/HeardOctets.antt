@@ -107,7 +107,3 @@ pub stream_told : (window : Window) (input : Option (List ℕ)) (desks : List Sh
 stream_told window input desks [] left after runs told = subst (λ (ds : List Shown). All IsTold ds) (sym runs.1) told
 stream_told window input desks (one ∷ served) left after (mid, between, reads, serves, rest) told =
     stream_told window mid between served left after rest (serves_told window desks told between _ _ serves)
-
-pub if_err_then : {A E : Type 0} (P Q : E → Type 0) (r : Result A E) → ((e : E) → P e → Q e) → IfErr r P → IfErr r Q
-if_err_then P Q (Ok a) f p = tt
-if_err_then P Q (Err e) f p = f e p

@@ -2,6 +2,10 @@
 use Rattle.std.proofs.Common.{◌≡◌, ◌≢◌, ◌∙◌, sym, ap, refl, subst, ℕ, zero, suc, ◌<◌, ◌≤◌, List, [], ◌∷◌}
 use Rattle.std.proofs.Common.{length, Some, Result, Ok, Err, inl, inr, arith}
 use Rattle.std.specs.Prelude.{slice_get, slice_set, IfOk, OnOk}
+use Rattle.std.specs.Vec.{with_item}
+use Rattle.std.specs.declared.vec.Vec.{Vec}
+use denote.Struct.Props.{props}
+use mathlib.Core.HLevel.{is_prop→PathP}
 use Rattle.itip_view.specs.declared.window.Window.{Window}
 use Rattle.itip_items.specs.declared.item.Item.{Item}
 use Rattle.itip_message.specs.declared.error.MessageRefusal.{MessageRefusal}
@@ -14,6 +18,7 @@ use Rattle.itip_world.specs.Running.{Answer, answer_of, refused}
 use Rattle.itip_world.specs.Serving.{Serving, Serves, RefusesAt, take, arrive, long_message}
 use Rattle.itip_world.specs.Serving.Serves.{long_take, takes_nowhere, long_delta, arrives_nowhere}
 use Rattle.itip_world.specs.declared.answer.Answer.{Answer as Given}
+use Rattle.itip_world.specs.declared.served.Served.{Served}
 use Rattle.itip_world.specs.declared.stop.Cause.{Cause}
 use Rattle.itip_world.specs.declared.stop.Cause.TheVariants as cause
 use Rattle.itip_streams.specs.declared.fault.StreamFault.{StreamFault}
@@ -40,6 +45,29 @@ module _ (old : List Shown) (desk : ℕ) (was : Shown) (there : slice_get old de
       (sym (ap (λ (shown : Shown). slice_set old desk shown) still ∙ set_itself old desk was there))
       (told_so came (answer_of given) stops some refuses window)
   unheard_serves (Err fault) came is still stops refuses some = tt
+
+-- ---- a desk that is put back as it was
+
+still_vec : {A : Type 0} (desks : Vec Shown A) (desk : ℕ) (is : Shown) → slice_set desks.items desk is ≡ desks.items →
+    with_item desks desk is ≡ desks
+still_vec desks desk is same = λ i. record {
+  ptr = desks.ptr;
+  len = desks.len;
+  cap = desks.cap;
+  alloc = desks.alloc;
+  items = same i;
+  ok = (
+    is_prop→PathP (λ j. desks.len ≡ length (same j)) (λ j. hlevel props) (with_item desks desk is).ok.0 desks.ok.0 i,
+    desks.ok.1,
+  );
+  small = desks.small;
+}
+
+pub desks_still : (asked : Served) (desk : ℕ) (was is : Shown) → slice_get asked.desks.items desk ≡ Some was → is ≡ was →
+    record asked { desks = with_item asked.desks desk is } ≡ asked
+desks_still asked desk was is there still =
+    let same = ap (λ (shown : Shown). slice_set asked.desks.items desk shown) still ∙ set_itself asked.desks.items desk was there in
+    λ i. record asked { desks = still_vec asked.desks desk is same i }
 
 -- ---- a desk that is there
 

@@ -9,10 +9,10 @@ use Rattle.std.proofs.lemmas.List.Concat.{flat_map-append}
 use Rattle.std.proofs.lemmas.List.Folds.{list_any-append}
 use Rattle.itip_view.specs.declared.window.Window.{Window}
 use Rattle.itip_desk.specs.Desk.{Shown}
-use Rattle.itip_script.specs.Stream.{Wish, malformed, wish_at, AsksBy, ReadsWish, ReadsNothing}
+use Rattle.itip_script.specs.Stream.{Wish, malformed, wish_ended, AsksBy, ReadsWish, ReadsNothing}
 use Rattle.itip_streams.specs.Parts.{ReadsWithin}
 use Rattle.itip_streams.specs.Written.{AppendsFront}
-use Rattle.itip_streams.proofs.Writing.{all_moved, front_behind, front_moved, front_none}
+use Rattle.itip_streams.proofs.Writing.{all_moved, front_moved, front_none}
 use Rattle.itip_world.specs.Running.{Answer}
 use Rattle.itip_world.specs.Serving.{Serves, serving_of, reply_text, refuses, reply_refusal, Served, ServesOne, EndsStream, FrontOfOne}
 use Rattle.itip_world.specs.Serving.{ServesFront, ReadsBehind, Tells, TellsOne, TellsFront, output_of, refusal_in, RunsStream}
@@ -46,7 +46,7 @@ module _ (input mid left : Option (List ℕ)) (wish : Wish) (behind : List ℕ) 
         reads = reads.reads;
         some = omega (arith, long);
         wish_is = same_some wish (malformed 0) asks ∙
-            sym (ap (λ (t : Bool). cond t (malformed 0) (wish_at reads.line)) (lt-ltb 65536 (length reads.line) long));
+            sym (ap (λ (t : Bool). cond t (malformed 0) (wish_ended reads.line)) (lt-ltb 65536 (length reads.line) long));
         consumed = rest.consumed;
         all = rest.all;
       }
@@ -59,8 +59,8 @@ module _ (input mid left : Option (List ℕ)) (wish : Wish) (behind : List ℕ) 
         mid = mid;
         reads = reads.reads;
         some = omega (arith, size);
-        wish_is = same_some wish (wish_at (b ∷ bytes)) asks ∙ ap wish_at is ∙
-            sym (ap (λ (t : Bool). cond t (malformed 0) (wish_at reads.line)) (le-ltb 65536 (length reads.line) short));
+        wish_is = same_some wish (wish_ended (b ∷ bytes)) asks ∙ ap wish_ended is ∙
+            sym (ap (λ (t : Bool). cond t (malformed 0) (wish_ended reads.line)) (le-ltb 65536 (length reads.line) short));
         consumed = rest.consumed;
         all = rest.all;
       }
@@ -69,7 +69,7 @@ module _ (input mid left : Option (List ℕ)) (wish : Wish) (behind : List ℕ) 
 pub nothing_read : (input mid : Option (List ℕ)) (found : Option (List ℕ)) → ReadsWithin 65536 input mid found → AsksBy found None →
     ReadsNothing input mid
 nothing_read input mid None reads asks = absurd (not_none (malformed 0) asks)
-nothing_read input mid (Some (b ∷ bytes)) reads asks = absurd (not_none (wish_at (b ∷ bytes)) asks)
+nothing_read input mid (Some (b ∷ bytes)) reads asks = absurd (not_none (wish_ended (b ∷ bytes)) asks)
 nothing_read input mid (Some []) reads asks =
     let is : [] ≡ reads.line = reads.held.0 in
     record {
@@ -141,7 +141,10 @@ module _ (window : Window) (wish : Wish) (old : List Shown) (input mid left outp
     after = tells.after;
     reads = wish_read input mid left wish tells.behind found reads asks tells.reads;
     serves = tells.serves;
-    appended = tells.appended;
+    front = tells.appended.front;
+    rest = tells.appended.rest;
+    whole = tells.appended.whole;
+    appended = tells.appended.appended;
   })
 
 -- ---- one command after another
@@ -232,7 +235,10 @@ module _ (window : Window) (desks now : List Shown) (input mid output so : Optio
         after = one.after;
         reads = one.reads;
         serves = one.serves;
-        appended = front_behind output so written (output_of so_far.served) (reply_text one.one.reply) so_far.appended one.appended;
+        front = one.front;
+        rest = one.rest;
+        whole = one.whole;
+        appended = Appends-trans output so written (output_of so_far.served) one.front so_far.appended one.appended;
       })
 
   -- nothing of the next was done

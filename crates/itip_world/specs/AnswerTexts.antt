@@ -44,11 +44,14 @@ abbrev pub next_text : ℕ → Option ℕ → List ℕ
 next_text desk (Some sequence) = codes "next " ++ decimal desk ++ codes " " ++ decimal sequence ++ 10 ∷ []
 next_text desk None = codes "next " ++ decimal desk ++ codes " none" ++ 10 ∷ []
 
--- the octets of a delta, after a line with the tick of the desk, how many items there are and how many octets
-abbrev pub sent_text : ℕ → ℕ → ℕ → List ℕ → List ℕ
-sent_text desk tick items octets =
+-- the line before the octets of a delta, with the tick of the desk, how many items there are and how many octets
+abbrev pub sent_head : ℕ → ℕ → ℕ → ℕ → List ℕ
+sent_head desk tick items count =
     codes "post " ++ decimal desk ++ codes " tick " ++ decimal tick ++ codes " items " ++ decimal items
-    ++ codes " bytes " ++ decimal (length octets) ++ 10 ∷ octets
+    ++ codes " bytes " ++ decimal count ++ 10 ∷ []
+
+abbrev pub sent_text : ℕ → ℕ → ℕ → List ℕ → List ℕ
+sent_text desk tick items octets = sent_head desk tick items (length octets) ++ octets
 
 -- the tick after a delta reached a desk, and how many UIDs it changed
 abbrev pub reached_text : ℕ → ℕ → ℕ → List ℕ

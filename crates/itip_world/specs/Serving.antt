@@ -132,13 +132,16 @@ pub record EndsStream (old new : List Shown) (input left output written : Option
   pub reads : ReadsNothing input left
   pub kept : Keeps output written
 
--- A command was read, and a front was written of what was said before, and of its reply.
+-- A command was read and no octet behind it; what was said before was written whole, and behind it a front of its reply.
 pub record FrontOfOne (window : Window) (old : List Shown) (input left output written : Option (List ℕ)) (before : List ℕ) : Type 0 where
   pub one : Served
   pub after : List Shown
   pub reads : ReadsWish input left one.line one.behind one.wish
   pub serves : Serves window old (serving_of one.wish one.behind) one.reply after
-  pub appended : AppendsFront output written (before ++ reply_text one.reply)
+  pub front : List ℕ
+  pub rest : List ℕ
+  pub whole : reply_text one.reply ≡ front ++ rest
+  pub appended : Appends output written (before ++ front)
 
 -- after a fault nothing was written, or a front of the reply to the command that was read
 abbrev pub ServesFront : Window → List Shown → Option (List ℕ) → Option (List ℕ) → Option (List ℕ) → Option (List ℕ) → Type 0
@@ -212,7 +215,8 @@ pub record IsStream (window : Window) (desks : List Shown) (input left output wr
   pub appended : Appends output written (output_of served)
   pub refusal_is : refusal ≡ refusal_in served
 
--- After a fault: so many commands were served, and their replies were written, and perhaps a front of the reply to the next.
+-- After a fault: so many commands were served, and their replies were written whole; or behind them a front of the reply to the next,
+-- and no octet behind that one was read.
 pub record IsStreamFront (window : Window) (desks : List Shown) (input left output written : Option (List ℕ)) : Type 0 where
   pub served : List Served
   pub mid : Option (List ℕ)

@@ -269,9 +269,10 @@ impl Served {
     }
 }
 
-/// What a line that was read asks for, or `None` where nothing was left. Of a line that is too long nothing is known.
+/// What a line that was read asks for, or `None` where nothing was left. Of a line that is too long nothing is known, and neither of
+/// one without a line end, which may have been cut off.
 fn asked_by(found: Option<&[u8]>) -> Option<StreamLine<'_>>
-    ensures asks { AsksBy (option_copied found) (option_map wish_of result) }
+    ensures asks { AsksBy (option_copied found.entry) (option_map wish_of result) }
     ensures only { IfSome result (λ asked. AsksOnly (wish_of asked)) }
 {
     let Some(line) = found else {
@@ -279,6 +280,9 @@ fn asked_by(found: Option<&[u8]>) -> Option<StreamLine<'_>>
     };
     if line.is_empty() {
         return None;
+    }
+    if !line.ends_with(b"\n") {
+        return Some(StreamLine::Malformed { octets: 0 });
     }
     Some(StreamLine::of_line(line))
 }

@@ -5,7 +5,7 @@ ghost use Rattle.std.specs.Option.{option_map};
 ghost use Rattle.std.specs.String.{string_bytes};
 ghost use Rattle.itip_world.specs.AnswerTexts.{taken_text, posted_text, arrived_text, counted_text};
 ghost use Rattle.itip_world.specs.AnswerTexts.{reported_text, resent_text, next_text, ended};
-ghost use Rattle.itip_world.specs.AnswerTexts.{sent_text, reached_text, saved_text};
+ghost use Rattle.itip_world.specs.AnswerTexts.{sent_head, sent_text, reached_text, saved_text};
 ghost use Rattle.itip_world.specs.Running.{answer_of, answer_text};
 
 use crate::answer::{Answer, Heard};
@@ -144,12 +144,23 @@ fn append_sent(
 ) -> Result<(), AllocError>
     ensures { OnOk result (output.new.items ≡ output.old.items ++ sent_text desk tick items octets.now) }
 {
-    let count = octets.len();
+    append_sent_head(output, desk, tick, items, octets.len())?;
+    output.extend_from_slice(octets)
+}
+
+fn append_sent_head(
+    output: &mut Vec<u8>,
+    desk: u64,
+    tick: u64,
+    items: usize,
+    count: usize,
+) -> Result<(), AllocError>
+    ensures { OnOk result (output.new.items ≡ output.old.items ++ sent_head desk tick items count) }
+{
     let line = format!(in *output.allocator();
         "post {desk} tick {tick} items {items} bytes {count}\n"
     )?;
-    output.extend_from_slice(line.as_bytes())?;
-    output.extend_from_slice(octets)
+    output.extend_from_slice(line.as_bytes())
 }
 
 fn append_reached(output: &mut Vec<u8>, desk: u64, heard: Heard) -> Result<(), AllocError>

@@ -16,6 +16,8 @@ use Rattle.itip_running.specs.declared.error.LiveError.{LiveError}
 use Rattle.itip_running.specs.declared.error.LiveError.TheVariants as live
 use Rattle.itip_running.specs.declared.error.PassError.{PassError}
 use Rattle.itip_running.specs.declared.error.PassError.TheVariants as pass
+use Rattle.itip_streams.specs.declared.fault.StreamFault.{StreamFault}
+use Rattle.itip_streams.specs.declared.fault.StreamFault.TheVariants as stream
 use Rattle.itip_view.specs.declared.error.ViewError.{ViewError}
 use Rattle.itip_view.specs.declared.error.ViewError.TheVariants as view
 use Rattle.itip_world.specs.declared.stop.Cause.{Cause}
@@ -35,6 +37,7 @@ number_of error.NoMemory = 40
 number_of error.NoPlace = 41
 number_of error.NoEntry = 45
 number_of (error.Office cause) = office_numbers.number_of cause
+number_of (error.Stream fault) = 46
 number_of (error.Writing cause) = writing_numbers.number_of cause
 
 abbrev pub of_message : MessageRefusal → Error
@@ -51,6 +54,11 @@ of_desk desk.TicksSpent = error.Spent
 abbrev pub of_file : FileError → Error
 of_file file.NoMemory = error.NoMemory
 of_file (file.Refused cause) = error.Refused (refusal.File cause)
+
+abbrev pub of_stream : StreamFault → Error
+of_stream stream.Memory = error.NoMemory
+of_stream stream.Read = error.Stream stream.Read
+of_stream stream.Write = error.Stream stream.Write
 
 abbrev pub of_view : ViewError → Error
 of_view view.TooManyRows = error.Refused refusal.TooManyRows

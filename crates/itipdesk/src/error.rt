@@ -7,6 +7,7 @@ use itip_message::{MessageRefusal, ReadError};
 use itip_moment::BadText;
 use itip_office::OfficeError;
 use itip_running::{LiveError, NotSubmitted, PassError};
+use itip_streams::StreamFault;
 use itip_view::{BadWindow, ViewError};
 use itip_world::Cause;
 use itip_writing::WritingError;
@@ -32,6 +33,8 @@ pub enum Error {
     NoEntry,
     /// An office ended early (42 to 44).
     Office(OfficeError),
+    /// A read or a write failed (46).
+    Stream(StreamFault),
     /// What was asked for can't be written (80 to 85).
     Writing(WritingError),
 }
@@ -52,6 +55,7 @@ impl Error {
             Error::NoPlace => 41,
             Error::NoEntry => 45,
             Error::Office(error) => error.number(),
+            Error::Stream(_) => 46,
             Error::Writing(error) => error.number(),
         }
     }
@@ -69,6 +73,7 @@ impl fmt::Display for Error {
             Error::NoPlace => f.write_str("no thread, or no place at a running desk"),
             Error::NoEntry => f.write_str("no entry to a running desk"),
             Error::Office(error) => write!(f, "{error}"),
+            Error::Stream(fault) => write!(f, "{fault}"),
             Error::Writing(error) => write!(f, "{error}"),
         }
     }
@@ -169,6 +174,19 @@ impl From<FileError> for Error {
         match error {
             FileError::NoMemory => Error::NoMemory,
             FileError::Refused(refusal) => Error::Refused(Refusal::File(refusal)),
+        }
+    }
+}
+
+impl From<StreamFault> for Error {
+    ghost use Rattle.itipdesk.specs.Errors.{of_stream};
+
+    ghost from_gives = { λ fault e. e ≡ of_stream fault };
+
+    fn from(fault: StreamFault) -> Error {
+        match fault {
+            StreamFault::Memory => Error::NoMemory,
+            StreamFault::Read | StreamFault::Write => Error::Stream(fault),
         }
     }
 }

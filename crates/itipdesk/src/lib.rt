@@ -11,8 +11,8 @@
 //! | [`running`] | a desk that one thread writes to while others read it |
 //! | [`many`] | several desks: worlds of packets, and offices on threads |
 //!
-//! Each refusal of these turns into an [`Error`] by `?`, which has a number. What allocates is passed an allocator, as
-//! `rt.alloc()`, and where memory is refused it changes nothing and says so.
+//! Each refusal of these turns into an [`Error`] by `?`, which has a number; of [`Stopped`](many::Stopped) it is the cause that does.
+//! What allocates is passed an allocator, as `rt.alloc()`, and where memory is refused it changes nothing and says so.
 //!
 //! Clauses of your own may cite the definitions of the crates below: `specs/Lib.antt` hands on those that the contracts of a desk, a
 //! list, a delta and a running desk cite.

@@ -6,7 +6,7 @@
 //!
 //! Reports as records: [`load_records`] (who has how much), [`progress_records`] (how far rows are), and [`report_items`] (what is
 //! cancelled, what belongs to nothing, who waits). [`report_lines`] has the text of any by its name. Where rows have nothing to tell
-//! the first two are Ok, and ask for no memory.
+//! the first two are never refused.
 pub use itip_report::{
     AttendeeLoad, Report, ReportName, RowProgress, load_records, no_rows, progress_records,
     report_items, report_lines,

@@ -28,8 +28,7 @@ fn play<R: AllocGlobal + Threads + Wait + Sync>(rt: &R) -> Result<String, Error>
     let mut desk = Desk::empty_at(alloc, 0);
     desk.take(&read_batch(alloc, MESSAGE)?)?;
     desk.take(&own_batch(alloc)?)?;
-    let delta = write_delta(alloc, &desk.delta_since(0)?)?;
-    let other = desk_of(alloc, &delta)?;
+    let other = desk_of(alloc, &write_delta(alloc, &desk.delta_since(0)?)?)?;
     // One thread writes to a running desk, and others list it.
     let (_published, met) = with_desk(rt, 2, |desk| -> Result<Receipt, Error> {
         let OpenDesk { keeper, passes } = desk;
@@ -41,7 +40,8 @@ fn play<R: AllocGlobal + Threads + Wait + Sync>(rt: &R) -> Result<String, Error>
         join_mut(rt, &mut write, &mut read).0
     })?;
     // The program ends here, and goes on with the file that it wrote.
-    let file = write_desk(alloc, &met.desk)?;
+    let mut file = Vec::new(alloc);
+    write_desk(alloc, &met.desk, &mut file)?;
     Ok(String::from_utf8_lossy(alloc, &read_desk(alloc, &file)?.list(year)?)?)
 }
 

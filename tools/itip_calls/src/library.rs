@@ -9,6 +9,9 @@
 //! - `item_of UID STAMP LINE ..`: the octets of the item that a program makes of these lines
 //! - `item_with UID STAMP NAME VALUE ..`: the same of properties by name, where a moment is as lists show it
 //! - `todo_of UID STAMP LINE ..`: the SEQUENCE and the number of attendees of the to-do of these lines
+//! - `file_of TEXT ..`: the file of a desk that has taken these messages, one after the other
+//! - `file_within OCTETS TEXT ..`: the same, written to a place of so many octets: how many are left of it
+//! - `desk_in FILE`: the tick of the desk that a file tells, its entries, and how many items it sends since each lower tick
 //! - `load_records FROM TO TEXT ..`, `progress_records FROM TO TEXT ..`, `report_items NAME TEXT ..`: a record a line
 //! - `write_reply UID ID ATTENDEE STATUS PERCENT AT TEXT ..`, `write_refresh UID ID ATTENDEE AT TEXT ..`,
 //!   `write_cancel UID ID AT TEXT ..`, `write_onward UID ID AT TEXT ..`, `write_removal UID ID ATTENDEE AT TEXT ..`,
@@ -18,7 +21,7 @@
 use crate::error::CallError;
 use crate::texts::all_texts;
 use itipdesk::Error;
-use itipdesk::desks::{State, read_batch};
+use itipdesk::desks::{Desk, State, read_batch, read_desk, write_desk};
 use itipdesk::lists::{
     Report, ReportName, Row, RowsByUid, Wanted, Window, load_records, no_rows, progress_records,
     report_items, report_lines, rows,
@@ -63,6 +66,9 @@ fn made(alloc: Global, word: &str, texts: &[&str]) -> Result<Option<Vec<u8>>, Er
             octets(alloc, &item_with(alloc, uid, stamp, parts)?)?
         }
         ("todo_of", [uid, stamp, lines @ ..]) => todo_of(alloc, uid, stamp, lines)?,
+        ("file_of", texts) => file_of(alloc, texts)?,
+        ("file_within", [octets, texts @ ..]) => file_within(alloc, octets, texts)?,
+        ("desk_in", [file]) => desk_in(alloc, file.as_bytes())?,
         ("load_records", [from, to, texts @ ..]) => {
             loads(alloc, &shown(alloc, window(from, to)?, texts)?)?
         }
@@ -100,6 +106,40 @@ fn cut(alloc: Global, text: &[u8]) -> Result<Vec<u8>, Error> {
     Ok(told.into_bytes())
 }
 
+/// A desk that has taken these messages.
+fn desk_of(alloc: Global, texts: &[&str]) -> Result<Desk, Error> {
+    let mut desk = Desk::empty_at(alloc, 0);
+    for text in texts {
+        desk.take(&read_batch(alloc, text.as_bytes())?)?;
+    }
+    Ok(desk)
+}
+
+fn file_of(alloc: Global, texts: &[&str]) -> Result<Vec<u8>, Error> {
+    let mut file = Vec::new(alloc);
+    write_desk(alloc, &desk_of(alloc, texts)?, &mut file)?;
+    Ok(file)
+}
+
+fn file_within(alloc: Global, octets: &str, texts: &[&str]) -> Result<Vec<u8>, Error> {
+    let mut place = vec![in alloc; 0; octets.parse().map_err(|_| Error::Text)?]?;
+    let mut rest = place.as_mut_slice();
+    write_desk(alloc, &desk_of(alloc, texts)?, &mut rest)?;
+    count(alloc, rest.len())
+}
+
+fn desk_in(alloc: Global, file: &[u8]) -> Result<Vec<u8>, Error> {
+    let desk = read_desk(alloc, file)?;
+    let tick = desk.tick();
+    let entries = desk.entries();
+    let mut told = format!(in alloc; "{tick} {entries}")?;
+    for since in 0..tick {
+        let items = desk.delta_since(since)?.as_slice().len();
+        told.push_str(format!(in alloc; " {items}")?.as_str())?;
+    }
+    Ok(told.into_bytes())
+}
+
 fn named(name: &str) -> Result<ReportName, Error> {
     match name {
         "load" => Ok(ReportName::Load),
@@ -133,7 +173,9 @@ fn lines(
 }
 
 fn octets(alloc: Global, item: &Item) -> Result<Vec<u8>, Error> {
-    Ok(Vec::from_slice(alloc, item.bytes.as_slice())?)
+    let mut octets = Vec::new(alloc);
+    item.bytes.append_to(&mut octets)?;
+    Ok(octets)
 }
 
 fn of_lines(alloc: Global, uid: &str, stamp: &str, lines: &[&str]) -> Result<TodoBuilder, Error> {

@@ -4,7 +4,7 @@
 //! - `items TEXT`: of each item the kind, the own and the effective sequence, X-DESK-BASE, and how many canonical octets
 //!   it has, with a semicolon after it
 //! - `read_all TEXT ..`: of each text how many items it has, or its fault, with blanks between, from many threads
-//! - `part PLACE TEXT`: how many octets the first part has, where the text is parted between messages behind a place, or `None`
+//! - `parted PLACE TEXT`: how many octets the first part has, where the text is parted between messages behind a place, or `None`
 
 use crate::error::{CallError, ShownMessage};
 use crate::texts::count;
@@ -23,7 +23,7 @@ pub(crate) fn answer<R: AllocGlobal + Threads + Sync>(
         ("read_message", [text]) => canonical(rt.alloc(), text),
         ("items", [text]) => listed(rt.alloc(), text),
         ("read_all", texts) => all_read(rt, texts),
-        ("part", [place, text]) => parted(rt.alloc(), count(place)?, text),
+        ("parted", [place, text]) => parted(rt.alloc(), count(place)?, text),
         _ => Err(CallError::NoSuchCall),
     }
 }

@@ -34,7 +34,7 @@ fn made<R: AllocGlobal + Threads + Sync>(
         | "write_lines"
         | "show_bad_line"
         | "show_no_memory_for_lines" => lines::answer(alloc, word, arguments),
-        "read_message" | "items" | "read_all" | "part" => messages::answer(rt, word, arguments),
+        "read_message" | "items" | "read_all" | "parted" => messages::answer(rt, word, arguments),
         "read_moment" | "read_stamp" | "read_date" | "shift" | "cmp_moments" => {
             moments::answer(alloc, word, &all_texts(alloc, arguments)?)
         }
@@ -87,6 +87,9 @@ fn made_of_what_is_kept(
         | "item_of"
         | "item_with"
         | "todo_of"
+        | "file_of"
+        | "file_within"
+        | "desk_in"
         | "load_records"
         | "progress_records"
         | "report_items"

@@ -8,15 +8,15 @@ pub returns-in-Told : goal.returns-in-Told
 returns-in-Told g c =
     done_with _ c.in-Told.is_refused c.done_with.result c.done_with.ensures.refused c.done_with.ensures.whole c.done_with.ensures.is_done
     (λ outcome refused whole done inputs are. record {
-      told = c.in_ok-explain.field-0;
-      explains = c.in_ok-explain.ensures.output inputs are;
+      told = c.in_ok-is_refused.field-0;
+      explains = c.in_ok-is_refused.ensures.output inputs are;
       outcome_is = subst (λ (told : Explained). IsOutcomeOfExplained told outcome) (sym c.in-Told.is) (refused, whole, done);
     })
 
 pub returns-in-Unknown : goal.returns-in-Unknown
 returns-in-Unknown g c =
     outcome_more _ _ c.nothing_done.result (λ outcome undone inputs are. record {
-      told = c.in_ok-explain.field-0;
-      explains = c.in_ok-explain.ensures.output inputs are;
+      told = c.in_ok-is_refused.field-0;
+      explains = c.in_ok-is_refused.ensures.output inputs are;
       outcome_is = subst (λ (told : Explained). IsOutcomeOfExplained told outcome) (sym c.in-Unknown.is) undone;
     }) c.nothing_done.ensures

@@ -1,35 +1,26 @@
 use Rattle.std.proofs.Common.{ℕ, List}
-use Rattle.itip_inbox.specs.Compaction.{IsCompaction}
 use Rattle.itip_inbox.specs.Inbox.{AreInputs}
-use Rattle.itip_inbox.specs.News.{IsNews}
 use Rattle.itip_words.specs.declared.filter.Written.{Written}
 use Rattle.itip_words.specs.declared.filter.Written.TheVariants as written
 use Rattle.itip_app.specs.Filtered.{Filters}
-use Rattle.itip_app.proofs.Filtering.{as_asked, done_with, outcome_more}
-use Rattle.itip_app.proofs.Filtering.{written as writes}
+use Rattle.itip_app.proofs.Filtering.{as_asked, outcome_more}
 use Rattle.itip_app.proofs.filters.write_filtered.Goals as goal
 
 pub returns-in-Compaction : goal.returns-in-Compaction
 returns-in-Compaction g c =
     as_asked (λ (w : Written) outcome. (known inputs : List (List ℕ)) → AreInputs g.I.Read.remaining c.args.than.items known →
     AreInputs g.I.Read.remaining c.args.sources.items inputs →
-    Filters w c.args.draft.now c.args.names.now known inputs (g.W.Write.contents c.args.writer.now) (g.W.Write.contents c.compact.new.writer) outcome)
-    _ c.args.written.now c.done_with.result c.in-Compaction.is
-    (done_with _ c.in_ok-compact.field-0 c.done_with.result c.done_with.ensures.refused c.done_with.ensures.whole
-    c.done_with.ensures.is_done (λ outcome refused whole done known inputs known_are are.
-    writes (IsCompaction inputs) (g.W.Write.contents c.args.writer.now) (g.W.Write.contents c.compact.new.writer) c.in_ok-compact.field-0 outcome refused
-    whole done (c.in_ok-compact.ensures.output inputs are)))
+    Filters w c.args.draft.now c.args.names.now known inputs (g.W.Write.contents c.args.writer.now) (g.W.Write.contents c.write_compaction.new.writer) outcome)
+    _ c.args.written.now c.write_compaction.result c.in-Compaction.is
+    (outcome_more _ _ c.write_compaction.result (λ outcome h known inputs known_are are. h inputs are) c.write_compaction.ensures)
 
 pub returns-in-News : goal.returns-in-News
 returns-in-News g c =
     as_asked (λ (w : Written) outcome. (known inputs : List (List ℕ)) → AreInputs g.I.Read.remaining c.args.than.items known →
     AreInputs g.I.Read.remaining c.args.sources.items inputs →
-    Filters w c.args.draft.now c.args.names.now known inputs (g.W.Write.contents c.args.writer.now) (g.W.Write.contents c.news.new.writer) outcome)
-    _ c.args.written.now c.done_with-2.result c.in-News.is
-    (done_with _ c.in_ok-news.field-0 c.done_with-2.result c.done_with-2.ensures.refused c.done_with-2.ensures.whole
-    c.done_with-2.ensures.is_done (λ outcome refused whole done known inputs known_are are.
-    writes (IsNews known inputs) (g.W.Write.contents c.args.writer.now) (g.W.Write.contents c.news.new.writer) c.in_ok-news.field-0 outcome refused
-    whole done (c.in_ok-news.ensures.output known inputs known_are are)))
+    Filters w c.args.draft.now c.args.names.now known inputs (g.W.Write.contents c.args.writer.now) (g.W.Write.contents c.write_news.new.writer) outcome)
+    _ c.args.written.now c.write_news.result c.in-News.is
+    (outcome_more _ _ c.write_news.result (λ outcome h known inputs known_are are. h known inputs known_are are) c.write_news.ensures)
 
 pub returns-in-List : goal.returns-in-List
 returns-in-List g c =

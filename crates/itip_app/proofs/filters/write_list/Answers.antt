@@ -14,17 +14,17 @@ returns-in-Text g c =
 pub returns-in-Html : goal.returns-in-Html
 returns-in-Html g c =
     as_asked (λ f outcome. (inputs : List (List ℕ)) → AreInputs g.I.Read.remaining c.args.sources.items inputs →
-    WritesList (octets_in f) c.args.asked.now inputs (g.W.Write.contents c.args.writer.now) (g.W.Write.contents c.write_form-2.new.writer) outcome)
-    (format.Html c.in-Html.today) c.args.asked.now.format c.write_form-2.result c.in-Html.is c.write_form-2.ensures
+    WritesList (octets_in f) c.args.asked.now inputs (g.W.Write.contents c.args.writer.now) (g.W.Write.contents c.write_form-in-Html.new.writer) outcome)
+    (format.Html c.in-Html.today) c.args.asked.now.format c.write_form-in-Html.result c.in-Html.is c.write_form-in-Html.ensures
 
 pub returns-in-Csv : goal.returns-in-Csv
 returns-in-Csv g c =
     as_asked (λ f outcome. (inputs : List (List ℕ)) → AreInputs g.I.Read.remaining c.args.sources.items inputs →
-    WritesList (octets_in f) c.args.asked.now inputs (g.W.Write.contents c.args.writer.now) (g.W.Write.contents c.write_form-3.new.writer) outcome)
-    format.Csv c.args.asked.now.format c.write_form-3.result c.in-Csv.is c.write_form-3.ensures
+    WritesList (octets_in f) c.args.asked.now inputs (g.W.Write.contents c.args.writer.now) (g.W.Write.contents c.write_form-in-Csv.new.writer) outcome)
+    format.Csv c.args.asked.now.format c.write_form-in-Csv.result c.in-Csv.is c.write_form-in-Csv.ensures
 
 pub returns-in-Json : goal.returns-in-Json
 returns-in-Json g c =
     as_asked (λ f outcome. (inputs : List (List ℕ)) → AreInputs g.I.Read.remaining c.args.sources.items inputs →
-    WritesList (octets_in f) c.args.asked.now inputs (g.W.Write.contents c.args.writer.now) (g.W.Write.contents c.write_form-4.new.writer) outcome)
-    format.Json c.args.asked.now.format c.write_form-4.result c.in-Json.is c.write_form-4.ensures
+    WritesList (octets_in f) c.args.asked.now inputs (g.W.Write.contents c.args.writer.now) (g.W.Write.contents c.write_form-in-Json.new.writer) outcome)
+    format.Json c.args.asked.now.format c.write_form-in-Json.result c.in-Json.is c.write_form-in-Json.ensures

@@ -32,6 +32,6 @@ pub returns-in_err-read_part-clause-fault : goal.returns-in_err-read_part-clause
 returns-in_err-read_part-clause-fault c =
     let p = err_from_is_err_and c.from_residual-in_err-read_part.result c.from_residual-in_err-read_part.ensures.1 in
     rw (p.1, p.2)
-    (refuses_if c.in_err-read_part.field-0 c.loop-message.number c.args.octets.now c.loop-message.rest.now c.in-Some.message.now
+    (refuses_if c.in_err-read_part.field-0.0 c.loop-message.number c.args.octets.now c.loop-message.rest.now c.in-Some.message.now
     c.in-Some.after.now c.loop-message.parts.tick c.loop-message.parts.items.items c.loop-message.parts.moves.items
     c.loop-message.invariant.so_far c.loop-message.invariant.tick c.in-Some.ensures c.in_err-read_part.ensures.fault)

@@ -11,16 +11,17 @@ returns-in_default-clause-fault c =
     rw c.broken.ensures (no_form_named c.args.octets.now (some_octets_if c.args.octets.now (search rules)) c.in_default.ensures.none
     (Some 1))
 
-pub returns-then-form-clause-fault : goal.returns-then-form-clause-fault
-returns-then-form-clause-fault c =
-    other_form_named c.args.octets.now c.in-Some.form c.in-Some.after.now c.in-Some.ensures.found c.if-form.true
+pub returns-then-form-ne-FORM-clause-fault : goal.returns-then-form-ne-FORM-clause-fault
+returns-then-form-ne-FORM-clause-fault c =
+    other_form_named c.args.octets.now c.in-Some.form c.in-Some.after.now c.in-Some.ensures.found c.if-form-ne-FORM.true
 
-pub returns-in-Some-2-clause-found : goal.returns-in-Some-2-clause-found
-returns-in-Some-2-clause-found c =
-    tick_found c.args.octets.now c.in-Some.form c.in-Some.after.now c.in-Some.ensures.found c.if-form.false (Some c.in-Some-2.tick)
-    c.in-Some-2.ensures c.in-Some-2.tick refl (search rules)
+pub returns-in-Some-first_tick-clause-found : goal.returns-in-Some-first_tick-clause-found
+returns-in-Some-first_tick-clause-found c =
+    tick_found c.args.octets.now c.in-Some.form c.in-Some.after.now c.in-Some.ensures.found c.if-form-ne-FORM.false
+    (Some c.in-Some-first_tick.tick) c.in-Some-first_tick.ensures c.in-Some-first_tick.tick refl (search rules)
 
 pub returns-in-None-clause-fault : goal.returns-in-None-clause-fault
 returns-in-None-clause-fault c =
-    rw c.broken-2.ensures (no_tick_found c.args.octets.now c.in-Some.form c.in-Some.after.now c.in-Some.ensures.found c.if-form.false None
+    rw c.broken-in-None.ensures
+    (no_tick_found c.args.octets.now c.in-Some.form c.in-Some.after.now c.in-Some.ensures.found c.if-form-ne-FORM.false None
     c.in-None.ensures refl (Some 1))

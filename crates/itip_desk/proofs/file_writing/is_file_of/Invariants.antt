@@ -4,4 +4,4 @@ use Rattle.itip_desk.proofs.file_writing.is_file_of.Given as goal
 
 abbrev pub invariant-loop-item : goal.invariant-loop-item
 invariant-loop-item l =
-    Completes l.desk.changed (head_of l.desk.tick l.items.items) l.head l.items.items l.item-index l.octets l.rest
+    Completes l.desk.changed (head_of l.desk.tick l.item-items) l.head l.item-items l.item-index l.octets l.rest

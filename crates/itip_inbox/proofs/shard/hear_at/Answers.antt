@@ -1,7 +1,6 @@
-use Rattle.std.proofs.Common.{◌≡◌, ◌∙◌, ◌+◌, ◌<◌, sym, ap, subst, ℕ, List, [], ◌∷◌, ◌++◌, length, append-nil, append_assoc, take, get_or}
-use Rattle.std.proofs.Common.{Bool, true, false, nat_eq, inl, inr}
+use Rattle.std.proofs.Common.{◌≡◌, ◌∙◌, ◌+◌, ◌<◌, sym, ap, subst, ℕ, List, [], ◌∷◌, ◌++◌, length, append-nil, take, get_or}
+use Rattle.std.proofs.Common.{Bool, false, nat_eq, inl, inr}
 use Rattle.std.specs.Prelude.{cond}
-use Rattle.std.specs.List.{Contains}
 use Rattle.std.proofs.lemmas.Bool.Decides.{Decides-eqb}
 use Rattle.std.proofs.lemmas.List.{take_all}
 use Rattle.std.proofs.lemmas.List.Elements.{filter_more, Contains-append_cases}
@@ -28,7 +27,7 @@ module _ (count number : ℕ) (items : List Item) (at : ℕ) (item : Item) (belo
       ((Decides-eqb (shard_of count (uid_of item.key)) number).1 is)
 
   not_of_it : test item ≡ false → of_shard count number (take (at + 1) items) ≡ of_shard count number (take at items)
-  not_of_it no = one_more ∙ ap (λ (b : Bool). of_shard count number (take at items) ++ cond b (item ∷ []) []) no ∙
+  not_of_it fails = one_more ∙ ap (λ (b : Bool). of_shard count number (take at items) ++ cond b (item ∷ []) []) fails ∙
       append-nil (of_shard count number (take at items))
 
 -- what hears an item of the number has items of the number alone

@@ -1,4 +1,4 @@
-use Rattle.std.proofs.Common.{List, ◌++◌, take}
+use Rattle.std.proofs.Common.{◌++◌, take}
 use Rattle.itip_state.specs.Kept.{AreKept}
 use Rattle.itip_inbox.specs.ShardOf.{AreOfShard, of_shard}
 use Rattle.itip_inbox.proofs.shard.hear_at.Given as goal

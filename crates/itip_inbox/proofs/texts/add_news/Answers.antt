@@ -1,4 +1,4 @@
-use Rattle.std.proofs.Common.{◌≡◌, ◌∙◌, ◌++◌, ap, map, List, subst, sym}
+use Rattle.std.proofs.Common.{◌≡◌, ◌++◌, ap, map, List, subst, sym}
 use Rattle.std.proofs.lemmas.Result.{on_ok_weaker}
 use Rattle.itip_items.specs.declared.item.Item.{Item}
 use Rattle.itip_state.specs.Kept.{IsItemsOf}
@@ -24,4 +24,4 @@ returns c =
     subst (λ (news : List Item). AreNews c.args.kept.now (told ++ c.args.items.items) news) (sym copied)
     (news_both c.args.kept.now told c.args.items.items c.args.news.now.items (map (λ item. item.now) c.as_slice-2.result.now) before
     (news_given c.args.kept.now c.args.items.items c.in_ok-batch.batch c.as_slice.result.now _ _ c.in_ok-batch.ensures.items
-    c.as_slice.ensures.items c.in_ok-new.ensures.news (ap (map (λ item. item.now)) c.as_slice-2.ensures.value)))) c.add_copies.ensures
+    c.as_slice.ensures.items c.in_ok-new.ensures (ap (map (λ item. item.now)) c.as_slice-2.ensures.value)))) c.add_copies.ensures

@@ -1,4 +1,4 @@
-use Rattle.std.proofs.Common.{refl, sym, subst, ℕ, List, [], ◌∷◌, ◌++◌}
+use Rattle.std.proofs.Common.{refl, subst, ℕ, List, [], ◌∷◌, ◌++◌}
 use Rattle.std.specs.Option.{option_copied}
 use Rattle.itip_inbox.specs.Inbox.{placed_from}
 use Rattle.itip_inbox.specs.Streaming.{Tells}

@@ -14,6 +14,6 @@ returns-clause-tells g t c =
     (sym (ap waiting_of c.split_at.ensures.by_index.0 ∙ waiting_both front back))
     (c.in_ok-append.ensures.tells (option_copied c.args.about) c.args.kept.now _ _
     (IfOk-at_ok (Tells (option_copied c.args.about) c.args.kept.now (waiting_of front)) c.in_ok-heard.was
-    c.join-ours.ensures.first.tells)
+    c.join-ours.ensures.first.0)
     (IfOk-at_ok (Tells (option_copied c.args.about) c.args.kept.now (waiting_of back)) c.in_ok-theirs.was
-    c.join-ours.ensures.second.tells))
+    c.join-ours.ensures.second.0))

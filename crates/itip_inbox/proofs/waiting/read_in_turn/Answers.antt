@@ -14,10 +14,10 @@ loop-one-init c = c.nothing-heard.ensures (option_copied c.args.about) c.args.ke
 pub loop-one-preserved : goal.loop-one-preserved
 loop-one-preserved c =
     let at : ℕ = c.loop-one.one-index in
-    let one : Waiting = c.item-one.result in
+    let one : Waiting = c.one-item.result in
     let is : take (at + 1) c.args.waiting.now ≡ take at c.args.waiting.now ++ one ∷ [] =
     take_more c.args.waiting.now at one c.loop-one-test.true ∙
-    ap (λ (w : Waiting). take at c.args.waiting.now ++ w ∷ []) (sym c.item-one.is) in
+    ap (λ (w : Waiting). take at c.args.waiting.now ++ w ∷ []) (sym c.one-item.is) in
     subst (λ (ms : List Placed). Tells (option_copied c.args.about) c.args.kept.now ms c.append.new.self)
     (sym (ap waiting_of is ∙ waiting_push (take at c.args.waiting.now) one))
     (c.in_ok-append.ensures.tells (option_copied c.args.about) c.args.kept.now (waiting_of (take at c.args.waiting.now)) _

@@ -6,11 +6,15 @@ use Rattle.itip_office.proofs.Taking.{grew_texts_none, grew_texts_more}
 use Rattle.itip_office.proofs.desk_loop.merge_all.Goals as goal
 
 pub loop-init : goal.loop-init
-loop-init g c = record {
-  idle = c.requires.nothing;
-  texts = grew_texts_none c.args.desk c.args.texts.now;
-  shown = grew_shown_none c.args.desk c.args.shown.now;
-}
+loop-init g c =
+    let none : c.new-answers.result.items ≡ [] = c.new-answers.ensures.items in
+    record {
+      idle = c.requires.nothing;
+      texts = subst (λ (l : List Answer). GrewTexts c.args.desk c.args.texts.now c.args.texts.now l) (sym none)
+          (grew_texts_none c.args.desk c.args.texts.now);
+      shown = subst (λ (l : List Answer). GrewShown c.args.desk c.args.shown.now c.args.shown.now l) (sym none)
+          (grew_shown_none c.args.desk c.args.shown.now);
+    }
 
 pub loop-merge-preserved : goal.loop-merge-preserved
 loop-merge-preserved g c =

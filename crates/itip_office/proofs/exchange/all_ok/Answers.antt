@@ -1,6 +1,7 @@
 use Rattle.std.proofs.Common.{rules, ◌≡◌, List, [], ◌∷◌, ◌++◌, map, ap, sym, ◌∙◌, append_assoc, append-nil, Result, Ok, Err, arith}
 use Rattle.std.specs.Vec.Iter.{into_iter_items}
 use Rattle.std.proofs.lemmas.List.{map-append, nil_from_length}
+use Rattle.std.proofs.lemmas.Result.{err_from_is_err_and}
 use Rattle.itip_office.specs.declared.error.OfficeError.{OfficeError}
 use Rattle.itip_office.proofs.Beside.{error_among}
 use Rattle.itip_office.proofs.exchange.all_ok.Goals as goal
@@ -25,8 +26,10 @@ returns-clause-all g c =
 
 pub returns-in_err-value-clause-cause : goal.returns-in_err-value-clause-cause
 returns-in_err-value-clause-cause g c = λ are.
-    let error = c.in_err-value.error in
+    let error : OfficeError = c.in_err-value.field-0.0 in
     let rest = into_iter_items c.next.new.self in
     let first : into_iter_items c.loop-one.one-iterator ≡ Err error ∷ rest = search rules in
-    error_among (map Ok c.loop-one.values.items) rest c.args.all.items error
-    (ap (λ (l : List (Result g.row.T.Denot OfficeError)). map Ok c.loop-one.values.items ++ l) (sym first) ∙ c.loop-one.invariant) are
+    let p = err_from_is_err_and c.from_residual-in_err-value.result c.from_residual-in_err-value.ensures.1 in
+    rw (p.1, p.2)
+    (error_among (map Ok c.loop-one.values.items) rest c.args.all.items error
+    (ap (λ (l : List (Result g.row.T.Denot OfficeError)). map Ok c.loop-one.values.items ++ l) (sym first) ∙ c.loop-one.invariant) are)

@@ -10,10 +10,14 @@ use Rattle.itip_office.proofs.Reports.{IsFor, gathered_none, gathered_more}
 use Rattle.itip_office.proofs.gather.gather.Goals as goal
 
 pub loop-one-init : goal.loop-one-init
-loop-one-init g c = record {
-  left = search rules;
-  gathered = gathered_none c.args.desks c.args.done.alone.items c.requires.alone;
-}
+loop-one-init g c =
+    let all : into_iter_items c.into_iter-one-iterator.result ≡ c.args.done.kept.items = search rules in
+    let none : c.new-texts.result.items ≡ [] = c.new-texts.ensures.items in
+    record {
+      left = subst (λ (l : List (Merged g.row.R.Denot)). All (λ k. HasMerged k.desk k.answers.items k.held.texts) l) (sym all) c.requires.kept;
+      gathered = subst (λ (l : List Shown). AreGathered c.args.desks c.args.done.alone.items l) (sym none)
+          (gathered_none c.args.desks c.args.done.alone.items c.requires.alone);
+    }
 
 pub loop-one-preserved : goal.loop-one-preserved
 loop-one-preserved g c =

@@ -1,3 +1,5 @@
+use Rattle.std.proofs.Common.{subst}
+use Rattle.itip_view.specs.ByUid.{IsCountOf}
 use Rattle.itip_view.specs.Showing.{Shows}
 use Rattle.itip_view.specs.Wanting.{Wants}
 use Rattle.itip_view.proofs.Left.{too_many_where}
@@ -10,7 +12,8 @@ returns-in-Ok-TooMany-clause-many c e =
     let state = c.args.state.now in
     let wants = Wants c.showing-shown.result in
     many_alike wants (Shows c.args.address.now) c.showing-shown.ensures state c.args.window
-    (too_many_where wants state c.args.window c.in-Ok.rows c.in-Ok.ensures.asked c.in-Ok-TooMany.ensures.count.0)
+    (too_many_where wants state c.args.window c.in-Ok.rows c.in-Ok.ensures.asked
+    (subst (IsCountOf c.in-Ok.rows) c.in-Ok-TooMany.field-0-is c.in-Ok-TooMany.ensures.count).0)
 
 pub returns-in-Ok-to_vec-clause-rows : goal.returns-in-Ok-to_vec-clause-rows
 returns-in-Ok-to_vec-clause-rows c =

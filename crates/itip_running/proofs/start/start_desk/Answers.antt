@@ -13,8 +13,8 @@ publish_as-writer-requires g c next is =
     subst (λ (l : List Op). state_of next ≡ fold applied_to (state_of shown) l) c.in-Ok.ensures.1 is in
     sees _ _ shown next (λ e. ap (λ t. t.0) s ∙ (e ∙ sym (ap (λ t. batches_of t.2) s))) (ap (λ t. t.1) s)
 
-pub invariant_of-end-in-Ok-seated : goal.invariant_of-end-in-Ok-seated
-invariant_of-end-in-Ok-seated g c =
+pub invariant_of-end : goal.invariant_of-end
+invariant_of-end g c =
     let w = c.seats-seated.new.writer in
     let last = c.open-head.result.1 in
     let same : published_groups w.desk.shown.value ≡ last.seen.log = search rules in

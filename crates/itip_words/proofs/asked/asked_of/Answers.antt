@@ -17,5 +17,6 @@ returns-then-eq-2 c =
 pub asked_about-requires : goal.asked_about-requires
 asked_about-requires c = record {
   uid_is = c.in_ok-uid.ensures ∙ c.in-Some.is;
-  id_is = subst (λ (o : Option (List ℕ)). IsRead IsMomentName o c.in-Some-2.id) c.value_of-text.ensures c.in_ok-id.ensures;
+  id_is = subst (λ (o : Option (List ℕ)). IsRead IsMomentName o c.in-Some-2.id) c.value_of-text.ensures
+      (rw c.in-Some-2.is at c.in_ok-id.ensures);
 }

@@ -12,8 +12,9 @@ returns c = (
   record {
     about = c.requires;
     who = who_asked (options_of c.args.words.now) (option_copied c.value_of-address.result) _ _ c.value_of-address.ensures
-        c.in_ok-attendee.ensures (ap (option_map string_bytes) c.in-Some-3.is);
+        c.in_ok-attendee.ensures (ap (option_map string_bytes) c.in-Some-2.is);
     status_is = c.in-Some.ensures;
-    percent_is = subst (λ (o : Option (List ℕ)). IsRead IsPercent o c.in-Some-2.percent) c.value_of-text.ensures c.in-Some-2.ensures;
+    percent_is = subst (λ (o : Option (List ℕ)). IsRead IsPercent o c.in-Some-asked_percent.percent) c.value_of-text.ensures
+        c.in-Some-asked_percent.ensures;
   },
 )

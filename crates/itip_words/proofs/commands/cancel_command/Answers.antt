@@ -9,14 +9,16 @@ use Rattle.itip_words.proofs.commands.cancel_command.Goals as goal
 
 pub returns : goal.returns
 returns c =
-    let onward-0 : IsRule (new_rule (codes "onward")) c.new.result = record { rule_is = c.new.ensures.rule; local = c.new.ensures.optional.1 } in
+    let onward-0 : IsRule (new_rule (codes "onward")) c.new.result =
+    record { rule_is = c.new.ensures.rule; local = c.new.ensures.optional.1 } in
     let onward-1 = rule_set _ (λ r. record r { long = Some (codes "onward") }) _ _ _ onward-0 c.long.ensures refl refl in
     let onward-2 = rule_set _ (λ r. record r { action = Some SetTrue }) _ _ _ onward-1 c.action.ensures refl refl in
     let onward_is : IsRule (flag (codes "onward")) c.action.result = onward-2 in
     let onward-3 = rule_needs _ _ _ _ onward_is c.in_ok-requires_arg.ensures in
     let onward-4 = rule_conflicts _ _ _ _ onward-3 c.in_ok-conflicts_with.ensures in
     let one_onward : IsRule onward_rule c.help-onward.result = rule_set _ (λ r. r) _ _ _ onward-4 c.help-onward.ensures refl refl in
-    let attendee-0 : IsRule (new_rule (codes "attendee")) c.new-2.result = record { rule_is = c.new-2.ensures.rule; local = c.new-2.ensures.optional.1 } in
+    let attendee-0 : IsRule (new_rule (codes "attendee")) c.new-2.result =
+    record { rule_is = c.new-2.ensures.rule; local = c.new-2.ensures.optional.1 } in
     let attendee-1 = rule_set _ (λ r. record r { long = Some (codes "attendee") }) _ _ _ attendee-0 c.long-2.ensures refl refl in
     let attendee-2 = rule_set _ (λ r. record r { value_names = 1 }) _ _ _ attendee-1 c.value_name.ensures refl refl in
     let attendee-3 = rule_set _ (λ r. record r { action = Some Append }) _ _ _ attendee-2 c.action-2.ensures refl refl in

@@ -8,13 +8,15 @@ use Rattle.itip_words.proofs.commands.days.Goals as goal
 
 pub returns : goal.returns
 returns c =
-    let from-0 : IsRule (new_rule (codes "from")) c.new.result = record { rule_is = c.new.ensures.rule; local = c.new.ensures.optional.1 } in
+    let from-0 : IsRule (new_rule (codes "from")) c.new.result =
+    record { rule_is = c.new.ensures.rule; local = c.new.ensures.optional.1 } in
     let from-1 = rule_set _ (λ r. record r { long = Some (codes "from") }) _ _ _ from-0 c.long.ensures refl refl in
     let from-2 = rule_set _ (λ r. record r { value_names = 1 }) _ _ _ from-1 c.value_name.ensures refl refl in
     let from-3 = rule_set _ (λ r. record r { required = true }) _ _ _ from-2 c.required.ensures refl refl in
     let from-4 = rule_set _ (λ r. r) _ _ _ from-3 c.help-from.ensures refl refl in
     let from_is : IsRule (needed (option (codes "from"))) c.help-from.result = from-4 in
-    let to-0 : IsRule (new_rule (codes "to")) c.new-2.result = record { rule_is = c.new-2.ensures.rule; local = c.new-2.ensures.optional.1 } in
+    let to-0 : IsRule (new_rule (codes "to")) c.new-2.result =
+    record { rule_is = c.new-2.ensures.rule; local = c.new-2.ensures.optional.1 } in
     let to-1 = rule_set _ (λ r. record r { long = Some (codes "to") }) _ _ _ to-0 c.long-2.ensures refl refl in
     let to-2 = rule_set _ (λ r. record r { value_names = 1 }) _ _ _ to-1 c.value_name-2.ensures refl refl in
     let to-3 = rule_set _ (λ r. record r { required = true }) _ _ _ to-2 c.required-2.ensures refl refl in

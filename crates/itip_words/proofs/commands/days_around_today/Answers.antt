@@ -8,17 +8,20 @@ use Rattle.itip_words.proofs.commands.days_around_today.Goals as goal
 
 pub returns : goal.returns
 returns c =
-    let from-0 : IsRule (new_rule (codes "from")) c.new.result = record { rule_is = c.new.ensures.rule; local = c.new.ensures.optional.1 } in
+    let from-0 : IsRule (new_rule (codes "from")) c.new.result =
+    record { rule_is = c.new.ensures.rule; local = c.new.ensures.optional.1 } in
     let from-1 = rule_set _ (λ r. record r { long = Some (codes "from") }) _ _ _ from-0 c.long.ensures refl refl in
     let from-2 = rule_set _ (λ r. record r { value_names = 1 }) _ _ _ from-1 c.value_name.ensures refl refl in
     let from-3 = rule_set _ (λ r. r) _ _ _ from-2 c.help-from.ensures refl refl in
     let from_is : IsRule (option (codes "from")) c.help-from.result = from-3 in
-    let to-0 : IsRule (new_rule (codes "to")) c.new-2.result = record { rule_is = c.new-2.ensures.rule; local = c.new-2.ensures.optional.1 } in
+    let to-0 : IsRule (new_rule (codes "to")) c.new-2.result =
+    record { rule_is = c.new-2.ensures.rule; local = c.new-2.ensures.optional.1 } in
     let to-1 = rule_set _ (λ r. record r { long = Some (codes "to") }) _ _ _ to-0 c.long-2.ensures refl refl in
     let to-2 = rule_set _ (λ r. record r { value_names = 1 }) _ _ _ to-1 c.value_name-2.ensures refl refl in
     let to-3 = rule_set _ (λ r. r) _ _ _ to-2 c.help-to.ensures refl refl in
     let to_is : IsRule (option (codes "to")) c.help-to.result = to-3 in
-    let today-0 : IsRule (new_rule (codes "today")) c.new-3.result = record { rule_is = c.new-3.ensures.rule; local = c.new-3.ensures.optional.1 } in
+    let today-0 : IsRule (new_rule (codes "today")) c.new-3.result =
+    record { rule_is = c.new-3.ensures.rule; local = c.new-3.ensures.optional.1 } in
     let today-1 = rule_set _ (λ r. record r { long = Some (codes "today") }) _ _ _ today-0 c.long-3.ensures refl refl in
     let today-2 = rule_set _ (λ r. record r { value_names = 1 }) _ _ _ today-1 c.value_name-3.ensures refl refl in
     let today-3 = rule_set _ (λ r. r) _ _ _ today-2 c.help-today.ensures refl refl in

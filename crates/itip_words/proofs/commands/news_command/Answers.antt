@@ -9,7 +9,8 @@ use Rattle.itip_words.proofs.commands.news_command.Goals as goal
 
 pub returns : goal.returns
 returns c =
-    let than-0 : IsRule (new_rule (codes "than")) c.new.result = record { rule_is = c.new.ensures.rule; local = c.new.ensures.optional.1 } in
+    let than-0 : IsRule (new_rule (codes "than")) c.new.result =
+    record { rule_is = c.new.ensures.rule; local = c.new.ensures.optional.1 } in
     let than-1 = rule_set _ (λ r. record r { long = Some (codes "than") }) _ _ _ than-0 c.long.ensures refl refl in
     let than-2 = rule_set _ (λ r. record r { value_names = 1 }) _ _ _ than-1 c.value_name.ensures refl refl in
     let than-3 = rule_set _ (λ r. record r { action = Some Append }) _ _ _ than-2 c.action.ensures refl refl in

@@ -8,7 +8,8 @@ use Rattle.itip_words.proofs.commands.office_command.Goals as goal
 
 pub returns : goal.returns
 returns c =
-    let workers-0 : IsRule (new_rule (codes "workers")) c.new.result = record { rule_is = c.new.ensures.rule; local = c.new.ensures.optional.1 } in
+    let workers-0 : IsRule (new_rule (codes "workers")) c.new.result =
+    record { rule_is = c.new.ensures.rule; local = c.new.ensures.optional.1 } in
     let workers-1 = rule_set _ (λ r. record r { long = Some (codes "workers") }) _ _ _ workers-0 c.long.ensures refl refl in
     let workers-2 = rule_set _ (λ r. record r { value_names = 1 }) _ _ _ workers-1 c.value_name.ensures refl refl in
     let workers-3 = rule_set _ (λ r. record r { defaults = codes "1" ∷ [] }) _ _ _ workers-2 c.default_value.ensures refl refl in
@@ -19,5 +20,6 @@ returns c =
     word_kept _ _ _ _ (word_kept _ _ _ _ fresh c.about.ensures refl refl) c.after_help.ensures refl refl in
     let desks = word_one _ c.in_ok-office.office _ desks_rule c.in_ok-office.ensures c.desks_word.ensures _ told in
     let days = word_more _ days_rules _ c.in_ok-days.field-0 desks c.in_ok-days.ensures in
-    let working = word_one _ c.in_ok-arg-2.field-0 _ (otherwise (codes "1") (option (codes "workers"))) c.in_ok-arg-2.ensures workers_is _ days in
+    let working = word_one _ c.in_ok-arg.field-0 _ (otherwise (codes "1") (option (codes "workers"))) c.in_ok-arg.ensures workers_is _
+    days in
     IfOk-weaker c.arg-3.result _ _ (λ made adds. word_one _ made _ (flag (codes "why")) adds c.why_word.ensures _ working) c.arg-3.ensures

@@ -8,13 +8,15 @@ use Rattle.itip_words.proofs.commands.reply_command.Goals as goal
 
 pub returns : goal.returns
 returns c =
-    let status-0 : IsRule (new_rule (codes "status")) c.new.result = record { rule_is = c.new.ensures.rule; local = c.new.ensures.optional.1 } in
+    let status-0 : IsRule (new_rule (codes "status")) c.new.result =
+    record { rule_is = c.new.ensures.rule; local = c.new.ensures.optional.1 } in
     let status-1 = rule_set _ (λ r. record r { long = Some (codes "status") }) _ _ _ status-0 c.long.ensures refl refl in
     let status-2 = rule_set _ (λ r. record r { value_names = 1 }) _ _ _ status-1 c.value_name.ensures refl refl in
     let status-3 = rule_set _ (λ r. record r { required = true }) _ _ _ status-2 c.required.ensures refl refl in
     let status-4 = rule_set _ (λ r. r) _ _ _ status-3 c.help-status.ensures refl refl in
     let status_is : IsRule (needed (option (codes "status"))) c.help-status.result = status-4 in
-    let percent-0 : IsRule (new_rule (codes "percent")) c.new-2.result = record { rule_is = c.new-2.ensures.rule; local = c.new-2.ensures.optional.1 } in
+    let percent-0 : IsRule (new_rule (codes "percent")) c.new-2.result =
+    record { rule_is = c.new-2.ensures.rule; local = c.new-2.ensures.optional.1 } in
     let percent-1 = rule_set _ (λ r. record r { long = Some (codes "percent") }) _ _ _ percent-0 c.long-2.ensures refl refl in
     let percent-2 = rule_set _ (λ r. record r { value_names = 1 }) _ _ _ percent-1 c.value_name-2.ensures refl refl in
     let percent-3 = rule_set _ (λ r. r) _ _ _ percent-2 c.help-percent.ensures refl refl in

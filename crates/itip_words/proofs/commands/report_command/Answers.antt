@@ -8,7 +8,8 @@ use Rattle.itip_words.proofs.commands.report_command.Goals as goal
 
 pub returns : goal.returns
 returns c =
-    let name-0 : IsRule (new_rule (codes "name")) c.new.result = record { rule_is = c.new.ensures.rule; local = c.new.ensures.optional.1 } in
+    let name-0 : IsRule (new_rule (codes "name")) c.new.result =
+    record { rule_is = c.new.ensures.rule; local = c.new.ensures.optional.1 } in
     let name-1 = rule_set _ (λ r. record r { value_names = 1 }) _ _ _ name-0 c.value_name.ensures refl refl in
     let name-2 = rule_set _ (λ r. record r { required = true }) _ _ _ name-1 c.required.ensures refl refl in
     let name-3 = rule_set _ (λ r. r) _ _ _ name-2 c.help-name.ensures refl refl in

@@ -9,4 +9,4 @@ pub returns-in-Some-clause-asked : goal.returns-in-Some-clause-asked
 returns-in-Some-clause-asked c =
     subst (λ (given : Option (List ℕ × Options)). IsAsked given c.args.clock c.in-Some.call)
     (words_read c.in_ok-command.field-0 (map string_bytes c.args.words.now) c.in-Ok.matches c.in_ok-command.ensures c.in-Ok.ensures.matches)
-    ?
+    (rw c.in-Some.is at c.in_ok-call.ensures.asked)

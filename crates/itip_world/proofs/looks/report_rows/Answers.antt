@@ -15,4 +15,5 @@ pub returns-else-is_of_rows : goal.returns-else-is_of_rows
 returns-else-is_of_rows c =
     no_rows_of_report c.args.name c.args.desk.now.kept c.args.window c.no_rows.result
     (λ of_rows. let same : true ≡ false = sym (c.is_of_rows.ensures.1 of_rows) ∙ c.if-is_of_rows.false in absurd cc)
-    (subst (λ (items : List Item). IfOk c.no_rows.result (AreAsked (λ (row : Row). ⊥) items c.args.window)) c.state.ensures c.no_rows.ensures)
+    (subst (λ (items : List Item). IfOk c.no_rows.result (AreAsked (λ (row : Row). ⊥) items c.args.window)) c.state.ensures
+    c.no_rows.ensures)

@@ -20,4 +20,5 @@ returns-in-Err c =
         λ shows. absurd (none_shows heard c.args.window c.args.address.now c.in-Err.ensures.cases.0 row there shows),
       );
     })
-    (subst (λ (items : List Item). IfOk c.no_rows.result (AreAsked (λ (row : Row). ⊥) items c.args.window)) c.state.ensures c.no_rows.ensures)
+    (subst (λ (items : List Item). IfOk c.no_rows.result (AreAsked (λ (row : Row). ⊥) items c.args.window)) c.state.ensures
+    c.no_rows.ensures)

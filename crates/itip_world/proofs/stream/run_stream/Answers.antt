@@ -20,14 +20,15 @@ returns-in_err-refused-clause-front g c =
     (g.W.Write.contents c.loop.writer) (g.W.Write.contents c.step.new.writer)) c.loop.invariant.window c.in_err-refused.ensures.front))
 
 pub returns-in_default-clause-all : goal.returns-in_default-clause-all
-returns-in_default-clause-all g c = stream_ends _ _ _ _ _ _ _ _ c.loop.invariant.so_far _ _ _ c.in_default.ensures.end
+returns-in_default-clause-all g c = stream_ends _ _ _ _ _ _ _ _ c.loop.invariant.so_far _ _ _
+    (rw c.in_default.is at c.in_ok-refused.ensures.end)
 
 pub loop-preserved : goal.loop-preserved
 loop-preserved g c = record {
   so_far = one_more _ _ _ _ _ _ _ _ c.loop.invariant.so_far _ _ _ c.in-Some.refused
       (subst (λ (w : Window). ServesOne w c.loop.served.desks.items c.step.new.self.desks.items (g.R.Read.remaining c.loop.reader)
       (g.R.Read.remaining c.step.new.reader) (g.W.Write.contents c.loop.writer) (g.W.Write.contents c.step.new.writer) c.in-Some.refused)
-      c.loop.invariant.window c.in-Some.ensures.one);
+      c.loop.invariant.window (rw c.in-Some.is at c.in_ok-refused.ensures.one));
   window = c.step.ensures.window ∙ c.loop.invariant.window;
 }
 

@@ -1,5 +1,5 @@
-use Rattle.std.proofs.Common.{refl, List, ℕ, Option, ◌+◌, ◌++◌}
-use Rattle.itip_inbox.specs.Inbox.{Placed, placed_from}
+use Rattle.std.proofs.Common.{refl, ◌+◌, ◌++◌}
+use Rattle.itip_inbox.specs.Inbox.{placed_from}
 use Rattle.itip_inbox.proofs.Hearing.{keeps_same, next_tells}
 use Rattle.itip_inbox.proofs.open_inbox.OpenInbox.take_next.Goals as goal
 

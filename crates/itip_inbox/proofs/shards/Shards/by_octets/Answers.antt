@@ -7,4 +7,4 @@ use Rattle.itip_inbox.proofs.shards.Shards.by_octets.Goals as goal
 
 pub returns : goal.returns
 returns g c = IfOk-weaker c.sorted.result _ _ (λ items are.
-    subst (λ (set : List Item). IsItemsOf _ set) (ap kept_in c.as_slice.ensures.value ∙ c.self.view_is) are) c.sorted.ensures
+    subst (λ (set : List Item). IsItemsOf items.items set) (ap kept_in c.as_slice.ensures.value ∙ c.self.view_is) are) c.sorted.ensures

@@ -1,4 +1,4 @@
-use Rattle.std.proofs.Common.{◌≡◌, ◌∙◌, ◌+◌, ◌<◌, ap, ℕ, zero, List, [], ◌∷◌, ◌++◌, arith, length}
+use Rattle.std.proofs.Common.{◌≡◌, ◌∙◌, ◌+◌, ◌<◌, ap, zero, List, [], ◌∷◌, ◌++◌, arith, length}
 use Rattle.std.proofs.lemmas.List.{length-append}
 use Rattle.itip_items.specs.declared.item.Item.{Item}
 use Rattle.itip_inbox.specs.Shards.{kept_in}
@@ -17,17 +17,17 @@ some_more shards now one is =
 
 pub loop-init : goal.loop-init
 loop-init c = record {
-  none = none_more c.new.result.items c.push.new.self.items c.empty.result (ap kept_in c.new.ensures.items) c.empty.ensures
+  none = none_more c.new-shards.result.items c.push.new.self.items c.empty.result (ap kept_in c.new-shards.ensures.items) c.empty.ensures
       c.in_ok-push.ensures.items;
-  some = some_more c.new.result.items c.push.new.self.items c.empty.result c.in_ok-push.ensures.items;
+  some = some_more c.new-shards.result.items c.push.new.self.items c.empty.result c.in_ok-push.ensures.items;
 }
 
 pub loop-preserved : goal.loop-preserved
 loop-preserved c = record {
-  none = none_more c.loop.shards.items c.push-2.new.self.items c.empty-2.result c.loop.invariant.none c.empty-2.ensures
+  none = none_more c.loop.shards.items c.push-in-loop.new.self.items c.empty-in-loop.result c.loop.invariant.none c.empty-in-loop.ensures
       c.in_ok-push-2.ensures.items;
-  some = some_more c.loop.shards.items c.push-2.new.self.items c.empty-2.result c.in_ok-push-2.ensures.items;
+  some = some_more c.loop.shards.items c.push-in-loop.new.self.items c.empty-in-loop.result c.in_ok-push-2.ensures.items;
 }
 
-pub invariant_of-shards : goal.invariant_of-shards
-invariant_of-shards c = none_sharded c.loop.shards.items c.loop.invariant.some c.loop.invariant.none
+pub invariant_of-result : goal.invariant_of-result
+invariant_of-result c = none_sharded c.loop.shards.items c.loop.invariant.some c.loop.invariant.none

@@ -12,19 +12,19 @@ one_more : (c : In_ok-is_outdone) → take (c.loop-item.item-index + 1) c.args.i
 one_more c = take_more c.args.items.now c.loop-item.item-index c.item-item.result c.loop-item-test.true ∙
     ap (λ x. take c.loop-item.item-index c.args.items.now ++ x ∷ []) (sym c.item-item.is)
 
-pub loop-item-preserved-then-is_outdone : goal.loop-item-preserved-then-is_outdone
-loop-item-preserved-then-is_outdone c =
-    let at = (goal.at.loop-item-preserved-then-is_outdone c).In_ok-is_outdone in
+pub loop-item-preserved-then-branch : goal.loop-item-preserved-then-branch
+loop-item-preserved-then-branch c =
+    let at = (goal.at.loop-item-preserved-then-branch c).In_ok-is_outdone in
     let news : List Item = map (λ item. item.now) c.loop-item.news.items in
     subst (λ (xs : List Item). AreNews c.args.self.now xs news) (sym (one_more at))
     (nothing_new c.args.self.now (take c.loop-item.item-index c.args.items.now) news c.item-item.result
-    (c.in_ok-is_outdone.ensures.0 c.if-is_outdone.true) c.loop-item.invariant)
+    (c.in_ok-is_outdone.ensures.0 c.if-branch.true) c.loop-item.invariant)
 
 pub loop-item-preserved : goal.loop-item-preserved
 loop-item-preserved c =
     let at = (goal.at.loop-item-preserved c).In_ok-is_outdone in
     let new : ¬ IsOutdone c.args.self.now c.item-item.result = λ old.
-    let x : true ≡ false = sym (c.in_ok-is_outdone.ensures.1 old) ∙ c.if-is_outdone.false in cc in
+    let x : true ≡ false = sym (c.in_ok-is_outdone.ensures.1 old) ∙ c.if-branch.false in cc in
     let news : List Item = map (λ item. item.now) c.loop-item.news.items in
     let pushed : map (λ item. item.now) c.push.new.self.items ≡ news ++ c.item-item.result ∷ [] =
     ap (map (λ item. item.now)) c.in_ok-push.ensures.items ∙ map-append (λ item. item.now) c.loop-item.news.items _ in

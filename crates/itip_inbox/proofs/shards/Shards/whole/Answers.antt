@@ -22,7 +22,7 @@ moved all before last behind whole is was =
 pub returns-in_default : goal.returns-in_default
 returns-in_default c =
     let none : kept_in c.self.inside.shards.items ≡ [] =
-    ap kept_in (nil_from_length c.self.inside.shards.items (omega (arith, c.in_default.ensures.cases.0))) in
+    ap kept_in (nil_from_length c.self.inside.shards.items (omega (arith, c.in_default.ensures.cases.0, c.self.inside.shards.ok.0))) in
     are_none c.empty.result c.args.self c.empty.ensures (sym c.self.view_is ∙ none)
 
 pub loop-shard-init : goal.loop-shard-init
@@ -34,16 +34,16 @@ loop-shard-init c = record {
 
 pub loop-shard-preserved : goal.loop-shard-preserved
 loop-shard-preserved c = record {
-  behind = c.in-Some-2.shard.state ++ c.loop-shard.invariant.behind;
-  keeps = merged_one c.loop-shard.whole c.merge.new.self c.loop-shard.invariant.behind c.in-Some-2.shard.state
+  behind = c.in-Some-pop.shard.state ++ c.loop-shard.invariant.behind;
+  keeps = merged_one c.loop-shard.whole c.merge.new.self c.loop-shard.invariant.behind c.in-Some-pop.shard.state
       c.loop-shard.invariant.keeps c.in_ok-merge.ensures.ok;
-  all = moved c.loop-shard.shards.items c.pop-2.new.self.items c.in-Some-2.shard c.loop-shard.invariant.behind c.args.self
-      c.in-Some-2.ensures.items c.loop-shard.invariant.all;
+  all = moved c.loop-shard.shards.items c.pop-in-loop-shard.new.self.items c.in-Some-pop.shard c.loop-shard.invariant.behind c.args.self
+      c.in-Some-pop.ensures.items c.loop-shard.invariant.all;
 }
 
 pub returns : goal.returns
 returns c =
     let none : kept_in c.loop-shard.shards.items ≡ [] =
-    ap kept_in (nil_from_length c.loop-shard.shards.items (omega (arith, c.in_default-2.ensures.cases.0))) in
+    ap kept_in (nil_from_length c.loop-shard.shards.items (omega (arith, c.in_default-pop.ensures.cases.0, c.loop-shard.shards.ok.0))) in
     subst (λ (all : List Item). AreKept c.loop-shard.whole all)
     (ap (λ (t : List Item). t ++ c.loop-shard.invariant.behind) (sym none) ∙ c.loop-shard.invariant.all) c.loop-shard.invariant.keeps

@@ -1,6 +1,6 @@
-use Rattle.std.proofs.Common.{◌≡◌, List, ◌++◌}
+use Rattle.std.proofs.Common.{◌≡◌, List, ◌++◌, vec_len}
 use Rattle.itip_items.specs.declared.item.Item.{Item}
-use Rattle.itip_state.specs.Kept.{AreKept, SameItems}
+use Rattle.itip_state.specs.Kept.{AreKept}
 use Rattle.itip_inbox.specs.Shards.{kept_in}
 use Rattle.itip_inbox.proofs.shards.Shards.whole.Given as goal
 
@@ -13,4 +13,4 @@ invariant-loop-shard l = record {
 }
 
 abbrev pub decreases-loop-shard : goal.decreases-loop-shard
-decreases-loop-shard l = goal.left-loop-shard l
+decreases-loop-shard l = vec_len l.shards

@@ -11,4 +11,4 @@ returns-clause-tells c = λ about kept source first texts tells.
     (c.in_ok-refusals.ensures.later ∙
     ap (λ (refusals : List RefusedMessage). map (later_refusal c.args.count) refusals) c.as_slice.ensures.value)
     (c.in_ok-later.ensures.later ∙
-    ap (λ (told : List ToldItem). map (later_told c.args.count) told) (ap (λ v. v.items) c.replace.ensures.value)) tells
+    ap (λ (told : List ToldItem). map (later_told c.args.count) told) (ap (λ v. v.items) c.replace-told.ensures.value)) tells

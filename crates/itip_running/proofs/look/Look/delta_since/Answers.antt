@@ -9,4 +9,4 @@ returns-in-Ok-clause-delta c =
     let same : batches_of c.close-end.result.front.seen.log ≡ batches_of c.args.self.front.seen.log =
     ap (λ s. batches_of s.log) c.close-end.ensures in
     subst (λ (l : List Items). IsDeltaAfter l c.args.tick c.in-Ok.delta) (sym same)
-    (delta_after (batches_of c.args.self.front.seen.log) c.desk.result.now c.args.tick c.in-Ok.delta c.in-Ok.ensures c.desk.ensures)
+    (delta_after (batches_of c.args.self.front.seen.log) c.desk.result.now c.args.tick c.in-Ok.delta c.in-Ok.ensures.delta c.desk.ensures)

@@ -1,4 +1,5 @@
-use Rattle.std.proofs.Common.{rules, ◌≡◌, List, [], ◌∷◌, ap, sym, subst}
+use Rattle.std.proofs.Common.{◌≡◌, List, [], ◌∷◌, ap, sym, subst}
+use Rattle.itip_items.specs.declared.item.Item.{Item}
 use Rattle.itip_state.specs.Kept.{ArePartOf}
 use Rattle.itip_desk.specs.Heard.{heard}
 use Rattle.itip_running.specs.History.{Items, batches_of}
@@ -13,6 +14,7 @@ returns-in-Ok-clause-items c =
     let uid = c.args.uid.now in
     let items = c.in-Ok.items.items in
     let kept = c.desk.result.now.kept in
-    let of : ArePartOf items kept (uid ∷ []) = search rules in
+    let of : ArePartOf items kept (uid ∷ []) =
+    subst (λ (k : List Item). ArePartOf items k (uid ∷ [])) c.state.ensures c.in-Ok.ensures.part in
     subst (λ (l : List Items). AreKeptOf uid items (heard l)) (sym same)
     (part_of_one uid items kept (heard (batches_of c.args.self.front.seen.log)) c.desk.ensures.kept of)

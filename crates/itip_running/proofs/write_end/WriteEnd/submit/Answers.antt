@@ -7,8 +7,8 @@ use Rattle.itip_running.proofs.Groups.{whole_more}
 use Rattle.itip_running.proofs.Ties.{takes_take}
 use Rattle.itip_running.proofs.write_end.WriteEnd.submit.Goals as goal
 
-pub invariant_of-self : goal.invariant_of-self
-invariant_of-self c =
+pub invariant_of-self-2 : goal.invariant_of-self-2
+invariant_of-self-2 c =
     let w = c.append.new.self in
     let k = c.args.self.now in
     let o = k.writer in

@@ -10,12 +10,14 @@ use Rattle.itip_world.proofs.served.Served.arrive.Goals as goal
 
 pub returns-in-Whole-clause-serves : goal.returns-in-Whole-clause-serves
 returns-in-Whole-clause-serves c =
-    subst (λ (octets : List ℕ). IfOk c.arrive_octets.result (λ answer. (window : Window) →
+    rw c.in-Whole.is
+    (subst (λ (octets : List ℕ). IfOk c.arrive_octets.result (λ answer. (window : Window) →
     Serves window c.args.self.now.desks.items (arrive c.args.desk (whole octets)) (Some (answer_of answer))
-    c.arrive_octets.new.self.desks.items)) c.as_slice.ensures.value c.arrive_octets.ensures.serves
+    c.arrive_octets.new.self.desks.items)) c.as_slice.ensures.value c.arrive_octets.ensures.serves)
 
 pub returns-in-Long-clause-serves : goal.returns-in-Long-clause-serves
-returns-in-Long-clause-serves c = λ window. long_arrived c.args.self.now.desks.items c.args.desk window _ c.refused_at.ensures
+returns-in-Long-clause-serves c =
+    rw c.in-Long.is (λ window. long_arrived c.args.self.now.desks.items c.args.desk window _ c.refused_at.ensures)
 
 pub returns-in-Cut-clause-serves : goal.returns-in-Cut-clause-serves
-returns-in-Cut-clause-serves c = λ window. cut_delta c.args.desk
+returns-in-Cut-clause-serves c = rw c.in-Cut.is (λ window. cut_delta c.args.desk)

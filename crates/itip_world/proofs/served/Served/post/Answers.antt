@@ -15,5 +15,5 @@ returns-clause-serves c = λ window.
     let batch : List Item = c.in_ok-batch.batch in
     let there = subst (λ (desks : List Shown). slice_get desks c.args.desk ≡ Some c.in-Some.asked.now) c.look-look.ensures.desks
     c.in-Some.ensures in
-    let reply = posts_delta c.args.desk c.args.since c.in-Some.asked.now batch there c.in_ok-batch.ensures in
+    let reply = posts_delta c.args.desk c.args.since c.in-Some.asked.now batch there c.in_ok-batch.ensures.delta in
     rw (c.tick.ensures, c.as_slice.ensures.items, c.in_ok-octets.ensures.octets) reply

@@ -18,8 +18,10 @@ returns-in_default-clause-end g c = record {
 pub returns-in_err-refused-clause-front : goal.returns-in_err-refused-clause-front
 returns-in_err-refused-clause-front g c =
     on_err c.from_residual-in_err-refused.result
-    (serves_front _ _ _ _ _ _ _ _ c.in_ok-found.ensures.reads (rw c.as_deref.ensures.value at c.in-Some.ensures.asks) _ c.in_err-refused.ensures.front)
+    (serves_front _ _ _ _ _ _ _ _ c.in_ok-found.ensures.reads (rw c.as_deref.ensures.value at c.in-Some.ensures.asks) _
+    c.in_err-refused.ensures.front)
 
 pub returns-clause-one : goal.returns-clause-one
 returns-clause-one g c =
-    serves_one _ _ _ _ _ _ _ _ c.in_ok-found.ensures.reads (rw c.as_deref.ensures.value at c.in-Some.ensures.asks) _ _ c.in_ok-refused.refused c.in_ok-refused.ensures.one
+    serves_one _ _ _ _ _ _ _ _ c.in_ok-found.ensures.reads (rw c.as_deref.ensures.value at c.in-Some.ensures.asks) _ _
+    c.in_ok-refused.refused c.in_ok-refused.ensures.one
