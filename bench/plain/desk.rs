@@ -3,6 +3,7 @@
 use crate::moment::Moment;
 use crate::text::{Item, Kind};
 use std::collections::{BTreeMap, BTreeSet};
+use std::ops::Deref;
 use std::rc::Rc;
 
 #[derive(Clone, Debug, PartialEq, Eq, PartialOrd, Ord)]
@@ -12,9 +13,10 @@ pub enum Key {
     Answer(Option<Moment>, String),
 }
 
-#[derive(Clone, Default)]
-pub struct Desk {
-    pub uids: BTreeMap<String, BTreeMap<Key, Rc<Item>>>,
+/// Items are shared by `Rc`, or by `Arc` where threads take them.
+#[derive(Clone)]
+pub struct Desk<P = Rc<Item>> {
+    pub uids: BTreeMap<String, BTreeMap<Key, P>>,
     /// The tick of each UID's last change, and the UIDs in the order of their ticks.
     ticks: BTreeMap<String, u64>,
     moved: BTreeSet<(u64, String)>,
@@ -33,9 +35,15 @@ fn is_later(item: &Item, held: &Item) -> bool {
     (item.todo.sequence, item.todo.stamp, &item.octets) > (held.todo.sequence, held.todo.stamp, &held.octets)
 }
 
-impl Desk {
+impl<P> Default for Desk<P> {
+    fn default() -> Desk<P> {
+        Desk { uids: BTreeMap::new(), ticks: BTreeMap::new(), moved: BTreeSet::new(), tick: 0 }
+    }
+}
+
+impl<P: Deref<Target = Item> + Clone> Desk<P> {
     /// Keeps an item where it is the best of its key; whether it is news.
-    fn keep(&mut self, item: &Rc<Item>) -> bool {
+    fn keep(&mut self, item: &P) -> bool {
         if !self.uids.contains_key(&item.todo.uid) {
             self.uids.insert(item.todo.uid.clone(), BTreeMap::new());
         }
@@ -48,14 +56,14 @@ impl Desk {
         match items.get(&key) {
             Some(held) if !is_later(item, held) => false,
             _ => {
-                items.insert(key, Rc::clone(item));
+                items.insert(key, item.clone());
                 true
             }
         }
     }
 
     /// How many UIDs a batch changes.
-    pub fn take(&mut self, batch: &[Rc<Item>]) -> usize {
+    pub fn take(&mut self, batch: &[P]) -> usize {
         let mut changed = BTreeSet::new();
         for item in batch {
             if self.keep(item) {
@@ -75,7 +83,7 @@ impl Desk {
         count
     }
 
-    pub fn merge(&mut self, other: &Desk) {
+    pub fn merge(&mut self, other: &Desk<P>) {
         for items in other.uids.values() {
             for item in items.values() {
                 self.keep(item);
@@ -88,7 +96,7 @@ impl Desk {
     }
 
     /// The items of the UIDs that changed since a tick.
-    pub fn since(&self, tick: u64) -> Vec<Rc<Item>> {
+    pub fn since(&self, tick: u64) -> Vec<P> {
         let mut uids: Vec<&String> = self.moved.range((tick + 1, String::new())..).map(|(_, uid)| uid).collect();
         uids.sort();
         uids.into_iter().flat_map(|uid| self.uids[uid].values().cloned()).collect()

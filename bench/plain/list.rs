@@ -6,9 +6,9 @@ use crate::recur::{Rule, Series, occurrences, read_rule};
 use crate::text::{Item, Kind, Todo};
 use std::collections::BTreeMap;
 use std::fmt::Write;
-use std::rc::Rc;
+use std::ops::Deref;
 
-type Items = BTreeMap<Key, Rc<Item>>;
+type Items<P> = BTreeMap<Key, P>;
 
 enum Shape {
     Single,
@@ -59,7 +59,7 @@ enum Id<'a> {
     At(&'a Moment),
 }
 
-fn row(items: &Items, todo: &Todo, id: &Id, occurrence: Option<&Moment>, out: &mut String) {
+fn row<P: Deref<Target = Item>>(items: &Items<P>, todo: &Todo, id: &Id, occurrence: Option<&Moment>, out: &mut String) {
     let _ = write!(out, "TODO {}\n  ID ", todo.uid);
     match id {
         Id::Whole => out.push('-'),
@@ -82,11 +82,11 @@ fn row(items: &Items, todo: &Todo, id: &Id, occurrence: Option<&Moment>, out: &m
     attendees(items, todo, id, out);
 }
 
-fn attendees(items: &Items, todo: &Todo, id: &Id, out: &mut String) {
+fn attendees<P: Deref<Target = Item>>(items: &Items<P>, todo: &Todo, id: &Id, out: &mut String) {
     let (mut told, mut percents) = (0u32, 0u32);
     for line in &todo.attendees {
         let address = line.value.to_ascii_lowercase();
-        let counts = |it: &&Rc<Item>| it.todo.sequence >= todo.sequence;
+        let counts = |it: &&P| it.todo.sequence >= todo.sequence;
         let at = match id {
             Id::At(moment) => items.get(&Key::Answer(Some((*moment).clone()), address.clone())).filter(counts),
             _ => None,
@@ -107,13 +107,13 @@ fn attendees(items: &Items, todo: &Todo, id: &Id, out: &mut String) {
 }
 
 /// The text of the list, and how many rows it has.
-pub fn list(desk: &Desk, from: i32, to: i32) -> (String, usize) {
+pub fn list<P: Deref<Target = Item>>(desk: &Desk<P>, from: i32, to: i32) -> (String, usize) {
     let (mut out, mut rows) = (String::new(), 0);
     for items in desk.uids.values() {
         let series = items.get(&Key::Series);
         let least = series.filter(|it| it.kind == Kind::State).map_or(0, |it| it.todo.sequence);
         let standing = |moment: &Moment| items.get(&Key::Instance(moment.clone())).filter(|it| it.todo.sequence >= least);
-        let mut found: Vec<(Moment, Option<&Rc<Item>>)> = Vec::new();
+        let mut found: Vec<(Moment, Option<&P>)> = Vec::new();
         if let Some(item) = series.filter(|it| it.kind == Kind::State) {
             match shape(&item.todo) {
                 Shape::Repeats(series) => found.extend(occurrences(&series, from, to).into_iter().filter(|it| standing(it).is_none()).map(|it| (it, None))),

@@ -1,12 +1,14 @@
 //! A plain program that does what the benchmark does, for its times to be held against.
 //!
-//! The words are a topic and a size, as of the benchmark, or `run` for a script on standard input. It knows as much of a
-//! message as these need. It prints the lines that the benchmark prints.
+//! The words are a topic and a size, as of the benchmark; `run` for a script on standard input; `office`, the numbers of desks and of
+//! workers and the days of a window, for jobs on standard input; or `compact`, a number of threads and the names of sources. It knows as much of a message as these need. It prints the lines that the benchmark prints.
 
+mod compact;
 mod desk;
 mod list;
 mod load;
 mod moment;
+mod office;
 mod recur;
 mod text;
 
@@ -155,6 +157,8 @@ fn main() {
         Some("desks") => desks(size),
         Some("lists") => lists(size),
         Some("run") => run().expect("standard input and output"),
-        _ => eprintln!("the words are a topic and a size, or run"),
+        Some("office") => office::office(size as usize, &words[2..]).expect("jobs on standard input, and standard output"),
+        Some("compact") => compact::compact((size as usize).max(1), words[2..].to_vec()).expect("sources and standard output"),
+        _ => eprintln!("the words are a topic and a size, run, office, or compact"),
     }
 }

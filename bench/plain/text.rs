@@ -79,7 +79,7 @@ pub fn read_line(text: &str) -> Option<Line> {
 }
 
 /// Writes a line folded after at most 75 octets.
-fn write_text(line: &str, out: &mut String) {
+pub fn write_text(line: &str, out: &mut String) {
     let mut rest = line;
     let mut room = 75;
     while rest.len() > room {

@@ -12,7 +12,7 @@ Argument = namedtuple("Argument", "value is_many text")
 # A program: its name and version, its own help, and that of each of its words.
 Program = namedtuple("Program", "name version help words")
 
-OPTION = re.compile(r"(?:-(\w), )?--([a-z][a-z-]*)(?: <([A-Z]+)>)?")
+OPTION = re.compile(r"(?:-(\w), )?--([a-z][a-z-]*)(?: <([A-Z]+(?:=[A-Z]+)?)>)?")
 ARGUMENT = re.compile(r"[<\[]([A-Z]+)[>\]](\.\.\.)?")
 WORD = re.compile(r"[a-z][a-z-]*")
 # An entry of a list: what it names, and what it says of that. A line that begins further in goes on with the last one.

@@ -14,7 +14,7 @@ TOP = os.path.dirname(os.path.dirname(os.path.dirname(os.path.abspath(__file__))
 TEXTS = ("src", "specs", "proofs")
 PARTS = (*TEXTS, "args", "stdin", "stdout", "status")
 # Where programs stand that no landing proves: their text ends in `.rs`, and `crate.txt` has their line.
-UNPROVED = ("bench", "tools")
+UNPROVED = ("bench", "tools", "examples")
 
 # `line` is the crate's line of crates.txt, and `needs` the crates of this repository that it names.
 Crate = namedtuple("Crate", "name line needs folder")

@@ -47,6 +47,12 @@ def files_of(word):
     return found
 
 
+def cut(word):
+    """What stands before the name of a file in a word, as in `0=desk.ics`, and the name."""
+    desk, sign, name = word.partition("=")
+    return (desk + sign, name) if desk.isdigit() and name else ("", word)
+
+
 def read(path):
     with open(path, "rb") as file:
         return file.read()
@@ -63,12 +69,16 @@ def asked(words, given):
     """The name of a case, the text of its words as the quick build gets them, and the octets of its files by their names."""
     if not all(it.isprintable() and it.partition("=")[0] != "--output" and not it.startswith("--than=") for it in words):
         raise NoCase
-    named = [files_of(it) for it in words]
+    # What a stream saves is left behind.
+    if "--stream" in words and b"!save " in given:
+        raise NoCase
+    parts = [cut(it) for it in words]
+    named = [files_of(it) for _, it in parts]
     files = {it: read(it) for found in named for it in found}
     sum_of_all = hashlib.sha256(repr((words, sorted(files.items()))).encode())
     sum_of_all.update(given)
     name = sum_of_all.hexdigest()[:24]
-    text = "".join(f"{name}/{word}\n" if found else f"{word}\n" for word, found in zip(words, named))
+    text = "".join(f"{front}{name}/{word}\n" if found else f"{front}{word}\n" for (front, word), found in zip(parts, named))
     return name, text.encode(), files
 
 

@@ -3,7 +3,8 @@
 use crate::error::BenchError;
 use crate::load::{Numbers, SEED, message, to_do};
 use crate::watch::{micros, now};
-use itip_message::{read_all, read_message};
+use itip_message::read_message;
+use itip_reading::read_all;
 use std::alloc::{AllocError, Global};
 use std::rt::Clock;
 use std::thread::Threads;

@@ -1,10 +1,18 @@
 //! The words that read messages: their sources, and what comes of them.
+ghost use Rattle.std.specs.Prelude.{◌≡◌, ℕ, List, [], Some, None, IfOk, IfSome};
+ghost use Rattle.itip_inbox.specs.Inbox.{AreInputs};
+ghost use Rattle.itip_inbox.specs.Compaction.{IsCompaction};
+ghost use Rattle.itip_inbox.specs.News.{IsNews};
+ghost use Rattle.itip_inbox.specs.Reports.{IsReport};
+ghost use Rattle.itip_app.specs.Status.{status_refused, status_done, status_filtered};
+ghost use Rattle.itip_app.specs.Filtered.{octets_in, Writes, WritesList, WritesExplanation, WritesMessage, Filters};
+
 use crate::draft::{Draft, draft_of};
 use crate::run::{FAULT, Terminals};
 use crate::tell::{Teller, complain, complain_of, complain_refused, warn};
 use itip_inbox::{
-    Explained, ListForm, Notation, PageList, Sent, TextList, Watch, compact, explain, list,
-    list_records, news, read_sources, report, send,
+    CsvList, Explained, JsonList, ListForm, PageList, Sent, TextList, Watch, compact, explain,
+    list, news, read_sources, report, send,
 };
 use itip_message::MessageRefusal;
 use itip_moment::Stamp;
@@ -85,9 +93,21 @@ pub(crate) fn filtered<R: AllocGlobal + Input + Print + Eprint + Files + Threads
     let mut teller = Teller::new(rt, &named, filter, terminals.errors);
     let done = filter_sources(rt, &named, filter, &draft, terminals.output, &mut teller);
     teller.show_progress();
+    status_of(rt, filter, done, named.at(teller.opened()))
+}
+
+/// Says what came of a filter, and gives the status. `last` is the source that was opened last.
+fn status_of<R: AllocGlobal + Eprint>(
+    rt: &R,
+    filter: &Filter,
+    done: Result<Outcome, StreamFault>,
+    last: Option<&SourceName>,
+) -> u8
+    ensures { result ≡ status_filtered done }
+{
     match done {
         Ok(outcome) => told(rt, &outcome, filter.intake.why),
-        Err(StreamFault::Read) => complain_unread(rt, named.at(teller.opened())),
+        Err(StreamFault::Read) => complain_unread(rt, last),
         Err(StreamFault::Write) => complain_unwritten(rt, &filter.written),
         Err(fault) => complain(rt, &fault, FAULT),
     }
@@ -149,10 +169,35 @@ fn filter_sources<R: AllocGlobal + Input + Print + Files + Threads + Copy + Sync
     }
     if is_terminal {
         let mut writer = TerminalWriter::new(rt.alloc(), io::writer(rt));
-        return write_filtered(rt, named, filter, draft, &mut writer, watch);
+        return filter_to(rt, named, filter, draft, &mut writer, watch);
     }
     let mut writer = io::writer(rt);
-    write_filtered(rt, named, filter, draft, &mut writer, watch)
+    filter_to(rt, named, filter, draft, &mut writer, watch)
+}
+
+fn filter_to<R: AllocGlobal + Input + Files + Threads + Sync, W: io::Write, S: Watch>(
+    rt: &R,
+    named: &Named,
+    filter: &Filter,
+    draft: &Draft,
+    writer: &mut W,
+    watch: &mut S,
+) -> Result<Outcome, StreamFault> {
+    let threads = threads(rt, filter.intake.threads);
+    let names = named.heard.as_slice();
+    let than = sources_of(rt, named.than.as_slice())?;
+    let sources = sources_of(rt, names)?;
+    write_filtered(
+        rt,
+        than,
+        sources,
+        names,
+        &filter.written,
+        draft,
+        writer,
+        threads,
+        watch,
+    )
 }
 
 /// Replaces a file with what is kept.
@@ -170,34 +215,64 @@ fn replace<R: AllocGlobal + Input + Files + Threads + Copy + Sync, S: Watch>(
     done_with(rt, writer.end(done)?)
 }
 
-fn write_filtered<R: AllocGlobal + Input + Files + Threads + Sync, W: io::Write, S: Watch>(
+/// Writes what is asked for of sources, which have these names, beside those that they are compared with.
+fn write_filtered<R: AllocGlobal + Threads + Sync, I: io::Read + Drop, W: io::Write, S: Watch>(
     rt: &R,
-    named: &Named,
-    filter: &Filter,
+    than: Vec<I>,
+    sources: Vec<I>,
+    names: &[SourceName],
+    written: &Written,
     draft: &Draft,
     writer: &mut W,
+    threads: usize,
     watch: &mut S,
-) -> Result<Outcome, StreamFault> {
-    let alloc = rt.alloc();
-    let threads = threads(rt, filter.intake.threads);
-    let sources = sources_of(rt, named.heard.as_slice())?;
-    match &filter.written {
-        Written::Compaction { .. } => {
-            done_with(rt, compact(rt, alloc, sources, writer, threads, watch)?)
-        }
+) -> Result<Outcome, StreamFault>
+    ensures { IfOk result (λ outcome. (known inputs : List (List ℕ)) →
+        AreInputs I.remaining than.items known → AreInputs I.remaining sources.items inputs →
+        Filters written.now draft.now names.now known inputs (W.contents writer.old) (W.contents writer.new) outcome) }
+{
+    match written {
+        Written::Compaction { .. } => write_compaction(rt, sources, writer, threads, watch),
         Written::List(asked) => write_list(rt, sources, writer, asked, threads, watch),
         Written::Report(asked) => write_report(rt, sources, writer, asked, threads, watch),
-        Written::News { .. } => {
-            let than = sources_of(rt, named.than.as_slice())?;
-            done_with(rt, news(rt, alloc, than, sources, writer, threads, watch)?)
-        }
+        Written::News { .. } => write_news(rt, than, sources, writer, threads, watch),
         Written::Explanation { uid } => {
-            write_explanation(rt, named, sources, writer, uid, threads, watch)
+            write_explanation(rt, names, sources, writer, uid, threads, watch)
         }
         Written::Message { asked, at } => {
             write_message(rt, draft, sources, writer, asked, *at, threads, watch)
         }
     }
+}
+
+fn write_compaction<R: AllocGlobal + Threads + Sync, I: io::Read + Drop, W: io::Write, S: Watch>(
+    rt: &R,
+    sources: Vec<I>,
+    writer: &mut W,
+    threads: usize,
+    watch: &mut S,
+) -> Result<Outcome, StreamFault>
+    ensures { IfOk result (λ outcome. (inputs : List (List ℕ)) → AreInputs I.remaining sources.items inputs →
+        Writes (IsCompaction inputs) (W.contents writer.old) (W.contents writer.new) outcome) }
+{
+    let done = compact(rt, rt.alloc(), sources, writer, threads, watch)?;
+    done_with(rt, done)
+}
+
+fn write_news<R: AllocGlobal + Threads + Sync, I: io::Read + Drop, W: io::Write, S: Watch>(
+    rt: &R,
+    than: Vec<I>,
+    sources: Vec<I>,
+    writer: &mut W,
+    threads: usize,
+    watch: &mut S,
+) -> Result<Outcome, StreamFault>
+    ensures { IfOk result (λ outcome. (known inputs : List (List ℕ)) →
+        AreInputs I.remaining than.items known → AreInputs I.remaining sources.items inputs →
+        Writes (IsNews known inputs) (W.contents writer.old) (W.contents writer.new) outcome) }
+{
+    let done = news(rt, rt.alloc(), than, sources, writer, threads, watch)?;
+    done_with(rt, done)
 }
 
 fn write_list<R: AllocGlobal + Threads + Sync, I: io::Read + Drop, W: io::Write, S: Watch>(
@@ -207,15 +282,18 @@ fn write_list<R: AllocGlobal + Threads + Sync, I: io::Read + Drop, W: io::Write,
     asked: &Listing,
     threads: usize,
     watch: &mut S,
-) -> Result<Outcome, StreamFault> {
+) -> Result<Outcome, StreamFault>
+    ensures { IfOk result (λ outcome. (inputs : List (List ℕ)) → AreInputs I.remaining sources.items inputs →
+        WritesList (octets_in asked.now.format) asked.now inputs (W.contents writer.old) (W.contents writer.new) outcome) }
+{
     match asked.format {
         Format::Text => write_form(rt, sources, writer, asked, &TextList, threads, watch),
         Format::Html(today) => {
             let page = PageList { today };
             write_form(rt, sources, writer, asked, &page, threads, watch)
         }
-        Format::Csv => write_records(rt, sources, writer, asked, Notation::Csv, threads, watch),
-        Format::Json => write_records(rt, sources, writer, asked, Notation::Json, threads, watch),
+        Format::Csv => write_form(rt, sources, writer, asked, &CsvList, threads, watch),
+        Format::Json => write_form(rt, sources, writer, asked, &JsonList, threads, watch),
     }
 }
 
@@ -233,38 +311,19 @@ fn write_form<
     form: &F,
     threads: usize,
     watch: &mut S,
-) -> Result<Outcome, StreamFault> {
+) -> Result<Outcome, StreamFault>
+    ensures { IfOk result (λ outcome. (inputs : List (List ℕ)) → AreInputs I.remaining sources.items inputs →
+        WritesList (F.octets form.now) asked.now inputs (W.contents writer.old) (W.contents writer.new) outcome) }
+{
+    let wanted = asked.wanted();
     let done = list(
         rt,
         rt.alloc(),
         sources,
         writer,
         asked.window,
-        &asked.wanted(),
+        &wanted,
         form,
-        threads,
-        watch,
-    )?;
-    done_with(rt, done)
-}
-
-fn write_records<R: AllocGlobal + Threads + Sync, I: io::Read + Drop, W: io::Write, S: Watch>(
-    rt: &R,
-    sources: Vec<I>,
-    writer: &mut W,
-    asked: &Listing,
-    notation: Notation,
-    threads: usize,
-    watch: &mut S,
-) -> Result<Outcome, StreamFault> {
-    let done = list_records(
-        rt,
-        rt.alloc(),
-        sources,
-        writer,
-        asked.window,
-        &asked.wanted(),
-        notation,
         threads,
         watch,
     )?;
@@ -278,7 +337,10 @@ fn write_report<R: AllocGlobal + Threads + Sync, I: io::Read + Drop, W: io::Writ
     asked: &Reported,
     threads: usize,
     watch: &mut S,
-) -> Result<Outcome, StreamFault> {
+) -> Result<Outcome, StreamFault>
+    ensures { IfOk result (λ outcome. (inputs : List (List ℕ)) → AreInputs I.remaining sources.items inputs →
+        Writes (IsReport asked.now.name inputs asked.now.window) (W.contents writer.old) (W.contents writer.new) outcome) }
+{
     let done = report(
         rt,
         rt.alloc(),
@@ -294,14 +356,16 @@ fn write_report<R: AllocGlobal + Threads + Sync, I: io::Read + Drop, W: io::Writ
 
 fn write_explanation<R: AllocGlobal + Threads + Sync, I: io::Read + Drop, W: io::Write, S: Watch>(
     rt: &R,
-    named: &Named,
+    names: &[SourceName],
     sources: Vec<I>,
     writer: &mut W,
     uid: &Uid,
     threads: usize,
     watch: &mut S,
-) -> Result<Outcome, StreamFault> {
-    let names = named.heard.as_slice();
+) -> Result<Outcome, StreamFault>
+    ensures { IfOk result (λ outcome. (inputs : List (List ℕ)) → AreInputs I.remaining sources.items inputs →
+        WritesExplanation uid.now names.now inputs (W.contents writer.old) (W.contents writer.new) outcome) }
+{
     match explain(rt, rt.alloc(), sources, names, uid, writer, threads, watch)? {
         Explained::Told { is_refused } => done_with(rt, is_refused),
         Explained::Unknown => nothing_done(rt, Undone::Unknown),
@@ -318,7 +382,10 @@ fn write_message<R: AllocGlobal + Threads + Sync, I: io::Read + Drop, W: io::Wri
     at: Stamp,
     threads: usize,
     watch: &mut S,
-) -> Result<Outcome, StreamFault> {
+) -> Result<Outcome, StreamFault>
+    ensures { IfOk result (λ outcome. (inputs : List (List ℕ)) → AreInputs I.remaining sources.items inputs →
+        WritesMessage draft.now.refusal asked.now draft.now.todos.items at inputs (W.contents writer.old) (W.contents writer.new) outcome) }
+{
     if let Some(refusal) = draft.refusal {
         hear_only(rt, sources, threads, watch)?;
         return nothing_done(rt, Undone::Draft(refusal));
@@ -351,7 +418,11 @@ fn hear_only<R: AllocGlobal + Threads + Sync, I: io::Read + Drop, S: Watch>(
     Ok(())
 }
 
-fn done_with<R: AllocGlobal>(rt: &R, is_refused: bool) -> Result<Outcome, StreamFault> {
+fn done_with<R: AllocGlobal>(rt: &R, is_refused: bool) -> Result<Outcome, StreamFault>
+    ensures refused { IfOk result (λ outcome. outcome.is_refused ≡ is_refused) }
+    ensures whole { IfOk result (λ outcome. outcome.lacking.items ≡ []) }
+    ensures is_done { IfOk result (λ outcome. outcome.undone ≡ None) }
+{
     Ok(Outcome {
         is_refused,
         lacking: Vec::new(rt.alloc()),
@@ -359,7 +430,9 @@ fn done_with<R: AllocGlobal>(rt: &R, is_refused: bool) -> Result<Outcome, Stream
     })
 }
 
-fn nothing_done<R: AllocGlobal>(rt: &R, why: Undone) -> Result<Outcome, StreamFault> {
+fn nothing_done<R: AllocGlobal>(rt: &R, why: Undone) -> Result<Outcome, StreamFault>
+    ensures { IfOk result (λ outcome. outcome.undone ≡ Some why) }
+{
     Ok(Outcome {
         is_refused: false,
         lacking: Vec::new(rt.alloc()),
@@ -367,7 +440,9 @@ fn nothing_done<R: AllocGlobal>(rt: &R, why: Undone) -> Result<Outcome, StreamFa
     })
 }
 
-fn threads<R: Threads>(rt: &R, asked: Option<u64>) -> usize {
+fn threads<R: Threads>(rt: &R, asked: Option<u64>) -> usize
+    ensures { IfSome asked (λ threads. result ≡ threads) }
+{
     match asked {
         Some(threads) => threads as usize,
         None => current_num_threads(rt).min(MAX_THREADS as usize),
@@ -375,15 +450,26 @@ fn threads<R: Threads>(rt: &R, asked: Option<u64>) -> usize {
 }
 
 /// Says what a message lacks, or why nothing was written, and gives the status.
-fn told<R: Eprint>(rt: &R, outcome: &Outcome, why: bool) -> u8 {
+fn told<R: Eprint>(rt: &R, outcome: &Outcome, why: bool) -> u8
+    ensures { result ≡ status_done outcome.now.undone outcome.now.is_refused }
+{
     if let Some(undone) = outcome.undone {
         return complain_undone(rt, undone, why);
     }
     warn(rt, outcome.lacking.as_slice());
-    u8::from(outcome.is_refused)
+    refused_status(outcome.is_refused)
 }
 
-fn complain_undone<R: Eprint>(rt: &R, undone: Undone, why: bool) -> u8 {
+/// The status of what was done: 1 where something was refused.
+pub(crate) fn refused_status(is_refused: bool) -> u8
+    ensures { result ≡ status_refused is_refused }
+{
+    if is_refused { 1 } else { 0 }
+}
+
+fn complain_undone<R: Eprint>(rt: &R, undone: Undone, why: bool) -> u8
+    ensures { result ≡ 4 }
+{
     match undone {
         Undone::Unknown => complain(rt, &"no message about this to-do", NOT_DONE),
         Undone::Unwritten(WritingError::Unreadable(refusal)) => {
@@ -395,7 +481,9 @@ fn complain_undone<R: Eprint>(rt: &R, undone: Undone, why: bool) -> u8 {
 }
 
 /// Says that a source can't be read, and gives the status.
-fn complain_unread<R: AllocGlobal + Eprint>(rt: &R, name: Option<&SourceName>) -> u8 {
+fn complain_unread<R: AllocGlobal + Eprint>(rt: &R, name: Option<&SourceName>) -> u8
+    ensures { result ≡ 3 }
+{
     let Some(name) = name else {
         return complain(rt, &"read failed", FAULT);
     };
@@ -406,7 +494,9 @@ fn complain_unread<R: AllocGlobal + Eprint>(rt: &R, name: Option<&SourceName>) -
 }
 
 /// Says that the output can't be written, by the name of its file where it has one, and gives the status.
-fn complain_unwritten<R: AllocGlobal + Eprint>(rt: &R, written: &Written) -> u8 {
+fn complain_unwritten<R: AllocGlobal + Eprint>(rt: &R, written: &Written) -> u8
+    ensures { result ≡ 3 }
+{
     let Written::Compaction { output: Some(name) } = written else {
         return complain(rt, &"write failed", FAULT);
     };

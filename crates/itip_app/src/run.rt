@@ -1,13 +1,23 @@
 //! One run of the program: its words, and what they ask for.
+ghost use Rattle.std.specs.Prelude.{◌≡◌, IfOk, IfErr, OnErr, IfSome, IsErrOf};
+ghost use Rattle.std.specs.Io.KnownBytes.{Keeps};
+ghost use Rattle.itip_streams.specs.Written.{WritesOutput};
+ghost use Rattle.itip_world.specs.Running.{IsOutput, WritesRunFront};
+ghost use Rattle.itip_office.specs.Scripts.{IsScriptOutput, WritesScriptFront};
+ghost use Rattle.itip_office.specs.declared.error.OfficeError.{OfficeError};
+ghost use Rattle.itip_words.specs.Calls.{IfRun, IfOffice, AreOffice};
 ghost use Rattle.itip_words.specs.Words.{AreDesks, AreWorkers};
+ghost use Rattle.itip_app.specs.Status.{status_shown, IsStatusOfNoCall};
 
-use crate::filters::filtered;
+use crate::filters::{filtered, refused_status};
+use crate::stream::stream;
 use crate::tell::{Explainer, complain};
 use itip_inbox::check;
 use itip_office::{ScriptError, run_jobs};
 use itip_streams::StreamFault;
 use itip_words::{Call, NoCall, Scripted, now, read_words};
 use itip_world::run_script_watched;
+use std::alloc::Global;
 use std::fmt::Display;
 use std::rt::{Clock, Env, Files};
 use std::sync::Wait;
@@ -51,8 +61,24 @@ pub(crate) fn status<
         }
         Err(_) => return complain(rt, &"bad words", BAD_WORDS),
     };
-    match read_words(rt.alloc(), words.as_slice(), now(rt)) {
+    done(
+        rt,
+        read_words(rt.alloc(), words.as_slice(), now(rt)),
+        terminals,
+    )
+}
+
+/// Does what is asked for, or says why nothing is run, and gives the status.
+fn done<
+    R: AllocGlobal + Input + Print + Eprint + Files + Threads + Wait + Copy + Send + Sync + 'static,
+>(rt: &R, call: Result<Call, NoCall>, terminals: Terminals) -> u8
+    requires run { IfOk call (IfRun (λ scripted. AreDesks scripted.desks)) }
+    requires office { IfOk call (IfOffice AreOffice) }
+    ensures { IfErr call (λ why. IsStatusOfNoCall why result) }
+{
+    match call {
         Ok(Call::Run(scripted)) => ended(rt, run(rt, scripted)),
+        Ok(Call::Stream(streamed)) => stream(rt, &streamed),
         Ok(Call::Office { scripted, workers }) => ended(rt, office(rt, scripted, workers)),
         Ok(Call::Check { why }) => ended(rt, show(rt, why)),
         Ok(Call::Filter(filter)) => filtered(rt, &filter, terminals),
@@ -61,7 +87,9 @@ pub(crate) fn status<
 }
 
 /// Says why nothing is run, and gives the status.
-fn not_run<R: Print + Eprint>(rt: &R, why: NoCall) -> u8 {
+fn not_run<R: Print + Eprint>(rt: &R, why: NoCall) -> u8
+    ensures { IsStatusOfNoCall why result }
+{
     match why {
         NoCall::Help(help) => match help.print(rt) {
             Ok(()) => 0,
@@ -89,15 +117,26 @@ fn run<R: AllocGlobal + Input + Print + Eprint>(
     let mut reader = rt.reader();
     let mut writer = io::writer(rt);
     let mut watch = Explainer::new(rt, asked.why);
+    run_on(rt.alloc(), &mut reader, &mut writer, asked, &mut watch)
+}
+
+/// Runs a script of a reader, with as many desks and in the window that is asked for.
+fn run_on<I: io::Read, W: io::Write, S: itip_world::Watch>(
+    alloc: Global,
+    reader: &mut I,
+    writer: &mut W,
+    asked: Scripted,
+    watch: &mut S,
+) -> Result<bool, StreamFault>
+    requires { AreDesks asked.desks }
+    ensures output { IfOk result (λ refusal. IfSome (I.remaining reader.old) (λ script.
+        WritesOutput (IsOutput asked.window asked.desks script) (W.contents writer.old) (W.contents writer.new) refusal)) }
+    ensures front { OnErr result (IfSome (I.remaining reader.old) (λ script.
+        WritesRunFront asked.window asked.desks (W.contents writer.old) (W.contents writer.new) script)) }
+    ensures unread { IsErrOf result StreamFault.Read → Keeps (W.contents writer.old) (W.contents writer.new) }
+{
     let desks = asked.desks as usize;
-    run_script_watched(
-        rt.alloc(),
-        &mut reader,
-        &mut writer,
-        desks,
-        asked.window,
-        &mut watch,
-    )
+    run_script_watched(alloc, reader, writer, desks, asked.window, watch)
 }
 
 fn office<R: AllocGlobal + Input + Print + Eprint + Threads + Wait + Copy + Send + Sync + 'static>(
@@ -111,17 +150,36 @@ fn office<R: AllocGlobal + Input + Print + Eprint + Threads + Wait + Copy + Send
     let mut reader = rt.reader();
     let mut writer = io::writer(rt);
     let mut watch = Explainer::new(rt, asked.why);
+    office_on(rt, &mut reader, &mut writer, asked, workers, &mut watch)
+}
+
+/// Does the jobs of a script of a reader, at as many desks and in the window that is asked for.
+fn office_on<
+    R: AllocGlobal + Threads + Wait + Copy + Send + Sync + 'static,
+    I: io::Read,
+    W: io::Write,
+    S: itip_office::Watch,
+>(
+    rt: &R,
+    reader: &mut I,
+    writer: &mut W,
+    asked: Scripted,
+    workers: u64,
+    watch: &mut S,
+) -> Result<bool, ScriptError>
+    requires desks { AreDesks asked.desks }
+    requires workers { AreWorkers workers }
+    ensures output { IfOk result (λ refusal. IfSome (I.remaining reader.old) (λ script.
+        WritesOutput (IsScriptOutput asked.window asked.desks script) (W.contents writer.old) (W.contents writer.new) refusal)) }
+    ensures front { OnErr result (IfSome (I.remaining reader.old) (λ script.
+        WritesScriptFront asked.window asked.desks (W.contents writer.old) (W.contents writer.new) script)) }
+    ensures unread { IsErrOf result (ScriptError.Stream StreamFault.Read) → Keeps (W.contents writer.old) (W.contents writer.new) }
+    ensures unended { (error : OfficeError) → IsErrOf result (ScriptError.Office error) →
+        Keeps (W.contents writer.old) (W.contents writer.new) }
+{
     let desks = asked.desks as usize;
     let workers = workers as usize;
-    run_jobs(
-        rt,
-        &mut reader,
-        &mut writer,
-        desks,
-        workers,
-        asked.window,
-        &mut watch,
-    )
+    run_jobs(rt, reader, writer, desks, workers, asked.window, watch)
 }
 
 fn show<R: AllocGlobal + Input + Print + Eprint>(rt: &R, why: bool) -> Result<bool, StreamFault> {
@@ -132,10 +190,11 @@ fn show<R: AllocGlobal + Input + Print + Eprint>(rt: &R, why: bool) -> Result<bo
 }
 
 /// The status of what was done: 1 where a refusal was written.
-fn ended<R: Eprint, E: Display + Drop>(rt: &R, done: Result<bool, E>) -> u8 {
+fn ended<R: Eprint, E: Display + Drop>(rt: &R, done: Result<bool, E>) -> u8
+    ensures { result ≡ status_shown done }
+{
     match done {
-        Ok(false) => 0,
-        Ok(true) => 1,
+        Ok(is_refused) => refused_status(is_refused),
         Err(fault) => complain(rt, &fault, FAULT),
     }
 }

@@ -3,10 +3,9 @@
 ghost use Rattle.std.specs.Prelude.{◌≡◌};
 
 use crate::filters::Named;
-use itip_desk::Refusal;
+use itip_desk::{FileRefusal, Refusal};
 use itip_inbox::RefusedMessage;
 use itip_message::MessageRefusal;
-use itip_script::Command;
 use itip_streams::{SourceName, refused_line};
 use itip_todo::PropertyName;
 use itip_view::MostRows;
@@ -71,7 +70,7 @@ impl<'a, R: AllocGlobal + Eprint> Teller<'a, R> {
     /// Shows how much was read, where that is asked for and more was read than was shown.
     pub(crate) fn show_progress(&mut self) {
         let Progress { messages, octets } = self.progress;
-        if self.is_shown && octets > self.shown.octets {
+        if self.is_shown && (octets > self.shown.octets || messages > self.shown.messages) {
             let _ = eprintln!(self.rt; "{messages} messages, {octets} octets");
             self.shown = self.progress;
         }
@@ -131,7 +130,9 @@ pub(crate) struct Explainer<'a, R> {
 }
 
 impl<'a, R: AllocGlobal + Eprint> Explainer<'a, R> {
-    pub(crate) fn new(rt: &'a R, is_asked: bool) -> Explainer<'a, R> {
+    pub(crate) fn new(rt: &'a R, is_asked: bool) -> Explainer<'a, R>
+        ensures { result.is_asked ≡ is_asked }
+    {
         Explainer {
             rt,
             is_asked,
@@ -186,11 +187,11 @@ impl<'a, R: AllocGlobal + Eprint> itip_inbox::Watch for Explainer<'a, R> {
 }
 
 impl<'a, R: AllocGlobal + Eprint> itip_world::Watch for Explainer<'a, R> {
-    fn answered(&mut self, command: &Command<'_>, refused: Option<&Refused>) {
+    fn answered(&mut self, command: &'static str, refused: Option<&Refused>) {
         if let Some(refused) = refused {
             match &refused.most {
-                Some(most) => self.say_most(name(command), self.answered, most),
-                None => self.say(name(command), self.answered, refused.refusal),
+                Some(most) => self.say_most(command, self.answered, most),
+                None => self.say(command, self.answered, refused.refusal),
             }
         }
         self.answered = self.answered.saturating_add(1);
@@ -219,22 +220,6 @@ impl<'a, R: AllocGlobal + Eprint> itip_office::Watch for Explainer<'a, R> {
 fn line_of_most(alloc: Global, asked: &str, most: &MostRows) -> Result<String, AllocError> {
     let number = Refusal::TooManyRows.number();
     most_line(alloc, asked, number, most.uid.as_str(), most.rows)
-}
-
-/// What a command is called.
-fn name(command: &Command<'_>) -> &'static str {
-    match command {
-        Command::Take { .. } => "take",
-        Command::List { .. } => "list",
-        Command::Mine { .. } => "mine",
-        Command::Post { .. } => "post",
-        Command::Arrive { .. } => "arrive",
-        Command::Report { .. } => "report",
-        Command::Resend { .. } => "resend",
-        Command::Next { .. } => "next",
-        Command::Entries { .. } => "entries",
-        Command::Malformed => "command",
-    }
 }
 
 /// Names what a message should have (RFC 5546 3.4) and lacks.
@@ -267,6 +252,25 @@ pub(crate) fn complain_of<R: Eprint>(rt: &R, name: &str, what: &str, status: u8)
     ensures { result ≡ status }
 {
     let _ = eprintln!(rt; "itipdesk: {name}: {what}");
+    status
+}
+
+/// Says under which number the file of a desk is refused, and with `why` for what, and gives the status.
+pub(crate) fn complain_of_file<R: Eprint>(
+    rt: &R,
+    name: &str,
+    refusal: FileRefusal,
+    why: bool,
+    status: u8,
+) -> u8
+    ensures { result ≡ status }
+{
+    let number = refusal.number();
+    if why {
+        let _ = eprintln!(rt; "itipdesk: {name}: refused {number}: {refusal}");
+    } else {
+        let _ = eprintln!(rt; "itipdesk: {name}: refused {number}");
+    }
     status
 }
 

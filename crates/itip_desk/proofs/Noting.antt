@@ -1,10 +1,12 @@
--- How sets of entries change.
-use Rattle.std.proofs.Common.{◌≡◌, ◌∙◌, ◌<◌, ◌+◌, ℕ, List, [], ◌∷◌, ◌++◌, map, take, drop, length, get_or, refl, sym, ap, Bool, true, false, ◌||◌, ◌&&◌, not, cond, Option, Some, None}
-use Rattle.std.proofs.Common.{option_map, option_to_list}
+-- How the entries of an index change.
+use Rattle.std.proofs.Common.{◌≡◌, ◌∙◌, ◌<◌, ◌+◌, ℕ, List, [], ◌∷◌, ◌++◌, map, take, drop, length, get_or, refl, sym, ap, inl, inr, Bool, true, false, ◌||◌, ◌&&◌, not, cond, Option, Some, None}
+use Rattle.std.proofs.Common.{option_to_list}
+use Rattle.std.specs.List.{list_any}
 use Rattle.std.specs.Ordering.{is_eq}
-use Rattle.std.specs.Cmp.{eq_by_cmp_equiv}
+use Rattle.std.specs.Cmp.{eq_by_cmp_equiv, IsTotalOrder}
 use Rattle.std.specs.BTreeMap.{is_at}
-use Rattle.std.specs.BTreeSet.{BTreeSet, Updates}
+use Rattle.std.specs.BTreeSet.{BTreeSet, Updates, contains}
+use Rattle.std.specs.declared.cmp.Ordering.{Ordering}
 use Rattle.std.proofs.lemmas.Map.Views.{tells_apart}
 use Rattle.std.proofs.lemmas.List.{take_more, take-append-drop, map-append}
 use Rattle.std.proofs.lemmas.List.Folds.{list_any-append}
@@ -12,19 +14,22 @@ use Rattle.itip_todo.specs.Properties.{Property}
 use Rattle.itip_items.specs.declared.item.Item.{Item}
 use Rattle.itip_view.specs.RowDays.{has_rows, row_days}
 use Rattle.itip_view.specs.declared.days.RowDays.{RowDays}
-use Rattle.itip_desk.specs.Entries.{entry_cmp, entry_total, entry_exact, entry_of, mark_of, attendee_mark, day_marks, line_marks, entries_of}
+use Rattle.itip_desk.specs.Entries.{IndexEntry, day_cmp, day_total, day_exact, name_cmp, name_total, name_exact, same_entry}
+use Rattle.itip_desk.specs.Entries.{day_entry, mark_of, days_entry, line_entry, day_entries, line_entries, entries_of}
 use Rattle.itip_desk.specs.Index.{has, is_in, Widens}
-use Rattle.itip_desk.specs.declared.entry.IndexEntry.{IndexEntry}
-use Rattle.itip_desk.specs.declared.entry.Mark.{Mark}
+use Rattle.itip_desk.specs.declared.entry.DayEntry.{DayEntry}
+use Rattle.itip_desk.specs.declared.entry.NameEntry.{NameEntry}
+use Rattle.itip_desk.specs.declared.index.Index.{Index}
 
-pub turned : (k q : IndexEntry) → is_eq (entry_cmp k q) ≡ is_eq (entry_cmp q k)
-turned k q = (eq_by_cmp_equiv entry_total).symm k q
+pub one_entry : (k q : IndexEntry) → same_entry k q ≡ true → k ≡ q
+one_entry (inl a) (inl b) e = ap inl (tells_apart day_exact a b e)
+one_entry (inl a) (inr b) e = cc
+one_entry (inr a) (inl b) e = cc
+one_entry (inr a) (inr b) e = ap inr (tells_apart name_exact a b e)
 
-pub same_entry : (k q : IndexEntry) → is_eq (entry_cmp k q) ≡ true → k ≡ q
-same_entry k q e = tells_apart entry_exact k q e
-
-pub entry_itself : (k : IndexEntry) → is_eq (entry_cmp k k) ≡ true
-entry_itself k = (eq_by_cmp_equiv entry_total).refl k
+pub entry_itself : (k : IndexEntry) → same_entry k k ≡ true
+entry_itself (inl a) = (eq_by_cmp_equiv day_total).refl a
+entry_itself (inr a) = (eq_by_cmp_equiv name_total).refl a
 
 cond_or : (b x : Bool) → cond b true x ≡ (x || b)
 cond_or true true = refl
@@ -38,13 +43,56 @@ cond_and true false = refl
 cond_and false true = refl
 cond_and false false = refl
 
-pub put_in : (s n : BTreeSet IndexEntry) (k : IndexEntry) → Updates entry_cmp s n k true → (e : IndexEntry) →
-    has n e ≡ (has s e || is_eq (entry_cmp e k))
-put_in s n k updates e = updates.0 e ∙ cond_or (is_eq (entry_cmp k e)) (has s e) ∙ ap (λ b. has s e || b) (turned k e)
+pub or_none : (b : Bool) → (b || false) ≡ b
+or_none true = refl
+or_none false = refl
 
-pub taken_out : (s n : BTreeSet IndexEntry) (k : IndexEntry) → Updates entry_cmp s n k false → (e : IndexEntry) →
-    has n e ≡ (has s e && not (is_eq (entry_cmp e k)))
-taken_out s n k updates e = updates.0 e ∙ cond_and (is_eq (entry_cmp k e)) (has s e) ∙ ap (λ b. has s e && not b) (turned k e)
+pub and_not_none : (b : Bool) → (b && not false) ≡ b
+and_not_none true = refl
+and_not_none false = refl
+
+-- ---- one set
+module _ {K : Type 0} (cmp : K → K → Ordering) (total : IsTotalOrder cmp) (s n : BTreeSet K) (k : K) where
+  turned : (e : K) → is_eq (cmp k e) ≡ is_eq (cmp e k)
+  turned e = (eq_by_cmp_equiv total).symm k e
+
+  set_put : Updates cmp s n k true → (e : K) → contains cmp n e ≡ (contains cmp s e || is_eq (cmp e k))
+  set_put updates e = updates.0 e ∙ cond_or (is_eq (cmp k e)) (contains cmp s e) ∙ ap (λ b. contains cmp s e || b) (turned e)
+
+  set_out : Updates cmp s n k false → (e : K) → contains cmp n e ≡ (contains cmp s e && not (is_eq (cmp e k)))
+  set_out updates e = updates.0 e ∙ cond_and (is_eq (cmp k e)) (contains cmp s e) ∙ ap (λ b. contains cmp s e && not b) (turned e)
+
+-- ---- an index
+module _ (old new : Index) where
+  names_same : new.names.keys ≡ old.names.keys → (e : NameEntry) → has new (inr e) ≡ has old (inr e)
+  names_same same e = ap (λ keys. list_any (is_at (name_cmp e)) keys) same
+
+  days_same : new.days.keys ≡ old.days.keys → (e : DayEntry) → has new (inl e) ≡ has old (inl e)
+  days_same same e = ap (λ keys. list_any (is_at (day_cmp e)) keys) same
+
+  pub same_index : new.days.keys ≡ old.days.keys → new.names.keys ≡ old.names.keys → (e : IndexEntry) → has new e ≡ has old e
+  same_index days names (inl e) = days_same days e
+  same_index days names (inr e) = names_same names e
+
+  pub day_put : (k : DayEntry) → new.names.keys ≡ old.names.keys → Updates day_cmp old.days new.days k true → (e : IndexEntry) →
+      has new e ≡ (has old e || same_entry e (inl k))
+  day_put k names updates (inl e) = set_put day_cmp day_total old.days new.days k updates e
+  day_put k names updates (inr e) = names_same names e ∙ sym (or_none (has old (inr e)))
+
+  pub name_put : (k : NameEntry) → new.days.keys ≡ old.days.keys → Updates name_cmp old.names new.names k true → (e : IndexEntry) →
+      has new e ≡ (has old e || same_entry e (inr k))
+  name_put k days updates (inl e) = days_same days e ∙ sym (or_none (has old (inl e)))
+  name_put k days updates (inr e) = set_put name_cmp name_total old.names new.names k updates e
+
+  pub day_out : (k : DayEntry) → new.names.keys ≡ old.names.keys → Updates day_cmp old.days new.days k false → (e : IndexEntry) →
+      has new e ≡ (has old e && not (same_entry e (inl k)))
+  day_out k names updates (inl e) = set_out day_cmp day_total old.days new.days k updates e
+  day_out k names updates (inr e) = names_same names e ∙ sym (and_not_none (has old (inr e)))
+
+  pub name_out : (k : NameEntry) → new.days.keys ≡ old.days.keys → Updates name_cmp old.names new.names k false → (e : IndexEntry) →
+      has new e ≡ (has old e && not (same_entry e (inr k)))
+  name_out k days updates (inl e) = days_same days e ∙ sym (and_not_none (has old (inl e)))
+  name_out k days updates (inr e) = set_out name_cmp name_total old.names new.names k updates e
 
 -- one step of taking out
 pub shrinks : (i n r x : Bool) → n ≡ (i && not x) → (n && not r) ≡ (i && not (x || r))
@@ -63,43 +111,33 @@ grows i n r x is = ap (λ b. b || r) is ∙ cases i x r
     cases true x r = refl
     cases false x r = refl
 
-pub or_none : (b : Bool) → (b || false) ≡ b
-or_none true = refl
-or_none false = refl
-
-pub and_not_none : (b : Bool) → (b && not false) ≡ b
-and_not_none true = refl
-and_not_none false = refl
-
 -- ---- the entries of an item
 module _ (item : Item) (e : IndexEntry) where
   abbrev pub days_in : Bool
-  days_in = is_in (map (entry_of item) (day_marks item)) e
+  days_in = is_in (day_entries item) e
 
   abbrev pub lines_in : Bool
-  lines_in = is_in (map (entry_of item) (line_marks item.todo.attendees)) e
+  lines_in = is_in (line_entries item item.todo.attendees) e
 
   -- an item that can have rows has those of its day and those of its lines
   pub entries_in : has_rows item ≡ true → is_in (entries_of item) e ≡ (days_in || lines_in)
-  entries_in rows =
-      ap (λ b. is_in (cond b (map (entry_of item) (day_marks item) ++ map (entry_of item) (line_marks item.todo.attendees)) []) e) rows
-      ∙ list_any-append (is_at (entry_cmp e)) (map (entry_of item) (day_marks item)) (map (entry_of item) (line_marks item.todo.attendees))
+  entries_in rows = ap (λ b. is_in (cond b (day_entries item ++ line_entries item item.todo.attendees) []) e) rows
+      ∙ list_any-append (same_entry e) (day_entries item) (line_entries item item.todo.attendees)
 
   -- another has none
   pub entries_none : has_rows item ≡ false → is_in (entries_of item) e ≡ false
-  entries_none rows =
-      ap (λ b. is_in (cond b (map (entry_of item) (day_marks item) ++ map (entry_of item) (line_marks item.todo.attendees)) []) e) rows
+  entries_none rows = ap (λ b. is_in (cond b (day_entries item ++ line_entries item item.todo.attendees) []) e) rows
 
   -- the one of its day
-  pub day_in : (days : RowDays) → row_days item ≡ Some days → days_in ≡ is_eq (entry_cmp e (entry_of item (mark_of days)))
-  day_in days is = ap (λ (o : Option RowDays). is_in (map (entry_of item) (option_to_list (option_map mark_of o))) e) is ∙
-      or_none (is_eq (entry_cmp e (entry_of item (mark_of days))))
+  pub day_in : (days : RowDays) → row_days item ≡ Some days → days_in ≡ same_entry e (inl (day_entry item (mark_of days)))
+  day_in days is = ap (λ (o : Option RowDays). is_in (map (days_entry item) (option_to_list o)) e) is ∙
+      or_none (same_entry e (inl (day_entry item (mark_of days))))
 
   pub no_day : ((days : RowDays) → row_days item ≡ Some days → ⊥) → days_in ≡ false
   no_day not = by (row_days item) refl
     where
       by : (o : Option RowDays) → row_days item ≡ o → days_in ≡ false
-      by None is = ap (λ (o : Option RowDays). is_in (map (entry_of item) (option_to_list (option_map mark_of o))) e) is
+      by None is = ap (λ (o : Option RowDays). is_in (map (days_entry item) (option_to_list o)) e) is
       by (Some days) is = absurd (not days is)
 
 pub grown_twice : (o m n d l all : Bool) → all ≡ (d || l) → m ≡ (o || d) → n ≡ (m || l) → n ≡ (o || all)
@@ -118,32 +156,26 @@ shrunk_twice o m n d l all all_is m_is n_is = n_is ∙ ap (λ b. b && not l) m_i
     three false b c = refl
 
 -- ---- the entries of some of the lines of an item
-abbrev pub entries_of_lines : Item → List Property → List IndexEntry
-entries_of_lines item lines = map (entry_of item) (line_marks lines)
-
 module _ (item : Item) (e : IndexEntry) (lines : List Property) (i : ℕ) where
-  both_parts : (xs ys : List Property) → is_in (entries_of_lines item (xs ++ ys)) e ≡
-      (is_in (entries_of_lines item xs) e || is_in (entries_of_lines item ys) e)
-  both_parts xs ys =
-      ap (λ (marks : List Mark). is_in (map (entry_of item) marks) e) (map-append (λ (line : Property). attendee_mark line.value) xs ys)
-      ∙ ap (λ es. is_in es e) (map-append (entry_of item) (line_marks xs) (line_marks ys))
-      ∙ list_any-append (is_at (entry_cmp e)) (entries_of_lines item xs) (entries_of_lines item ys)
+  both_parts : (xs ys : List Property) → is_in (line_entries item (xs ++ ys)) e ≡
+      (is_in (line_entries item xs) e || is_in (line_entries item ys) e)
+  both_parts xs ys = ap (λ es. is_in es e) (map-append (line_entry item) xs ys)
+      ∙ list_any-append (same_entry e) (line_entries item xs) (line_entries item ys)
 
   -- with one line more
   pub line_more : (line : Property) → i < length lines → line ≡ get_or lines i line →
-      is_in (entries_of_lines item (take (i + 1) lines)) e ≡
-      (is_in (entries_of_lines item (take i lines)) e || is_eq (entry_cmp e (entry_of item (attendee_mark line.value))))
+      is_in (line_entries item (take (i + 1) lines)) e ≡ (is_in (line_entries item (take i lines)) e || same_entry e (line_entry item line))
   line_more line below is =
-      ap (λ ls. is_in (entries_of_lines item ls) e)
+      ap (λ ls. is_in (line_entries item ls) e)
       (take_more lines i line below ∙ ap (λ (x : Property). take i lines ++ x ∷ []) (sym is)) ∙ both_parts (take i lines) (line ∷ []) ∙
-      ap (λ b. is_in (entries_of_lines item (take i lines)) e || b) (or_none (is_eq (entry_cmp e (entry_of item (attendee_mark line.value)))))
+      ap (λ b. is_in (line_entries item (take i lines)) e || b) (or_none (same_entry e (line_entry item line)))
 
   -- those of the first lines are among all
-  pub line_part : is_in (entries_of_lines item (take i lines)) e ≡ true → is_in (entries_of_lines item lines) e ≡ true
-  line_part h = ap (λ ls. is_in (entries_of_lines item ls) e) (sym (take-append-drop i lines)) ∙ both_parts (take i lines) (drop i lines) ∙
-      ap (λ b. b || is_in (entries_of_lines item (drop i lines)) e) h
+  pub line_part : is_in (line_entries item (take i lines)) e ≡ true → is_in (line_entries item lines) e ≡ true
+  line_part h = ap (λ ls. is_in (line_entries item ls) e) (sym (take-append-drop i lines)) ∙ both_parts (take i lines) (drop i lines) ∙
+      ap (λ b. b || is_in (line_entries item (drop i lines)) e) h
 
--- ---- on the way a set is between what it was and what it becomes
+-- ---- on the way an index is between what it was and what it becomes
 or_cases : (a b : Bool) (G : Type 0) → (a ≡ true → G) → (b ≡ true → G) → (a || b) ≡ true → G
 or_cases true b G p q h = p refl
 or_cases false b G p q h = q h
@@ -156,14 +188,11 @@ pub or_second : (a b : Bool) → b ≡ true → (a || b) ≡ true
 or_second true b e = refl
 or_second false b e = e
 
-pub widens_same : (more : IndexEntry → Bool) (old new : BTreeSet IndexEntry) → new.keys ≡ old.keys → Widens more old new
-widens_same more old new same e = (
-  λ h. ap (λ keys. is_in keys e) same ∙ h,
-  λ h. or_first (has old e) (more e) (sym (ap (λ keys. is_in keys e) same) ∙ h),
-)
+pub widens_same : (more : IndexEntry → Bool) (old new : Index) → ((e : IndexEntry) → has new e ≡ has old e) → Widens more old new
+widens_same more old new same e = (λ h. same e ∙ h, λ h. or_first (has old e) (more e) (sym (same e) ∙ h))
 
 -- some of the entries were put in
-pub widens_part : (more some : IndexEntry → Bool) (old new : BTreeSet IndexEntry) → ((e : IndexEntry) → has new e ≡ (has old e || some e)) →
+pub widens_part : (more some : IndexEntry → Bool) (old new : Index) → ((e : IndexEntry) → has new e ≡ (has old e || some e)) →
     ((e : IndexEntry) → some e ≡ true → more e ≡ true) → Widens more old new
 widens_part more some old new is part e = (
   λ h. is e ∙ or_first (has old e) (some e) h,
@@ -172,7 +201,7 @@ widens_part more some old new is part e = (
 )
 
 -- some were put in, and then perhaps others
-pub widens_twice : (first second all : IndexEntry → Bool) (old mid new : BTreeSet IndexEntry) →
+pub widens_twice : (first second all : IndexEntry → Bool) (old mid new : Index) →
     ((e : IndexEntry) → has mid e ≡ (has old e || first e)) → Widens second mid new → ((e : IndexEntry) → all e ≡ (first e || second e)) →
     Widens all old new
 widens_twice first second all old mid new is widens all_is e = (

@@ -27,6 +27,7 @@ use Rattle.itip_message.proofs.OneMessage.{one_message, one_cause, message_apart
 use Rattle.itip_message.proofs.ReadAgain.{reads_again}
 use Rattle.itip_items.proofs.SameItem.{Is, contents, bytes_are}
 use Rattle.itip_state.specs.Kept.{SameItems, IsItemsOf}
+use Rattle.itip_state.proofs.Members.{no_pairs}
 use Rattle.itip_state.proofs.OneOrder.{less_one_way, same_ascending}
 use Rattle.itip_desk.specs.Octets.{AscendOctets}
 use Rattle.itip_message.specs.Scanned.{begins_blank, lines_of, ends_calendar, groups_of, texts_of, messages_of, CutsMessage}
@@ -39,7 +40,7 @@ use Rattle.itip_message.proofs.Plain.{IsNotEnd, none_ends_both, parts_not_end}
 
 -- ---- the text of one item
 
-others : (item : Item) → IsTrue (list_all is_property item.todo.others)
+pub others : (item : Item) → IsTrue (list_all is_property item.todo.others)
 others item = ∥∥₁_elim item.canonical (Bool-set (list_all is_property item.todo.others) true)
     (λ (is : Is item). is.is_canonical.suits.others)
 
@@ -47,10 +48,10 @@ abbrev head : Kind → List Content
 head k = bare (codes "BEGIN") (codes "VCALENDAR") ∷ bare (codes "PRODID") (codes "-//itipdesk//1//EN") ∷
     bare (codes "VERSION") (codes "2.0") ∷ bare (codes "METHOD") (method_text (method_of k)) ∷ bare (codes "BEGIN") (codes "VTODO") ∷ []
 
-abbrev end_of_todo : Content
+abbrev pub end_of_todo : Content
 end_of_todo = bare (codes "END") (codes "VTODO")
 
-abbrev end_of_calendar : Content
+abbrev pub end_of_calendar : Content
 end_of_calendar = bare (codes "END") (codes "VCALENDAR")
 
 -- the lines before the last
@@ -60,7 +61,7 @@ front item = head item.kind ++ parts_contents (parts_of item.todo)
 whole : (item : Item) → contents item ≡ front item ++ (end_of_todo ∷ end_of_calendar ∷ [])
 whole item = sym (append_assoc (head item.kind) (parts_contents (parts_of item.todo)) (end_of_todo ∷ end_of_calendar ∷ []))
 
-lawful_front : (cs ds : List Content) → AllByRecursion IsLawfulContent (cs ++ ds) → AllByRecursion IsLawfulContent cs
+pub lawful_front : (cs ds : List Content) → AllByRecursion IsLawfulContent (cs ++ ds) → AllByRecursion IsLawfulContent cs
 lawful_front [] ds h = tt
 lawful_front (c ∷ cs) ds h = (h.0, lawful_front cs ds h.1)
 
@@ -73,11 +74,11 @@ map-append : {X Y : Type 0} (f : X → Y) (xs ys : List X) → map f (xs ++ ys) 
 map-append f [] ys = refl
 map-append f (x ∷ xs) ys = ap (λ zs. f x ∷ zs) (map-append f xs ys)
 
-concat_octets : (cs : List Content) → concat (map content_octets cs) ≡ contents_octets cs
+pub concat_octets : (cs : List Content) → concat (map content_octets cs) ≡ contents_octets cs
 concat_octets [] = refl
 concat_octets (c ∷ cs) = ap (λ (t : List ℕ). content_octets c ++ t) (concat_octets cs)
 
-none_more : (lines : List (List ℕ)) (line : List ℕ) → AllByRecursion (λ line. ends_calendar line ≡ false) lines →
+pub none_more : (lines : List (List ℕ)) (line : List ℕ) → AllByRecursion (λ line. ends_calendar line ≡ false) lines →
     ends_calendar line ≡ false → AllByRecursion (λ line. ends_calendar line ≡ false) (lines ++ line ∷ [])
 none_more [] line none not = (not, tt)
 none_more (l ∷ lines) line none not = (none.0, none_more lines line none.1 not)
@@ -130,14 +131,14 @@ messages_written [] = refl
 messages_written (item ∷ items) = one_text item (delta_octets items) (written_begins items) ∙
     ap (λ (ts : List (List ℕ)). item.bytes ∷ ts) (messages_written items)
 
-abbrev alone : List Item → List (List Item)
+abbrev pub alone : List Item → List (List Item)
 alone items = map (λ (i : Item). i ∷ []) items
 
 are_messages : (items : List Item) → AreMessages (map (λ (i : Item). i.bytes) items) (alone items)
 are_messages [] = tt
 are_messages (item ∷ items) = (reads_again item, are_messages items)
 
-concat_alone : (items : List Item) → all_of (alone items) ≡ items
+pub concat_alone : (items : List Item) → all_of (alone items) ≡ items
 concat_alone [] = refl
 concat_alone (item ∷ items) = ap (λ (is : List Item). item ∷ is) (concat_alone items)
 
@@ -211,6 +212,10 @@ delta_apart bytes batch f h k =
 pub known_by_octets : (a b : List Item) → AscendOctets a → AscendOctets b → delta_octets a ≡ delta_octets b → a ≡ b
 known_by_octets a b up_a up_b same =
     one_batch (delta_octets b) a b (subst (λ (t : List ℕ). ReadsDelta t a) same (written_read a up_a)) (written_read b up_b)
+
+pub empty_batch : (batch : List Item) → AscendOctets batch → delta_octets batch ≡ [] → batch ≡ []
+unfolding delta_octets
+empty_batch batch ascend none = known_by_octets batch [] ascend (no_pairs (λ (a b : Item). slice_cmp nat_cmp a.bytes b.bytes ≡ Less)) none
 
 -- ---- one message after another
 

@@ -28,7 +28,7 @@ use Rattle.itip_state.proofs.Lookups.{one_key, itself}
 use Rattle.itip_state.proofs.Parting.{listed_in, in_listed}
 use Rattle.itip_view.proofs.Showing.{into_filter}
 use Rattle.itip_desk.specs.Desk.{Shown, CarriesAfter, IsCarriedOn, IsDeltaOf}
-use Rattle.itip_desk.specs.Moves.{is_listed, tick_at, move_cmp, has_move, AreInOrder, AreTicks, HavePlaces}
+use Rattle.itip_desk.specs.Moves.{is_listed, tick_at, move_cmp, has_move, AreInOrder, AreTicks, AreUpTo, HavePlaces}
 use Rattle.itip_desk.proofs.Steps.{CarryStep}
 
 abbrev pub uid_cmp : List ℕ → List ℕ → Ordering
@@ -346,6 +346,23 @@ marked_ticks uids es placed gs next above ticks have marked uid t there = by_boo
     differ : true ≡ false → ⊥
     differ e = cc
 
+-- with marks at this tick none is above it
+pub marked_up_to : (uids : List (List ℕ)) (es placed gs : Carried) (top next : ℕ) → top ≤ next → AreUpTo top es → HavePlaces uids es placed →
+    ((uid : List ℕ) → tick_at gs uid ≡ cond (is_listed uids uid) (Some next) (tick_at placed uid)) → AreUpTo next gs
+marked_up_to uids es placed gs top next up ticks have marked uid t there = by_bool (is_listed uids uid) (t ≤ next)
+    (λ k.
+    let t_is : next ≡ t = some_same next t (sym (marked uid ∙ ap (λ b. cond b (Some next) (tick_at placed uid)) k) ∙ there) in
+    omega (arith, t_is))
+    (λ k.
+    let before : tick_at placed uid ≡ Some t = sym (marked uid ∙ ap (λ b. cond b (Some next) (tick_at placed uid)) k) ∙ there in
+    elim (have uid) [
+      | inl same ↦ let old : t ≤ top = ticks uid t (sym same ∙ before) in omega (arith, old, up)
+      | inr place ↦ absurd (differ (sym place.0 ∙ k))
+    ])
+  where
+    differ : true ≡ false → ⊥
+    differ e = cc
+
 -- the UIDs that moved carry the new tick
 module _ (uids : List (List ℕ)) (es placed gs : Carried) (have : HavePlaces uids es placed) (next : ℕ) (marked : (uid : List ℕ) →
     tick_at gs uid ≡ cond (is_listed uids uid) (Some next) (tick_at placed uid)) where
@@ -416,5 +433,20 @@ delta_is desk since state items batch uids kept carried part_is is = record {
     λ h. let p = (part_is i).0 ((is.same i).0 h) in
         (subst (λ (xs : List Item). Contains xs i) kept p.0, (carried (uid_of i.key)).0 p.1),
     λ h. (is.same i).1 ((part_is i).1 (subst (λ (xs : List Item). Contains xs i) (sym kept) h.0, (carried (uid_of i.key)).1 h.1)),
+  );
+}
+
+-- nothing moved after the tick of the desk
+pub nothing_since : (desk : Shown) (since : ℕ) (batch : List Item) → desk.tick ≤ since → AreUpTo desk.tick desk.changed → IsItemsOf batch [] →
+    IsDeltaOf desk since batch
+nothing_since desk since batch up ticks is = record {
+  ascend = is.ascend;
+  same = λ i. (
+    λ h. absurd (none_in i ((is.same i).0 h)),
+    λ h.
+        let carries = h.1 in
+        let old : carries.0 ≤ desk.tick = ticks (uid_of i.key) carries.0 carries.1 in
+        let above : since < carries.0 = carries.2 in
+        absurd (omega (arith, old, above, up)),
   );
 }

@@ -1,10 +1,9 @@
 -- The index after a hearing.
 use Rattle.std.proofs.Common.{◌≡◌, ◌∙◌, ◌⊎◌, inl, inr, ℕ, List, [], ◌∷◌, ◌++◌, map, refl, sym, ap, subst, Bool, true, false, ◌||◌}
 use Rattle.std.proofs.Common.{◌&&◌, not, cond, Some, Result, Ok, Err, OnOk, OnErr, ◌+◌, ◌<◌, ◌≤◌, length, take, take_all}
-use Rattle.std.proofs.Common.{get_or}
+use Rattle.std.proofs.Common.{get_or, option_to_list}
 use Rattle.std.specs.List.{Contains}
 use Rattle.std.specs.Ordering.{is_eq}
-use Rattle.std.specs.BTreeSet.{BTreeSet}
 use Rattle.std.proofs.lemmas.List.{length-map, take_more}
 use Rattle.std.proofs.lemmas.List.Elements.{Contains-append_cases, Contains-append_left, Contains-push}
 use Rattle.std.proofs.lemmas.List.Elements.{Contains-push_cases}
@@ -21,58 +20,53 @@ use Rattle.itip_state.specs.Order.{IsState}
 use Rattle.itip_state.proofs.Keeping.{best_part}
 use Rattle.itip_state.proofs.Lookups.{one_key, itself}
 use Rattle.itip_state.proofs.Members.{by_bool, none_in, cons_cases, cons_first, cons_later}
-use Rattle.itip_view.specs.RowDays.{is_of_rows, has_rows}
+use Rattle.itip_view.specs.RowDays.{is_of_rows, has_rows, row_days}
 use Rattle.itip_view.specs.Standing.{is_live}
-use Rattle.itip_desk.specs.Entries.{entry_cmp, entry_of, item_of, day_marks, line_marks, entries_of, IsNoted}
+use Rattle.itip_desk.specs.Entries.{IndexEntry, same_entry, item_of, days_entry, line_entry, day_entries, line_entries, entries_of, IsNoted}
 use Rattle.itip_desk.specs.Index.{has, is_in, IsIndexOf, AreOfRows, HasGrown, HasSettled}
-use Rattle.itip_desk.specs.declared.entry.IndexEntry.{IndexEntry}
-use Rattle.itip_desk.specs.declared.entry.Mark.{Mark}
-use Rattle.itip_desk.proofs.Noting.{same_entry, entry_itself}
+use Rattle.itip_desk.specs.declared.index.Index.{Index}
+use Rattle.itip_desk.proofs.Noting.{one_entry, entry_itself}
 
 -- a list has what a test finds in it
 pub in_list : (es : List IndexEntry) (e : IndexEntry) → is_in es e ≡ true → Contains es e
 in_list [] e is = cc
-in_list (x ∷ es) e is = by_bool (is_eq (entry_cmp e x)) (Contains (x ∷ es) e)
-    (λ here. subst (Contains (x ∷ es)) (sym (same_entry e x here)) (cons_first x es))
+in_list (x ∷ es) e is = by_bool (same_entry e x) (Contains (x ∷ es) e)
+    (λ here. subst (Contains (x ∷ es)) (sym (one_entry e x here)) (cons_first x es))
     (λ other. cons_later x es e (in_list es e (subst (λ b. (b || is_in es e) ≡ true) other is)))
 
 pub finds_in : (es : List IndexEntry) (e : IndexEntry) → Contains es e → is_in es e ≡ true
 finds_in [] e h = absurd (none_in e h)
 finds_in (x ∷ es) e h = elim (cons_cases x es e h) [
-  | inl same ↦ ap (λ b. b || is_in es e) (subst (λ (k : IndexEntry). is_eq (entry_cmp k x) ≡ true) same (entry_itself x))
-  | inr rest ↦ by_bool (is_eq (entry_cmp e x)) (is_in (x ∷ es) e ≡ true) (λ here. ap (λ b. b || is_in es e) here)
+  | inl same ↦ ap (λ b. b || is_in es e) (subst (λ (k : IndexEntry). same_entry k x ≡ true) same (entry_itself x))
+  | inr rest ↦ by_bool (same_entry e x) (is_in (x ∷ es) e ≡ true) (λ here. ap (λ b. b || is_in es e) here)
       (λ other. ap (λ b. b || is_in es e) other ∙ finds_in es e rest)
 ]
 
 -- ---- an entry tells the item that gives it
-of_marks : (item : Item) (marks : List Mark) (e : IndexEntry) → Contains (map (entry_of item) marks) e → item_of e.owner ≡ Some item
-of_marks item [] e h = absurd (none_in e h)
-of_marks item (mark ∷ marks) e h = elim (cons_cases (entry_of item mark) (map (entry_of item) marks) e h) [
-  | inl same ↦ sym (ap (λ (k : IndexEntry). item_of k.owner) same)
-  | inr rest ↦ of_marks item marks e rest
+of_map : {A : Type 0} (item : Item) (f : A → IndexEntry) → ((x : A) → item_of (f x) ≡ item) → (xs : List A) (e : IndexEntry) →
+    Contains (map f xs) e → item_of e ≡ item
+of_map item f gives [] e h = absurd (none_in e h)
+of_map item f gives (x ∷ xs) e h = elim (cons_cases (f x) (map f xs) e h) [
+  | inl same ↦ ap item_of (sym same) ∙ gives x
+  | inr rest ↦ of_map item f gives xs e rest
 ]
 
-pub entry_item : (item : Item) (e : IndexEntry) → Contains (entries_of item) e → item_of e.owner ≡ Some item
-entry_item item e h = by_bool (has_rows item) (item_of e.owner ≡ Some item)
-    (λ rows. elim (Contains-append_cases (map (entry_of item) (day_marks item)) (map (entry_of item) (line_marks item.todo.attendees)) e
-    (subst (λ b. Contains (cond b (map (entry_of item) (day_marks item) ++ map (entry_of item) (line_marks item.todo.attendees)) []) e)
-    rows h)) [
-      | inl day ↦ of_marks item (day_marks item) e day
-      | inr line ↦ of_marks item (line_marks item.todo.attendees) e line
+pub entry_item : (item : Item) (e : IndexEntry) → Contains (entries_of item) e → item_of e ≡ item
+entry_item item e h = by_bool (has_rows item) (item_of e ≡ item)
+    (λ rows. elim (Contains-append_cases (day_entries item) (line_entries item item.todo.attendees) e
+    (subst (λ b. Contains (cond b (day_entries item ++ line_entries item item.todo.attendees) []) e) rows h)) [
+      | inl day ↦ of_map item (days_entry item) (λ d. refl) (option_to_list (row_days item)) e day
+      | inr line ↦ of_map item (line_entry item) (λ l. refl) item.todo.attendees e line
     ])
-    (λ no_rows. absurd (none_in e (subst (λ b. Contains
-    (cond b (map (entry_of item) (day_marks item) ++ map (entry_of item) (line_marks item.todo.attendees)) []) e) no_rows h)))
+    (λ no_rows. absurd (none_in e (subst (λ b. Contains (cond b (day_entries item ++ line_entries item item.todo.attendees) []) e) no_rows h)))
 
 one_item : (e : IndexEntry) (i j : Item) → Contains (entries_of i) e → Contains (entries_of j) e → i ≡ j
-one_item e i j h g = some_same i j (sym (entry_item i e h) ∙ entry_item j e g)
-  where
-    some_same : (x y : Item) → Some x ≡ Some y → x ≡ y
-    some_same x y s = cc
+one_item e i j h g = sym (entry_item i e h) ∙ entry_item j e g
 
 pub entry_rows : (item : Item) (e : IndexEntry) → Contains (entries_of item) e → is_of_rows item.key ≡ true
 entry_rows item e h = by_bool (is_of_rows item.key) (is_of_rows item.key ≡ true) (λ rows. rows)
     (λ others. absurd (none_in e (subst (λ b. Contains (cond (cond b (is_live item.kind) false)
-    (map (entry_of item) (day_marks item) ++ map (entry_of item) (line_marks item.todo.attendees)) []) e) others h)))
+    (day_entries item ++ line_entries item item.todo.attendees) []) e) others h)))
 
 -- what follows of either outcome follows
 pub either_way : {A E P Q G : Type 0} (r : Result A E) → OnOk r P → OnErr r Q → (P → G) → (Q → G) → G
@@ -130,7 +124,7 @@ module _ (old news found giving after : List Item) (state : IsState old) (of : A
   stays_or_gives i there rows = elim (among giving i) [ inl gone ↦ inl gone | inr apart ↦ inr (stays i there rows apart) ]
 
 -- ---- the index
-module _ (kept items : List Item) (grown index : BTreeSet IndexEntry) (settled : HasSettled kept items grown index)
+module _ (kept items : List Item) (grown index : Index) (settled : HasSettled kept items grown index)
     (sound : (e : IndexEntry) → has grown e ≡ true → (i : Item) × Contains (entries_of i) e × (Contains items i ⊎ Contains kept i))
     (whole : (e : IndexEntry) → IsNoted kept e → has grown e ≡ true) where
   settled_from : (e : IndexEntry) → has index e ≡ true → IsNoted kept e
@@ -154,7 +148,7 @@ module _ (kept items : List Item) (grown index : BTreeSet IndexEntry) (settled :
   index_settled e = (settled_from e, settled_to e)
 
 -- what no row can be governed by leaves the index as it is
-pub index_stays : (old news after : List Item) → IsState old → AreOfRows [] news → AreKept after (old ++ news) → (index : BTreeSet IndexEntry) →
+pub index_stays : (old news after : List Item) → IsState old → AreOfRows [] news → AreKept after (old ++ news) → (index : Index) →
     IsIndexOf old index → IsIndexOf after index
 index_stays old news after state of hears index is = index_settled after [] index index
     (record { none_new = λ e h. h; stays = λ e h all. h; gone = λ i h. absurd (none_in i h) })
@@ -175,7 +169,7 @@ index_stays old news after state of hears index is = index_settled after [] inde
       | inr new ↦ absurd (none_in i ((of i).1 (new, entry_rows i e gives)))
     ]
 
-module _ (old news found giving items : List Item) (index grown settled : BTreeSet IndexEntry) (is : IsIndexOf old index)
+module _ (old news found giving items : List Item) (index grown settled : Index) (is : IsIndexOf old index)
     (gives_in : (i : Item) → Contains giving i → Contains items i) (found_in : (i : Item) → Contains found i → Contains items i)
     (grows : HasGrown found index grown) where
   -- the entries of those that are heard are there, and then those of what is not kept are gone
@@ -211,7 +205,7 @@ module _ (old news found giving items : List Item) (index grown settled : BTreeS
       (λ e n. grows.keeps e ((is e).1 n))
 
 -- ---- on the way
-pub grown_more : (items : List Item) (item : Item) (index now next : BTreeSet IndexEntry) → HasGrown items index now →
+pub grown_more : (items : List Item) (item : Item) (index now next : Index) → HasGrown items index now →
     ((e : IndexEntry) → (has now e ≡ true → has next e ≡ true) × (has next e ≡ true → (has now e || is_in (entries_of item) e) ≡ true)) →
     HasGrown (items ++ item ∷ []) index next
 grown_more items item index now next grown widens = record {
@@ -229,7 +223,7 @@ grown_more items item index now next grown widens = record {
 }
 
 -- a part of the items is all that is asked for
-pub grown_all : (items all : List Item) (index now : BTreeSet IndexEntry) → ((i : Item) → Contains items i → Contains all i) →
+pub grown_all : (items all : List Item) (index now : Index) → ((i : Item) → Contains items i → Contains all i) →
     HasGrown items index now → HasGrown all index now
 grown_all items all index now part grown = record {
   keeps = grown.keeps;
@@ -239,7 +233,7 @@ grown_all items all index now part grown = record {
   ];
 }
 
-pub noted_more : (items : List Item) (item : Item) (now next : BTreeSet IndexEntry) → ((e : IndexEntry) → IsNoted items e → has now e ≡ true) →
+pub noted_more : (items : List Item) (item : Item) (now next : Index) → ((e : IndexEntry) → IsNoted items e → has now e ≡ true) →
     ((e : IndexEntry) → has next e ≡ (has now e || is_in (entries_of item) e)) → (e : IndexEntry) → IsNoted (items ++ item ∷ []) e →
     has next e ≡ true
 noted_more items item now next all is e n = elim (Contains-push_cases items item n.item n.there) [
@@ -253,10 +247,10 @@ noted_more items item now next all is e n = elim (Contains-push_cases items item
     or_true false = refl
 
 -- the items gone over so far have lost their entries, where they are not kept
-pub settled_none : (state : List Item) (index : BTreeSet IndexEntry) → HasSettled state [] index index
+pub settled_none : (state : List Item) (index : Index) → HasSettled state [] index index
 settled_none state index = record { none_new = λ e h. h; stays = λ e h all. h; gone = λ i h. absurd (none_in i h) }
 
-pub settled_kept : (state items : List Item) (item : Item) (index now : BTreeSet IndexEntry) → Contains state item →
+pub settled_kept : (state items : List Item) (item : Item) (index now : Index) → Contains state item →
     HasSettled state items index now → HasSettled state (items ++ item ∷ []) index now
 settled_kept state items item index now kept so = record {
   none_new = so.none_new;
@@ -267,7 +261,7 @@ settled_kept state items item index now kept so = record {
   ];
 }
 
-pub settled_out : (state items : List Item) (item : Item) (index now next : BTreeSet IndexEntry) → (Contains state item → ⊥) →
+pub settled_out : (state items : List Item) (item : Item) (index now next : Index) → (Contains state item → ⊥) →
     ((e : IndexEntry) → has next e ≡ (has now e && not (is_in (entries_of item) e))) → HasSettled state items index now →
     HasSettled state (items ++ item ∷ []) index next
 settled_out state items item index now next gone is so = record {

@@ -1,41 +1,47 @@
 -- An index of kept items (our own form).
-use Rattle.std.specs.Prelude.{◌≡◌, ◌↔◌, ◌⊎◌, ◌||◌, Bool, true, false, List, IsTrue}
+use Rattle.std.specs.Prelude.{◌≡◌, ◌↔◌, ◌⊎◌, ◌||◌, Bool, true, false, List, [], IsTrue}
 use Rattle.std.specs.List.{Contains, list_any}
-use Rattle.std.specs.BTreeMap.{is_at}
-use Rattle.std.specs.BTreeSet.{BTreeSet, contains}
+use Rattle.std.specs.BTreeSet.{contains}
+use Rattle.std.proofs.Common.{inl, inr}
 use Rattle.itip_items.specs.declared.item.Item.{Item}
 use Rattle.itip_view.specs.RowDays.{is_of_rows}
-use Rattle.itip_desk.specs.Entries.{entry_cmp, entries_of, IsNoted}
-use Rattle.itip_desk.specs.declared.entry.IndexEntry.{IndexEntry}
+use Rattle.itip_desk.specs.Entries.{IndexEntry, day_cmp, name_cmp, same_entry, entries_of, IsNoted}
+use Rattle.itip_desk.specs.declared.index.Index.{Index}
 
--- whether a set has an entry
-abbrev pub has : BTreeSet IndexEntry → IndexEntry → Bool
-has set entry = contains entry_cmp set entry
+-- whether an index has an entry
+abbrev pub has : Index → IndexEntry → Bool
+has index (inl e) = contains day_cmp index.days e
+has index (inr e) = contains name_cmp index.names e
 
 -- the same of a list
 abbrev pub is_in : List IndexEntry → IndexEntry → Bool
-is_in entries entry = list_any (is_at (entry_cmp entry)) entries
+is_in entries entry = list_any (same_entry entry) entries
+
+-- an index has no entry
+pub record IsEmptyIndex (index : Index) : Type 0 where
+  pub days : index.days.keys ≡ []
+  pub names : index.names.keys ≡ []
 
 -- the entries are those of these items
-abbrev pub IsIndexOf : List Item → BTreeSet IndexEntry → Type 0
-IsIndexOf kept set = (entry : IndexEntry) → IsTrue (has set entry) ↔ IsNoted kept entry
+abbrev pub IsIndexOf : List Item → Index → Type 0
+IsIndexOf kept index = (entry : IndexEntry) → IsTrue (has index entry) ↔ IsNoted kept entry
 
 -- those of the news that rows can be governed by: of a to-do as a whole, of an instance, and of an instance and all after it
 abbrev pub AreOfRows : List Item → List Item → Type 0
 AreOfRows found news = (item : Item) → Contains found item ↔ (Contains news item × (is_of_rows item.key ≡ true))
 
--- a set keeps what it had, and gains no entry but some of these
-abbrev pub Widens : (IndexEntry → Bool) → BTreeSet IndexEntry → BTreeSet IndexEntry → Type 0
+-- an index keeps what it had, and gains no entry but some of these
+abbrev pub Widens : (IndexEntry → Bool) → Index → Index → Type 0
 Widens more old new = (entry : IndexEntry) → (has old entry ≡ true → has new entry ≡ true) ×
     (has new entry ≡ true → (has old entry || more entry) ≡ true)
 
--- a set has what it had, and beside that only entries of these items
-pub record HasGrown (items : List Item) (old new : BTreeSet IndexEntry) : Type 0 where
+-- an index has what it had, and beside that only entries of these items
+pub record HasGrown (items : List Item) (old new : Index) : Type 0 where
   pub keeps : (entry : IndexEntry) → has old entry ≡ true → has new entry ≡ true
   pub among : (entry : IndexEntry) → has new entry ≡ true → (has old entry ≡ true) ⊎ IsNoted items entry
 
 -- Of these items all that are not in the state have lost their entries, and no other entry is gone.
-pub record HasSettled (state items : List Item) (old new : BTreeSet IndexEntry) : Type 0 where
+pub record HasSettled (state items : List Item) (old new : Index) : Type 0 where
   pub none_new : (entry : IndexEntry) → has new entry ≡ true → has old entry ≡ true
   pub stays : (entry : IndexEntry) → has old entry ≡ true → ((item : Item) → Contains (entries_of item) entry → Contains state item) →
       has new entry ≡ true

@@ -12,3 +12,5 @@ pub mod Delta
 pub mod Refusals
 pub mod Listed
 pub mod WrittenRows
+pub mod DeskFile
+pub mod FileReading

@@ -1,7 +1,7 @@
 -- The UIDs that moved, each with the tick that it carries (our own form).
-use Rattle.std.specs.Prelude.{◌≡◌, ◌<◌, ◌⊎◌, ℕ, List, Bool, true, Option, Some, None, is_some, refl}
+use Rattle.std.specs.Prelude.{◌≡◌, ◌<◌, ◌≤◌, ◌⊎◌, ℕ, List, [], ◌∷◌, Bool, true, cond, Option, Some, None, is_some, refl}
 use Rattle.std.specs.Coded.{Coded, code_by, coded×, coded_ℕ, coded_list}
-use Rattle.std.specs.List.{list_any}
+use Rattle.std.specs.List.{All, list_any}
 use Rattle.std.specs.List.Sorted.{IsStrictlySortedBy}
 use Rattle.std.specs.Map.{keys_of}
 use Rattle.std.specs.Ordering.{nat_cmp, ordering_then, is_eq}
@@ -48,6 +48,10 @@ pub record AreMoves (carried : List (List ℕ × ℕ)) (order : List (ℕ × Lis
 abbrev pub AreTicks : List (List ℕ × ℕ) → Type 0
 AreTicks carried = (uid : List ℕ) (tick : ℕ) → tick_at carried uid ≡ Some tick → 0 < tick
 
+-- no UID carries a tick above this one
+abbrev pub AreUpTo : ℕ → List (List ℕ × ℕ) → Type 0
+AreUpTo top carried = (uid : List ℕ) (tick : ℕ) → tick_at carried uid ≡ Some tick → tick ≤ top
+
 -- each UID carries what it did; of these UIDs some that carried nothing may have places
 abbrev pub HavePlaces : List (List ℕ) → List (List ℕ × ℕ) → List (List ℕ × ℕ) → Type 0
 HavePlaces uids was now = (uid : List ℕ) → (tick_at now uid ≡ tick_at was uid) ⊎
@@ -57,3 +61,17 @@ HavePlaces uids was now = (uid : List ℕ) → (tick_at now uid ≡ tick_at was 
 pub record AreReady (uids : List (List ℕ)) (tick : ℕ) (moved : Moved) : Type 0 where
   pub placed : (uid : List ℕ) → is_listed uids uid ≡ true → is_some (tick_at moved.carried uid) ≡ true
   pub in_order : (uid : List ℕ) → is_listed uids uid ≡ true → has_move moved.order (tick, uid) ≡ true
+
+-- the tick of the last of these moves that is of a UID
+abbrev pub last_move : List (List ℕ × ℕ) → List ℕ → Option ℕ
+last_move [] uid = None
+last_move (move ∷ moves) uid = cond (is_some (last_move moves uid)) (last_move moves uid)
+    (cond (is_eq (slice_cmp nat_cmp move.0 uid)) (Some move.1) None)
+
+-- each UID carries the tick of the last of these moves that is of it
+abbrev pub CarriesLast : List (List ℕ × ℕ) → List (List ℕ × ℕ) → Type 0
+CarriesLast moves carried = (uid : List ℕ) → tick_at carried uid ≡ last_move moves uid
+
+-- moves at the ticks of a desk up to this one
+abbrev pub AreMovesTo : ℕ → List (List ℕ × ℕ) → Type 0
+AreMovesTo top moves = All (λ (move : List ℕ × ℕ). (0 < move.1) × (move.1 ≤ top)) moves

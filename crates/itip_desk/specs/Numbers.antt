@@ -13,3 +13,7 @@ with_text number (octet ∷ octets) = with_text (number_with number octet) octet
 
 abbrev pub text_number : List ℕ → ℕ
 text_number text = with_text 0 text
+
+-- The number of a UID. Neither 0 nor the greatest number of 32 bits is one.
+abbrev pub uid_number : List ℕ → ℕ
+uid_number uid = text_number uid + 1

@@ -1,5 +1,5 @@
 //! What a desk takes in one step.
-ghost use Rattle.std.specs.Prelude.{◌≡◌, IfOk};
+ghost use Rattle.std.specs.Prelude.{◌≡◌, [], IfOk, IsOk};
 
 use itip_items::Item;
 use itip_state::{SharedItem, by_octets};
@@ -34,9 +34,10 @@ impl Batch {
     ghost use Rattle.itip_state.specs.Kept.{IsItemsOf};
     ghost use Rattle.itip_desk.specs.Octets.{AscendOctets};
 
-    /// The items given, by canonical octets, each once. A refusal (out of memory) drops the items.
+    /// The items given, by canonical octets, each once. A refusal (out of memory) drops the items. No item takes no memory.
     pub fn of_items(items: Vec<Item>) -> Result<Batch, AllocError>
-        ensures { IfOk result (λ batch. IsItemsOf batch items.items) }
+        ensures items { IfOk result (λ batch. IsItemsOf batch items.items) }
+        ensures succeeds { items.items ≡ [] → IsOk result }
     {
         let alloc = *items.allocator();
         let mut shared = Vec::with_capacity(alloc, items.len())?;
@@ -48,7 +49,8 @@ impl Batch {
 
     /// The same of items that are shared already.
     pub(crate) fn of_shared(items: Vec<SharedItem>) -> Result<Batch, AllocError>
-        ensures { IfOk result (λ batch. IsItemsOf batch items.items) }
+        ensures items { IfOk result (λ batch. IsItemsOf batch items.items) }
+        ensures succeeds { items.items ≡ [] → IsOk result }
     {
         Ok(Batch {
             items: by_octets(items)?,

@@ -1,5 +1,5 @@
 //! The octets of a batch, and the batch that octets tell.
-ghost use Rattle.std.specs.Prelude.{◌≡◌, IfOk, IfErr};
+ghost use Rattle.std.specs.Prelude.{◌≡◌, [], IfOk, IfErr, IsOk};
 ghost use Rattle.itip_message.specs.Message.{RefusesMessage};
 ghost use Rattle.itip_message.specs.Refusals.{IfRefused};
 ghost use Rattle.itip_desk.specs.Delta.{delta_octets, GivesBatch, ReadsDelta, RefusesDelta};
@@ -9,10 +9,12 @@ use crate::batch::Batch;
 use itip_message::{ReadError, next_message, read_message};
 use std::alloc::Global;
 
-/// The canonical octets of the items, in their order (our own format). They are read as this batch.
+/// The canonical octets of the items, in their order (our own format). They are read as this batch. Of an empty batch it takes no
+/// memory.
 pub fn write_delta(alloc: Global, batch: &Batch) -> Result<Vec<u8>, NoMemory>
     ensures octets { IfOk result (λ octets. octets.items ≡ delta_octets batch.now) }
     ensures read_again { IfOk result (λ octets. ReadsDelta octets.items batch.now) }
+    ensures succeeds { batch.now ≡ [] → IsOk result }
 {
     let mut octets = Vec::new(alloc);
     for item in batch.as_slice() {

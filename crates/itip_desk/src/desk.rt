@@ -1,5 +1,5 @@
 //! A desk.
-ghost use Rattle.std.specs.Prelude.{◌≡◌, ◌↔◌, [], ◌++◌, ◌∷◌, IfOk, OnOk, OnErr, length, map, min, List, ℕ, IsErrOf};
+ghost use Rattle.std.specs.Prelude.{◌≡◌, ◌<◌, ◌≤◌, ◌↔◌, ◌⊎◌, [], ◌++◌, ◌∷◌, IfOk, OnOk, OnErr, IsOk, MatchBool, length, map, min, unwrap_or, List, ℕ, IsErrOf};
 ghost use Rattle.itip_items.specs.declared.item.Item.{Item};
 ghost use Rattle.itip_state.specs.Kept.{AreUidsOf};
 ghost use Rattle.itip_view.specs.declared.row.Row.{Row};
@@ -22,22 +22,35 @@ pub struct Changed {
     pub uids: Vec<Uid>,
 }
 
-/// Copies of the UIDs that items are about, by octets, each once.
+/// Copies of the UIDs that items are about, by octets, each once. Of no item it takes no memory.
 fn copies_of_uids(alloc: Global, items: &[&SharedItem]) -> Result<Vec<Uid>, AllocError>
-    ensures { IfOk result (λ copies. AreUidsOf copies.items (map (λ item. item.now) items.now)) }
+    ensures uids { IfOk result (λ copies. AreUidsOf copies.items (map (λ item. item.now) items.now)) }
+    ensures succeeds { items.now ≡ [] → IsOk result }
 {
     let uids = uids(alloc, items)?;
     copies(alloc, &uids)
 }
 
 fn copies(alloc: Global, uids: &[&Uid]) -> Result<Vec<Uid>, AllocError>
-    ensures { IfOk result (λ copies. copies.items ≡ map (λ uid. uid.now) uids.now) }
+    ensures copies { IfOk result (λ copies. copies.items ≡ map (λ uid. uid.now) uids.now) }
+    ensures succeeds { uids.now ≡ [] → IsOk result }
 {
     let mut copies = Vec::with_capacity(alloc, uids.len())?;
     for uid in uids {
         copies.push((*uid).clone()?)?;
     }
     Ok(copies)
+}
+
+/// Each of these items.
+fn shared_each(alloc: Global, items: &[SharedItem]) -> Result<Vec<&SharedItem>, AllocError>
+    ensures { IfOk result (λ each. map (λ item. item.now) each.items ≡ items.now) }
+{
+    let mut each = Vec::with_capacity(alloc, items.len())?;
+    for item in items {
+        each.push(item)?;
+    }
+    Ok(each)
 }
 
 /// A replica: what it keeps of all that it has heard, its tick, and the UIDs that moved, each with the tick of its last move.
@@ -51,7 +64,7 @@ pub struct Desk {
 
 impl Model for Desk {
     ghost use Rattle.itip_desk.specs.Desk.{Shown, shown_code};
-    ghost use Rattle.itip_desk.specs.Moves.{AreTicks};
+    ghost use Rattle.itip_desk.specs.Moves.{AreTicks, AreUpTo};
 
     ghost Value = { Shown };
 
@@ -59,22 +72,26 @@ impl Model for Desk {
 
     ghost view = { λ d. record { kept = d.kept; tick = d.tick; changed = d.moves.carried } };
 
-    ghost invariant = { λ d. AreTicks d.moves.carried };
+    ghost invariant = { λ d. AreTicks d.moves.carried × AreUpTo d.tick d.moves.carried };
 }
 
 impl Desk {
     ghost use Rattle.itip_state.specs.Kept.{AreKept, AreMoved, ArePartOf, Moves, HasEachOnce};
     ghost use Rattle.itip_desk.specs.Desk.{IsDeskOf, IsDeltaOf, IsCarriedOn};
+    ghost use Rattle.itip_desk.specs.Moves.{tick_at, AreMovesTo, CarriesLast};
+    ghost use Rattle.itip_desk.specs.DeskFile.{IsTold};
     ghost use Rattle.itip_desk.specs.Heard.{TickStep};
+    ghost use Rattle.itip_state.specs.Order.{IsBelow};
     ghost use Rattle.std.specs.List.{Contains};
-    ghost use Rattle.itip_view.specs.ByUid.{AreAsked, AreLeft};
+    ghost use Rattle.itip_view.specs.ByUid.{AreAsked, AreLeft, uids_of};
     ghost use Rattle.itip_view.specs.Rows.{IsRow, AreRows, AreTooMany};
     ghost use Rattle.itip_view.specs.Showing.{Shows, AreRowsWhere, AreTooManyWhere, IsListTextFor};
     ghost use Rattle.itip_view.specs.ListText.{IsListText};
 
     /// A desk that has heard nothing, at this tick. It takes no memory.
     pub fn empty_at(alloc: Global, tick: u64) -> Desk
-        ensures { IsDeskOf [] tick result }
+        ensures desk { IsDeskOf [] tick result }
+        ensures told { tick ≡ 0 → IsTold result }
     {
         Desk {
             kept: IndexedState::empty(alloc),
@@ -82,6 +99,39 @@ impl Desk {
             moves: MovedUids::new(alloc),
             alloc,
         }
+    }
+
+    /// A desk that keeps what is kept of these items, at this tick. Its UIDs moved last as these moves say, the last of each UID.
+    ///
+    /// Refused when out of memory.
+    pub(crate) fn of_parts(
+        alloc: Global,
+        last: u64,
+        items: &Batch,
+        moves: Vec<(Uid, u64)>,
+    ) -> Result<Desk, AllocError>
+        requires { AreMovesTo last moves.items }
+        ensures kept { IfOk result (λ desk. AreKept desk.kept items.now) }
+        ensures tick { IfOk result (λ desk. desk.tick ≡ last) }
+        ensures changed { IfOk result (λ desk. CarriesLast moves.items desk.changed) }
+    {
+        let moves = MovedUids::of_moves(alloc, moves)?;
+        let each = shared_each(alloc, items.as_slice())?;
+        let mut kept = IndexedState::empty(alloc);
+        kept.hear(each.as_slice())?;
+        Ok(Desk {
+            kept,
+            tick: last,
+            moves,
+            alloc,
+        })
+    }
+
+    /// The tick at which a UID moved last; 0 where it didn't.
+    pub(crate) fn moved_at(&self, uid: &Uid) -> u64
+        ensures { result ≡ unwrap_or (tick_at self.now.changed uid.now) 0 }
+    {
+        self.moves.tick_of(uid).unwrap_or(0)
     }
 
     /// The tick: the number of steps that moved a UID, above the first tick.
@@ -108,7 +158,8 @@ impl Desk {
 
     /// Hears a batch. Where UIDs move the tick rises by one, and they carry it.
     ///
-    /// Refused when out of memory, or where a UID would move at the last tick; a refusal changes nothing.
+    /// Refused when out of memory, or where a UID would move at the last tick; a refusal changes nothing. A batch of which nothing is
+    /// news, as one that was heard before, is never refused.
     pub fn take(&mut self, batch: &Batch) -> Result<Changed, DeskError>
         ensures kept { OnOk result (AreKept self.new.kept (self.old.kept ++ batch.now)) }
         ensures uids { IfOk result (λ changed. AreMoved changed.uids.items self.old.kept batch.now) }
@@ -117,8 +168,10 @@ impl Desk {
         ensures carried { OnOk result (IsCarriedOn self.old self.new batch.now) }
         ensures step { OnOk result ((steps : List (List Item)) (start : ℕ)
             → IsDeskOf steps start self.old → IsDeskOf (steps ++ batch.now ∷ []) start self.new) }
+        ensures told { OnOk result (IsTold self.old → IsTold self.new) }
         ensures spent { IsErrOf result DeskError.TicksSpent
             → (self.old.tick ≡ u64.MAX) × ((uid : List ℕ) × Moves self.old.kept batch.now uid) }
+        ensures succeeds { IsBelow batch.now self.old.kept → IsOk result }
         ensures err { OnErr result (self.new ≡ self.old) }
     {
         let news = self.kept.state().news(batch.as_slice())?;
@@ -146,9 +199,15 @@ impl Desk {
 
     /// The kept items of the UIDs that carry a tick above this one: what a desk that was at this tick lacks. At most
     /// one other UID is looked at.
+    ///
+    /// Refused when out of memory. From the tick of this desk on nothing has moved, and it is not refused.
     pub fn delta_since(&self, tick: u64) -> Result<Batch, AllocError>
-        ensures { IfOk result (IsDeltaOf self.now tick) }
+        ensures delta { IfOk result (IsDeltaOf self.now tick) }
+        ensures succeeds { self.now.tick ≤ tick → IsOk result }
     {
+        if tick >= self.tick {
+            return Batch::of_shared(Vec::new(self.alloc));
+        }
         let uids = self.moves.after(tick)?;
         Batch::of_shared(self.kept.state().shared_of(&uids)?)
     }
@@ -198,21 +257,46 @@ impl Desk {
         self.kept.state().part(&naming)
     }
 
-    /// The rows of the task list in a window, a UID at a time. No UID is looked at whose rows can't stand in it.
+    /// Whether these are as many as the UIDs of which something is kept, and some are. It takes no memory.
+    fn are_as_many(&self, uids: &[&Uid]) -> bool
+        ensures { MatchBool result
+            ((all : List (List ℕ)) → AreUidsOf all self.now.kept → (0 < length all) × (length all ≤ length uids.now))
+            ((all : List (List ℕ)) → AreUidsOf all self.now.kept → (length all ≡ 0) ⊎ (length uids.now < length all)) }
+    {
+        let all = self.kept.state().uid_count();
+        if all == 0 {
+            return false;
+        }
+        if uids.len() < all {
+            return false;
+        }
+        true
+    }
+
+    /// The rows of the task list in a window, a UID at a time. No UID is looked at whose rows can't stand in it, unless the index
+    /// finds as many, each as often as it finds it, as there are.
     ///
-    /// Refused when out of memory.
+    /// Refused when out of memory. Where nothing is kept, no memory is asked for.
     pub fn rows(&self, window: Window) -> Result<RowsByUid<'_, '_>, AllocError>
         ensures rows { IfOk result (λ asked. (rows : List Row) → AreLeft asked rows ↔ AreRows self.now.kept window rows) }
         ensures asked { IfOk result (AreAsked (λ row. Unit {0}) self.now.kept window) }
+        ensures none { self.now.kept ≡ [] → IfOk result (λ asked. uids_of asked ≡ []) }
+        ensures succeeds { self.now.kept ≡ [] → IsOk result }
     {
         let uids = self.kept.uids_in(window)?;
-        RowsByUid::among(self.alloc, self.kept.state(), uids, window, &Wanted::all())
+        let state = self.kept.state();
+        let wanted = Wanted::all();
+        if self.are_as_many(&uids) {
+            // Those of the state stand in order already, and to sort these would cost more than a look at all.
+            return RowsByUid::of(self.alloc, state, window, &wanted);
+        }
+        RowsByUid::among(self.alloc, state, uids, window, &wanted)
     }
 
     /// The rows in a window that show the attendee of an address, a UID at a time. No UID is looked at whose items don't name
     /// the attendee.
     ///
-    /// Refused when out of memory.
+    /// Refused when out of memory. Where nothing is kept, no memory is asked for.
     pub fn rows_for<'a>(
         &'a self,
         window: Window,
@@ -221,6 +305,8 @@ impl Desk {
         ensures rows { IfOk result (λ asked. (rows : List Row)
             → AreLeft asked rows ↔ AreRowsWhere (Shows address.now) self.now.kept window rows) }
         ensures asked { IfOk result (AreAsked (Shows address.now) self.now.kept window) }
+        ensures none { self.now.kept ≡ [] → IfOk result (λ asked. uids_of asked ≡ []) }
+        ensures succeeds { self.now.kept ≡ [] → IsOk result }
     {
         let uids = self.kept.uids_naming(address)?;
         RowsByUid::among(
@@ -232,12 +318,13 @@ impl Desk {
         )
     }
 
-    /// The text of the task list in a window. No UID is looked at whose rows can't stand in it.
+    /// The text of the task list in a window. UIDs are looked at as for [`Desk::rows`].
     ///
-    /// Refused where more than 100,000 rows stand there (31), or when out of memory (32).
+    /// Refused where more than 100,000 rows stand there (31), or when out of memory (32). Where nothing is kept, it is not refused.
     pub fn list(&self, window: Window) -> Result<Vec<u8>, ViewError>
         ensures text { IfOk result (λ text. (heard : List Item) → AreKept self.now.kept heard → IsListText heard window text.items) }
         ensures many { IsErrOf result ViewError.TooManyRows → (heard : List Item) → AreKept self.now.kept heard → AreTooMany heard window }
+        ensures succeeds { self.now.kept ≡ [] → IsOk result }
     {
         let rows = self.rows(window)?;
         rows.text()
@@ -245,12 +332,14 @@ impl Desk {
 
     /// The text of the rows in a window that show the attendee of an address. No UID is looked at whose items don't name the attendee.
     ///
-    /// Refused where more than 100,000 rows there show the attendee (31), or when out of memory (32).
+    /// Refused where more than 100,000 rows there show the attendee (31), or when out of memory (32). Where nothing is kept, it is not
+    /// refused.
     pub fn list_for(&self, window: Window, address: &str) -> Result<Vec<u8>, ViewError>
         ensures text { IfOk result (λ text. (heard : List Item)
             → AreKept self.now.kept heard → IsListTextFor address.now heard window text.items) }
         ensures many { IsErrOf result ViewError.TooManyRows
             → (heard : List Item) → AreKept self.now.kept heard → AreTooManyWhere (Shows address.now) heard window }
+        ensures succeeds { self.now.kept ≡ [] → IsOk result }
     {
         let shown = self.rows_for(window, address)?;
         shown.text()

@@ -1,43 +1,50 @@
 //! The entries of an index of kept items.
-ghost use Rattle.std.specs.Prelude.{◌≡◌, refl};
+ghost use Rattle.std.specs.Prelude.{◌≡◌, IfOk, refl};
 ghost use Rattle.std.specs.Option.{option_copied};
 ghost use Rattle.std.specs.Cmp.{partial_order_from_total, partial_equiv_from_equiv, eq_by_cmp_equiv};
 ghost use Rattle.std.specs.Ordering.{as_partial_cmp, eq_by_cmp};
-ghost use Rattle.itip_desk.specs.Entries.{sort_of, day_of, number_of, mark_cmp, mark_of, place_of, uid_number_of, item_of};
-ghost use Rattle.itip_desk.specs.Entries.{kind_of, instance_at, item_cmp, owner_cmp, entry_cmp, entry_total};
+ghost use Rattle.itip_items.specs.KeyParts.{rank_of, instance_of};
+ghost use Rattle.itip_desk.specs.Entries.{sort_of, day_of, mark_cmp, mark_of, item_cmp, owner_cmp};
+ghost use Rattle.itip_desk.specs.Entries.{day_cmp, day_total, name_cmp, name_total, day_bound, name_bound};
 
+use itip_join::Exact;
 use itip_moment::Moment;
 use itip_state::Revision;
 use itip_view::RowDays;
+use std::alloc::AllocError;
 use std::cmp::Ordering;
 
-/// What an item is found by.
+/// The days by which an item is found.
 #[derive(Clone, Copy, Debug)]
 pub(crate) enum Mark {
     /// A day on which a row can stand that needs it.
     Day(i32),
     /// Each window: its rows can stand on any day.
     Always,
-    /// The number of an attendee that its rows can show.
-    Attendee(u32),
 }
 
-/// Whose an entry is. Beside items there are two bounds.
+/// An item, and the number of its UID. No UID has the numbers 0 and `u32::MAX`: an owner with one of these is a bound, before all items
+/// or behind all, whatever its item.
 #[derive(Debug, Drop)]
-pub(crate) enum Owner {
-    /// Before all items.
-    Before,
-    /// An item, and the number of its UID.
-    Of(u32, Revision),
-    /// Behind all items.
-    After,
+pub(crate) struct Owner {
+    pub(crate) uid: u32,
+    pub(crate) item: Revision,
 }
 
-/// An item, and what it is found by.
+/// An item, and the days by which it is found.
 #[derive(Debug, Drop)]
-pub(crate) struct IndexEntry {
+pub(crate) struct DayEntry {
     pub(crate) mark: Mark,
     pub(crate) owner: Owner,
+}
+
+/// An item, the number of its UID, and the number of an attendee that its rows can show. An item can have thousands of these, so its
+/// owner stands in it bare: 16 bytes.
+#[derive(Debug, Drop)]
+pub(crate) struct NameEntry {
+    pub(crate) attendee: u32,
+    pub(crate) uid: u32,
+    pub(crate) item: Revision,
 }
 
 impl Mark {
@@ -57,7 +64,6 @@ impl Mark {
         match self {
             Mark::Day(_) => 0,
             Mark::Always => 1,
-            Mark::Attendee(_) => 2,
         }
     }
 
@@ -66,16 +72,7 @@ impl Mark {
     {
         match self {
             Mark::Day(day) => *day,
-            Mark::Always | Mark::Attendee(_) => 0,
-        }
-    }
-
-    fn number(&self) -> u32
-        ensures { result ≡ number_of self.now }
-    {
-        match self {
-            Mark::Attendee(number) => *number,
-            Mark::Day(_) | Mark::Always => 0,
+            Mark::Always => 0,
         }
     }
 
@@ -85,114 +82,147 @@ impl Mark {
         self.sort()
             .cmp(&other.sort())
             .then(self.day().cmp(&other.day()))
-            .then(self.number().cmp(&other.number()))
     }
 }
 
 impl Owner {
-    /// The item, unless it is a bound.
-    pub(crate) fn revision(&self) -> Option<&Revision>
-        ensures { option_copied result ≡ item_of self.now }
-    {
-        match self {
-            Owner::Of(_, revision) => Some(revision),
-            Owner::Before | Owner::After => None,
-        }
-    }
-
-    fn place(&self) -> u8
-        ensures { result ≡ place_of self.now }
-    {
-        match self {
-            Owner::Before => 0,
-            Owner::Of(_, _) => 1,
-            Owner::After => 2,
-        }
-    }
-
-    fn uid_number(&self) -> u32
-        ensures { result ≡ uid_number_of self.now }
-    {
-        match self {
-            Owner::Of(number, _) => *number,
-            Owner::Before | Owner::After => 0,
-        }
-    }
-
-    fn kind(&self) -> u8
-        ensures { result ≡ kind_of self.now }
-    {
-        match self {
-            Owner::Of(_, revision) => revision.item().key.rank(),
-            Owner::Before | Owner::After => 0,
-        }
-    }
-
-    fn instance(&self) -> Option<&Moment>
-        ensures { option_copied result ≡ instance_at self.now }
-    {
-        match self {
-            Owner::Of(_, revision) => revision.item().key.instance(),
-            Owner::Before | Owner::After => None,
-        }
-    }
-
-    fn compare_items(&self, other: &Owner) -> Ordering
-        ensures { result ≡ item_cmp self.now other.now }
-    {
-        self.kind()
-            .cmp(&other.kind())
-            .then_with(|| self.instance().cmp(&other.instance()))
-            .then_with(|| self.revision().cmp(&other.revision()))
-    }
-
     fn compare(&self, other: &Owner) -> Ordering
         ensures { result ≡ owner_cmp self.now other.now }
     {
-        self.place()
-            .cmp(&other.place())
-            .then(self.uid_number().cmp(&other.uid_number()))
-            .then_with(|| self.compare_items(other))
+        self.uid
+            .cmp(&other.uid)
+            .then_with(|| compare_items(&self.item, &other.item))
     }
 }
 
-impl PartialEq for IndexEntry {
-    ghost eq = { eq_by_cmp entry_cmp };
+impl DayEntry {
+    /// The bound of a mark with this number in the place of that of a UID.
+    pub(crate) fn bound(&self, mark: Mark, uid: u32) -> Result<DayEntry, AllocError>
+        ensures { IfOk result (λ bound. bound ≡ day_bound mark uid self.now.owner.item) }
+    {
+        let item = self.owner.item.copy()?;
+        Ok(DayEntry {
+            mark,
+            owner: Owner { uid, item },
+        })
+    }
+}
 
-    ghost laws = { partial_equiv_from_equiv (eq_by_cmp_equiv entry_total) };
+impl NameEntry {
+    /// The bound of an attendee's number with this number in the place of that of a UID.
+    pub(crate) fn bound(&self, attendee: u32, uid: u32) -> Result<NameEntry, AllocError>
+        ensures { IfOk result (λ bound. bound ≡ name_bound attendee uid self.now.item) }
+    {
+        let item = self.item.copy()?;
+        Ok(NameEntry {
+            attendee,
+            uid,
+            item,
+        })
+    }
+}
 
-    fn eq(&self, other: &IndexEntry) -> bool {
+fn kind(item: &Revision) -> u8
+    ensures { result ≡ rank_of item.now.key }
+{
+    item.item().key.rank()
+}
+
+fn instance(item: &Revision) -> Option<&Moment>
+    ensures { option_copied result ≡ instance_of item.now.key }
+{
+    item.item().key.instance()
+}
+
+/// By kind of key and by instance, and then as revisions.
+fn compare_items(item: &Revision, other: &Revision) -> Ordering
+    ensures { result ≡ item_cmp item.now other.now }
+{
+    kind(item)
+        .cmp(&kind(other))
+        .then_with(|| instance(item).cmp(&instance(other)))
+        .then_with(|| item.cmp(other))
+}
+
+impl PartialEq for DayEntry {
+    ghost eq = { eq_by_cmp day_cmp };
+
+    ghost laws = { partial_equiv_from_equiv (eq_by_cmp_equiv day_total) };
+
+    fn eq(&self, other: &DayEntry) -> bool {
         self.cmp(other) == Ordering::Equal
     }
 }
 
-impl Eq for IndexEntry {
-    ghost laws = { eq_by_cmp_equiv entry_total };
+impl Eq for DayEntry {
+    ghost laws = { eq_by_cmp_equiv day_total };
 }
 
-impl PartialOrd for IndexEntry {
-    ghost partial_cmp = { as_partial_cmp entry_cmp };
+impl PartialOrd for DayEntry {
+    ghost partial_cmp = { as_partial_cmp day_cmp };
 
-    ghost laws = { partial_order_from_total entry_total };
+    ghost laws = { partial_order_from_total day_total };
 
-    fn partial_cmp(&self, other: &IndexEntry) -> Option<Ordering> {
+    fn partial_cmp(&self, other: &DayEntry) -> Option<Ordering> {
         Some(self.cmp(other))
     }
 }
 
 /// By mark, then by owner.
-impl Ord for IndexEntry {
-    ghost cmp = { entry_cmp };
+impl Ord for DayEntry {
+    ghost cmp = { day_cmp };
 
-    ghost total = { entry_total };
+    ghost total = { day_total };
 
     ghost matches_partial_cmp = { λ x y. refl };
 
     ghost matches_eq = { λ x y. refl };
 
-    fn cmp(&self, other: &IndexEntry) -> Ordering {
+    fn cmp(&self, other: &DayEntry) -> Ordering {
         self.mark
             .compare(&other.mark)
             .then_with(|| self.owner.compare(&other.owner))
+    }
+}
+
+impl PartialEq for NameEntry {
+    ghost eq = { eq_by_cmp name_cmp };
+
+    ghost laws = { partial_equiv_from_equiv (eq_by_cmp_equiv name_total) };
+
+    fn eq(&self, other: &NameEntry) -> bool {
+        self.cmp(other) == Ordering::Equal
+    }
+}
+
+impl Eq for NameEntry {
+    ghost laws = { eq_by_cmp_equiv name_total };
+}
+
+impl PartialOrd for NameEntry {
+    ghost partial_cmp = { as_partial_cmp name_cmp };
+
+    ghost laws = { partial_order_from_total name_total };
+
+    fn partial_cmp(&self, other: &NameEntry) -> Option<Ordering> {
+        Some(self.cmp(other))
+    }
+}
+
+/// By the number of the attendee, then by that of the UID, and then by item.
+impl Ord for NameEntry {
+    ghost cmp = { name_cmp };
+
+    ghost total = { name_total };
+
+    ghost matches_partial_cmp = { λ x y. refl };
+
+    ghost matches_eq = { λ x y. refl };
+
+    fn cmp(&self, other: &NameEntry) -> Ordering {
+        self.attendee
+            .cmp(&other.attendee)
+            .then(self.uid.cmp(&other.uid))
+            .then_with(|| compare_items(&self.item, &other.item))
     }
 }

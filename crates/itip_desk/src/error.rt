@@ -1,7 +1,9 @@
-//! Why a batch was not taken.
+//! Why a batch was not taken, or a desk not read.
 ghost use Rattle.std.specs.Prelude.{◌≡◌};
 ghost use Rattle.itip_desk.specs.declared.error.DeskError.TheVariants.{NoMemory};
+ghost use Rattle.itip_desk.specs.declared.error.FileError.TheVariants as file;
 
+use crate::refusal::FileRefusal;
 use std::alloc::{AllocError, AllocFailed};
 use thiserror::Error;
 
@@ -29,5 +31,32 @@ impl<T: Drop> From<AllocFailed<T>> for DeskError {
 
     fn from(_e: AllocFailed<T>) -> DeskError {
         DeskError::NoMemory
+    }
+}
+
+/// Why there is no desk of some octets.
+#[derive(Clone, Copy, PartialEq, Eq, Debug, Drop, Error)]
+pub enum FileError {
+    /// An allocation failed (20).
+    #[error("no memory to read a desk")]
+    NoMemory,
+    /// They are the file of no desk (70, 71).
+    #[error("{0}")]
+    Refused(FileRefusal),
+}
+
+impl From<AllocError> for FileError {
+    ghost from_gives = { λ _ e. e ≡ file.NoMemory };
+
+    fn from(_e: AllocError) -> FileError {
+        FileError::NoMemory
+    }
+}
+
+impl<T: Drop> From<AllocFailed<T>> for FileError {
+    ghost from_gives = { λ _ e. e ≡ file.NoMemory };
+
+    fn from(_e: AllocFailed<T>) -> FileError {
+        FileError::NoMemory
     }
 }

@@ -1,18 +1,18 @@
-//! The UIDs that are found in a set of entries.
-ghost use Rattle.std.specs.Prelude.{◌≡◌, ◌≤ℤ◌, ◌<ℤ◌, ℕ, ℤ, List, map, true, IsTrue, ◌↔◌, IfOk, OnOk};
+//! The UIDs that are found in an index.
+ghost use Rattle.std.specs.Prelude.{◌≡◌, ◌≤ℤ◌, ◌<ℤ◌, ℕ, ℤ, List, [], map, true, IsTrue, ◌↔◌, IfOk, IsOk, OnOk};
 ghost use Rattle.std.specs.List.{Contains};
 ghost use Rattle.std.specs.BTreeMap.Range.{IsLeBy};
-ghost use Rattle.std.specs.BTreeSet.{keys_between};
+ghost use Rattle.std.specs.BTreeSet.{contains, keys_between};
 ghost use Rattle.std.specs.declared.ops.Bound.TheVariants.{Included, Excluded};
 ghost use Rattle.itip_items.specs.KeyParts.{uid_of};
 ghost use Rattle.itip_items.specs.declared.item.Item.{Item};
-ghost use Rattle.itip_desk.specs.declared.entry.IndexEntry.{IndexEntry};
-ghost use Rattle.itip_desk.specs.declared.entry.Mark.TheVariants.{Day, Always, Attendee};
-ghost use Rattle.itip_desk.specs.Entries.{entry_cmp, entry_of, attendee_mark, before_all, after_all};
+ghost use Rattle.itip_desk.specs.declared.entry.DayEntry.{DayEntry};
+ghost use Rattle.itip_desk.specs.declared.entry.NameEntry.{NameEntry};
+ghost use Rattle.itip_desk.specs.declared.entry.Mark.TheVariants.{Day, Always};
+ghost use Rattle.itip_desk.specs.Entries.{day_cmp, name_cmp, day_entry, name_entry, address_number};
 ghost use Rattle.itip_desk.specs.Found.{NamesLine, AddsFound};
-ghost use Rattle.itip_desk.specs.Index.{has};
 
-use crate::entry::{IndexEntry, Mark, Owner};
+use crate::entry::{DayEntry, Mark, NameEntry};
 use crate::number::attendee_number;
 use itip_items::Item;
 use itip_todo::Uid;
@@ -20,109 +20,128 @@ use itip_view::Window;
 use std::alloc::{AllocError, Global};
 use std::collections::BTreeSet;
 
-/// The UIDs found by a day of the window, or in each window, perhaps more than once. No other entry is looked at.
+/// The UIDs found by a day of the window, or in each window, perhaps more than once. No other entry is looked at. Where there is none, no
+/// memory is asked for.
 pub(crate) fn find_in<'a>(
     alloc: Global,
-    index: &'a BTreeSet<IndexEntry>,
+    days: &'a BTreeSet<DayEntry>,
     window: Window,
 ) -> Result<Vec<&'a Uid>, AllocError>
     ensures days { IfOk result (λ uids. (item : Item) (day : ℤ)
-        → window.from ≤ℤ day → day <ℤ window.to → has index.now (entry_of item (Day day)) ≡ true →
+        → window.from ≤ℤ day → day <ℤ window.to → contains day_cmp days.now (day_entry item (Day day)) ≡ true →
         Contains (map (λ u. u.now) uids.items) (uid_of item.key)) }
     ensures always { IfOk result (λ uids. (item : Item)
-        → has index.now (entry_of item Always) ≡ true → Contains (map (λ u. u.now) uids.items) (uid_of item.key)) }
+        → contains day_cmp days.now (day_entry item Always) ≡ true → Contains (map (λ u. u.now) uids.items) (uid_of item.key)) }
+    ensures none { days.now.keys ≡ [] → IfOk result (λ uids. uids.items ≡ []) }
+    ensures succeeds { days.now.keys ≡ [] → IsOk result }
 {
     let mut uids = Vec::new(alloc);
-    let from = before_all(Mark::Day(window.from));
-    let to = before_all(Mark::Day(window.to));
-    find_between(index, from, to, &mut uids)?;
-    let from = before_all(Mark::Always);
-    let to = after_all(Mark::Always);
-    find_between(index, from, to, &mut uids)?;
+    if let Some(any) = days.first() {
+        add_in(days, any, window, &mut uids)?;
+    }
     Ok(uids)
+}
+
+/// Adds the UIDs found so. A bound needs an item, and any will do.
+fn add_in<'a>(
+    days: &'a BTreeSet<DayEntry>,
+    any: &DayEntry,
+    window: Window,
+    uids: &mut Vec<&'a Uid>,
+) -> Result<(), AllocError>
+    ensures days { OnOk result ((item : Item) (day : ℤ)
+        → window.from ≤ℤ day → day <ℤ window.to → contains day_cmp days.now (day_entry item (Day day)) ≡ true →
+        Contains (map (λ u. u.now) uids.new.items) (uid_of item.key)) }
+    ensures always { OnOk result ((item : Item)
+        → contains day_cmp days.now (day_entry item Always) ≡ true → Contains (map (λ u. u.now) uids.new.items) (uid_of item.key)) }
+{
+    let from = any.bound(Mark::Day(window.from), 0)?;
+    let to = any.bound(Mark::Day(window.to), 0)?;
+    find_between(days, from, to, uids)?;
+    let from = any.bound(Mark::Always, 0)?;
+    let to = any.bound(Mark::Always, u32::MAX)?;
+    find_between(days, from, to, uids)
 }
 
 /// The UIDs whose items name the attendee of an address, perhaps more than once. No other entry is looked at but those of attendees
-/// of the same number.
+/// of the same number. Where there is none, no memory is asked for.
 pub(crate) fn find_named<'a>(
     alloc: Global,
-    index: &'a BTreeSet<IndexEntry>,
+    names: &'a BTreeSet<NameEntry>,
     address: &str,
 ) -> Result<Vec<&'a Uid>, AllocError>
-    ensures { IfOk result (λ uids. (item : Item) → NamesLine address.now item → has index.now (entry_of item (attendee_mark address.now)) ≡ true
+    ensures names { IfOk result (λ uids. (item : Item) → NamesLine address.now item
+        → contains name_cmp names.now (name_entry item (address_number address.now)) ≡ true
         → Contains (map (λ u. u.now) uids.items) (uid_of item.key)) }
+    ensures none { names.now.keys ≡ [] → IfOk result (λ uids. uids.items ≡ []) }
+    ensures succeeds { names.now.keys ≡ [] → IsOk result }
 {
     let mut uids = Vec::new(alloc);
-    let mark = Mark::Attendee(attendee_number(address));
-    let from = before_all(mark);
-    let to = after_all(mark);
-    find_naming(index, from, to, address, &mut uids)?;
+    if let Some(any) = names.first() {
+        add_named(names, any, address, &mut uids)?;
+    }
     Ok(uids)
 }
 
-/// The entry before all of a mark.
-fn before_all(mark: Mark) -> IndexEntry
-    ensures { result ≡ before_all mark }
+/// Adds the UIDs found so. A bound needs an item, and any will do.
+fn add_named<'a>(
+    names: &'a BTreeSet<NameEntry>,
+    any: &NameEntry,
+    address: &str,
+    uids: &mut Vec<&'a Uid>,
+) -> Result<(), AllocError>
+    ensures { OnOk result ((item : Item) → NamesLine address.now item
+        → contains name_cmp names.now (name_entry item (address_number address.now)) ≡ true
+        → Contains (map (λ u. u.now) uids.new.items) (uid_of item.key)) }
 {
-    IndexEntry {
-        mark,
-        owner: Owner::Before,
-    }
-}
-
-/// The entry behind all of a mark.
-fn after_all(mark: Mark) -> IndexEntry
-    ensures { result ≡ after_all mark }
-{
-    IndexEntry {
-        mark,
-        owner: Owner::After,
-    }
+    let attendee = attendee_number(address);
+    let from = any.bound(attendee, 0)?;
+    let to = any.bound(attendee, u32::MAX)?;
+    find_naming(names, from, to, address, uids)
 }
 
 /// Adds the UIDs of the entries from `from` up to `to`, which is left out.
 fn find_between<'a>(
-    index: &'a BTreeSet<IndexEntry>,
-    from: IndexEntry,
-    to: IndexEntry,
+    days: &'a BTreeSet<DayEntry>,
+    from: DayEntry,
+    to: DayEntry,
     uids: &mut Vec<&'a Uid>,
 ) -> Result<(), AllocError>
-    requires { IsLeBy entry_cmp from to }
-    ensures { OnOk result (AddsFound (λ item. Unit {0}) (keys_between entry_cmp (Included from) (Excluded to) index.now)
+    requires { IsLeBy day_cmp from to }
+    ensures { OnOk result (AddsFound (λ (e : DayEntry). e.owner.item) (λ item. Unit {0})
+        (keys_between day_cmp (Included from) (Excluded to) days.now)
         (map (λ u. u.now) uids.old.items) (map (λ u. u.now) uids.new.items)) }
 {
-    for entry in index.range(from..to) {
-        if let Some(revision) = entry.owner.revision() {
-            uids.push(revision.item().key.uid())?;
-        }
+    for entry in days.range(from..to) {
+        uids.push(entry.owner.item.item().key.uid())?;
     }
     Ok(())
 }
 
 /// The same of those of which an item names the attendee of an address.
 fn find_naming<'a>(
-    index: &'a BTreeSet<IndexEntry>,
-    from: IndexEntry,
-    to: IndexEntry,
+    names: &'a BTreeSet<NameEntry>,
+    from: NameEntry,
+    to: NameEntry,
     address: &str,
     uids: &mut Vec<&'a Uid>,
 ) -> Result<(), AllocError>
-    requires { IsLeBy entry_cmp from to }
-    ensures { OnOk result (AddsFound (NamesLine address.now) (keys_between entry_cmp (Included from) (Excluded to) index.now)
+    requires { IsLeBy name_cmp from to }
+    ensures { OnOk result (AddsFound (λ (e : NameEntry). e.item) (NamesLine address.now)
+        (keys_between name_cmp (Included from) (Excluded to) names.now)
         (map (λ u. u.now) uids.old.items) (map (λ u. u.now) uids.new.items)) }
 {
-    for entry in index.range(from..to) {
-        if let Some(revision) = entry.owner.revision() {
-            if names(revision.item(), address) {
-                uids.push(revision.item().key.uid())?;
-            }
+    for entry in names.range(from..to) {
+        let item = entry.item.item();
+        if names_attendee(item, address) {
+            uids.push(item.key.uid())?;
         }
     }
     Ok(())
 }
 
 /// Whether an item names the attendee of an address.
-fn names(item: &Item, address: &str) -> bool
+fn names_attendee(item: &Item, address: &str) -> bool
     ensures { IsTrue result ↔ NamesLine address.now item.now }
 {
     for line in item.todo.attendees.as_slice() {

@@ -1,95 +1,116 @@
-//! Sets of entries: how those of items come and go.
-ghost use Rattle.std.specs.Prelude.{◌≡◌, ◌||◌, ◌&&◌, not, map as each, OnOk, OnErr, IfOk};
-ghost use Rattle.std.specs.Ordering.{is_eq};
+//! An index of kept items, and how the entries of items come and go.
+ghost use Rattle.std.specs.Prelude.{◌≡◌, ◌||◌, ◌&&◌, not, OnOk, OnErr, IfOk};
 ghost use Rattle.itip_items.specs.KeyParts.{uid_of};
 ghost use Rattle.itip_items.specs.declared.item.Item.{Item};
-ghost use Rattle.itip_desk.specs.declared.entry.IndexEntry.{IndexEntry};
-ghost use Rattle.itip_desk.specs.Entries.{entry_cmp, entry_of, owner_of, day_marks, line_marks, entries_of};
-ghost use Rattle.itip_desk.specs.Index.{has, is_in, Widens};
-ghost use Rattle.itip_desk.specs.Numbers.{text_number};
+ghost use Rattle.itip_desk.specs.Entries.{IndexEntry, same_entry, of_day, of_name, day_entry, name_entry, owner_of, day_entries};
+ghost use Rattle.itip_desk.specs.Entries.{line_entries, entries_of};
+ghost use Rattle.itip_desk.specs.Index.{has, is_in, Widens, IsEmptyIndex};
+ghost use Rattle.itip_desk.specs.Numbers.{uid_number};
 
-use crate::entry::{IndexEntry, Mark, Owner};
+use crate::entry::{DayEntry, Mark, NameEntry, Owner};
 use crate::number::{attendee_number, uid_number};
 use itip_items::Item;
 use itip_join::Exact;
 use itip_state::SharedItem;
 use itip_view::{has_rows, row_days};
-use std::alloc::AllocError;
+use std::alloc::{AllocError, Global};
 use std::collections::BTreeSet;
+
+/// Kept items by what they are found by.
+#[derive(Debug, Drop)]
+pub(crate) struct Index {
+    /// By the days on which their rows can stand.
+    pub(crate) days: BTreeSet<DayEntry>,
+    /// By the attendees that their rows can show.
+    pub(crate) names: BTreeSet<NameEntry>,
+}
+
+impl Index {
+    /// An index of no item. It takes no memory.
+    pub(crate) fn empty(alloc: Global) -> Index
+        ensures { IsEmptyIndex result }
+    {
+        Index {
+            days: BTreeSet::new(alloc),
+            names: BTreeSet::new(alloc),
+        }
+    }
+}
 
 /// An item as the owner of entries.
 pub(crate) fn owner_of(item: &SharedItem) -> Result<Owner, AllocError>
     ensures { IfOk result (λ owner. owner ≡ owner_of item.now) }
 {
-    let number = uid_number(item.item().key.uid().as_str());
-    Ok(Owner::Of(number, item.revision().copy()?))
+    let uid = uid_number(item.item().key.uid().as_str());
+    let item = item.revision().copy()?;
+    Ok(Owner { uid, item })
 }
 
 /// Puts in the entries of an item. After a refusal some may be there.
-pub(crate) fn put_in(index: &mut BTreeSet<IndexEntry>, item: &SharedItem) -> Result<(), AllocError>
+pub(crate) fn put_in(index: &mut Index, item: &SharedItem) -> Result<(), AllocError>
     ensures ok { OnOk result ((e : IndexEntry) → has index.new e ≡ (has index.old e || is_in (entries_of item.now) e)) }
     ensures widens { Widens (is_in (entries_of item.now)) index.old index.new }
 {
     if !has_rows(item.item()) {
         return Ok(());
     }
-    let number = uid_number(item.item().key.uid().as_str());
-    put_day(index, item, number)?;
-    put_lines(index, item, number)
+    let uid = uid_number(item.item().key.uid().as_str());
+    put_day(index, item, uid)?;
+    put_lines(index, item, uid)
 }
 
 /// Puts in the entry of the day on which the rows of an item can stand, or of any day.
-fn put_day(
-    index: &mut BTreeSet<IndexEntry>,
-    item: &SharedItem,
-    number: u32,
-) -> Result<(), AllocError>
-    requires { number ≡ text_number (uid_of item.now.key) }
-    ensures ok { OnOk result ((e : IndexEntry)
-        → has index.new e ≡ (has index.old e || is_in (each (entry_of item.now) (day_marks item.now)) e)) }
-    ensures err { OnErr result (index.new.keys ≡ index.old.keys) }
+fn put_day(index: &mut Index, item: &SharedItem, uid: u32) -> Result<(), AllocError>
+    requires { uid ≡ uid_number (uid_of item.now.key) }
+    ensures ok { OnOk result ((e : IndexEntry) → has index.new e ≡ (has index.old e || is_in (day_entries item.now) e)) }
+    ensures err { OnErr result ((e : IndexEntry) → has index.new e ≡ has index.old e) }
 {
     match row_days(item.item()) {
         None => Ok(()),
-        Some(days) => put(index, item, number, Mark::of(days)),
+        Some(days) => put_mark(index, item, uid, Mark::of(days)),
     }
 }
 
+fn put_mark(index: &mut Index, item: &SharedItem, uid: u32, mark: Mark) -> Result<(), AllocError>
+    requires { uid ≡ uid_number (uid_of item.now.key) }
+    ensures ok { OnOk result ((e : IndexEntry) → has index.new e ≡ (has index.old e || same_entry e (of_day (day_entry item.now mark)))) }
+    ensures err { OnErr result ((e : IndexEntry) → has index.new e ≡ has index.old e) }
+{
+    let item = item.revision().copy()?;
+    let owner = Owner { uid, item };
+    index.days.insert(DayEntry { mark, owner })?;
+    Ok(())
+}
+
 /// Puts in those of the lines of attendees of an item.
-fn put_lines(
-    index: &mut BTreeSet<IndexEntry>,
-    item: &SharedItem,
-    number: u32,
-) -> Result<(), AllocError>
-    requires { number ≡ text_number (uid_of item.now.key) }
+fn put_lines(index: &mut Index, item: &SharedItem, uid: u32) -> Result<(), AllocError>
+    requires { uid ≡ uid_number (uid_of item.now.key) }
     ensures ok { OnOk result ((e : IndexEntry)
-        → has index.new e ≡ (has index.old e || is_in (each (entry_of item.now) (line_marks item.now.todo.attendees)) e)) }
-    ensures widens { Widens (is_in (each (entry_of item.now) (line_marks item.now.todo.attendees))) index.old index.new }
+        → has index.new e ≡ (has index.old e || is_in (line_entries item.now item.now.todo.attendees) e)) }
+    ensures widens { Widens (is_in (line_entries item.now item.now.todo.attendees)) index.old index.new }
 {
     for line in item.item().todo.attendees.as_slice() {
-        let mark = Mark::Attendee(attendee_number(line.value()));
-        put(index, item, number, mark)?;
+        put_name(index, item, uid, attendee_number(line.value()))?;
     }
     Ok(())
 }
 
-fn put(
-    index: &mut BTreeSet<IndexEntry>,
-    item: &SharedItem,
-    number: u32,
-    mark: Mark,
-) -> Result<(), AllocError>
-    requires { number ≡ text_number (uid_of item.now.key) }
-    ensures ok { OnOk result ((e : IndexEntry) → has index.new e ≡ (has index.old e || is_eq (entry_cmp e (entry_of item.now mark)))) }
-    ensures err { OnErr result (index.new.keys ≡ index.old.keys) }
+fn put_name(index: &mut Index, item: &SharedItem, uid: u32, attendee: u32) -> Result<(), AllocError>
+    requires { uid ≡ uid_number (uid_of item.now.key) }
+    ensures ok { OnOk result ((e : IndexEntry) → has index.new e ≡ (has index.old e || same_entry e (of_name (name_entry item.now attendee)))) }
+    ensures err { OnErr result ((e : IndexEntry) → has index.new e ≡ has index.old e) }
 {
-    let owner = Owner::Of(number, item.revision().copy()?);
-    index.insert(IndexEntry { mark, owner })?;
+    let item = item.revision().copy()?;
+    index.names.insert(NameEntry {
+        attendee,
+        uid,
+        item,
+    })?;
     Ok(())
 }
 
 /// Takes out the entries of an item, whose owner is given for this. It takes no memory.
-pub(crate) fn take_out(index: &mut BTreeSet<IndexEntry>, item: &Item, owner: Owner)
+pub(crate) fn take_out(index: &mut Index, item: &Item, owner: Owner)
     requires { owner ≡ owner_of item.now }
     ensures { (e : IndexEntry) → has index.new e ≡ (has index.old e && not (is_in (entries_of item.now) e)) }
 {
@@ -102,41 +123,52 @@ pub(crate) fn take_out(index: &mut BTreeSet<IndexEntry>, item: &Item, owner: Own
 }
 
 /// Takes out the entry of the day of an item, and gives the owner back.
-fn take_day_out(index: &mut BTreeSet<IndexEntry>, item: &Item, owner: Owner) -> Owner
+fn take_day_out(index: &mut Index, item: &Item, owner: Owner) -> Owner
     requires { owner ≡ owner_of item.now }
     ensures owner { result ≡ owner }
-    ensures out { (e : IndexEntry) → has index.new e ≡ (has index.old e && not (is_in (each (entry_of item.now) (day_marks item.now)) e)) }
+    ensures out { (e : IndexEntry) → has index.new e ≡ (has index.old e && not (is_in (day_entries item.now) e)) }
 {
     let Some(days) = row_days(item) else {
         return owner;
     };
-    let entry = IndexEntry {
+    let entry = DayEntry {
         mark: Mark::of(days),
         owner,
     };
-    drop_one(index, &entry);
-    let IndexEntry { mark: _, owner } = entry;
+    drop_day(index, &entry);
+    let DayEntry { mark: _, owner } = entry;
     owner
 }
 
 /// Takes out those of the lines of attendees of an item.
-fn take_lines_out(index: &mut BTreeSet<IndexEntry>, item: &Item, owner: Owner)
+fn take_lines_out(index: &mut Index, item: &Item, owner: Owner)
     requires { owner ≡ owner_of item.now }
     ensures { (e : IndexEntry)
-        → has index.new e ≡ (has index.old e && not (is_in (each (entry_of item.now) (line_marks item.now.todo.attendees)) e)) }
+        → has index.new e ≡ (has index.old e && not (is_in (line_entries item.now item.now.todo.attendees) e)) }
 {
-    let mut entry = IndexEntry {
-        mark: Mark::Always,
-        owner,
+    let Owner {
+        uid,
+        item: revision,
+    } = owner;
+    let mut entry = NameEntry {
+        attendee: 0,
+        uid,
+        item: revision,
     };
     for line in item.todo.attendees.as_slice() {
-        entry.mark = Mark::Attendee(attendee_number(line.value()));
-        drop_one(index, &entry);
+        entry.attendee = attendee_number(line.value());
+        drop_name(index, &entry);
     }
 }
 
-fn drop_one(index: &mut BTreeSet<IndexEntry>, entry: &IndexEntry)
-    ensures { (e : IndexEntry) → has index.new e ≡ (has index.old e && not (is_eq (entry_cmp e entry.now))) }
+fn drop_day(index: &mut Index, entry: &DayEntry)
+    ensures { (e : IndexEntry) → has index.new e ≡ (has index.old e && not (same_entry e (of_day entry.now))) }
 {
-    index.remove(entry);
+    index.days.remove(entry);
+}
+
+fn drop_name(index: &mut Index, entry: &NameEntry)
+    ensures { (e : IndexEntry) → has index.new e ≡ (has index.old e && not (same_entry e (of_name entry.now))) }
+{
+    index.names.remove(entry);
 }

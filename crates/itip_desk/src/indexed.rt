@@ -1,23 +1,21 @@
 //! A state with an index of its kept items.
-ghost use Rattle.std.specs.Prelude.{◌≡◌, ◌⊎◌, ◌&&◌, not, ◌++◌, ◌∷◌, [], true, ℕ, List, map, IsTrue, IfOk, OnOk, OnErr};
+ghost use Rattle.std.specs.Prelude.{◌≡◌, ◌⊎◌, ◌&&◌, not, ◌++◌, ◌∷◌, [], true, ℕ, List, map, IsTrue, IfOk, OnOk, OnErr, IsOk};
 ghost use Rattle.itip_items.specs.declared.item.Item.{Item};
 ghost use Rattle.itip_state.specs.Kept.{AreKept};
 ghost use Rattle.std.specs.List.{Contains};
 ghost use Rattle.itip_todo.specs.Table.{attendee_key};
 ghost use Rattle.itip_view.specs.RowDays.{is_of_rows, HasRowsIn, NamesIn};
-ghost use Rattle.itip_desk.specs.declared.entry.IndexEntry.{IndexEntry};
-ghost use Rattle.itip_desk.specs.Entries.{owner_of as owner_is, entries_of, IsNoted};
+ghost use Rattle.itip_desk.specs.Entries.{IndexEntry, owner_of as owner_is, entries_of, IsNoted};
 ghost use Rattle.itip_desk.specs.Index.{has, is_in, AreOfRows, HasGrown, HasSettled};
 
-use crate::entry::{IndexEntry, Owner};
+use crate::entry::Owner;
 use crate::found::{find_in, find_named};
-use crate::index::{owner_of, put_in, take_out};
+use crate::index::{Index, owner_of, put_in, take_out};
 use itip_items::Key;
 use itip_state::{SharedItem, State};
 use itip_todo::Uid;
 use itip_view::Window;
 use std::alloc::{AllocError, Global};
-use std::collections::BTreeSet;
 use std::marker::Model;
 
 /// The kept items, and an index of them, which is the one worked out from them. Contracts see it as the list of these items, each once.
@@ -25,7 +23,7 @@ use std::marker::Model;
 pub(crate) struct IndexedState {
     alloc: Global,
     state: State,
-    index: BTreeSet<IndexEntry>,
+    index: Index,
 }
 
 impl Model for IndexedState {
@@ -62,7 +60,7 @@ impl IndexedState {
         IndexedState {
             alloc,
             state: State::empty(alloc),
-            index: BTreeSet::new(alloc),
+            index: Index::empty(alloc),
         }
     }
 
@@ -73,19 +71,23 @@ impl IndexedState {
         &self.state
     }
 
-    /// The UIDs whose rows can stand in a window, perhaps more than once.
+    /// The UIDs whose rows can stand in a window, perhaps more than once. Where nothing is kept, it takes no memory.
     pub(crate) fn uids_in(&self, window: Window) -> Result<Vec<&Uid>, AllocError>
-        ensures { IfOk result (λ uids. (uid : List ℕ) → HasRowsIn self.now window uid → Contains (map (λ u. u.now) uids.items) uid) }
+        ensures uids { IfOk result (λ uids. (uid : List ℕ) → HasRowsIn self.now window uid → Contains (map (λ u. u.now) uids.items) uid) }
+        ensures none { self.now ≡ [] → IfOk result (λ uids. uids.items ≡ []) }
+        ensures succeeds { self.now ≡ [] → IsOk result }
     {
-        find_in(self.alloc, &self.index, window)
+        find_in(self.alloc, &self.index.days, window)
     }
 
-    /// The UIDs whose rows can show the attendee of an address.
+    /// The UIDs whose rows can show the attendee of an address. Where nothing is kept, it takes no memory.
     pub(crate) fn uids_naming(&self, address: &str) -> Result<Vec<&Uid>, AllocError>
-        ensures { IfOk result (λ uids. (uid : List ℕ)
+        ensures uids { IfOk result (λ uids. (uid : List ℕ)
             → NamesIn self.now (attendee_key address.now) uid → Contains (map (λ u. u.now) uids.items) uid) }
+        ensures none { self.now ≡ [] → IfOk result (λ uids. uids.items ≡ []) }
+        ensures succeeds { self.now ≡ [] → IsOk result }
     {
-        find_named(self.alloc, &self.index, address)
+        find_named(self.alloc, &self.index.names, address)
     }
 
     /// Hears these items. A refusal (out of memory) changes nothing.
@@ -181,7 +183,7 @@ fn push_change(changes: &mut Vec<Change>, item: SharedItem) -> Result<(), AllocE
 
 /// Puts in the entries of the items that are found, and hears the news. After a refusal, for which nothing is heard, entries may be there.
 fn grow_and_hear(
-    index: &mut BTreeSet<IndexEntry>,
+    index: &mut Index,
     state: &mut State,
     news: &[&SharedItem],
     found: &[&SharedItem],
@@ -198,7 +200,7 @@ fn grow_and_hear(
 }
 
 /// Takes out the entries of those items that are not kept. It takes no memory.
-fn settle(index: &mut BTreeSet<IndexEntry>, state: &State, changes: Vec<Change>)
+fn settle(index: &mut Index, state: &State, changes: Vec<Change>)
     ensures { HasSettled state.now (map (λ c. c.item) changes.items) index.old index.new }
 {
     for change in changes {
@@ -206,7 +208,7 @@ fn settle(index: &mut BTreeSet<IndexEntry>, state: &State, changes: Vec<Change>)
     }
 }
 
-fn settle_one(index: &mut BTreeSet<IndexEntry>, state: &State, change: Change)
+fn settle_one(index: &mut Index, state: &State, change: Change)
     ensures { (Contains state.now change.item × (index.new ≡ index.old)) ⊎ ((Contains state.now change.item → ⊥) ×
         ((e : IndexEntry) → has index.new e ≡ (has index.old e && not (is_in (entries_of change.item) e)))) }
 {

@@ -7,6 +7,8 @@ ghost use Rattle.itip_desk.specs.Octets.{AscendOctets};
 ghost use Rattle.itip_desk.specs.Delta.{delta_octets, ReadsDelta, RefusesDelta};
 ghost use Rattle.itip_desk.specs.Heard.{heard, TellsAfter};
 ghost use Rattle.itip_desk.specs.Desk.{Shown, IsDeskOf, IsDeltaOf};
+ghost use Rattle.itip_desk.specs.DeskFile.{TellsDesk, AreAlike, RefusesFile};
+ghost use Rattle.itip_desk.specs.declared.refusal.FileRefusal.{FileRefusal};
 
 /// Desks that have heard the same items keep the same items, however these came: late, repeated or in another order (our own rule).
 pub fn desks_converge()
@@ -40,4 +42,18 @@ pub fn one_delta()
         → RefusesDelta bytes refusal → RefusesDelta bytes other → refusal ≡ other }
     ensures apart { (bytes : List ℕ) (batch : List Item) (refusal : MessageRefusal)
         → ReadsDelta bytes batch → RefusesDelta bytes refusal → ⊥ }
+{}
+
+/// The file of a desk is read as that desk: as one that keeps the same, is at the same tick and has the same last moves, so that it
+/// is the desk of the same steps and sends the same since every tick (our own rule). Whoever reads messages takes the file for the
+/// compaction of what the desk keeps.
+pub fn desk_read_again()
+    ensures alike { (octets : List ℕ) (desk other : Shown) → TellsDesk octets desk → TellsDesk octets other → AreAlike desk other }
+    ensures apart { (octets : List ℕ) (desk : Shown) (refusal : FileRefusal) → TellsDesk octets desk → RefusesFile octets refusal → ⊥ }
+    ensures steps { (steps : List (List Item)) (start : ℕ) (desk other : Shown) →
+        AreAlike desk other → IsDeskOf steps start desk → IsDeskOf steps start other }
+    ensures delta { (desk other : Shown) (since : ℕ) (delta : List Item) →
+        AreAlike desk other → IsDeltaOf desk since delta → IsDeltaOf other since delta }
+    ensures messages { (octets : List ℕ) (desk : Shown) (batch : List Item) →
+        TellsDesk octets desk → AscendOctets batch → SameItems batch desk.kept → ReadsDelta octets batch }
 {}

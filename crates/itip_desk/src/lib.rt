@@ -1,5 +1,5 @@
 //! A desk: it hears batches of items, keeps what the rules keep of them, and tells what moved since. A batch is written
-//! as a delta, and octets are read as one.
+//! as a delta, and octets are read as one. A desk is written as a file, and read again.
 #![tactic(auto)]
 
 mod batch;
@@ -7,11 +7,16 @@ mod delta;
 mod desk;
 mod entry;
 mod error;
+mod file_reading;
+mod file_text;
+mod file_writing;
 mod found;
+mod fronts;
 mod index;
 mod indexed;
 mod laws;
 mod listed;
+mod listed_lines;
 mod moves;
 mod number;
 mod refusal;
@@ -20,9 +25,14 @@ mod row_writing;
 pub use batch::Batch;
 pub use delta::{read_batch, read_delta, write_delta};
 pub use desk::{Changed, Desk};
-pub use error::DeskError;
-pub use laws::{delta_brings_up_to_date, delta_read_again, desks_converge, one_delta};
+pub use error::{DeskError, FileError};
+pub use file_reading::read_desk;
+pub use file_writing::write_desk;
+pub use laws::{
+    delta_brings_up_to_date, delta_read_again, desk_read_again, desks_converge, one_delta,
+};
 pub use listed::write_head;
-pub use refusal::Refusal;
-pub use row_writing::{write_listed, write_rows};
+pub use listed_lines::heads_count_lines;
+pub use refusal::{FileRefusal, Refusal};
+pub use row_writing::{write_listed, write_rows, write_some_rows};
 pub use std::alloc::AllocError as NoMemory;

@@ -1,12 +1,12 @@
 //! The UIDs that moved, by UID and by tick.
 ghost use Rattle.std.specs.Prelude.{◌≡◌, ◌≢◌, ◌↔◌, ◌⊎◌, ◌<◌, ℕ, List, [], Some, None, cond, true, is_some, map, IfOk, OnOk, OnErr, IfSome, IsTrue};
-ghost use Rattle.std.specs.List.{Contains};
+ghost use Rattle.std.specs.List.{All, Contains};
 ghost use Rattle.std.specs.List.Sorted.{IsStrictlySortedBy};
 ghost use Rattle.std.specs.Map.{keys_of};
 ghost use Rattle.std.specs.Ordering.{nat_cmp, is_eq};
 ghost use Rattle.std.specs.Cmp.Lexicographic.{slice_cmp};
 ghost use Rattle.std.specs.BTreeMap.{IsOrdered};
-ghost use Rattle.itip_desk.specs.Moves.{is_listed, tick_at, has_move, AreInOrder, AreTicks, HavePlaces, AreReady};
+ghost use Rattle.itip_desk.specs.Moves.{is_listed, tick_at, has_move, AreInOrder, AreTicks, HavePlaces, AreReady, CarriesLast};
 ghost use Rattle.itip_desk.specs.Desk.{CarriesAfter};
 
 use itip_lines::Text;
@@ -48,6 +48,31 @@ impl MovedUids {
             ticks: BTreeMap::new(alloc),
             order: BTreeSet::new(alloc),
         }
+    }
+
+    /// The UIDs that moved, each with the tick of its last move: of several the last that is given.
+    pub(crate) fn of_moves(alloc: Global, moves: Vec<(Uid, u64)>) -> Result<MovedUids, AllocError>
+        requires { All (λ (move : List ℕ × ℕ). 0 < move.1) moves.items }
+        ensures ticks { IfOk result (λ moved. AreTicks moved.carried) }
+        ensures moves { IfOk result (λ moved. CarriesLast moves.items moved.carried) }
+    {
+        let mut ticks = BTreeMap::new(alloc);
+        let mut order = BTreeSet::new(alloc);
+        for (uid, tick) in moves {
+            put_move(&mut order, &mut ticks, uid, tick)?;
+        }
+        Ok(MovedUids {
+            alloc,
+            ticks,
+            order,
+        })
+    }
+
+    /// The tick of a UID's last move.
+    pub(crate) fn tick_of(&self, uid: &Uid) -> Option<u64>
+        ensures { result ≡ tick_at self.now.carried uid.now }
+    {
+        self.ticks.get(uid).copied()
     }
 
     /// Makes what is needed for these UIDs to carry a tick. After a refusal each carries what it did.
@@ -107,6 +132,25 @@ impl MovedUids {
     {
         let _ = &self.ticks;
     }
+}
+
+/// Has a UID carry a tick.
+fn put_move(
+    order: &mut BTreeSet<(u64, Uid)>,
+    ticks: &mut BTreeMap<Uid, u64>,
+    uid: Uid,
+    tick: u64,
+) -> Result<(), AllocError>
+    requires ordered { IsOrdered (slice_cmp nat_cmp) ticks.old }
+    requires in_order { AreInOrder ticks.old.entries order.old.keys }
+    ensures ordered { OnOk result (IsOrdered (slice_cmp nat_cmp) ticks.new) }
+    ensures in_order { OnOk result (AreInOrder ticks.new.entries order.new.keys) }
+    ensures put { OnOk result ((q : List ℕ) → tick_at ticks.new.entries q
+        ≡ cond (is_eq (slice_cmp nat_cmp uid q)) (Some tick) (tick_at ticks.old.entries q)) }
+{
+    order.insert((tick, uid.clone()?))?;
+    ticks.insert(uid, tick)?;
+    Ok(())
 }
 
 /// Puts in these UIDs under a tick.

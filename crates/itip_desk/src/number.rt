@@ -1,17 +1,17 @@
 //! Numbers that stand for texts in an index: they take no memory of their own, and are compared at once.
-ghost use Rattle.std.specs.Prelude.{◌≡◌};
+ghost use Rattle.std.specs.Prelude.{◌≡◌, ◌<◌};
 ghost use Rattle.itip_todo.specs.Table.{attendee_key};
-ghost use Rattle.itip_desk.specs.Numbers.{number_with, text_number};
+ghost use Rattle.itip_desk.specs.Numbers.{number_with, text_number, uid_number};
 
-/// The number of a UID.
+/// The number of a UID. It is neither 0 nor `u32::MAX`.
 pub(crate) fn uid_number(uid: &str) -> u32
-    ensures { result ≡ text_number uid.now }
+    ensures { result ≡ uid_number uid.now }
 {
     let mut number = 0;
     for octet in uid.as_bytes() {
         number = number_with(number, *octet);
     }
-    number
+    number + 1
 }
 
 /// The number of the attendee of an address: that of its key.
@@ -26,7 +26,8 @@ pub(crate) fn attendee_number(address: &str) -> u32
 }
 
 fn number_with(number: u32, octet: u8) -> u32
-    ensures { result ≡ number_with number octet }
+    ensures number { result ≡ number_with number octet }
+    ensures small { result < 4294967291 }
 {
     ((u64::from(number) * 16_777_619 + u64::from(octet)) % 4_294_967_291) as u32
 }

@@ -1,10 +1,48 @@
 //! Why the program refuses what it was asked for.
 ghost use Rattle.std.specs.Prelude.{◌≡◌, ◌++◌, OnOk};
-ghost use Rattle.itip_desk.specs.Refusals.{number_of, refused_text};
+ghost use Rattle.itip_desk.specs.Refusals.{number_of, number_of_file, refused_text};
 
 use itip_message::MessageRefusal;
 use std::alloc::AllocError;
 use std::fmt;
+
+/// Why the file of a desk is not read, or not written.
+#[derive(Clone, Copy, PartialEq, Eq, Debug)]
+pub enum FileRefusal {
+    /// The file names another form than the one that is read (70).
+    OtherForm,
+    /// It is the file of no desk (71): the message of this number, from 1, can be in none, or they don't fit together.
+    Broken { message: Option<u64> },
+    /// The file could not be written; what was there before still is (72).
+    Unwritten { desk: u64 },
+}
+
+impl FileRefusal {
+    /// The number under which it is shown.
+    pub fn number(self) -> u32
+        ensures { result ≡ number_of_file self }
+    {
+        match self {
+            FileRefusal::OtherForm => 70,
+            FileRefusal::Broken { .. } => 71,
+            FileRefusal::Unwritten { .. } => 72,
+        }
+    }
+}
+
+/// What is wrong: `the file is of no desk: message 3`.
+impl fmt::Display for FileRefusal {
+    fn fmt<W: fmt::Write>(&self, f: &mut fmt::Formatter<W>) -> fmt::Result {
+        match self {
+            FileRefusal::OtherForm => f.write_str("the file is of another form"),
+            FileRefusal::Broken { message: None } => f.write_str("the file is of no desk"),
+            FileRefusal::Broken {
+                message: Some(message),
+            } => write!(f, "the file is of no desk: message {message}"),
+            FileRefusal::Unwritten { desk } => write!(f, "desk {desk} could not be written"),
+        }
+    }
+}
 
 /// Why a message, a command, a job or a list is refused. Nothing has changed then. Desks and packets are numbered from 0.
 #[derive(Clone, Copy, PartialEq, Eq, Debug)]
@@ -23,6 +61,10 @@ pub enum Refusal {
     NoCommand,
     /// The script has more than 16,777,216 octets (61).
     LongScript,
+    /// The delta has more than 67,108,864 octets (62).
+    LongDelta,
+    /// A desk is not read of a file, or not written to one (70 to 72).
+    File(FileRefusal),
 }
 
 impl Refusal {
@@ -38,6 +80,8 @@ impl Refusal {
             Refusal::NoPacket(_) => 51,
             Refusal::NoCommand => 60,
             Refusal::LongScript => 61,
+            Refusal::LongDelta => 62,
+            Refusal::File(refusal) => refusal.number(),
         }
     }
 
@@ -62,6 +106,8 @@ impl fmt::Display for Refusal {
             Refusal::NoPacket(packet) => write!(f, "packet {packet} does not exist"),
             Refusal::NoCommand => f.write_str("there is no such command"),
             Refusal::LongScript => f.write_str("the script has more than 16,777,216 octets"),
+            Refusal::LongDelta => f.write_str("the delta has more than 67,108,864 octets"),
+            Refusal::File(refusal) => write!(f, "{refusal}"),
         }
     }
 }

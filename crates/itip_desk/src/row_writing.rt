@@ -28,15 +28,15 @@ pub fn write_rows<F: RowForm, W: Write>(
 {
     let mut rows = rows;
     while let Some(some) = rows.next()? {
-        let done = write_each(some.as_slice(), form, writer, kept);
+        let done = write_some_rows(some.as_slice(), form, writer, kept);
         drop(some);
         done?;
     }
     Ok(())
 }
 
-/// Writes some rows so.
-fn write_each<F: RowForm, W: Write>(
+/// Writes some rows as [`write_rows`] does.
+pub fn write_some_rows<F: RowForm, W: Write>(
     rows: &[Row],
     form: &F,
     writer: &mut W,

@@ -40,6 +40,29 @@ told_both about (m ∷ ms) ns (Ok items ∷ xs) ys each =
     sym (append_assoc (told_in (place_of m) (items_about about items)) (told_at about ms xs) (told_at about ns ys))
 told_both about (m ∷ ms) ns (Err cause ∷ xs) ys each = told_both about ms ns xs ys each.1
 
+-- ---- messages behind others
+
+pub hears_both : (ms ns : List Placed) (xs ys : List Item) (rs qs : List RefusedMessage) → Hears ms xs rs → Hears ns ys qs →
+    Hears (ms ++ ns) (xs ++ ys) (rs ++ qs)
+hears_both ms ns xs ys rs qs one two = record {
+  answers = one.answers ++ two.answers;
+  each = answers_both ms ns one.answers two.answers one.each two.each;
+  heard_are = ap (λ (t : List Item). t ++ ys) one.heard_are ∙ ap (λ (t : List Item). heard_of one.answers ++ t) two.heard_are ∙
+      sym (heard_both one.answers two.answers);
+  refusals_are = ap (λ (t : List RefusedMessage). t ++ qs) one.refusals_are ∙
+      ap (λ (t : List RefusedMessage). refusals_at ms one.answers ++ t) two.refusals_are ∙
+      sym (refusals_both ms ns one.answers two.answers one.each);
+}
+
+pub tells_both : (about : Option (List ℕ)) (ms ns : List Placed) (ts us : List ToldItem) → AreTold about ms ts → AreTold about ns us →
+    AreTold about (ms ++ ns) (ts ++ us)
+tells_both about ms ns ts us one two = record {
+  answers = one.answers ++ two.answers;
+  each = answers_both ms ns one.answers two.answers one.each two.each;
+  told_are = ap (λ (t : List ToldItem). t ++ us) one.told_are ∙ ap (λ (t : List ToldItem). told_at about ms one.answers ++ t) two.told_are ∙
+      sym (told_both about ms ns one.answers two.answers one.each);
+}
+
 -- ---- one message more
 
 module _ (messages : List Placed) (heard : List Item) (refusals : List RefusedMessage) (so_far : Hears messages heard refusals)

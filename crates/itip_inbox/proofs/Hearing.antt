@@ -1,25 +1,26 @@
 -- Messages that are heard or refused, one after another.
-use Rattle.std.proofs.Common.{◌≡◌, ◌∙◌, sym, ap, refl, ℕ, suc, ◌+◌, List, [], ◌∷◌, ◌++◌, length, map, Bor, subst, arith, append_assoc}
-use Rattle.std.proofs.Common.{append-nil, Option, Result, Ok, Err}
-use Rattle.std.specs.List.{AllZip}
+use Rattle.std.proofs.Common.{◌≡◌, ◌∙◌, sym, ap, refl, ℕ, suc, ◌+◌, map, List, [], ◌∷◌, ◌++◌, length, subst, arith, append_assoc, append-nil, Option}
 use Rattle.std.proofs.lemmas.List.{length-append}
 use Rattle.itip_explain.specs.declared.told.ToldItem.{ToldItem}
 use Rattle.itip_items.specs.declared.item.Item.{Item}
-use Rattle.itip_message.specs.Message.{RefusesMessage}
+use Rattle.itip_message.specs.Message.{ReadsMessage, RefusesMessage}
 use Rattle.itip_message.specs.declared.error.MessageRefusal.{MessageRefusal}
-use Rattle.itip_message.specs.declared.error.ReadError.{ReadError}
-use Rattle.itip_message.specs.declared.error.ReadError.TheVariants as error
 use Rattle.itip_state.specs.Kept.{IsKept, AreKept}
-use Rattle.itip_state.proofs.Keeping.{AreAmong}
+use Rattle.itip_state.specs.Told.{AreNews}
 use Rattle.itip_state.proofs.Members.{none_in}
-use Rattle.itip_inbox.specs.declared.inbox.Inbox.{Inbox}
+use Rattle.itip_inbox.specs.declared.open_inbox.OpenInbox.{OpenInbox}
 use Rattle.itip_inbox.specs.declared.refused.RefusedMessage.{RefusedMessage}
-use Rattle.itip_inbox.specs.declared.texts.HeardText.{HeardText}
-use Rattle.itip_inbox.specs.Following.{items_about, told_in, AreTold}
+use Rattle.itip_inbox.specs.Following.{items_about, told_in, place_of, AreTold}
+use Rattle.itip_inbox.specs.Placing.{later_refusal, later_told}
 use Rattle.itip_inbox.specs.Inbox.{Placed, placed_from, Hears}
-use Rattle.itip_inbox.specs.Streaming.{TellsText, MayTell, KeepsMessages, TakesSoFar}
-use Rattle.itip_inbox.proofs.Answered.{hears_none, hears_items, hears_refusal, tells_none, tells_items, tells_refusal}
-use Rattle.itip_inbox.proofs.Keeping.{keeps_news, kept_among, among_more}
+use Rattle.itip_inbox.specs.Streaming.{KeepsMessages, TellBeside, Tells, HasGot, waiting_of}
+use Rattle.itip_inbox.specs.declared.texts.Heard.{Heard}
+use Rattle.itip_inbox.specs.declared.waiting.Waiting.{Waiting}
+use Rattle.itip_message.specs.Parting.{StaysParted}
+use Rattle.itip_message.specs.Scanned.{messages_of}
+use Rattle.itip_inbox.proofs.Answered.{hears_none, hears_items, hears_refusal, hears_both, tells_none, tells_items, tells_refusal, tells_both}
+use Rattle.itip_inbox.proofs.Keeping.{news_both, keeps_more}
+use Rattle.itip_inbox.proofs.Behind.{beside_behind}
 
 -- ---- messages by their places
 
@@ -31,6 +32,10 @@ placed_both source n (x ∷ xs) ys =
     ap (λ (ms : List Placed). (record { source = source; message = n; text = x }) ∷ ms) (placed_both source (n + 1) xs ys ∙
     ap (λ (k : ℕ). placed_from source (n + 1) xs ++ placed_from source k ys) e)
 
+pub length_placed : (source n : ℕ) (xs : List (List ℕ)) → length (placed_from source n xs) ≡ length xs
+length_placed source n [] = refl
+length_placed source n (x ∷ xs) = ap suc (length_placed source (n + 1) xs)
+
 -- the messages of an input that come behind those before them
 pub placed_on : (before : List Placed) (source base at count : ℕ) (xs ys : List (List ℕ)) → at ≡ source → count ≡ base + length xs →
     (before ++ placed_from source (base + 1) xs) ++ placed_from at (count + 1) ys ≡ before ++ placed_from source (base + 1) (xs ++ ys)
@@ -41,28 +46,10 @@ placed_on before source base at count xs ys same counted =
     (ap (λ (s : ℕ). placed_from s (count + 1) ys) same ∙ ap (λ (k : ℕ). placed_from source k ys) e) ∙
     ap (λ (ms : List Placed). before ++ ms) (sym (placed_both source (base + 1) xs ys))
 
--- ---- answers
-
--- the answers of texts, as they are seen
-pub answers_of : (about : Option (List ℕ)) (first : List Item) (texts : List (Bor (List ℕ))) (answers : List (Result HeardText ReadError)) →
-    AllZip (λ (t : Bor (List ℕ)) a. MayTell about first t.now a) texts answers
-    → AllZip (MayTell about first) (map (λ (t : Bor (List ℕ)). t.now) texts) answers
-answers_of about first [] [] all = tt
-answers_of about first [] (a ∷ as') all = absurd all
-answers_of about first (t ∷ ts) [] all = absurd all
-answers_of about first (t ∷ ts) (a ∷ as') all = (all.0, answers_of about first ts as' all.1)
-
-pub as_many : (about : Option (List ℕ)) (first : List Item) (texts : List (Bor (List ℕ))) (answers : List (Result HeardText ReadError)) →
-    AllZip (MayTell about first) (map (λ (t : Bor (List ℕ)). t.now) texts) answers → length answers ≡ length texts
-as_many about first [] [] all = refl
-as_many about first [] (a ∷ as') all = absurd all
-as_many about first (t ∷ ts) [] all = absurd all
-as_many about first (t ∷ ts) (a ∷ as') all = let e : length as' ≡ length ts = as_many about first ts as' all.1 in omega (arith, e)
-
 -- ---- inboxes
 
 -- no message came yet
-pub keeps_none : (about : Option (List ℕ)) (inbox : Inbox) → inbox.state ≡ [] → inbox.refusals.items ≡ [] → inbox.told.items ≡ [] →
+pub keeps_none : (about : Option (List ℕ)) (inbox : OpenInbox) → inbox.state ≡ [] → inbox.refusals.items ≡ [] → inbox.told.items ≡ [] →
     KeepsMessages about [] inbox
 keeps_none about inbox empty unrefused untold = record {
   heard = [];
@@ -73,7 +60,7 @@ keeps_none about inbox empty unrefused untold = record {
 }
 
 -- an inbox that has what another has
-pub keeps_same : (about : Option (List ℕ)) (messages : List Placed) (old new : Inbox) → new.state ≡ old.state →
+pub keeps_same : (about : Option (List ℕ)) (messages : List Placed) (old new : OpenInbox) → new.state ≡ old.state →
     new.refusals.items ≡ old.refusals.items → new.told.items ≡ old.told.items → KeepsMessages about messages old →
     KeepsMessages about messages new
 keeps_same about messages old new state refusals told keeps = record {
@@ -84,7 +71,7 @@ keeps_same about messages old new state refusals told keeps = record {
 }
 
 -- a message is noted as refused
-pub keeps_refusal : (about : Option (List ℕ)) (before : List Placed) (old new : Inbox) (text : List ℕ) (cause : MessageRefusal)
+pub keeps_refusal : (about : Option (List ℕ)) (before : List Placed) (old new : OpenInbox) (text : List ℕ) (cause : MessageRefusal)
     (next : ℕ) → RefusesMessage text cause → new.state ≡ old.state → new.told.items ≡ old.told.items → next ≡ old.messages + 1 →
     new.refusals.items ≡ old.refusals.items ++ (record { source = old.source; message = next; refusal = cause }) ∷ []
     → KeepsMessages about before old → KeepsMessages about (before ++ placed_from old.source (old.messages + 1) (text ∷ [])) new
@@ -101,140 +88,235 @@ keeps_refusal about before old new text cause next refuses state told is noted k
       keeps = subst (λ (kept : List Item). AreKept kept keeps.heard) (sym state) keeps.keeps;
     }
 
--- ---- going through answers
+-- ---- what messages tell beside what is kept
 
-module _ (about : Option (List ℕ)) (before : List Placed) (source base : ℕ) (texts : List (List ℕ)) (first : List Item)
-    (left : List (Result HeardText ReadError)) (kept : List Item) (refusals : List RefusedMessage) (told : List ToldItem)
-    (count next : ℕ) where
-  -- the message of this number
-  abbrev one : List ℕ → Placed
-  one text = record { source = source; message = next; text = text }
+pub beside_none : (about : Option (List ℕ)) (kept news : List Item) (refusals : List RefusedMessage) (told : List ToldItem) → news ≡ [] →
+    refusals ≡ [] → told ≡ [] → TellBeside about kept [] news refusals told
+beside_none about kept news refusals told no_news unrefused untold = record {
+  items = [];
+  hears = subst (λ (rs : List RefusedMessage). Hears [] [] rs) (sym unrefused) hears_none;
+  tells = subst (λ (ts : List ToldItem). AreTold about [] ts) (sym untold) (tells_none about);
+  news_are = subst (λ (ns : List Item). AreNews kept [] ns) (sym no_news) (record {
+    among = λ i h. h;
+    new = λ i h. absurd (none_in i h);
+    rest = λ i h. absurd (none_in i h);
+  });
+}
 
-  to_one : (done : List (List ℕ)) (text : List ℕ) → count ≡ base + length done → next ≡ count + 1 →
-      (before ++ placed_from source (base + 1) done) ++ one text ∷ [] ≡ before ++ placed_from source (base + 1) (done ++ text ∷ [])
-  to_one done text counted is =
-      ap (λ (k : ℕ). (before ++ placed_from source (base + 1) done) ++ (record { source = source; message = k; text = text }) ∷ []) is ∙
-      placed_on before source base source count done (text ∷ []) refl counted
+-- two neighbouring pieces tell what both tell
+pub beside_both : (about : Option (List ℕ)) (kept : List Item) (before after : List Placed) (news more all : List Item)
+    (refusals others noted : List RefusedMessage) (told behind followed : List ToldItem) → all ≡ news ++ more → noted ≡ refusals ++ others →
+    followed ≡ told ++ behind → TellBeside about kept before news refusals told → TellBeside about kept after more others behind →
+    TellBeside about kept (before ++ after) all noted followed
+beside_both about kept before after news more all refusals others noted told behind followed news_is refusals_is told_is one two = record {
+  items = one.items ++ two.items;
+  hears = subst (λ (rs : List RefusedMessage). Hears (before ++ after) (one.items ++ two.items) rs) (sym refusals_is)
+      (hears_both before after one.items two.items refusals others one.hears two.hears);
+  tells = subst (λ (ts : List ToldItem). AreTold about (before ++ after) ts) (sym told_is)
+      (tells_both about before after told behind one.tells two.tells);
+  news_are = subst (λ (ns : List Item). AreNews kept (one.items ++ two.items) ns) (sym news_is)
+      (news_both kept one.items two.items news more one.news_are two.news_are);
+}
 
-  counted_one : (done : List (List ℕ)) (text : List ℕ) → count ≡ base + length done → next ≡ count + 1 →
-      next ≡ base + length (done ++ text ∷ [])
-  counted_one done text counted is =
-      let longer : length (done ++ text ∷ []) ≡ length done + 1 = length-append done (text ∷ []) in omega (arith, counted, is, longer)
-
-  items_at : (now : List Item) (more : List ToldItem) (given : HeardText) (heard : List Item) (done rest : List (List ℕ)) →
-      texts ≡ done ++ rest → AllZip (MayTell about first) rest (Ok given ∷ left) →
-      Hears (before ++ placed_from source (base + 1) done) heard refusals →
-      AreTold about (before ++ placed_from source (base + 1) done) told → AreAmong first heard → AreKept kept heard
-      → count ≡ base + length done → next ≡ count + 1 → ((heard : List Item) → AreKept kept heard → AreKept now (heard ++ given.news)) →
-      more ≡ told ++ told_in (record { source = source; message = next }) given.followed →
-      TakesSoFar about before source base texts first left now refusals more next
-  items_at now more given heard done [] whole answered hears tells among keeps counted is grows noted = absurd answered
-  items_at now more given heard done (text ∷ rest) whole answered hears tells among keeps counted is grows noted =
-      let tell : TellsText about first text given = answered.0.0 in
-      let items : List Item = tell.items in
-      let grown : told ++ told_in (record { source = source; message = next }) (items_about about items) ≡ more =
-      ap (λ (t : List Item). told ++ told_in (record { source = source; message = next }) t) (sym tell.followed) ∙ sym noted in
-      record {
-        done = done ++ text ∷ [];
-        rest = rest;
-        heard = heard ++ items;
-        whole = whole ∙ sym (append_assoc done (text ∷ []) rest);
-        answered = answered.1;
-        hears = subst (λ (ms : List Placed). Hears ms (heard ++ items) refusals) (to_one done text counted is)
-            (hears_items (before ++ placed_from source (base + 1) done) heard refusals hears (one text) items tell.reads);
-        tells = subst (λ (ms : List Placed). AreTold about ms more) (to_one done text counted is)
-            (subst (λ (t : List ToldItem). AreTold about ((before ++ placed_from source (base + 1) done) ++ one text ∷ []) t) grown
-            (tells_items about (before ++ placed_from source (base + 1) done) told tells (one text) items tell.reads));
-        among = among_more first heard items among;
-        keeps = keeps_news first now heard items given.news among tell.news (grows heard keeps);
-        count_is = counted_one done text counted is;
-      }
-
-  refusal_at : (cause : MessageRefusal) (heard : List Item) (done rest : List (List ℕ)) → texts ≡ done ++ rest →
-      AllZip (MayTell about first) rest (Err (error.Refused cause) ∷ left) →
-      Hears (before ++ placed_from source (base + 1) done) heard refusals →
-      AreTold about (before ++ placed_from source (base + 1) done) told → AreAmong first heard → AreKept kept heard
-      → count ≡ base + length done → next ≡ count + 1 →
-      TakesSoFar about before source base texts first left kept
-      (refusals ++ (record { source = source; message = next; refusal = cause }) ∷ []) told next
-  refusal_at cause heard done [] whole answered hears tells among keeps counted is = absurd answered
-  refusal_at cause heard done (text ∷ rest) whole answered hears tells among keeps counted is = record {
-    done = done ++ text ∷ [];
-    rest = rest;
-    heard = heard;
-    whole = whole ∙ sym (append_assoc done (text ∷ []) rest);
-    answered = answered.1;
-    hears = subst (λ (ms : List Placed). Hears ms heard
-        (refusals ++ (record { source = source; message = next; refusal = cause }) ∷ [])) (to_one done text counted is)
-        (hears_refusal (before ++ placed_from source (base + 1) done) heard refusals hears (one text) cause answered.0.1);
-    tells = subst (λ (ms : List Placed). AreTold about ms told) (to_one done text counted is)
-        (tells_refusal about (before ++ placed_from source (base + 1) done) told tells (one text) cause answered.0.1);
-    among = among;
-    keeps = keeps;
-    count_is = counted_one done text counted is;
+module _ (about : Option (List ℕ)) (kept : List Item) (before : List Placed) (news : List Item) (refusals : List RefusedMessage)
+    (told : List ToldItem) (so_far : TellBeside about kept before news refusals told) (one : Placed) where
+  -- one message more gives items
+  pub beside_items : (items more : List Item) (followed : List ToldItem) → ReadsMessage one.text items →
+      AreNews kept (so_far.items ++ items) more → followed ≡ told ++ told_in (place_of one) (items_about about items) →
+      TellBeside about kept (before ++ one ∷ []) more refusals followed
+  beside_items items more followed reads are noted = record {
+    items = so_far.items ++ items;
+    hears = hears_items before so_far.items refusals so_far.hears one items reads;
+    tells = subst (λ (ts : List ToldItem). AreTold about (before ++ one ∷ []) ts) (sym noted)
+        (tells_items about before told so_far.tells one items reads);
+    news_are = are;
   }
 
-pub take_begins : (about : Option (List ℕ)) (before : List Placed) (inbox : Inbox) (texts : List (List ℕ))
-    (answers : List (Result HeardText ReadError)) → AllZip (MayTell about inbox.state) texts answers → KeepsMessages about before inbox →
-    TakesSoFar about before inbox.source inbox.messages texts inbox.state answers inbox.state inbox.refusals.items inbox.told.items
-    inbox.messages
-take_begins about before inbox texts answers answered keeps =
-    let none : inbox.messages ≡ inbox.messages + 0 = omega arith in
+  -- or is refused
+  pub beside_refusal : (cause : MessageRefusal) (noted : List RefusedMessage) → RefusesMessage one.text cause →
+      noted ≡ refusals ++ (record { source = one.source; message = one.message; refusal = cause }) ∷ [] →
+      TellBeside about kept (before ++ one ∷ []) news noted told
+  beside_refusal cause noted refuses is = record {
+    items = so_far.items;
+    hears = subst (λ (rs : List RefusedMessage). Hears (before ++ one ∷ []) so_far.items rs) (sym is)
+        (hears_refusal before so_far.items refusals so_far.hears one cause refuses);
+    tells = tells_refusal about before told so_far.tells one cause refuses;
+    news_are = so_far.news_are;
+  }
+
+-- the texts up to and with one more, by their places
+pub placed_one : (source first next : ℕ) (texts : List (List ℕ)) (text : List ℕ) → next ≡ first + length texts →
+    placed_from source first (texts ++ text ∷ []) ≡
+    placed_from source first texts ++ (record { source = source; message = next; text = text }) ∷ []
+placed_one source first next texts text is =
+    placed_both source first texts (text ∷ []) ∙
+    ap (λ (n : ℕ). placed_from source first texts ++ (record { source = source; message = n; text = text }) ∷ []) (sym is)
+
+-- an inbox hears what messages tell
+pub keeps_beside : (about : Option (List ℕ)) (before more : List Placed) (old new : OpenInbox) (news : List Item)
+    (refusals : List RefusedMessage) (told : List ToldItem) → KeepsMessages about before old →
+    TellBeside about old.state more news refusals told → AreKept new.state (old.state ++ news) →
+    new.refusals.items ≡ old.refusals.items ++ refusals → new.told.items ≡ old.told.items ++ told →
+    KeepsMessages about (before ++ more) new
+keeps_beside about before more old new news refusals told keeps beside kept noted followed = record {
+  heard = keeps.heard ++ beside.items;
+  hears = subst (λ (rs : List RefusedMessage). Hears (before ++ more) (keeps.heard ++ beside.items) rs) (sym noted)
+      (hears_both before more keeps.heard beside.items old.refusals.items refusals keeps.hears beside.hears);
+  tells = subst (λ (ts : List ToldItem). AreTold about (before ++ more) ts) (sym followed)
+      (tells_both about before more old.told.items told keeps.tells beside.tells);
+  keeps = keeps_more old.state new.state keeps.heard beside.items news keeps.keeps beside.news_are kept;
+}
+
+-- ---- what messages tell, and how many they are
+
+pub none_tells : (about : Option (List ℕ)) (kept : List Item) (heard : Heard) → heard.count ≡ 0 → heard.news.items ≡ [] →
+    heard.refusals.items ≡ [] → heard.told.items ≡ [] → Tells about kept [] heard
+none_tells about kept heard none no_news unrefused untold = record {
+  beside = beside_none about kept heard.news.items heard.refusals.items heard.told.items no_news unrefused untold;
+  count_is = none;
+}
+
+pub both_tell : (about : Option (List ℕ)) (kept : List Item) (before after : List Placed) (one two all : Heard) →
+    all.count ≡ one.count + two.count → all.news.items ≡ one.news.items ++ two.news.items →
+    all.refusals.items ≡ one.refusals.items ++ two.refusals.items → all.told.items ≡ one.told.items ++ two.told.items →
+    Tells about kept before one → Tells about kept after two → Tells about kept (before ++ after) all
+both_tell about kept before after one two all count news refusals told first second =
+    let long : length (before ++ after) ≡ length before + length after = length-append before after in
+    let front : one.count ≡ length before = first.count_is in
+    let back : two.count ≡ length after = second.count_is in
     record {
-      done = [];
-      rest = texts;
-      heard = keeps.heard;
-      whole = refl;
-      answered = answered;
-      hears = subst (λ (ms : List Placed). Hears ms keeps.heard inbox.refusals.items) (sym (append-nil before)) keeps.hears;
-      tells = subst (λ (ms : List Placed). AreTold about ms inbox.told.items) (sym (append-nil before)) keeps.tells;
-      among = kept_among inbox.state keeps.heard keeps.keeps;
-      keeps = keeps.keeps;
-      count_is = none;
+      beside = beside_both about kept before after one.news.items two.news.items all.news.items one.refusals.items two.refusals.items
+          all.refusals.items one.told.items two.told.items all.told.items news refusals told first.beside second.beside;
+      count_is = omega (arith, count, long, front, back);
     }
 
-none_left : (about : Option (List ℕ)) (first : List Item) (rest : List (List ℕ)) → AllZip (MayTell about first) rest [] → rest ≡ []
-none_left about first [] answered = refl
-none_left about first (t ∷ rest) answered = absurd answered
+-- the messages of an input from the first, and one more
+module _ (about : Option (List ℕ)) (kept : List Item) (source next : ℕ) (texts : List (List ℕ)) (text : List ℕ) (old : Heard)
+    (so_far : Tells about kept (placed_from source 1 texts) old) (is : next ≡ old.count + 1) where
+  pub next_number : next ≡ 1 + length texts
+  next_number =
+      let counted : old.count ≡ length texts = so_far.count_is ∙ length_placed source 1 texts in
+      omega (arith, is, counted)
 
-pub take_ends : (about : Option (List ℕ)) (before : List Placed) (source base : ℕ) (texts : List (List ℕ)) (first : List Item)
-    (inbox : Inbox) → TakesSoFar about before source base texts first [] inbox.state inbox.refusals.items inbox.told.items inbox.messages
-    → KeepsMessages about (before ++ placed_from source (base + 1) texts) inbox
-take_ends about before source base texts first inbox so_far =
-    let all : so_far.done ≡ texts = sym (append-nil so_far.done) ∙
-    ap (λ (t : List (List ℕ)). so_far.done ++ t) (sym (none_left about first so_far.rest so_far.answered)) ∙ sym so_far.whole in
+  pub one_tells : (new : Heard) → new.count ≡ next →
+      TellBeside about kept (placed_from source 1 texts ++ (record { source = source; message = next; text = text }) ∷ [])
+      new.news.items new.refusals.items new.told.items → Tells about kept (placed_from source 1 (texts ++ text ∷ [])) new
+  one_tells new count beside =
+      let long : length (placed_from source 1 (texts ++ text ∷ [])) ≡ length texts + 1 =
+      length_placed source 1 (texts ++ text ∷ []) ∙ length-append texts (text ∷ []) in
+      let number : next ≡ 1 + length texts = next_number in
+      record {
+        beside = subst (λ (ms : List Placed). TellBeside about kept ms new.news.items new.refusals.items new.told.items)
+            (sym (placed_one source 1 next texts text number)) beside;
+        count_is = omega (arith, count, long, number);
+      }
+
+-- so many others come before
+pub behind_tell : (about : Option (List ℕ)) (kept : List Item) (source first count : ℕ) (texts : List (List ℕ)) (old new : Heard) →
+    new.count ≡ old.count → new.news.items ≡ old.news.items →
+    new.refusals.items ≡ map (later_refusal count) old.refusals.items → new.told.items ≡ map (later_told count) old.told.items →
+    Tells about kept (placed_from source first texts) old → Tells about kept (placed_from source (first + count) texts) new
+behind_tell about kept source first count texts old new same news refusals told tells = record {
+  beside = subst (λ (ns : List Item). TellBeside about kept (placed_from source (first + count) texts) ns new.refusals.items new.told.items)
+      (sym news) (beside_behind about kept source first count texts old.news.items old.refusals.items new.refusals.items old.told.items
+      new.told.items refusals told tells.beside);
+  count_is = same ∙ tells.count_is ∙ length_placed source first texts ∙ sym (length_placed source (first + count) texts);
+}
+
+-- what two parts tell that are cut apart is what the whole tells
+pub parts_tell : (about : Option (List ℕ)) (kept : List Item) (source : ℕ) (whole front back : List ℕ) (ours all : Heard) →
+    StaysParted whole front back → Tells about kept (placed_from source 1 (messages_of front)) ours →
+    Tells about kept (placed_from source 1 (messages_of front) ++ placed_from source (1 + ours.count) (messages_of back)) all →
+    Tells about kept (placed_from source 1 (messages_of whole)) all
+parts_tell about kept source whole front back ours all parted one both =
+    let many : ours.count ≡ length (messages_of front) = one.count_is ∙ length_placed source 1 (messages_of front) in
+    let count : 1 + length (messages_of front) ≡ 1 + ours.count = omega (arith, many) in
+    let cut : messages_of whole ≡ messages_of front ++ messages_of back =
+    ap messages_of (sym (append-nil whole)) ∙ parted.messages [] ∙ ap (λ (t : List ℕ). messages_of front ++ messages_of t) (append-nil back)
+    in
+    subst (λ (ms : List Placed). Tells about kept ms all)
+    (sym (ap (placed_from source 1) cut ∙ placed_both source 1 (messages_of front) (messages_of back) ∙
+    ap (λ (n : ℕ). placed_from source 1 (messages_of front) ++ placed_from source n (messages_of back)) count)) both
+
+-- ---- inputs that wait
+
+pub got_none : (about : Option (List ℕ)) (inbox : OpenInbox) → inbox.state ≡ [] → inbox.refusals.items ≡ [] → inbox.told.items ≡ [] →
+    inbox.waiting.items ≡ [] → HasGot about [] inbox
+got_none about inbox empty unrefused untold none = record {
+  done = [];
+  whole = ap waiting_of (sym none);
+  keeps = keeps_none about inbox empty unrefused untold;
+}
+
+pub got_same : (about : Option (List ℕ)) (messages : List Placed) (old new : OpenInbox) → new.state ≡ old.state →
+    new.refusals.items ≡ old.refusals.items → new.told.items ≡ old.told.items → new.waiting.items ≡ old.waiting.items →
+    HasGot about messages old → HasGot about messages new
+got_same about messages old new state refusals told waiting got = record {
+  done = got.done;
+  whole = subst (λ (ws : List Waiting). messages ≡ got.done ++ waiting_of ws) (sym waiting) got.whole;
+  keeps = keeps_same about got.done old new state refusals told got.keeps;
+}
+
+-- where none waits
+pub got_now : (about : Option (List ℕ)) (messages : List Placed) (inbox : OpenInbox) → inbox.waiting.items ≡ [] →
+    KeepsMessages about messages inbox → HasGot about messages inbox
+got_now about messages inbox none keeps = record {
+  done = messages;
+  whole = sym (append-nil messages) ∙ ap (λ (ws : List Waiting). messages ++ waiting_of ws) (sym none);
+  keeps = keeps;
+}
+
+pub waiting_push : (waiting : List Waiting) (one : Waiting) →
+    waiting_of (waiting ++ one ∷ []) ≡ waiting_of waiting ++ placed_from one.source 1 (messages_of one.octets.items)
+waiting_push [] one = append-nil (placed_from one.source 1 (messages_of one.octets.items))
+waiting_push (w ∷ waiting) one =
+    ap (λ (ms : List Placed). placed_from w.source 1 (messages_of w.octets.items) ++ ms) (waiting_push waiting one) ∙
+    sym (append_assoc (placed_from w.source 1 (messages_of w.octets.items)) (waiting_of waiting)
+    (placed_from one.source 1 (messages_of one.octets.items)))
+
+pub waiting_both : (xs ys : List Waiting) → waiting_of (xs ++ ys) ≡ waiting_of xs ++ waiting_of ys
+waiting_both [] ys = refl
+waiting_both (x ∷ xs) ys =
+    ap (λ (ms : List Placed). placed_from x.source 1 (messages_of x.octets.items) ++ ms) (waiting_both xs ys) ∙
+    sym (append_assoc (placed_from x.source 1 (messages_of x.octets.items)) (waiting_of xs) (waiting_of ys))
+
+-- one input more waits
+pub got_waits : (about : Option (List ℕ)) (before : List Placed) (old new : OpenInbox) (one : Waiting) → new.state ≡ old.state →
+    new.refusals.items ≡ old.refusals.items → new.told.items ≡ old.told.items → new.waiting.items ≡ old.waiting.items ++ one ∷ [] →
+    HasGot about before old → HasGot about (before ++ placed_from one.source 1 (messages_of one.octets.items)) new
+got_waits about before old new one state refusals told waiting got =
+    let more : List Placed = placed_from one.source 1 (messages_of one.octets.items) in
     record {
-      heard = so_far.heard;
-      hears = subst (λ (ts : List (List ℕ)). Hears (before ++ placed_from source (base + 1) ts) so_far.heard inbox.refusals.items) all
-          so_far.hears;
-      tells = subst (λ (ts : List (List ℕ)). AreTold about (before ++ placed_from source (base + 1) ts) inbox.told.items) all so_far.tells;
-      keeps = so_far.keeps;
+      done = got.done;
+      whole = ap (λ (ms : List Placed). ms ++ more) got.whole ∙ append_assoc got.done (waiting_of old.waiting.items) more ∙
+          ap (λ (ms : List Placed). got.done ++ ms) (sym (ap waiting_of waiting ∙ waiting_push old.waiting.items one));
+      keeps = keeps_same about got.done old new state refusals told got.keeps;
     }
 
-module _ (about : Option (List ℕ)) (before : List Placed) (source base : ℕ) (texts : List (List ℕ)) (first : List Item)
-    (all left : List (Result HeardText ReadError)) (kept : List Item) (refusals : List RefusedMessage) (told : List ToldItem)
-    (count next at : ℕ) (answer : Result HeardText ReadError)
-    (so_far : TakesSoFar about before source base texts first all kept refusals told count) (step : all ≡ answer ∷ left)
-    (is_next : next ≡ count + 1) (same : at ≡ source) where
-  pub take_items : (now : List Item) (more : List ToldItem) (given : HeardText) → answer ≡ Ok given →
-      ((heard : List Item) → AreKept kept heard → AreKept now (heard ++ given.news)) →
-      more ≡ told ++ told_in (record { source = at; message = next }) given.followed
-      → TakesSoFar about before source base texts first left now refusals more next
-  take_items now more given is grows noted =
-      items_at about before source base texts first left kept refusals told count next now more given so_far.heard so_far.done so_far.rest
-      so_far.whole (subst (λ (t : List (Result HeardText ReadError)). AllZip (MayTell about first) so_far.rest t) (step ∙
-      ap (λ (a : Result HeardText ReadError). a ∷ left) is) so_far.answered)
-      so_far.hears so_far.tells so_far.among so_far.keeps so_far.count_is is_next grows
-      (noted ∙ ap (λ (s : ℕ). told ++ told_in (record { source = s; message = next }) given.followed) same)
+-- those that wait are heard
+pub waiting_heard : (about : Option (List ℕ)) (messages : List Placed) (old now new : OpenInbox) (heard : Heard) →
+    Tells about old.state (waiting_of old.waiting.items) heard → ((before more : List Placed) → KeepsMessages about before old →
+    Tells about old.state more heard → KeepsMessages about (before ++ more) now) → new.state ≡ now.state →
+    new.refusals.items ≡ now.refusals.items → new.told.items ≡ now.told.items → HasGot about messages old →
+    KeepsMessages about messages new
+waiting_heard about messages old now new heard tells takes state refusals told got =
+    keeps_same about messages now new state refusals told
+    (subst (λ (ms : List Placed). KeepsMessages about ms now) (sym got.whole)
+    (takes got.done (waiting_of old.waiting.items) got.keeps tells))
 
-  pub take_refusal : (now : List RefusedMessage) (cause : MessageRefusal) → answer ≡ Err (error.Refused cause) →
-      now ≡ refusals ++ (record { source = at; message = next; refusal = cause }) ∷ []
-      → TakesSoFar about before source base texts first left kept now told next
-  take_refusal now cause is grown =
-      let noted : now ≡ refusals ++ (record { source = source; message = next; refusal = cause }) ∷ [] = grown ∙
-      ap (λ (s : ℕ). refusals ++ (record { source = s; message = next; refusal = cause }) ∷ []) same in
-      subst (λ (t : List RefusedMessage). TakesSoFar about before source base texts first left kept t told next) (sym noted)
-      (refusal_at about before source base texts first left kept refusals told count next cause so_far.heard so_far.done so_far.rest
-      so_far.whole (subst (λ (t : List (Result HeardText ReadError)). AllZip (MayTell about first) so_far.rest t) (step ∙
-      ap (λ (a : Result HeardText ReadError). a ∷ left) is) so_far.answered)
-      so_far.hears so_far.tells so_far.among so_far.keeps so_far.count_is is_next)
+-- messages of an input are heard, once none waits
+pub got_more : (about : Option (List ℕ)) (before : List Placed) (old now new : OpenInbox) (texts : List (List ℕ)) →
+    now.source ≡ old.source → now.messages ≡ old.messages → new.waiting.items ≡ [] →
+    KeepsMessages about (before ++ placed_from now.source (now.messages + 1) texts) new →
+    HasGot about (before ++ placed_from old.source (old.messages + 1) texts) new
+got_more about before old now new texts source messages none keeps =
+    got_now about (before ++ placed_from old.source (old.messages + 1) texts) new none
+    (subst (λ (s : ℕ). KeepsMessages about (before ++ placed_from s (old.messages + 1) texts) new) source
+    (subst (λ (n : ℕ). KeepsMessages about (before ++ placed_from now.source (n + 1) texts) new) messages keeps))
+
+-- messages that were numbered from 1 come behind those that were heard
+pub next_tells : (about : Option (List ℕ)) (kept : List Item) (source count : ℕ) (texts : List (List ℕ)) (heard : Heard) →
+    Tells about kept (placed_from source (1 + count) texts) heard → Tells about kept (placed_from source (count + 1) texts) heard
+next_tells about kept source count texts heard tells =
+    let same : 1 + count ≡ count + 1 = omega arith in
+    subst (λ (n : ℕ). Tells about kept (placed_from source n texts) heard) same tells

@@ -48,8 +48,26 @@ keeps_news first new heard items news among are kept =
     (kept_of_parts (first ++ items) heard (first ++ news) heard (news_cover first items news are) (covers_itself heard))
     (are_kept_same new (heard ++ news) ((first ++ news) ++ heard) (beside first heard news among) kept))
 
-pub among_more : (first heard more : List Item) → AreAmong first heard → AreAmong first (heard ++ more)
-among_more first heard more among i h = Contains-append_left heard more i (among i h)
+-- the news of two sets
+pub news_both : (kept xs ys news more : List Item) → AreNews kept xs news → AreNews kept ys more → AreNews kept (xs ++ ys) (news ++ more)
+news_both kept xs ys news more one two = record {
+  among = λ i h. elim (Contains-append_cases news more i h) [
+    | inl left ↦ Contains-append_left xs ys i (one.among i left)
+    | inr right ↦ Contains-append_right xs ys i (two.among i right)
+  ];
+  new = λ i h. elim (Contains-append_cases news more i h) [ inl left ↦ one.new i left | inr right ↦ two.new i right ];
+  rest = λ i h. elim (Contains-append_cases xs ys i h) [
+    | inl left ↦ elim (one.rest i left) [ inl is ↦ inl (Contains-append_left news more i is) | inr out ↦ inr out ]
+    | inr right ↦ elim (two.rest i right) [ inl is ↦ inl (Contains-append_right news more i is) | inr out ↦ inr out ]
+  ];
+}
 
 pub kept_among : (kept heard : List Item) → AreKept kept heard → AreAmong kept heard
 kept_among kept heard are i h = ((are i).0 h).best.is_heard
+
+-- what is kept of what was kept and of what is news beside it
+pub keeps_more : (old new heard items news : List Item) → AreKept old heard → AreNews old items news → AreKept new (old ++ news) →
+    AreKept new (heard ++ items)
+keeps_more old new heard items news keeps are kept =
+    keeps_news old new heard items news (kept_among old heard keeps) are
+    (are_kept_by new (old ++ news) (heard ++ news) (kept_beside heard news old keeps) kept)

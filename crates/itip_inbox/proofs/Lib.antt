@@ -1,5 +1,7 @@
 mod Answered
+mod Behind
 mod Hearing
+mod Sharding
 mod HeldParts
 mod Keeping
 mod Streams
@@ -18,7 +20,10 @@ mod Paging
 mod Explaining
 mod Sending
 mod Showing
-mod Recording
+mod CsvText
+mod Pieces
+mod JsonText
+mod JsonArray
 mod Reporting
 mod SameTold
 mod PartsByUid

@@ -1,5 +1,5 @@
 -- A page, written as its head, its rows and its foot.
-use Rattle.std.proofs.Common.{◌≡◌, ℕ, List, ◌++◌, length, refl, sym, ap, subst, ◌∙◌, append_assoc, Option}
+use Rattle.std.proofs.Common.{◌≡◌, ℕ, List, ◌++◌, sym, ap, subst, ◌∙◌, append_assoc, Option}
 use Rattle.std.specs.Prelude.{ℤ}
 use Rattle.std.specs.List.{flat_map}
 use Rattle.std.specs.Io.KnownBytes.{Appends}
@@ -7,7 +7,6 @@ use Rattle.itip_streams.specs.Written.{AppendsFront, MovesOut}
 use Rattle.itip_streams.proofs.Writing.{moves_more, all_moved, front_moved, front_longer, front_none}
 use Rattle.itip_view.specs.ByUid.{AreFewLeft}
 use Rattle.itip_view.specs.declared.by_uid.RowsByUid.{RowsByUid}
-use Rattle.itip_view.specs.declared.row.Row.{Row}
 use Rattle.itip_view.specs.declared.window.Window.{Window}
 use Rattle.itip_page.specs.Page.{head_markup, foot_markup, page_markup}
 use Rattle.itip_page.specs.RowMarkup.{row_markup}

@@ -7,10 +7,15 @@ use Rattle.std.proofs.lemmas.List.{length-append}
 use Rattle.itip_message.specs.Cutting.{IsCutInto}
 use Rattle.itip_message.specs.Scanned.{messages_of}
 use Rattle.itip_message.proofs.Cuts.{cut_by_scan}
-use Rattle.itip_inbox.specs.declared.inbox.Inbox.{Inbox}
-use Rattle.itip_inbox.specs.Following.{TellAbout}
-use Rattle.itip_inbox.specs.Inbox.{AreInputs, Placed, placed_from, placed_of, Holds}
-use Rattle.itip_inbox.specs.Streaming.{KeepsMessages, HearsInTurn}
+use Rattle.itip_items.specs.declared.item.Item.{Item}
+use Rattle.itip_state.specs.Kept.{AreKept}
+use Rattle.itip_state.proofs.Keeping.{are_kept_by, kept_again}
+use Rattle.itip_explain.specs.declared.told.ToldItem.{ToldItem}
+use Rattle.itip_inbox.specs.declared.open_inbox.OpenInbox.{OpenInbox}
+use Rattle.itip_inbox.specs.declared.refused.RefusedMessage.{RefusedMessage}
+use Rattle.itip_inbox.specs.Following.{AreTold, TellAbout, HasHeard}
+use Rattle.itip_inbox.specs.Inbox.{AreInputs, Placed, placed_from, placed_of, Hears, Holds}
+use Rattle.itip_inbox.specs.Streaming.{KeepsMessages, HasGot, HearsInTurn}
 
 -- one input more is cut
 pub cuts_push : (inputs : List (List ℕ)) (all : List (List (List ℕ))) (input : List ℕ) (texts : List (List ℕ)) →
@@ -33,8 +38,8 @@ placed_push source (first ∷ all) texts =
 
 module _ {R : Type 0} (remaining : R → Option (List ℕ)) (about : Option (List ℕ)) where
   -- no input is heard yet
-  pub turn_begins : (sources left : List R) (inputs : List (List ℕ)) (inbox : Inbox) → left ≡ sources → AreInputs remaining sources inputs →
-      KeepsMessages about [] inbox → inbox.source ≡ 0 → HearsInTurn remaining about inputs left inbox
+  pub turn_begins : (sources left : List R) (inputs : List (List ℕ)) (inbox : OpenInbox) → left ≡ sources → AreInputs remaining sources inputs →
+      HasGot about [] inbox → inbox.source ≡ 0 → HearsInTurn remaining about inputs left inbox
   turn_begins sources left inputs inbox same are keeps is = record {
     done = [];
     rest = inputs;
@@ -42,24 +47,24 @@ module _ {R : Type 0} (remaining : R → Option (List ℕ)) (about : Option (Lis
     whole = refl;
     are_left = subst (λ (l : List R). AreInputs remaining l inputs) (sym same) are;
     cut = tt;
-    keeps = keeps;
+    got = keeps;
     source_is = is;
   }
 
-  module _ (inputs : List (List ℕ)) (one : R) (after : List R) (inbox now next : Inbox) (fresh : inbox.messages ≡ 0)
-      (place : next.source ≡ inbox.source + 1) (same : (messages : List Placed) → KeepsMessages about messages now →
-      KeepsMessages about messages next) (hears : (before : List Placed) → KeepsMessages about before inbox →
-      IfSome (remaining one) (λ input. KeepsMessages about (before ++ placed_from inbox.source (inbox.messages + 1) (messages_of input))
+  module _ (inputs : List (List ℕ)) (one : R) (after : List R) (inbox now next : OpenInbox) (fresh : inbox.messages ≡ 0)
+      (place : next.source ≡ inbox.source + 1) (same : (messages : List Placed) → HasGot about messages now →
+      HasGot about messages next) (hears : (before : List Placed) → HasGot about before inbox →
+      IfSome (remaining one) (λ input. HasGot about (before ++ placed_from inbox.source (inbox.messages + 1) (messages_of input))
       now)) where
     one_more : (done rest : List (List ℕ)) (messages : List (List (List ℕ))) → inputs ≡ done ++ rest →
-        AreInputs remaining (one ∷ after) rest → AllZip IsCutInto done messages → KeepsMessages about (placed_of 0 messages) inbox →
+        AreInputs remaining (one ∷ after) rest → AllZip IsCutInto done messages → HasGot about (placed_of 0 messages) inbox →
         inbox.source ≡ length messages → HearsInTurn remaining about inputs after next
     one_more done [] messages whole are cut keeps is = absurd are
     one_more done (input ∷ rest) messages whole are cut keeps is =
         let texts : List (List ℕ) = messages_of input in
-        let heard : KeepsMessages about (placed_of 0 messages ++ placed_from inbox.source (inbox.messages + 1) texts) now =
+        let heard : HasGot about (placed_of 0 messages ++ placed_from inbox.source (inbox.messages + 1) texts) now =
         subst (λ (o : Option (List ℕ)). IfSome o (λ input.
-        KeepsMessages about (placed_of 0 messages ++ placed_from inbox.source (inbox.messages + 1) (messages_of input)) now)) are.0
+        HasGot about (placed_of 0 messages ++ placed_from inbox.source (inbox.messages + 1) (messages_of input)) now)) are.0
         (hears (placed_of 0 messages) keeps) in
         let nth : inbox.source ≡ 0 + length messages = omega (arith, is) in
         let to : placed_of 0 messages ++ placed_from inbox.source (inbox.messages + 1) texts ≡ placed_of 0 (messages ++ texts ∷ []) =
@@ -73,7 +78,7 @@ module _ {R : Type 0} (remaining : R → Option (List ℕ)) (about : Option (Lis
           whole = whole ∙ sym (append_assoc done (input ∷ []) rest);
           are_left = are.1;
           cut = cuts_push done messages input texts cut (cut_by_scan input);
-          keeps = subst (λ (ms : List Placed). KeepsMessages about ms next) to
+          got = subst (λ (ms : List Placed). HasGot about ms next) to
               (same (placed_of 0 messages ++ placed_from inbox.source (inbox.messages + 1) texts) heard);
           source_is = omega (arith, place, is, longer);
         }
@@ -83,14 +88,14 @@ module _ {R : Type 0} (remaining : R → Option (List ℕ)) (about : Option (Lis
         HearsInTurn remaining about inputs after next
     turn_more left so_far step =
         one_more so_far.done so_far.rest so_far.messages so_far.whole
-        (subst (λ (l : List R). AreInputs remaining l so_far.rest) step so_far.are_left) so_far.cut so_far.keeps so_far.source_is
+        (subst (λ (l : List R). AreInputs remaining l so_far.rest) step so_far.are_left) so_far.cut so_far.got so_far.source_is
 
   no_more : (rest : List (List ℕ)) → AreInputs remaining [] rest → rest ≡ []
   no_more [] are = refl
   no_more (input ∷ rest) are = absurd are
 
   -- all inputs are heard
-  module _ (inputs : List (List ℕ)) (left : List R) (inbox : Inbox) (so_far : HearsInTurn remaining about inputs left inbox)
+  module _ (inputs : List (List ℕ)) (left : List R) (inbox : OpenInbox) (so_far : HearsInTurn remaining about inputs left inbox)
       (none : left ≡ []) where
     all_cut : AllZip IsCutInto inputs so_far.messages
     all_cut =
@@ -100,12 +105,49 @@ module _ {R : Type 0} (remaining : R → Option (List ℕ)) (about : Option (Lis
         sym so_far.whole in
         subst (λ (done : List (List ℕ)). AllZip IsCutInto done so_far.messages) all so_far.cut
 
-    pub turn_ends : Holds inputs inbox.state inbox.refusals.items
-    turn_ends = record {
-      heard = so_far.keeps.heard;
-      inbox = record { messages = so_far.messages; cut = all_cut; hears = so_far.keeps.hears };
-      keeps = so_far.keeps.keeps;
-    }
+    -- and once those that wait are, the inbox has all of them
+    module _ (now : OpenInbox) (all : (messages : List Placed) → HasGot about messages inbox → KeepsMessages about messages now) where
+      kept : KeepsMessages about (placed_of 0 so_far.messages) now
+      kept = all (placed_of 0 so_far.messages) so_far.got
 
-    pub turn_tells : TellAbout about inputs inbox.told.items
-    turn_tells = record { messages = so_far.messages; cut = all_cut; tell = so_far.keeps.tells }
+      pub turn_ends : Holds inputs now.state now.refusals.items
+      turn_ends = record {
+        heard = kept.heard;
+        inbox = record { messages = so_far.messages; cut = all_cut; hears = kept.hears };
+        keeps = kept.keeps;
+      }
+
+      pub turn_tells : TellAbout about inputs now.told.items
+      turn_tells = record { messages = so_far.messages; cut = all_cut; tell = kept.tells }
+
+-- what is kept, and then put together, is kept of the same
+pub holds_closed : (inputs : List (List ℕ)) (kept whole : List Item) (refusals same : List RefusedMessage) → Holds inputs kept refusals →
+    AreKept whole kept → same ≡ refusals → Holds inputs whole same
+holds_closed inputs kept whole refusals same holds all is =
+    subst (λ (noted : List RefusedMessage). Holds inputs whole noted) (sym is) (record {
+      heard = holds.heard;
+      inbox = holds.inbox;
+      keeps = are_kept_by whole kept holds.heard (kept_again kept holds.heard holds.keeps) all;
+    })
+
+-- and so are the messages, whatever they are
+pub heard_closed : (about : Option (List ℕ)) (kept whole : List Item) (refusals same : List RefusedMessage) (told followed : List ToldItem) →
+    HasHeard about kept refusals told → AreKept whole kept → same ≡ refusals → followed ≡ told → HasHeard about whole same followed
+heard_closed about kept whole refusals same told followed has all refusals_are told_are = record {
+  messages = has.messages;
+  heard = has.heard;
+  hears = subst (λ (noted : List RefusedMessage). Hears has.messages has.heard noted) (sym refusals_are) has.hears;
+  tells = subst (λ (more : List ToldItem). AreTold about has.messages more) (sym told_are) has.tells;
+  keeps = are_kept_by whole kept has.heard (kept_again kept has.heard has.keeps) all;
+}
+
+-- messages that were heard are some
+pub some_heard : (about : Option (List ℕ)) (messages : List Placed) (inbox : OpenInbox) → KeepsMessages about messages inbox →
+    HasHeard about inbox.state inbox.refusals.items inbox.told.items
+some_heard about messages inbox keeps = record {
+  messages = messages;
+  heard = keeps.heard;
+  hears = keeps.hears;
+  tells = keeps.tells;
+  keeps = keeps.keeps;
+}

@@ -6,10 +6,10 @@ use Rattle.std.specs.Io.KnownBytes.{Consumes, IsAtEnd}
 use Rattle.std.proofs.KnownBytes.{Consumes-nil, Consumes-trans}
 use Rattle.std.proofs.lemmas.List.{length-append}
 use Rattle.itip_message.specs.Scanned.{messages_of, CutsMessage, StaysCut}
-use Rattle.itip_inbox.specs.declared.inbox.Inbox.{Inbox}
+use Rattle.itip_inbox.specs.declared.open_inbox.OpenInbox.{OpenInbox}
 use Rattle.itip_inbox.specs.declared.messages.Held.{Held}
 use Rattle.itip_inbox.specs.Inbox.{Placed, placed_from}
-use Rattle.itip_inbox.specs.Streaming.{Brings, LeavesMessages, AreReadFor, IsHeld, StaysCutInto, KeepsMessages, HasHeard, ReadsSoFar}
+use Rattle.itip_inbox.specs.Streaming.{Brings, LeavesMessages, AreReadFor, IsHeld, StaysCutInto, HasGot, HasSome, ReadsSoFar}
 use Rattle.itip_inbox.specs.Streaming.{HearsFirst}
 use Rattle.itip_inbox.proofs.Hearing.{placed_on}
 
@@ -60,14 +60,14 @@ held_more is_long held filled came more grows is = λ others.
     (subst (λ (t : List ℕ). AreReadFor is_long (messages_of (came ++ (more ++ others))) (messages_of t))
     (sym (append_assoc held more others)) (is (more ++ others))))
 
-pub reads_none : (about : Option (List ℕ)) (before : List Placed) (inbox : Inbox) (o : Option (List ℕ)) (held : Held) →
-    held.octets.items ≡ [] → held.is_long ≡ false → KeepsMessages about before inbox → ReadsSoFar about before inbox inbox o o held
+pub reads_none : (about : Option (List ℕ)) (before : List Placed) (inbox : OpenInbox) (o : Option (List ℕ)) (held : Held) →
+    held.octets.items ≡ [] → held.is_long ≡ false → HasGot about before inbox → ReadsSoFar about before inbox inbox o o held
 reads_none about before inbox o held nothing short keeps =
     let none : inbox.messages ≡ inbox.messages + 0 = omega arith in
     record {
       messages = [];
       came = [];
-      keeps = subst (λ (ms : List Placed). KeepsMessages about ms inbox) (sym (append-nil before)) keeps;
+      got = subst (λ (ms : List Placed). HasGot about ms inbox) (sym (append-nil before)) keeps;
       leaves = leaves_all o;
       is_held = subst (λ (b : Bool). IsHeld b held.octets.items []) (sym short)
           (subst (λ (t : List ℕ). IsHeld false t []) (sym nothing) (λ more. refl));
@@ -75,27 +75,27 @@ reads_none about before inbox o held nothing short keeps =
     }
 
 all_kept : (about : Option (List ℕ)) (before : List Placed) (source base : ℕ) (old new : Option (List ℕ)) (messages : List (List ℕ))
-    (came : List ℕ) (now : Inbox) → LeavesMessages old new messages came → IsAtEnd new
-    → KeepsMessages about (before ++ placed_from source (base + 1) (messages ++ messages_of came)) now
-    → IfSome old (λ input. KeepsMessages about (before ++ placed_from source (base + 1) (messages_of input)) now)
+    (came : List ℕ) (now : OpenInbox) → LeavesMessages old new messages came → IsAtEnd new
+    → HasGot about (before ++ placed_from source (base + 1) (messages ++ messages_of came)) now
+    → IfSome old (λ input. HasGot about (before ++ placed_from source (base + 1) (messages_of input)) now)
 all_kept about before source base None new messages came now l end keeps = tt
 all_kept about before source base (Some input) None messages came now l end keeps = absurd l
 all_kept about before source base (Some input) (Some rest) messages came now l end keeps =
     let all : messages_of input ≡ messages ++ messages_of came =
     l ∙ ap (λ (t : List ℕ). messages ++ messages_of (came ++ t)) end ∙ ap (λ (t : List ℕ). messages ++ messages_of t) (append-nil came) in
-    subst (λ (ms : List (List ℕ)). KeepsMessages about (before ++ placed_from source (base + 1) ms) now) (sym all) keeps
+    subst (λ (ms : List (List ℕ)). HasGot about (before ++ placed_from source (base + 1) ms) now) (sym all) keeps
 
-module _ (about : Option (List ℕ)) (before : List Placed) (start now : Inbox) (old new : Option (List ℕ)) (held : Held)
+module _ (about : Option (List ℕ)) (before : List Placed) (start now : OpenInbox) (old new : Option (List ℕ)) (held : Held)
     (so_far : ReadsSoFar about before start now old new held) (same : now.source ≡ start.source) where
   -- more of its messages are heard
-  kept_on : (texts : List (List ℕ)) (next : Inbox)
-      → ((before : List Placed) → KeepsMessages about before now →
-      KeepsMessages about (before ++ placed_from now.source (now.messages + 1) texts) next)
-      → KeepsMessages about (before ++ placed_from start.source (start.messages + 1) (so_far.messages ++ texts)) next
+  kept_on : (texts : List (List ℕ)) (next : OpenInbox)
+      → ((before : List Placed) → HasGot about before now →
+      HasGot about (before ++ placed_from now.source (now.messages + 1) texts) next)
+      → HasGot about (before ++ placed_from start.source (start.messages + 1) (so_far.messages ++ texts)) next
   kept_on texts next hears =
-      subst (λ (ms : List Placed). KeepsMessages about ms next)
+      subst (λ (ms : List Placed). HasGot about ms next)
       (placed_on before start.source start.messages now.source now.messages so_far.messages texts same so_far.count_is)
-      (hears (before ++ placed_from start.source (start.messages + 1) so_far.messages) so_far.keeps)
+      (hears (before ++ placed_from start.source (start.messages + 1) so_far.messages) so_far.got)
 
   module _ (newer : Option (List ℕ)) (filled : List ℕ) (brings : Brings new newer held.octets.items filled) where
     abbrev came_now : List ℕ
@@ -107,7 +107,7 @@ module _ (about : Option (List ℕ)) (before : List Placed) (start now : Inbox) 
     left_now : LeavesMessages old newer so_far.messages came_now
     left_now = leaves_moved old new newer so_far.messages so_far.came brings.brought so_far.leaves brings.reads
 
-    share_of : (more : List ℕ) (after : Held) (next : Inbox) → more ≡ rest_of newer → HearsFirst about came_now more after now next →
+    share_of : (more : List ℕ) (after : Held) (next : OpenInbox) → more ≡ rest_of newer → HearsFirst about came_now more after now next →
         ReadsSoFar about before start next old newer after
     share_of more after next is first =
         let longer : length (so_far.messages ++ first.texts) ≡ length so_far.messages + length first.texts =
@@ -117,7 +117,7 @@ module _ (about : Option (List ℕ)) (before : List Placed) (start now : Inbox) 
         record {
           messages = so_far.messages ++ first.texts;
           came = first.left;
-          keeps = kept_on first.texts next first.hears;
+          got = kept_on first.texts next first.hears;
           leaves = leaves_cut old newer so_far.messages first.texts came_now first.left left_now
               (subst (λ (t : List ℕ). messages_of (came_now ++ t) ≡ first.texts ++ messages_of (first.left ++ t)) is first.cut);
           is_held = first.is_held;
@@ -125,24 +125,24 @@ module _ (about : Option (List ℕ)) (before : List Placed) (start now : Inbox) 
         }
 
     -- a share is read and cut, and its messages are heard
-    pub reads_share : (after : Held) (next : Inbox) →
+    pub reads_share : (after : Held) (next : OpenInbox) →
         ((came more : List ℕ) → IsHeld held.is_long filled came → HearsFirst about came more after now next) →
         ReadsSoFar about before start next old newer after
     reads_share after next hears = share_of (rest_of newer) after next refl (hears came_now (rest_of newer) held_now)
 
-    module _ (next : Inbox) (hears : (came : List ℕ) → IsHeld held.is_long filled came → (before : List Placed) →
-        KeepsMessages about before now →
-        KeepsMessages about (before ++ placed_from now.source (now.messages + 1) (messages_of came)) next) where
-      -- whatever the input is, its messages so far and these are heard
-      pub heard_on : HasHeard about next
-      heard_on = record {
+    module _ (next : OpenInbox) (hears : (came : List ℕ) → IsHeld held.is_long filled came → (before : List Placed) →
+        HasGot about before now →
+        HasGot about (before ++ placed_from now.source (now.messages + 1) (messages_of came)) next) where
+      -- whatever the input is, its messages so far and these came
+      pub some_on : HasSome about next
+      some_on = record {
         messages = before ++ placed_from start.source (start.messages + 1) (so_far.messages ++ messages_of came_now);
-        keeps = kept_on (messages_of came_now) next (hears came_now held_now);
+        got = kept_on (messages_of came_now) next (hears came_now held_now);
       }
 
       -- the last share is read and heard
       pub reads_last : IsAtEnd newer →
-          IfSome old (λ input. KeepsMessages about (before ++ placed_from start.source (start.messages + 1) (messages_of input)) next)
+          IfSome old (λ input. HasGot about (before ++ placed_from start.source (start.messages + 1) (messages_of input)) next)
       reads_last end =
           all_kept about before start.source start.messages old newer so_far.messages came_now next left_now end
           (kept_on (messages_of came_now) next (hears came_now held_now))

@@ -8,7 +8,9 @@ use Rattle.itip_items.specs.KeyParts.{uid_of}
 use Rattle.itip_items.specs.declared.item.Item.{Item}
 use Rattle.itip_message.specs.Cutting.{IsCutInto}
 use Rattle.itip_message.specs.declared.error.MessageRefusal.{MessageRefusal}
-use Rattle.itip_inbox.specs.Inbox.{Placed, placed_of, AreAnswers}
+use Rattle.itip_state.specs.Kept.{AreKept}
+use Rattle.itip_inbox.specs.Inbox.{Placed, placed_of, AreAnswers, Hears}
+use Rattle.itip_inbox.specs.declared.refused.RefusedMessage.{RefusedMessage}
 
 -- the item is about this UID
 abbrev pub is_about : List ℕ → Item → Bool
@@ -48,3 +50,11 @@ pub record TellAbout (about : Option (List ℕ)) (inputs : List (List ℕ)) (tol
   pub messages : List (List (List ℕ))
   pub cut : AllZip IsCutInto inputs messages
   pub tell : AreTold about (placed_of 0 messages) told
+
+-- This is kept of some messages, whatever they are, and they have these refusals and tell this of a UID.
+pub record HasHeard (about : Option (List ℕ)) (kept : List Item) (refusals : List RefusedMessage) (told : List ToldItem) : Type 0 where
+  pub messages : List Placed
+  pub heard : List Item
+  pub hears : Hears messages heard refusals
+  pub tells : AreTold about messages told
+  pub keeps : AreKept kept heard

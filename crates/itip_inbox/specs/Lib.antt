@@ -7,10 +7,15 @@ pub mod News
 pub mod OfInbox
 pub mod TaskList
 pub mod PartsByUid
-pub mod Records
+pub mod Csv
+pub mod Json
+pub mod JsonTokens
 pub mod Reports
 pub mod Following
 pub mod Explaining
 pub mod Sending
 pub mod Shown
+pub mod Placing
+pub mod ShardOf
+pub mod Shards
 pub mod Streaming

@@ -1,37 +1,42 @@
 -- What is known while inputs are read by and by (our own form).
-use Rattle.std.specs.Prelude.{◌≡◌, ℕ, ◌+◌, List, [], ◌∷◌, ◌++◌, length, Option, Some, None, ⊤, Result, IfOk, IfErr, Bool, true, false}
+use Rattle.std.specs.Prelude.{◌≡◌, ℕ, ◌+◌, List, [], ◌∷◌, ◌++◌, length, Option, Some, None, ⊤, Bool, true, false}
 use Rattle.std.specs.Prelude.{◌||◌, ltb, IsTrue}
 use Rattle.std.specs.Io.KnownBytes.{Consumes, IsAtEnd}
-use Rattle.std.specs.List.{AllZip, Contains}
+use Rattle.std.specs.List.{AllZip}
 use Rattle.itip_lines.specs.Reading.{text_limit}
 use Rattle.itip_message.specs.Begun.{DifferInFirst}
-use Rattle.itip_message.specs.Refusals.{IfRefused}
-use Rattle.itip_message.specs.Message.{ReadsMessage, RefusesMessage}
-use Rattle.itip_message.specs.declared.error.ReadError.{ReadError}
 use Rattle.itip_items.specs.declared.item.Item.{Item}
 use Rattle.itip_state.specs.Kept.{AreKept}
 use Rattle.itip_state.specs.Told.{AreNews}
 use Rattle.itip_explain.specs.declared.told.ToldItem.{ToldItem}
 use Rattle.itip_message.specs.Cutting.{IsCutInto}
 use Rattle.itip_message.specs.Scanned.{messages_of}
-use Rattle.itip_inbox.specs.Following.{AreTold, items_about}
+use Rattle.itip_inbox.specs.Following.{AreTold}
 use Rattle.itip_inbox.specs.Inbox.{AreInputs, Placed, placed_from, placed_of, Hears}
-use Rattle.itip_inbox.specs.declared.inbox.Inbox.{Inbox}
+use Rattle.itip_inbox.specs.declared.open_inbox.OpenInbox.{OpenInbox}
 use Rattle.itip_inbox.specs.declared.messages.Held.{Held}
+use Rattle.itip_inbox.specs.declared.texts.Heard.{Heard}
+use Rattle.itip_inbox.specs.declared.waiting.Waiting.{Waiting}
 use Rattle.itip_inbox.specs.declared.refused.RefusedMessage.{RefusedMessage}
-use Rattle.itip_inbox.specs.declared.texts.HeardText.{HeardText}
 
--- what is heard of a text: those of its items that are news beside a set of kept items, and those of the UID that is followed
-pub record TellsText (about : Option (List ℕ)) (kept : List Item) (text : List ℕ) (heard : HeardText) : Type 0 where
+-- What messages tell beside a set of kept items: those of their items that are news, the refusals, and what they tell of the UID that is
+-- followed.
+pub record TellBeside (about : Option (List ℕ)) (kept : List Item) (messages : List Placed) (news : List Item)
+    (refusals : List RefusedMessage) (told : List ToldItem) : Type 0 where
   pub items : List Item
-  pub reads : ReadsMessage text items
-  pub news : AreNews kept items heard.news
-  pub followed : heard.followed ≡ items_about about items
+  pub hears : Hears messages items refusals
+  pub tells : AreTold about messages told
+  pub news_are : AreNews kept items news
 
--- what reading a text may give, memory aside
-abbrev pub MayTell : Option (List ℕ) → List Item → List ℕ → Result HeardText ReadError → Type 0
-MayTell about kept text answer =
-    IfOk answer (TellsText about kept text) × IfErr answer (λ e. IfRefused e (RefusesMessage text))
+-- This is what messages tell beside a set of kept items, and how many they are.
+pub record Tells (about : Option (List ℕ)) (kept : List Item) (messages : List Placed) (heard : Heard) : Type 0 where
+  pub beside : TellBeside about kept messages heard.news.items heard.refusals.items heard.told.items
+  pub count_is : heard.count ≡ length messages
+
+-- the messages of the sources that wait to be heard
+abbrev pub waiting_of : List Waiting → List Placed
+waiting_of [] = []
+waiting_of (one ∷ more) = placed_from one.source 1 (messages_of one.octets.items) ++ waiting_of more
 
 -- Octets were read, and stand behind those that were held before.
 pub record Brings (old new : Option (List ℕ)) (before after : List ℕ) : Type 0 where
@@ -64,52 +69,42 @@ abbrev pub StaysCutInto : List ℕ → List (List ℕ) → List ℕ → Type 0
 StaysCutInto bytes texts left = (more : List ℕ) → messages_of (bytes ++ more) ≡ texts ++ messages_of (left ++ more)
 
 -- an inbox has what is kept of the messages that came, the refusals, and what they tell of the UID that is followed
-pub record KeepsMessages (about : Option (List ℕ)) (messages : List Placed) (inbox : Inbox) : Type 0 where
+pub record KeepsMessages (about : Option (List ℕ)) (messages : List Placed) (inbox : OpenInbox) : Type 0 where
   pub heard : List Item
   pub hears : Hears messages heard inbox.refusals.items
   pub tells : AreTold about messages inbox.told.items
   pub keeps : AreKept inbox.state heard
 
--- an inbox of some messages, whatever they are
-pub record HasHeard (about : Option (List ℕ)) (inbox : Inbox) : Type 0 where
+-- Messages came to an inbox. It has heard the first of them, and the others are those of the sources that wait.
+pub record HasGot (about : Option (List ℕ)) (messages : List Placed) (inbox : OpenInbox) : Type 0 where
+  pub done : List Placed
+  pub whole : messages ≡ done ++ waiting_of inbox.waiting.items
+  pub keeps : KeepsMessages about done inbox
+
+-- some messages came to an inbox, whatever they are
+pub record HasSome (about : Option (List ℕ)) (inbox : OpenInbox) : Type 0 where
   pub messages : List Placed
-  pub keeps : KeepsMessages about messages inbox
+  pub got : HasGot about messages inbox
 
 -- After some messages those of an input came so far, which began with the one inbox and led to the other; and what is left of it.
-pub record ReadsSoFar (about : Option (List ℕ)) (before : List Placed) (start now : Inbox) (old new : Option (List ℕ))
+pub record ReadsSoFar (about : Option (List ℕ)) (before : List Placed) (start now : OpenInbox) (old new : Option (List ℕ))
     (held : Held) : Type 0 where
   pub messages : List (List ℕ)
   pub came : List ℕ
-  pub keeps : KeepsMessages about (before ++ placed_from start.source (start.messages + 1) messages) now
+  pub got : HasGot about (before ++ placed_from start.source (start.messages + 1) messages) now
   pub leaves : LeavesMessages old new messages came
   pub is_held : IsHeld held.is_long held.octets.items came
   pub count_is : now.messages ≡ start.messages + length messages
 
--- Some of these answers were gone through, of texts of the input at this place that stand behind messages that came before; they
--- were read beside the items that were kept at first.
-pub record TakesSoFar (about : Option (List ℕ)) (before : List Placed) (source base : ℕ) (texts : List (List ℕ)) (first : List Item)
-    (left : List (Result HeardText ReadError)) (kept : List Item) (refusals : List RefusedMessage) (told : List ToldItem)
-    (count : ℕ) : Type 0 where
-  pub done : List (List ℕ)
-  pub rest : List (List ℕ)
-  pub heard : List Item
-  pub whole : texts ≡ done ++ rest
-  pub answered : AllZip (MayTell about first) rest left
-  pub hears : Hears (before ++ placed_from source (base + 1) done) heard refusals
-  pub tells : AreTold about (before ++ placed_from source (base + 1) done) told
-  pub among : (item : Item) → Contains first item → Contains heard item
-  pub keeps : AreKept kept heard
-  pub count_is : count ≡ base + length done
-
 -- Octets came, and others follow. Their first messages were heard, which led from the one inbox to the other, and this is held of
 -- what is left.
-pub record HearsFirst (about : Option (List ℕ)) (came more : List ℕ) (next : Held) (old new : Inbox) : Type 0 where
+pub record HearsFirst (about : Option (List ℕ)) (came more : List ℕ) (next : Held) (old new : OpenInbox) : Type 0 where
   pub texts : List (List ℕ)
   pub left : List ℕ
   pub cut : messages_of (came ++ more) ≡ texts ++ messages_of (left ++ more)
   pub is_held : IsHeld next.is_long next.octets.items left
-  pub hears : (before : List Placed) → KeepsMessages about before old →
-      KeepsMessages about (before ++ placed_from old.source (old.messages + 1) texts) new
+  pub hears : (before : List Placed) → HasGot about before old →
+      HasGot about (before ++ placed_from old.source (old.messages + 1) texts) new
   pub count_is : new.messages ≡ old.messages + length texts
 
 -- Octets were read behind those that were held, up to the end where that is said.
@@ -118,12 +113,12 @@ Fills old new before after ended = Brings old new before after × (IsTrue ended 
 
 -- Between two inputs: those before this place were heard to their ends, and these readers are left for the others.
 pub record HearsInTurn {R : Type 0} (remaining : R → Option (List ℕ)) (about : Option (List ℕ)) (inputs : List (List ℕ)) (left : List R)
-    (inbox : Inbox) : Type 0 where
+    (inbox : OpenInbox) : Type 0 where
   pub done : List (List ℕ)
   pub rest : List (List ℕ)
   pub messages : List (List (List ℕ))
   pub whole : inputs ≡ done ++ rest
   pub are_left : AreInputs remaining left rest
   pub cut : AllZip IsCutInto done messages
-  pub keeps : KeepsMessages about (placed_of 0 messages) inbox
+  pub got : HasGot about (placed_of 0 messages) inbox
   pub source_is : inbox.source ≡ length messages

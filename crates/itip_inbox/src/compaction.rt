@@ -6,7 +6,7 @@ ghost use Rattle.itip_streams.specs.Written.{AppendsFront, WritesOutput};
 ghost use Rattle.itip_inbox.specs.Compaction.{IsCompaction};
 ghost use Rattle.itip_inbox.specs.Inbox.{AreInputs};
 
-use crate::gathering::gather;
+use crate::gathering::gather_shards;
 use crate::watch::Watch;
 use itip_state::SharedItem;
 use itip_streams::{StreamFault, write_if_many, write_output};
@@ -34,10 +34,13 @@ pub fn compact<R: Read + Drop, W: Write, S: Watch>(
         AppendsFront (W.contents writer.old) (W.contents writer.new) octets) }
     ensures unread { IsErrOf result StreamFault.Read → Keeps (W.contents writer.old) (W.contents writer.new) }
 {
-    let inbox = gather(rt, alloc, sources, None, threads, watch)?;
-    let items = inbox.state.shared_items()?;
+    let inbox = gather_shards(rt, alloc, sources, threads, watch)?;
+    let items = inbox.state.by_octets(rt)?;
     write_items(alloc, items.as_slice(), writer)?;
-    Ok(inbox.has_refusals())
+    drop(items);
+    let is_refused = inbox.has_refusals();
+    inbox.let_go(rt);
+    Ok(is_refused)
 }
 
 /// Writes the canonical octets of items, in their order. After a fault a front of them was written.

@@ -1,12 +1,12 @@
 //! Sources that are read, and what was refused of them told.
-ghost use Rattle.std.specs.Prelude.{ℕ, List, IfOk};
+ghost use Rattle.std.specs.Prelude.{◌≢◌, ℕ, List, IfOk, IfErr};
 ghost use Rattle.std.specs.Option.{option_copied};
-ghost use Rattle.itip_inbox.specs.Following.{TellAbout};
+ghost use Rattle.itip_inbox.specs.Following.{HasHeard, TellAbout};
 ghost use Rattle.itip_inbox.specs.Inbox.{AreInputs, Holds};
-ghost use Rattle.itip_inbox.specs.Streaming.{HasHeard};
 
 use crate::inbox::Inbox;
-use crate::read::read_sources;
+use crate::open_inbox::OpenInbox;
+use crate::read::{Progress, hear_sources, read_sources};
 use crate::refused::RefusedMessage;
 use crate::watch::Watch;
 use itip_streams::StreamFault;
@@ -28,9 +28,28 @@ pub(crate) fn gather<R: Read + Drop, S: Watch>(
         Holds inputs inbox.state inbox.refusals.items) }
     ensures told { IfOk result (λ inbox. (inputs : List (List ℕ)) → AreInputs R.remaining sources.items inputs →
         TellAbout (option_copied about.entry) inputs inbox.told.items) }
-    ensures heard { IfOk result (HasHeard (option_copied about.entry)) }
+    ensures heard { IfOk result (λ inbox.
+        HasHeard (option_copied about.entry) inbox.state inbox.refusals.items inbox.told.items) }
 {
     let inbox = read_sources(rt, alloc, sources, about, threads, watch)?;
+    tell(0, inbox.refusals.as_slice(), watch);
+    Ok(inbox)
+}
+
+/// The same, where no UID is followed, into an inbox that may hear more: what it keeps lies in shards.
+pub(crate) fn gather_shards<R: Read + Drop, S: Watch>(
+    rt: &(impl Threads + Sync),
+    alloc: Global,
+    sources: Vec<R>,
+    threads: usize,
+    watch: &mut S,
+) -> Result<OpenInbox, StreamFault>
+    ensures holds { IfOk result (λ inbox. (inputs : List (List ℕ)) → AreInputs R.remaining sources.items inputs →
+        Holds inputs inbox.state inbox.refusals.items) }
+    ensures fault { IfErr result (λ fault. fault ≢ StreamFault.Write) }
+{
+    let mut progress = Progress::none();
+    let inbox = hear_sources(rt, alloc, sources, None, threads, &mut progress, watch)?;
     tell(0, inbox.refusals.as_slice(), watch);
     Ok(inbox)
 }

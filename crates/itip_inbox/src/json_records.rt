@@ -1,113 +1,264 @@
-//! Rows as JSON objects.
+//! Rows as JSON objects (RFC 8259).
+ghost use Rattle.std.specs.Prelude.{◌≡◌, ◌≢◌, ◌++◌, ◌∷◌, List, Some, codes, OnOk, OnErr, IfOk, IfErr};
+ghost use Rattle.std.specs.List.{flat_map, AllByRecursion};
+ghost use Rattle.std.specs.Option.{option_copied, option_map};
+ghost use Rattle.std.specs.String.{string_bytes};
+ghost use Rattle.json.specs.Json.{document};
+ghost use Rattle.json.specs.Token.{key};
+ghost use Rattle.json.specs.Tree.{json_tokens};
+ghost use Rattle.itip_moment.specs.Shown.{shown_moment};
+ghost use Rattle.itip_todo.specs.StatusText.{status_text};
+ghost use Rattle.itip_streams.specs.Written.{AppendsFront, MovesOut};
+ghost use Rattle.itip_view.specs.ByUid.{AreLeft};
+ghost use Rattle.itip_view.specs.declared.row.Row.{Row};
+ghost use Rattle.itip_inbox.specs.Json.{json_text, object_text, object_behind, text_json, number_json, array_text, rows_array, HasSmallNumbers};
+ghost use Rattle.itip_inbox.specs.Json.{row_object, name_members, number_members, date_members, last_members};
+ghost use Rattle.itip_inbox.specs.JsonTokens.{named_tokens, attendee_tokens, IsFrontOf, opened_text};
+
+use crate::list_form::ListForm;
 use crate::row_texts::{id_text, moment_text};
+use itip_desk::{write_rows, write_some_rows};
 use itip_lines::Text;
+use itip_moment::Moment;
+use itip_streams::{StreamFault, write_output};
 use itip_todo::Status;
-use itip_view::{Row, ShownAttendee};
-use serde::Serialize;
-use serde_json::Error;
+use itip_view::{Row, RowForm, RowsByUid, ShownAttendee, Window};
+use json::Writer;
 use std::alloc::{AllocError, Global};
+use std::io::Write;
 use std::mem;
 
-/// The members of the object of a row; an absent value is null.
-#[derive(Drop, Serialize)]
-struct RowObject<'a> {
-    uid: &'a str,
-    id: Option<String>,
-    sequence: u32,
-    status: Option<&'static str>,
-    percent: Option<u8>,
-    priority: Option<u8>,
-    start: Option<String>,
-    due: Option<String>,
-    summary: Option<&'a str>,
-    attendees: Vec<AttendeeObject<'a>>,
-    progress: Option<u8>,
+/// One JSON array, with the object of each row on a line of its own. A value that is absent is null.
+#[derive(Clone, Copy, Debug)]
+pub struct JsonList;
+
+impl ListForm for JsonList {
+    ghost octets = { λ _ _ rows. json_text rows };
+
+    fn write<W: Write>(
+        &self,
+        alloc: Global,
+        _window: Window,
+        rows: RowsByUid<'_, '_>,
+        _number: usize,
+        writer: &mut W,
+    ) -> Result<(), StreamFault> {
+        let mut rows = rows;
+        let first = first_rows(alloc, &mut rows)?;
+        if first.is_empty() {
+            return write_output(writer, b"[]\n");
+        }
+        let mut kept = Vec::new(alloc);
+        let done = open_array(first.as_slice(), writer, &mut kept);
+        drop(first);
+        done?;
+        write_rows(rows, &NextObjects, writer, &mut kept)?;
+        kept.extend_from_slice(b"\n]\n")?;
+        write_output(writer, kept.as_slice())
+    }
 }
 
-#[derive(Drop, Serialize)]
-struct AttendeeObject<'a> {
-    address: &'a str,
-    partstat: &'a str,
-    percent: Option<u8>,
-}
-
-/// The text of one JSON array that is held, with the object of each row on a line of its own.
-#[derive(Drop)]
-pub(crate) struct JsonText {
-    text: Vec<u8>,
-    is_empty: bool,
-}
-
-impl JsonText {
-    /// No text yet.
-    pub(crate) fn start(alloc: Global) -> JsonText {
-        JsonText {
-            text: Vec::new(alloc),
-            is_empty: true,
+/// The rows of the next UID that has some; none where no row is left.
+fn first_rows(alloc: Global, rows: &mut RowsByUid<'_, '_>) -> Result<Vec<Row>, AllocError>
+    ensures { IfOk result (λ first. (all : List Row) → AreLeft rows.old all → IsFrontOf rows.new first.items all) }
+{
+    while let Some(some) = rows.next()? {
+        if !some.is_empty() {
+            return Ok(some);
         }
     }
+    Ok(Vec::new(alloc))
+}
 
-    /// Adds the object of a row.
-    pub(crate) fn put(&mut self, alloc: Global, row: &Row) -> Result<(), AllocError> {
-        let before: &[u8] = if self.is_empty { b"[\n" } else { b",\n" };
-        self.is_empty = false;
-        self.text.extend_from_slice(before)?;
-        put_row(alloc, &mut self.text, row)
-    }
+/// Opens the array with some rows, of which there is at least one. What is kept is written as [`write_rows`] does.
+fn open_array<W: Write>(rows: &[Row], writer: &mut W, kept: &mut Vec<u8>) -> Result<(), StreamFault>
+    ensures moved { OnOk result (MovesOut (W.contents writer.old) (W.contents writer.new)
+        (kept.old.items ++ opened_text rows.now) kept.new.items) }
+    ensures front { OnErr result (AppendsFront (W.contents writer.old) (W.contents writer.new) (kept.old.items ++ opened_text rows.now)) }
+    ensures fault { IfErr result (λ fault. fault ≢ StreamFault.Read) }
+{
+    let [first, others @ ..] = rows else {
+        return Ok(());
+    };
+    kept.extend_from_slice(b"[\n")?;
+    put_object(kept, first)?;
+    write_some_rows(others, &NextObjects, writer, kept)
+}
 
-    /// Ends the array.
-    pub(crate) fn end(&mut self) -> Result<(), AllocError> {
-        let end: &[u8] = if self.is_empty { b"[]\n" } else { b"\n]\n" };
-        self.text.extend_from_slice(end)
-    }
+/// The objects of rows that stand behind another.
+#[derive(Clone, Copy)]
+struct NextObjects;
 
-    /// How many octets are held.
-    pub(crate) fn held(&self) -> usize {
-        self.text.len()
-    }
+impl RowForm for NextObjects {
+    ghost octets = { λ _ row. object_behind row };
 
-    /// The text that is held; then none is.
-    pub(crate) fn take(&mut self, alloc: Global) -> Vec<u8> {
-        mem::replace(&mut self.text, Vec::new(alloc))
+    fn put(&self, row: &Row, out: &mut Vec<u8>) -> Result<(), AllocError> {
+        out.extend_from_slice(b",\n")?;
+        put_object(out, row)
     }
 }
 
-fn put_row(alloc: Global, text: &mut Vec<u8>, row: &Row) -> Result<(), AllocError> {
-    let object = object_of(alloc, row)?;
-    let line: Result<String, Error> = serde_json::to_string(alloc, &object);
-    match line {
-        Ok(line) => text.extend_from_slice(line.as_bytes()),
-        Err(_) => Err(AllocError),
+/// Appends the object of a row.
+fn put_object(out: &mut Vec<u8>, row: &Row) -> Result<(), AllocError>
+    ensures { OnOk result (out.new.items ≡ out.old.items ++ object_text row.now) }
+{
+    let alloc = *out.allocator();
+    let mut writer = Writer::new(mem::replace(out, Vec::new(alloc)));
+    let done = write_object(alloc, &mut writer, row);
+    *out = writer.into_inner();
+    done
+}
+
+fn write_object(alloc: Global, writer: &mut Writer, row: &Row) -> Result<(), AllocError>
+    ensures tokens { OnOk result (writer.new.tokens ≡ writer.old.tokens ++ json_tokens (row_object row.now)) }
+    ensures before { writer.new.before ≡ writer.old.before }
+{
+    writer.begin_object()?;
+    write_names(alloc, writer, row)?;
+    write_numbers(writer, row)?;
+    write_dates(alloc, writer, row)?;
+    write_last(writer, row)?;
+    writer.end_object()
+}
+
+fn write_names(alloc: Global, writer: &mut Writer, row: &Row) -> Result<(), AllocError>
+    ensures tokens { OnOk result (writer.new.tokens ≡ writer.old.tokens ++ named_tokens (name_members row.now)) }
+    ensures before { writer.new.before ≡ writer.old.before }
+{
+    let id = id_text(alloc, &row.id)?;
+    write_text(writer, "uid", Some(row.uid.as_str()))?;
+    write_shown(writer, "id", &id)?;
+    writer.key("sequence")?;
+    writer.u64(row.seq as u64)
+}
+
+fn write_numbers(writer: &mut Writer, row: &Row) -> Result<(), AllocError>
+    ensures tokens { OnOk result (writer.new.tokens ≡ writer.old.tokens ++ named_tokens (number_members row.now)) }
+    ensures before { writer.new.before ≡ writer.old.before }
+{
+    write_status(writer, row.status)?;
+    write_number(writer, "percent", row.percent)?;
+    write_number(writer, "priority", row.priority)
+}
+
+fn write_dates(alloc: Global, writer: &mut Writer, row: &Row) -> Result<(), AllocError>
+    ensures tokens { OnOk result (writer.new.tokens ≡ writer.old.tokens ++ named_tokens (date_members row.now)) }
+    ensures before { writer.new.before ≡ writer.old.before }
+{
+    write_moment(alloc, writer, "start", &row.start)?;
+    write_moment(alloc, writer, "due", &row.due)?;
+    write_summary(writer, &row.summary)
+}
+
+fn write_last(writer: &mut Writer, row: &Row) -> Result<(), AllocError>
+    ensures tokens { OnOk result (writer.new.tokens ≡ writer.old.tokens ++ named_tokens (last_members row.now)) }
+    ensures before { writer.new.before ≡ writer.old.before }
+{
+    writer.key("attendees")?;
+    writer.begin_array()?;
+    write_attendees(writer, row.attendees.as_slice())?;
+    writer.end_array()?;
+    write_number(writer, "progress", row.progress)
+}
+
+fn write_attendees(writer: &mut Writer, attendees: &[ShownAttendee]) -> Result<(), AllocError>
+    ensures tokens { OnOk result (writer.new.tokens ≡ writer.old.tokens ++ flat_map attendee_tokens attendees.now) }
+    ensures before { writer.new.before ≡ writer.old.before }
+{
+    for attendee in attendees {
+        write_attendee(writer, attendee)?;
     }
+    Ok(())
 }
 
-fn object_of<'a>(alloc: Global, row: &'a Row) -> Result<RowObject<'a>, AllocError> {
-    Ok(RowObject {
-        uid: row.uid.as_str(),
-        id: id_text(alloc, &row.id)?,
-        sequence: row.seq,
-        status: row.status.map(Status::as_str),
-        percent: row.percent,
-        priority: row.priority,
-        start: moment_text(alloc, &row.start)?,
-        due: moment_text(alloc, &row.due)?,
-        summary: row.summary.as_ref().map(Text::as_str),
-        attendees: attendees_of(alloc, row.attendees.as_slice())?,
-        progress: row.progress,
-    })
+fn write_attendee(writer: &mut Writer, attendee: &ShownAttendee) -> Result<(), AllocError>
+    ensures tokens { OnOk result (writer.new.tokens ≡ writer.old.tokens ++ attendee_tokens attendee.now) }
+    ensures before { writer.new.before ≡ writer.old.before }
+{
+    writer.begin_object()?;
+    write_text(writer, "address", Some(attendee.address.as_str()))?;
+    write_text(writer, "partstat", Some(attendee.partstat.as_str()))?;
+    write_number(writer, "percent", attendee.percent)?;
+    writer.end_object()
 }
 
-fn attendees_of<'a>(
+fn write_moment(
     alloc: Global,
-    shown: &'a [ShownAttendee],
-) -> Result<Vec<AttendeeObject<'a>>, AllocError> {
-    let mut objects = Vec::new(alloc);
-    for attendee in shown {
-        objects.push(AttendeeObject {
-            address: attendee.address.as_str(),
-            partstat: attendee.partstat.as_str(),
-            percent: attendee.percent,
-        })?;
-    }
-    Ok(objects)
+    writer: &mut Writer,
+    name: &str,
+    moment: &Option<Moment>,
+) -> Result<(), AllocError>
+    ensures tokens { OnOk result (writer.new.tokens
+        ≡ writer.old.tokens ++ (key name.now ∷ json_tokens (text_json (option_map shown_moment moment.now)))) }
+    ensures before { writer.new.before ≡ writer.old.before }
+{
+    let text = moment_text(alloc, moment)?;
+    write_shown(writer, name, &text)
 }
+
+fn write_shown(writer: &mut Writer, name: &str, text: &Option<String>) -> Result<(), AllocError>
+    ensures tokens { OnOk result (writer.new.tokens
+        ≡ writer.old.tokens ++ (key name.now ∷ json_tokens (text_json (option_map string_bytes text.now)))) }
+    ensures before { writer.new.before ≡ writer.old.before }
+{
+    match text {
+        Some(text) => write_text(writer, name, Some(text.as_str())),
+        None => write_text(writer, name, None),
+    }
+}
+
+fn write_summary(writer: &mut Writer, summary: &Option<Text>) -> Result<(), AllocError>
+    ensures tokens { OnOk result (writer.new.tokens
+        ≡ writer.old.tokens ++ (key (codes "summary") ∷ json_tokens (text_json summary.now))) }
+    ensures before { writer.new.before ≡ writer.old.before }
+{
+    match summary {
+        Some(text) => write_text(writer, "summary", Some(text.as_str())),
+        None => write_text(writer, "summary", None),
+    }
+}
+
+fn write_status(writer: &mut Writer, status: Option<Status>) -> Result<(), AllocError>
+    ensures tokens { OnOk result (writer.new.tokens
+        ≡ writer.old.tokens ++ (key (codes "status") ∷ json_tokens (text_json (option_map status_text status)))) }
+    ensures before { writer.new.before ≡ writer.old.before }
+{
+    match status {
+        Some(status) => write_text(writer, "status", Some(status.as_str())),
+        None => write_text(writer, "status", None),
+    }
+}
+
+/// Writes a name and a text, or null where there is none.
+fn write_text(writer: &mut Writer, name: &str, text: Option<&str>) -> Result<(), AllocError>
+    ensures tokens { OnOk result (writer.new.tokens
+        ≡ writer.old.tokens ++ (key name.now ∷ json_tokens (text_json (option_copied text.entry)))) }
+    ensures before { writer.new.before ≡ writer.old.before }
+{
+    writer.key(name)?;
+    match text {
+        Some(text) => writer.string(text),
+        None => writer.null(),
+    }
+}
+
+/// Writes a name and a number, or null where there is none.
+fn write_number(writer: &mut Writer, name: &str, number: Option<u8>) -> Result<(), AllocError>
+    ensures tokens { OnOk result (writer.new.tokens
+        ≡ writer.old.tokens ++ (key name.now ∷ json_tokens (number_json number))) }
+    ensures before { writer.new.before ≡ writer.old.before }
+{
+    writer.key(name)?;
+    match number {
+        Some(number) => writer.u64(number as u64),
+        None => writer.null(),
+    }
+}
+
+/// The object of a row is read as its members, and the text of a list, which is that of an array and a line break, as the array of these
+/// objects (RFC 8259).
+pub fn objects_are_read()
+    ensures object { (row : Row) → HasSmallNumbers row → document (object_text row) ≡ Some (row_object row) }
+    ensures array { (rows : List Row) → AllByRecursion HasSmallNumbers rows → document (array_text rows) ≡ Some (rows_array rows) }
+    ensures line { (rows : List Row) → json_text rows ≡ array_text rows ++ codes "\n" }
+{}

@@ -1,8 +1,10 @@
 //! Messages in, what counts out: sources of messages, read one after another, of which all are heard.
 //!
-//! Each source is cut into messages by itself, by `itip_message`: `cut_message` cuts them off while more octets may come,
-//! `next_message` once the source is at its end. Each is read by `read_message`, many side by side, and a state hears its items; a
-//! refused message is not heard, and the others are. What is kept of all is a batch, by canonical octets and each once, and is
+//! Each source is cut into messages by itself, by `itip_message`: `part_messages` parts the octets that were read, for as many
+//! threads, and each cuts its part by `next_message` and reads each message by `read_message`. Where a message is too long to be
+//! held, `cut_message` finds its end. A refused message is not heard, and the others are. While sources are read, what is kept
+//! lies in shards by UID, and each hears the items of its UIDs on a thread of its own; then one state has all. What is kept of all
+//! is a batch, by canonical octets and each once, and is
 //! written as `itip_desk` writes a delta. There a refused message refuses all octets (`read_delta`); here it does not.
 //!
 //! Only which items are told counts, and what is kept of what was kept is what is kept of all. So parts of the sources may be
@@ -11,6 +13,7 @@
 #![tactic(auto)]
 
 mod compaction;
+mod counts;
 mod csv_records;
 mod explained;
 mod gathering;
@@ -20,22 +23,26 @@ mod lacking;
 mod laws;
 mod list_form;
 mod messages;
+mod open_inbox;
 mod read;
-mod record_text;
-mod records;
 mod refused;
 mod reports;
 mod row_texts;
 mod sent;
+mod shard;
+mod shards;
 mod shown;
 mod tasks;
 mod texts;
 mod too_many;
+mod waiting;
 mod watch;
 
 pub use compaction::{compact, write_items};
+pub use csv_records::{CsvList, records_are_read};
 pub use explained::{Explained, explain};
 pub use inbox::Inbox;
+pub use json_records::{JsonList, objects_are_read};
 pub use lacking::news;
 pub use laws::{
     compaction_of_compactions, compaction_with_news, items_of_parts, one_compaction, one_news,
@@ -43,7 +50,6 @@ pub use laws::{
 };
 pub use list_form::{ListForm, PageList, TextList};
 pub use read::read_sources;
-pub use records::{Notation, list_records};
 pub use refused::RefusedMessage;
 pub use reports::report;
 pub use sent::{Sent, send};

@@ -1,23 +1,25 @@
 //! Reading inputs to their ends, and no more of one at a time than a share.
-ghost use Rattle.std.specs.Prelude.{◌≡◌, ◌≢◌, ◌++◌, ◌+◌, ℕ, List, length, map, IfOk, IfErr, OnOk, IfSome};
+ghost use Rattle.std.specs.Prelude.{◌≡◌, ◌≢◌, ◌++◌, ◌+◌, ℕ, List, false, length, map, IfOk, IfErr, OnOk, IfSome, IsTrue};
 ghost use Rattle.std.specs.Option.{option_copied};
+ghost use Rattle.itip_message.specs.Parting.{StaysParted};
 ghost use Rattle.itip_message.specs.Scanned.{messages_of};
-ghost use Rattle.itip_inbox.specs.Following.{TellAbout};
+ghost use Rattle.itip_inbox.specs.Following.{HasHeard, TellAbout};
 ghost use Rattle.itip_inbox.specs.Inbox.{AreInputs, Holds, Placed, placed_from};
-ghost use Rattle.itip_inbox.specs.Streaming.{AreReadFor, Fills, HasHeard, HearsFirst, IsHeld, KeepsMessages, is_left_long};
+ghost use Rattle.itip_inbox.specs.Streaming.{AreReadFor, Fills, HasGot, HasSome, HearsFirst, IsHeld, is_left_long};
 
 use crate::inbox::Inbox;
 use crate::messages::{Held, all_messages, first_messages};
+use crate::open_inbox::OpenInbox;
 use crate::shown::MAX_OCTETS;
 use crate::watch::Watch;
-use itip_message::stand_in;
+use itip_message::{part_messages, stand_in};
 use itip_streams::{StreamFault, read_some};
 use itip_todo::Uid;
 use std::alloc::Global;
 use std::io::Read;
 use std::thread::Threads;
 
-// How many octets are read before messages are heard.
+// How many octets are read for each thread before messages are heard.
 const SHARE: usize = 1_048_576;
 
 // How much one read may bring.
@@ -28,9 +30,9 @@ const ROOM: usize = 65_536;
 pub(crate) struct Progress {
     // How many sources were read to their ends.
     sources: usize,
-    // Of these.
+    // How many messages the lists of sources had that came before.
     messages: u64,
-    // Of all sources.
+    // How many octets were read.
     octets: u64,
 }
 
@@ -43,11 +45,18 @@ impl Progress {
             octets: 0,
         }
     }
+
+    /// Tells that so many octets more were read, and that of this list of sources so many messages were heard.
+    fn tell<W: Watch>(&mut self, octets: usize, heard: u64, watch: &mut W) {
+        self.octets = self.octets.saturating_add(octets as u64);
+        watch.read(self.messages.saturating_add(heard), self.octets);
+    }
 }
 
-/// Reads sources one after another, each to its end, and hears their messages. These are read by at most so many threads, a
-/// share of a source at a time: about a mebibyte, or two where a message is as long as one may be. Of a longer message nothing is held but
-/// where its line is. Where a UID is named, the items that the messages tell of it are followed.
+/// Reads sources one after another, each to its end, and hears their messages. These are cut, read and heard by at most so many
+/// threads, a share of a source at a time: about a mebibyte for each thread, or two where a message is as long as one may be; or of
+/// several sources, where each has no more than a mebibyte. Of a longer message nothing is held but where its line is. Where a UID
+/// is named, the items that the messages tell of it are followed.
 ///
 /// The octets of each source are cut into messages by themselves, as those of a delta are. A refused message is noted and not
 /// heard. A source is dropped at its end; once a read has failed, no other is read. A failed read is [`StreamFault::Read`], and
@@ -64,9 +73,9 @@ pub fn read_sources<R: Read + Drop, W: Watch>(
         Holds inputs inbox.state inbox.refusals.items) }
     ensures told { IfOk result (λ inbox. (inputs : List (List ℕ)) → AreInputs R.remaining sources.items inputs →
         TellAbout (option_copied about.entry) inputs inbox.told.items) }
-    ensures heard { IfOk result (HasHeard (option_copied about.entry)) }
+    ensures heard { IfOk result (λ inbox.
+        HasHeard (option_copied about.entry) inbox.state inbox.refusals.items inbox.told.items) }
     ensures source { IfOk result (λ inbox. inbox.source ≡ length sources.items) }
-    ensures messages { IfOk result (λ inbox. inbox.messages ≡ 0) }
     ensures fault { IfErr result (λ fault. fault ≢ StreamFault.Write) }
 {
     let mut progress = Progress::none();
@@ -87,12 +96,35 @@ pub(crate) fn read_more<R: Read + Drop, W: Watch>(
         Holds inputs inbox.state inbox.refusals.items) }
     ensures told { IfOk result (λ inbox. (inputs : List (List ℕ)) → AreInputs R.remaining sources.items inputs →
         TellAbout (option_copied about.entry) inputs inbox.told.items) }
-    ensures heard { IfOk result (HasHeard (option_copied about.entry)) }
+    ensures heard { IfOk result (λ inbox.
+        HasHeard (option_copied about.entry) inbox.state inbox.refusals.items inbox.told.items) }
     ensures source { IfOk result (λ inbox. inbox.source ≡ length sources.items) }
-    ensures messages { IfOk result (λ inbox. inbox.messages ≡ 0) }
     ensures fault { IfErr result (λ fault. fault ≢ StreamFault.Write) }
 {
-    let mut inbox = Inbox::empty(alloc);
+    let inbox = hear_sources(rt, alloc, sources, about, threads, progress, watch)?;
+    Ok(inbox.close()?)
+}
+
+/// Reads sources as [`read_more`] does, into an inbox that may hear more.
+pub(crate) fn hear_sources<R: Read + Drop, W: Watch>(
+    rt: &(impl Threads + Sync),
+    alloc: Global,
+    sources: Vec<R>,
+    about: Option<&Uid>,
+    threads: usize,
+    progress: &mut Progress,
+    watch: &mut W,
+) -> Result<OpenInbox, StreamFault>
+    ensures holds { IfOk result (λ inbox. (inputs : List (List ℕ)) → AreInputs R.remaining sources.items inputs →
+        Holds inputs inbox.state inbox.refusals.items) }
+    ensures told { IfOk result (λ inbox. (inputs : List (List ℕ)) → AreInputs R.remaining sources.items inputs →
+        TellAbout (option_copied about.entry) inputs inbox.told.items) }
+    ensures heard { IfOk result (λ inbox.
+        HasHeard (option_copied about.entry) inbox.state inbox.refusals.items inbox.told.items) }
+    ensures source { IfOk result (λ inbox. inbox.source ≡ length sources.items) }
+    ensures fault { IfErr result (λ fault. fault ≢ StreamFault.Write) }
+{
+    let mut inbox = OpenInbox::empty(alloc, threads)?;
     for mut source in sources {
         watch.opens(progress.sources);
         read_source(
@@ -106,15 +138,17 @@ pub(crate) fn read_more<R: Read + Drop, W: Watch>(
             watch,
         )?;
         progress.sources = progress.sources.saturating_add(1);
-        progress.messages = progress.messages.saturating_add(inbox.messages);
         inbox.next_source()?;
     }
+    inbox.hear_waiting(rt, alloc, about, threads)?;
+    progress.tell(0, inbox.heard, watch);
+    progress.messages = progress.messages.saturating_add(inbox.heard);
     Ok(inbox)
 }
 
-/// Reads a source to its end, and hears its messages. After a fault a part of them is heard.
+/// Reads a source to its end, and hears its messages, or lets them wait. After a fault a part of them is heard.
 fn read_source<R: Read, W: Watch>(
-    inbox: &mut Inbox,
+    inbox: &mut OpenInbox,
     rt: &(impl Threads + Sync),
     alloc: Global,
     reader: &mut R,
@@ -123,39 +157,92 @@ fn read_source<R: Read, W: Watch>(
     progress: &mut Progress,
     watch: &mut W,
 ) -> Result<(), StreamFault>
-    ensures keeps { OnOk result ((before : List Placed) → KeepsMessages (option_copied about.entry) before inbox.old →
-        IfSome (R.remaining reader.old) (λ input. KeepsMessages (option_copied about.entry)
+    ensures got { OnOk result ((before : List Placed) → HasGot (option_copied about.entry) before inbox.old →
+        IfSome (R.remaining reader.old) (λ input. HasGot (option_copied about.entry)
         (before ++ placed_from inbox.old.source (inbox.old.messages + 1) (messages_of input)) inbox.new)) }
-    ensures heard { OnOk result (HasHeard (option_copied about.entry) inbox.old → HasHeard (option_copied about.entry) inbox.new) }
+    ensures some { OnOk result (HasSome (option_copied about.entry) inbox.old → HasSome (option_copied about.entry) inbox.new) }
     ensures source { OnOk result (inbox.new.source ≡ inbox.old.source) }
     ensures fault { IfErr result (λ fault. fault ≢ StreamFault.Write) }
 {
     let mut held = Held::nothing(alloc);
+    let share = SHARE.saturating_mul(threads.max(1));
     for _ in 0..u64::MAX {
-        let before = held.octets.len();
-        let is_end = fill(reader, &mut held.octets)?;
-        let more = held.octets.len().saturating_sub(before) as u64;
-        progress.octets = progress.octets.saturating_add(more);
+        let heard = inbox.heard;
+        let is_end = fill(reader, &mut held.octets, share, heard, progress, watch)?;
         if is_end {
-            hear_all(inbox, rt, alloc, &held, about, threads)?;
-            watch.read(
-                progress.messages.saturating_add(inbox.messages),
-                progress.octets,
-            );
+            hear_last(inbox, rt, alloc, held, about, threads)?;
+            progress.tell(0, inbox.heard, watch);
             return Ok(());
         }
         held = hear_first(inbox, rt, alloc, &held, about, threads)?;
-        watch.read(
-            progress.messages.saturating_add(inbox.messages),
-            progress.octets,
-        );
+        progress.tell(0, inbox.heard, watch);
     }
     Err(StreamFault::Read)
 }
 
+/// Hears all messages of what is held, where nothing follows. They may wait for those of other sources where they are all of the
+/// source and not many.
+fn hear_last(
+    inbox: &mut OpenInbox,
+    rt: &(impl Threads + Sync),
+    alloc: Global,
+    held: Held,
+    about: Option<&Uid>,
+    threads: usize,
+) -> Result<(), StreamFault>
+    ensures hears { OnOk result ((came : List ℕ) → IsHeld held.is_long held.octets.items came →
+        (before : List Placed) → HasGot (option_copied about.entry) before inbox.old →
+        HasGot (option_copied about.entry)
+        (before ++ placed_from inbox.old.source (inbox.old.messages + 1) (messages_of came)) inbox.new) }
+    ensures source { OnOk result (inbox.new.source ≡ inbox.old.source) }
+    ensures fault { IfErr result (λ fault. fault ≢ StreamFault.Write) }
+{
+    if may_wait(&held, inbox.messages) {
+        let Held { octets, .. } = held;
+        return let_wait(inbox, rt, alloc, octets, about, threads);
+    }
+    hear_all(inbox, rt, alloc, &held, about, threads)
+}
+
+/// Whether what is held may wait, where nothing follows and so many messages of the source were heard: it is all of the source, and
+/// not many octets.
+fn may_wait(held: &Held, messages: u64) -> bool
+    ensures { IsTrue result → (held.now.is_long ≡ false) × (messages ≡ 0) }
+{
+    !held.is_long && messages == 0 && held.octets.len() <= SHARE
+}
+
+/// Lets a source wait that has no more octets than these, and hears all that wait once they are many.
+fn let_wait(
+    inbox: &mut OpenInbox,
+    rt: &(impl Threads + Sync),
+    alloc: Global,
+    octets: Vec<u8>,
+    about: Option<&Uid>,
+    threads: usize,
+) -> Result<(), StreamFault>
+    ensures waits { OnOk result ((before : List Placed) → HasGot (option_copied about.entry) before inbox.old →
+        HasGot (option_copied about.entry)
+        (before ++ placed_from inbox.old.source 1 (messages_of octets.items)) inbox.new) }
+    ensures source { OnOk result (inbox.new.source ≡ inbox.old.source) }
+    ensures fault { IfErr result (λ fault. fault ≢ StreamFault.Write) }
+{
+    inbox.wait(octets)?;
+    if is_less(inbox.octets, threads) {
+        return Ok(());
+    }
+    inbox.hear_waiting(rt, alloc, about, threads)?;
+    Ok(())
+}
+
+/// Whether so many octets are less than a share for each thread.
+fn is_less(octets: usize, threads: usize) -> bool {
+    octets < SHARE.saturating_mul(threads)
+}
+
 /// Hears all messages of what is held, where nothing follows.
 fn hear_all(
-    inbox: &mut Inbox,
+    inbox: &mut OpenInbox,
     rt: &(impl Threads + Sync),
     alloc: Global,
     held: &Held,
@@ -163,8 +250,30 @@ fn hear_all(
     threads: usize,
 ) -> Result<(), StreamFault>
     ensures hears { OnOk result ((came : List ℕ) → IsHeld held.now.is_long held.now.octets.items came →
-        (before : List Placed) → KeepsMessages (option_copied about.entry) before inbox.old →
-        KeepsMessages (option_copied about.entry)
+        (before : List Placed) → HasGot (option_copied about.entry) before inbox.old →
+        HasGot (option_copied about.entry)
+        (before ++ placed_from inbox.old.source (inbox.old.messages + 1) (messages_of came)) inbox.new) }
+    ensures source { OnOk result (inbox.new.source ≡ inbox.old.source) }
+    ensures fault { IfErr result (λ fault. fault ≢ StreamFault.Write) }
+{
+    if held.is_long {
+        return hear_long(inbox, rt, alloc, held, about, threads);
+    }
+    inbox.hear(rt, alloc, held.octets.as_slice(), about, threads)
+}
+
+/// Hears all messages of what is held, as [`hear_all`] does, on one thread: the first may be too long.
+fn hear_long(
+    inbox: &mut OpenInbox,
+    rt: &(impl Threads + Sync),
+    alloc: Global,
+    held: &Held,
+    about: Option<&Uid>,
+    threads: usize,
+) -> Result<(), StreamFault>
+    ensures hears { OnOk result ((came : List ℕ) → IsHeld held.now.is_long held.now.octets.items came →
+        (before : List Placed) → HasGot (option_copied about.entry) before inbox.old →
+        HasGot (option_copied about.entry)
         (before ++ placed_from inbox.old.source (inbox.old.messages + 1) (messages_of came)) inbox.new) }
     ensures source { OnOk result (inbox.new.source ≡ inbox.old.source) }
     ensures fault { IfErr result (λ fault. fault ≢ StreamFault.Write) }
@@ -183,7 +292,61 @@ fn hear_all(
 
 /// Hears the first messages of what is held, where more may follow, and holds what is left.
 fn hear_first(
-    inbox: &mut Inbox,
+    inbox: &mut OpenInbox,
+    rt: &(impl Threads + Sync),
+    alloc: Global,
+    held: &Held,
+    about: Option<&Uid>,
+    threads: usize,
+) -> Result<Held, StreamFault>
+    ensures hears { IfOk result (λ next. (came more : List ℕ) → IsHeld held.now.is_long held.now.octets.items came →
+        HearsFirst (option_copied about.entry) came more next inbox.old inbox.new) }
+    ensures source { OnOk result (inbox.new.source ≡ inbox.old.source) }
+    ensures fault { IfErr result (λ fault. fault ≢ StreamFault.Write) }
+{
+    match part_late(held.octets.as_slice(), held.is_long) {
+        Some((front, back)) => hear_front(inbox, rt, alloc, front, back, about, threads),
+        None => hear_begun(inbox, rt, alloc, held, about, threads),
+    }
+}
+
+/// Octets that others may follow, in two parts that are cut into messages apart, of which the second is held, a quarter or so; `None`
+/// where the first message is too long, or none is known to end there.
+fn part_late(octets: &[u8], is_long: bool) -> Option<(&[u8], &[u8])>
+    ensures parts { IfSome result (λ parts. StaysParted octets.now parts.0.now parts.1.now) }
+    ensures short { IfSome result (λ _. is_long ≡ false) }
+{
+    if is_long {
+        return None;
+    }
+    part_messages(octets, octets.len() - octets.len() / 4)
+}
+
+/// Hears all messages of the first part of some octets, and holds the second part.
+fn hear_front(
+    inbox: &mut OpenInbox,
+    rt: &(impl Threads + Sync),
+    alloc: Global,
+    front: &[u8],
+    back: &[u8],
+    about: Option<&Uid>,
+    threads: usize,
+) -> Result<Held, StreamFault>
+    ensures hears { IfOk result (λ next. (octets came more : List ℕ) → StaysParted octets front.now back.now → IsHeld false octets came →
+        HearsFirst (option_copied about.entry) came more next inbox.old inbox.new) }
+    ensures source { OnOk result (inbox.new.source ≡ inbox.old.source) }
+    ensures fault { IfErr result (λ fault. fault ≢ StreamFault.Write) }
+{
+    inbox.hear(rt, alloc, front, about, threads)?;
+    Ok(Held {
+        octets: Vec::from_slice(alloc, back)?,
+        is_long: false,
+    })
+}
+
+/// Hears the first messages of what is held, as [`hear_first`] does, on one thread: few messages, of which one may be too long.
+fn hear_begun(
+    inbox: &mut OpenInbox,
     rt: &(impl Threads + Sync),
     alloc: Global,
     held: &Held,
@@ -219,7 +382,7 @@ fn is_left_long(was_long: bool, texts: &[&[u8]], left: &[u8]) -> bool
 
 /// Hears messages. Where the first is too long to be read, it is noted as refused, whatever stands for it.
 fn hear_texts(
-    inbox: &mut Inbox,
+    inbox: &mut OpenInbox,
     rt: &(impl Threads + Sync),
     alloc: Global,
     is_long: bool,
@@ -228,30 +391,37 @@ fn hear_texts(
     threads: usize,
 ) -> Result<(), StreamFault>
     ensures hears { OnOk result ((messages : List (List ℕ)) → AreReadFor is_long messages (map (λ text. text.now) texts.now) →
-        (before : List Placed) → KeepsMessages (option_copied about.entry) before inbox.old →
-        KeepsMessages (option_copied about.entry)
+        (before : List Placed) → HasGot (option_copied about.entry) before inbox.old →
+        HasGot (option_copied about.entry)
         (before ++ placed_from inbox.old.source (inbox.old.messages + 1) messages) inbox.new) }
     ensures count { OnOk result (inbox.new.messages ≡ inbox.old.messages + length texts.now) }
     ensures source { OnOk result (inbox.new.source ≡ inbox.old.source) }
     ensures fault { IfErr result (λ fault. fault ≢ StreamFault.Write) }
 {
     if !is_long {
-        return inbox.hear(rt, alloc, texts, about, threads);
+        return inbox.hear_each(rt, alloc, texts, about, threads);
     }
     let [_, others @ ..] = texts else {
         return Ok(());
     };
-    inbox.refuse_long()?;
-    inbox.hear(rt, alloc, others, about, threads)
+    inbox.refuse_long(rt, alloc, about, threads)?;
+    inbox.hear_each(rt, alloc, others, about, threads)
 }
 
-/// Reads until a share is held, or twice what was: so a long message is gone through few times. Says whether the input
-/// is at its end. After a fault a part was read.
-fn fill<R: Read>(reader: &mut R, held: &mut Vec<u8>) -> Result<bool, StreamFault>
+/// Reads until a share of so many octets is held, or twice what was: so a long message is gone through few times. Says whether
+/// the input is at its end, and tells of each read. After a fault a part was read.
+fn fill<R: Read, W: Watch>(
+    reader: &mut R,
+    held: &mut Vec<u8>,
+    share: usize,
+    heard: u64,
+    progress: &mut Progress,
+    watch: &mut W,
+) -> Result<bool, StreamFault>
     ensures fills { IfOk result (Fills (R.remaining reader.old) (R.remaining reader.new) held.old.items held.new.items) }
     ensures fault { IfErr result (λ fault. fault ≢ StreamFault.Write) }
 {
-    let want = held.len().saturating_mul(2).max(SHARE);
+    let want = held.len().saturating_mul(2).max(share);
     let mut room = [0u8; ROOM];
     while held.len() < want {
         let count = read_some(reader, &mut room)?;
@@ -259,6 +429,7 @@ fn fill<R: Read>(reader: &mut R, held: &mut Vec<u8>) -> Result<bool, StreamFault
             return Ok(true);
         }
         held.extend_from_slice(&room[..count])?;
+        progress.tell(count, heard, watch);
     }
     Ok(false)
 }

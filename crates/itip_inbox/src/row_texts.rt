@@ -1,13 +1,21 @@
 //! How values of a row are spelled.
-use itip_moment::{Moment, write_moment};
+ghost use Rattle.std.specs.Prelude.{◌≡◌, IfOk};
+ghost use Rattle.std.specs.Option.{option_map};
+ghost use Rattle.std.specs.String.{string_bytes};
+ghost use Rattle.itip_moment.specs.Shown.{shown_moment};
+ghost use Rattle.itip_inbox.specs.Csv.{row_name};
+
+use itip_moment::Moment;
 use itip_view::RowId;
 use std::alloc::{AllocError, Global};
 
 /// What names a row beside its UID: a moment, or `opaque`; nothing names the one row of a to-do that doesn't recur.
-pub(crate) fn id_text(alloc: Global, id: &RowId) -> Result<Option<String>, AllocError> {
+pub(crate) fn id_text(alloc: Global, id: &RowId) -> Result<Option<String>, AllocError>
+    ensures { IfOk result (λ text. option_map string_bytes text ≡ row_name id.now) }
+{
     match id {
         RowId::Single => Ok(None),
-        RowId::At(moment) => Ok(Some(shown_moment(alloc, moment)?)),
+        RowId::At(moment) => Ok(Some(moment.to_string(alloc)?)),
         RowId::Opaque => Ok(Some(String::from_str(alloc, "opaque")?)),
     }
 }
@@ -16,21 +24,11 @@ pub(crate) fn id_text(alloc: Global, id: &RowId) -> Result<Option<String>, Alloc
 pub(crate) fn moment_text(
     alloc: Global,
     moment: &Option<Moment>,
-) -> Result<Option<String>, AllocError> {
+) -> Result<Option<String>, AllocError>
+    ensures { IfOk result (λ text. option_map string_bytes text ≡ option_map shown_moment moment.now) }
+{
     match moment {
-        Some(moment) => Ok(Some(shown_moment(alloc, moment)?)),
+        Some(moment) => Ok(Some(moment.to_string(alloc)?)),
         None => Ok(None),
     }
-}
-
-/// The value of a moment, behind the zone that it is in.
-fn shown_moment(alloc: Global, moment: &Moment) -> Result<String, AllocError> {
-    let mut text = Vec::new(alloc);
-    if let Moment::Zoned(zone, _) = moment {
-        text.extend_from_slice(b"TZID=")?;
-        text.extend_from_slice(zone.as_str().as_bytes())?;
-        text.extend_from_slice(b":")?;
-    }
-    write_moment(moment, &mut text)?;
-    String::from_utf8_lossy(alloc, &text)
 }

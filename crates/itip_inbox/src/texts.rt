@@ -1,114 +1,301 @@
-//! Reading many messages at once.
-ghost use Rattle.std.specs.Prelude.{◌≡◌, map, filter, IfOk, IfErr};
-ghost use Rattle.std.specs.List.{AllZip};
+//! Reading many messages at once, and what they tell beside what is kept.
+ghost use Rattle.std.specs.Prelude.{◌≡◌, ◌≢◌, ◌+◌, ◌++◌, ◌∷◌, ℕ, List, Option, [], map, filter, IfOk, IfErr, OnOk};
 ghost use Rattle.std.specs.Option.{option_copied};
+ghost use Rattle.std.specs.Thread.{IsSync};
+ghost use Rattle.itip_items.specs.declared.item.Item.{Item};
+ghost use Rattle.itip_message.specs.Scanned.{messages_of};
 ghost use Rattle.itip_state.specs.Told.{AreNews};
-ghost use Rattle.itip_inbox.specs.Following.{is_about, items_about};
-ghost use Rattle.itip_inbox.specs.Streaming.{MayTell};
+ghost use Rattle.itip_inbox.specs.Following.{is_about, items_about, told_in};
+ghost use Rattle.itip_inbox.specs.Inbox.{Placed, placed_from};
+ghost use Rattle.itip_inbox.specs.Placing.{later_refusal, later_told};
+ghost use Rattle.itip_inbox.specs.Streaming.{Tells};
 
+use crate::counts::count_more;
+use crate::refused::RefusedMessage;
+use crate::shards::Shards;
 use itip_desk::Batch;
+use itip_explain::{Place, ToldItem};
 use itip_items::Item;
-use itip_lines::ListOf;
-use itip_message::{ReadError, read_message};
-use itip_state::{SharedItem, State};
+use itip_message::{ReadError, next_message, part_messages, read_message};
+use itip_state::SharedItem;
+use itip_streams::StreamFault;
 use itip_todo::Uid;
-use rayon::prelude::*;
 use std::alloc::{AllocError, Global};
-use std::thread::Threads;
+use std::mem;
+use std::thread::{Threads, join};
 
-// How few messages are worth a thread.
-const LEAST: usize = 16;
+/// How few octets are worth a thread.
+pub(crate) const LEAST: usize = 16_384;
 
-/// What is heard of a text.
+/// What messages tell beside what is kept.
 #[derive(Drop)]
-pub(crate) struct HeardText {
-    /// Those of its items that are news beside a state.
-    pub(crate) news: ListOf<SharedItem>,
-    /// Its items of the UID that is followed, in their order.
-    pub(crate) followed: ListOf<Item>,
+pub(crate) struct Heard {
+    /// How many they are, refused ones too.
+    pub(crate) count: u64,
+    /// Those of their items that are news.
+    pub(crate) news: Vec<SharedItem>,
+    /// The refused messages, in their order.
+    pub(crate) refusals: Vec<RefusedMessage>,
+    /// Their items of the UID that is followed, in their order.
+    pub(crate) told: Vec<ToldItem>,
 }
 
-/// What is heard of each text beside a state, or why it is refused, in their order, from at most so many threads.
-pub(crate) fn read_texts(
+/// What all messages of octets tell, numbered from 1 and read by at most so many threads.
+pub(crate) fn read_share(
     rt: &(impl Threads + Sync),
     alloc: Global,
-    state: &State,
-    texts: &[&[u8]],
+    kept: &Shards,
     about: Option<&Uid>,
+    source: usize,
+    octets: &[u8],
     threads: usize,
-) -> Result<Vec<Result<HeardText, ReadError>>, AllocError>
-    ensures { IfOk result (λ answers. AllZip (MayTell (option_copied about.entry) state.now)
-        (map (λ text. text.now) texts.now) answers.items) }
+) -> Result<Heard, StreamFault>
+    ensures tells { IfOk result (Tells (option_copied about.entry) kept.now (placed_from source 1 (messages_of octets.now))) }
+    ensures fault { IfErr result (λ fault. fault ≢ StreamFault.Write) }
 {
-    texts
-        .par_iter()
-        .with_min_len(piece(texts.len(), threads))
-        .map(
-            |text: &&[u8]| -> Result<HeardText, ReadError>
-                ensures { MayTell (option_copied about.entry) state.entry.now text.now.now result }
-            { read_text(alloc, state, about, text) },
-        )
-        .collect(rt, alloc)
+    let threads = threads.min(octets.len() / LEAST);
+    read_parts(rt, alloc, kept, about, source, octets, threads)
 }
 
-fn read_text(
+/// The same by so many threads, or by one: the octets are parted between messages, and each thread reads a part.
+#[cycle(parts)]
+fn read_parts<R: Threads + Sync>(
+    rt: &R,
     alloc: Global,
-    state: &State,
+    kept: &Shards,
     about: Option<&Uid>,
-    text: &[u8],
-) -> Result<HeardText, ReadError>
-    ensures { MayTell (option_copied about.entry) state.now text.now result }
+    source: usize,
+    octets: &[u8],
+    threads: usize,
+) -> Result<Heard, StreamFault>
+    ensures tells { IfOk result (Tells (option_copied about.entry) kept.now (placed_from source 1 (messages_of octets.now))) }
+    ensures fault { IfErr result (λ fault. fault ≢ StreamFault.Write) }
 {
-    let items = read_message(alloc, text)?;
-    let followed = items_about(alloc, about, items.as_slice())?;
-    let news = news_of(alloc, state, items)?;
-    Ok(HeardText { news, followed })
-}
-
-/// Copies of those of the items that are news beside a state.
-fn news_of(alloc: Global, state: &State, items: Vec<Item>) -> Result<ListOf<SharedItem>, AllocError>
-    ensures { IfOk result (AreNews state.now items.items) }
-{
-    let batch = Batch::of_items(items)?;
-    let news = state.news(batch.as_slice())?;
-    Ok(ListOf::from_vec(copies(alloc, news.as_slice())?))
-}
-
-// A state keeps copies, which have no spare room. What is made while a text is read has, and lies among what is let go.
-fn copies(alloc: Global, items: &[&SharedItem]) -> Result<Vec<SharedItem>, AllocError>
-    ensures { IfOk result (λ copies. copies.items ≡ map (λ item. item.now) items.now) }
-{
-    let mut copies = Vec::new(alloc);
-    for item in items {
-        copies.push(SharedItem::new(alloc, item.item().clone()?)?)?;
+    if threads < 2 {
+        return read_octets(alloc, kept, about, source, octets);
     }
-    Ok(copies)
+    let before = threads / 2;
+    let after = threads - before;
+    let place = (octets.len() / threads).saturating_mul(before);
+    let Some((front, back)) = part_messages(octets, place) else {
+        return read_octets(alloc, kept, about, source, octets);
+    };
+    let left = move || -> Result<Heard, StreamFault>
+        requires { IsSync R.row }
+        ensures tells { IfOk result (Tells (option_copied about.entry) kept.entry.now
+            (placed_from source 1 (messages_of front.entry.now))) }
+        ensures fault { IfErr result (λ fault. fault ≢ StreamFault.Write) }
+    { read_parts(rt, alloc, kept, about, source, front, before) };
+    let right = move || -> Result<Heard, StreamFault>
+        requires { IsSync R.row }
+        ensures tells { IfOk result (Tells (option_copied about.entry) kept.entry.now
+            (placed_from source 1 (messages_of back.entry.now))) }
+        ensures fault { IfErr result (λ fault. fault ≢ StreamFault.Write) }
+    { read_parts(rt, alloc, kept, about, source, back, after) };
+    let (ours, theirs) = join(rt, left, right);
+    let mut heard = ours?;
+    let mut behind = theirs?;
+    behind.move_behind(alloc, heard.count)?;
+    heard.append(behind)?;
+    Ok(heard)
 }
 
-/// Copies of the items of the UID that is followed; none where none is.
-fn items_about(
+/// What all messages of octets tell, numbered from 1 and read one after another.
+pub(crate) fn read_octets(
     alloc: Global,
+    kept: &Shards,
     about: Option<&Uid>,
-    items: &[Item],
-) -> Result<ListOf<Item>, AllocError>
-    ensures { IfOk result (λ found. found ≡ items_about (option_copied about.entry) items.now) }
+    source: usize,
+    octets: &[u8],
+) -> Result<Heard, StreamFault>
+    ensures tells { IfOk result (Tells (option_copied about.entry) kept.now (placed_from source 1 (messages_of octets.now))) }
+    ensures fault { IfErr result (λ fault. fault ≢ StreamFault.Write) }
 {
-    match about {
-        Some(uid) => items_of(alloc, uid, items),
-        None => Ok(ListOf::new(alloc)),
+    let mut heard = Heard::nothing(alloc);
+    let mut rest = octets;
+    while let Some((text, after)) = next_message(rest) {
+        heard.add(alloc, kept, about, source, text)?;
+        rest = after;
     }
+    Ok(heard)
 }
 
-fn items_of(alloc: Global, uid: &Uid, items: &[Item]) -> Result<ListOf<Item>, AllocError>
-    ensures { IfOk result (λ found. found ≡ filter (is_about uid.now) items.now) }
+/// What messages tell, numbered from 1 and read one after another.
+pub(crate) fn read_texts(
+    alloc: Global,
+    kept: &Shards,
+    about: Option<&Uid>,
+    source: usize,
+    texts: &[&[u8]],
+) -> Result<Heard, StreamFault>
+    ensures tells { IfOk result (Tells (option_copied about.entry) kept.now
+        (placed_from source 1 (map (λ text. text.now) texts.now))) }
+    ensures fault { IfErr result (λ fault. fault ≢ StreamFault.Write) }
 {
-    let mut found = Vec::new(alloc);
-    for item in items {
-        if is_about(item, uid) {
-            found.push(item.clone()?)?;
+    let mut heard = Heard::nothing(alloc);
+    for text in texts {
+        heard.add(alloc, kept, about, source, text)?;
+    }
+    Ok(heard)
+}
+
+impl Heard {
+    /// What no message tells.
+    pub(crate) fn nothing(alloc: Global) -> Heard
+        ensures { (about : Option (List ℕ)) (kept : List Item) → Tells about kept [] result }
+    {
+        Heard {
+            count: 0,
+            news: Vec::new(alloc),
+            refusals: Vec::new(alloc),
+            told: Vec::new(alloc),
         }
     }
-    Ok(ListOf::from_vec(found))
+
+    /// Adds what messages tell that come behind. After a fault a part of it is added.
+    pub(crate) fn append(&mut self, others: Heard) -> Result<(), StreamFault>
+        ensures tells { OnOk result ((about : Option (List ℕ)) (kept : List Item) (before after : List Placed) →
+            Tells about kept before self.old → Tells about kept after others → Tells about kept (before ++ after) self.new) }
+        ensures fault { IfErr result (λ fault. fault ≢ StreamFault.Write) }
+    {
+        let Heard {
+            count,
+            mut news,
+            mut refusals,
+            mut told,
+        } = others;
+        let sum = count_more(self.count, count)?;
+        self.count = sum;
+        self.news.append(&mut news)?;
+        self.refusals.append(&mut refusals)?;
+        self.told.append(&mut told)?;
+        Ok(())
+    }
+
+    /// So many messages of their source come before these. After a fault some have their new numbers.
+    pub(crate) fn move_behind(&mut self, alloc: Global, count: u64) -> Result<(), StreamFault>
+        ensures tells { OnOk result ((about : Option (List ℕ)) (kept : List Item) (source first : ℕ) (texts : List (List ℕ)) →
+            Tells about kept (placed_from source first texts) self.old →
+            Tells about kept (placed_from source (first + count) texts) self.new) }
+        ensures count { OnOk result (self.new.count ≡ self.old.count) }
+        ensures fault { IfErr result (λ fault. fault ≢ StreamFault.Write) }
+    {
+        let refusals = refusals_behind(alloc, self.refusals.as_slice(), count)?;
+        self.refusals = refusals;
+        let told = mem::replace(&mut self.told, Vec::new(alloc));
+        let later = told_behind(alloc, told, count)?;
+        self.told = later;
+        Ok(())
+    }
+
+    /// Reads one message of a source more, with the next number, and adds what it tells, or that it is refused. After a fault a part
+    /// of that is added.
+    fn add(
+        &mut self,
+        alloc: Global,
+        kept: &Shards,
+        about: Option<&Uid>,
+        source: usize,
+        text: &[u8],
+    ) -> Result<(), StreamFault>
+        ensures tells { OnOk result ((texts : List (List ℕ)) →
+            Tells (option_copied about.entry) kept.now (placed_from source 1 texts) self.old →
+            Tells (option_copied about.entry) kept.now (placed_from source 1 (texts ++ text.now ∷ [])) self.new) }
+        ensures fault { IfErr result (λ fault. fault ≢ StreamFault.Write) }
+    {
+        let message = count_more(self.count, 1)?;
+        let place = Place { source, message };
+        self.count = message;
+        match read_message(alloc, text) {
+            Ok(items) => {
+                note(&mut self.told, about, place, items.as_slice())?;
+                add_news(&mut self.news, alloc, kept, items)?;
+                Ok(())
+            }
+            Err(ReadError::Refused(refusal)) => {
+                self.refusals.push(RefusedMessage {
+                    source: place.source,
+                    message: place.message,
+                    refusal,
+                })?;
+                Ok(())
+            }
+            Err(ReadError::NoMemory) => Err(StreamFault::Memory),
+        }
+    }
+}
+
+/// Refused messages before which so many others come.
+fn refusals_behind(
+    alloc: Global,
+    refusals: &[RefusedMessage],
+    count: u64,
+) -> Result<Vec<RefusedMessage>, StreamFault>
+    ensures later { IfOk result (λ later. later.items ≡ map (later_refusal count) refusals.now) }
+    ensures fault { IfErr result (λ fault. fault ≢ StreamFault.Write) }
+{
+    let mut later = Vec::new(alloc);
+    for refused in refusals {
+        let message = count_more(refused.message, count)?;
+        later.push(RefusedMessage {
+            source: refused.source,
+            message,
+            refusal: refused.refusal,
+        })?;
+    }
+    Ok(later)
+}
+
+/// Told items before whose messages so many others come.
+fn told_behind(alloc: Global, told: Vec<ToldItem>, count: u64) -> Result<Vec<ToldItem>, StreamFault>
+    ensures later { IfOk result (λ later. later.items ≡ map (later_told count) told.items) }
+    ensures fault { IfErr result (λ fault. fault ≢ StreamFault.Write) }
+{
+    let mut later = Vec::new(alloc);
+    for one in told {
+        let ToldItem { place, item } = one;
+        let place = Place {
+            source: place.source,
+            message: count_more(place.message, count)?,
+        };
+        later.push(ToldItem { place, item })?;
+    }
+    Ok(later)
+}
+
+/// Notes copies of the items of the UID that is followed, if one is, with the place of the message that tells them. After a refusal
+/// (out of memory) a part of them is noted.
+fn note(
+    told: &mut Vec<ToldItem>,
+    about: Option<&Uid>,
+    place: Place,
+    items: &[Item],
+) -> Result<(), AllocError>
+    ensures { OnOk result (told.new.items ≡ told.old.items ++ told_in place (items_about (option_copied about.entry) items.now)) }
+{
+    match about {
+        Some(uid) => note_of(told, uid, place, items),
+        None => Ok(()),
+    }
+}
+
+fn note_of(
+    told: &mut Vec<ToldItem>,
+    uid: &Uid,
+    place: Place,
+    items: &[Item],
+) -> Result<(), AllocError>
+    ensures { OnOk result (told.new.items ≡ told.old.items ++ told_in place (filter (is_about uid.now) items.now)) }
+{
+    for item in items {
+        if is_about(item, uid) {
+            told.push(ToldItem {
+                place,
+                item: item.clone()?,
+            })?;
+        }
+    }
+    Ok(())
 }
 
 fn is_about(item: &Item, uid: &Uid) -> bool
@@ -117,10 +304,31 @@ fn is_about(item: &Item, uid: &Uid) -> bool
     *item.key.uid() == *uid
 }
 
-/// How many of so many texts a thread reads, where there are so many threads.
-fn piece(texts: usize, threads: usize) -> usize {
-    match texts.checked_div(threads) {
-        Some(piece) if piece >= LEAST => piece,
-        _ => texts,
+/// Adds copies of those of the items that are news beside what is kept. After a refusal (out of memory) a part of them is added.
+fn add_news(
+    news: &mut Vec<SharedItem>,
+    alloc: Global,
+    kept: &Shards,
+    items: Vec<Item>,
+) -> Result<(), AllocError>
+    ensures { OnOk result ((told : List Item) → AreNews kept.now told news.old.items →
+        AreNews kept.now (told ++ items.items) news.new.items) }
+{
+    let batch = Batch::of_items(items)?;
+    let new = kept.news(alloc, batch.as_slice())?;
+    add_copies(news, alloc, new.as_slice())
+}
+
+// What is kept are copies, which have no spare room. What is made while a text is read has, and lies among what is let go.
+fn add_copies(
+    copies: &mut Vec<SharedItem>,
+    alloc: Global,
+    items: &[&SharedItem],
+) -> Result<(), AllocError>
+    ensures { OnOk result (copies.new.items ≡ copies.old.items ++ map (λ item. item.now) items.now) }
+{
+    for item in items {
+        copies.push(SharedItem::new(alloc, item.item().clone()?)?)?;
     }
+    Ok(())
 }

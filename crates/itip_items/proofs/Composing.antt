@@ -1,11 +1,11 @@
 -- The canonical octets of a to-do, put together of their parts.
 use Rattle.std.proofs.Common.{◌≡◌, ◌∙◌, sym, ap, refl, subst, ℕ, ◌+◌, ◌<◌, ◌≤◌, List, [], ◌∷◌, ◌++◌, length, length-append, append_assoc}
-use Rattle.std.proofs.Common.{arith}
+use Rattle.std.proofs.Common.{append-nil, arith}
 use Rattle.std.specs.Prelude.{codes}
 use Rattle.itip_todo.specs.Parts.{Parts}
-use Rattle.itip_todo.specs.UpTo.{AppendsUpTo}
+use Rattle.itip_todo.specs.UpTo.{AppendsEach, AppendsUpTo}
 use Rattle.itip_todo.specs.Written.{Content, contents_octets, content_octets, parts_contents, todo_contents, front_contents, rest_contents}
-use Rattle.itip_todo.proofs.Appending.{appends_all, then_up_to, front_and_rest}
+use Rattle.itip_todo.proofs.Appending.{appends_all, each_behind, then_up_to, front_and_rest}
 use Rattle.itip_todo.proofs.Contents.{contents_octets-append}
 use Rattle.itip_items.specs.Items.{bare, canonical_contents, canonical_octets, opening_contents, closing_contents, front_octets}
 use Rattle.itip_items.specs.declared.kind.Kind.{Kind}
@@ -58,6 +58,8 @@ behind_front limit room cs front own sum written =
     let now = length-append front own in
     let all = length-append front (contents_octets cs) in
     record {
+      lines = subst (λ (old : List ℕ). AppendsEach limit cs old (front ++ own)) (append-nil front)
+          (each_behind limit room front sum cs [] own written.lines);
       grows = omega (arith, now);
       whole = λ short. ap (λ (octets : List ℕ). front ++ octets) (written.whole (omega (arith, short, now, sum)));
       over = λ long. let more : room < length (contents_octets cs) = written.over (omega (arith, long, now, sum)) in

@@ -11,6 +11,8 @@ pub mod Lines
 pub mod Scans
 pub mod Cuttings
 pub mod Written
+pub mod Rooms
+pub mod Cases
 pub mod Unfolding
 pub mod Roundtrip
 pub mod ParamTexts

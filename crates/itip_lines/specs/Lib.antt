@@ -8,6 +8,7 @@ pub mod Parts
 pub mod Lookup
 pub mod Stretches
 pub mod ScanSteps
+pub mod Room
 pub mod Writing
 pub mod Folding
 pub mod Joining

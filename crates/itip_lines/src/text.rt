@@ -1,5 +1,6 @@
 //! Text as a clause sees it: its octets.
-ghost use Rattle.std.specs.Prelude.{◌≡◌, [], IfOk, nat_eq, refl, Some};
+ghost use Rattle.std.specs.Prelude.{◌≡◌, [], IfOk, IsOk, map, nat_eq, refl, Some};
+ghost use Rattle.std.specs.Char.{to_ascii_uppercase, to_ascii_lowercase};
 ghost use Rattle.std.specs.Ordering.{nat_cmp};
 ghost use Rattle.std.specs.Str.{IsUtf8, str_to_ascii_uppercase, str_to_ascii_lowercase};
 ghost use Rattle.std.specs.Cmp.Lexicographic.{pointwise, slice_cmp, nat_list_eq_equiv, nat_list_cmp_total, texts_ties, texts_po};
@@ -7,6 +8,7 @@ ghost use Rattle.std.specs.Cmp.{partial_equiv_from_equiv};
 ghost use Rattle.std.specs.Cmp.Rules.{hashing};
 ghost use Rattle.std.specs.Hash as fed;
 ghost use Rattle.std.proofs.Common.{rules};
+ghost use Rattle.itip_lines.specs.Room.{StandsInPlace};
 
 use smallvec::SmallVec;
 use std::alloc::{AllocError, Global};
@@ -17,7 +19,8 @@ use std::marker::Model;
 
 /// A text in UTF-8, compared by its octets.
 ///
-/// One of at most 32 octets stands in the value itself and takes no memory of its own: most names, times and addresses.
+/// One of at most 32 octets stands in the value itself and takes no memory of its own: most names, times and addresses. To
+/// copy it takes none either, whatever becomes of its letters' case.
 #[derive(Drop)]
 pub struct Text {
     octets: SmallVec<u8, 32>,
@@ -45,41 +48,38 @@ impl Text {
     }
 
     /// A copy of a text.
+    ///
+    /// It is refused memory only where the text doesn't stand in its value.
     pub fn copy(alloc: Global, text: &str) -> Result<Text, AllocError>
-        ensures { IfOk result (λ copy. copy ≡ text.now) }
+        ensures copied { IfOk result (λ copy. copy ≡ text.now) }
+        ensures room { StandsInPlace text.now → IsOk result }
     {
         let octets = SmallVec::from_slice(alloc, text.as_bytes())?;
         Ok(Text { octets })
     }
 
     /// A copy of a text, its ASCII letters in upper case.
+    ///
+    /// It is refused memory only where the text doesn't stand in its value.
     pub fn upper(alloc: Global, text: &str) -> Result<Text, AllocError>
-        ensures { IfOk result (λ upper. upper ≡ str_to_ascii_uppercase text.now) }
+        ensures raised { IfOk result (λ upper. upper ≡ str_to_ascii_uppercase text.now) }
+        ensures room { StandsInPlace text.now → IsOk result }
     {
-        // Most are in upper case already.
-        if text
-            .as_bytes()
-            .iter()
-            .all(|octet| !octet.is_ascii_lowercase())
-        {
-            return Text::copy(alloc, text);
-        }
-        Text::copy(alloc, text.to_ascii_uppercase(alloc)?.as_str())
+        let mut octets = SmallVec::from_slice(alloc, text.as_bytes())?;
+        raise(&mut octets);
+        Ok(Text { octets })
     }
 
     /// A copy of a text, its ASCII letters in lower case.
+    ///
+    /// It is refused memory only where the text doesn't stand in its value.
     pub fn lower(alloc: Global, text: &str) -> Result<Text, AllocError>
-        ensures { IfOk result (λ lower. lower ≡ str_to_ascii_lowercase text.now) }
+        ensures lowered { IfOk result (λ lower. lower ≡ str_to_ascii_lowercase text.now) }
+        ensures room { StandsInPlace text.now → IsOk result }
     {
-        // Most are in lower case already.
-        if text
-            .as_bytes()
-            .iter()
-            .all(|octet| !octet.is_ascii_uppercase())
-        {
-            return Text::copy(alloc, text);
-        }
-        Text::copy(alloc, text.to_ascii_lowercase(alloc)?.as_str())
+        let mut octets = SmallVec::from_slice(alloc, text.as_bytes())?;
+        lower(&mut octets);
+        Ok(Text { octets })
     }
 
     /// The text.
@@ -91,8 +91,25 @@ impl Text {
     }
 }
 
+/// Turns ASCII letters to upper case, where they stand.
+fn raise(octets: &mut SmallVec<u8, 32>)
+    ensures { octets.new.items ≡ map to_ascii_uppercase octets.old.items }
+{
+    octets.as_mut_slice().make_ascii_uppercase();
+}
+
+/// Turns ASCII letters to lower case, where they stand.
+fn lower(octets: &mut SmallVec<u8, 32>)
+    ensures { octets.new.items ≡ map to_ascii_lowercase octets.old.items }
+{
+    octets.as_mut_slice().make_ascii_lowercase();
+}
+
+/// A text that stands in its value is cloned without any memory.
 impl Clone for Text {
     ghost is_clone = { λ text copy. copy ≡ text };
+
+    ghost is_infallible = { StandsInPlace };
 
     fn clone(&self) -> Result<Text, AllocError> {
         Text::copy(*self.octets.allocator(), self.as_str())

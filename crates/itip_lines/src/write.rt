@@ -1,7 +1,8 @@
 //! Writing a content line.
-ghost use Rattle.std.specs.Prelude.{◌≡◌, ◌≤◌, ◌++◌, ◌∷◌, [], IfOk, OnOk, OnErr};
+ghost use Rattle.std.specs.Prelude.{◌≡◌, ◌≤◌, ◌++◌, ◌∷◌, [], IfOk, OnOk, OnErr, IsOk};
 ghost use Rattle.std.specs.List.{list_any};
 ghost use Rattle.itip_lines.specs.Octets.{is_separator};
+ghost use Rattle.itip_lines.specs.Room.{HasRoomFor, KeepsRoom};
 ghost use Rattle.itip_lines.specs.Lawful.{value_text, params_text, line_text};
 ghost use Rattle.itip_lines.specs.Writing.{following, folded, written, Writes, Extends};
 
@@ -17,11 +18,13 @@ const PIECE: usize = 75;
 ///
 /// A value of a parameter stands in quotes where it has `;`, `:` or `,`. A piece has at most 75 octets before
 /// its CRLF, as many as fit without cutting a UTF-8 sequence, and each but the first begins with one SPACE.
-/// Where memory is refused `out` stays as it was.
+/// Where memory is refused `out` stays as it was. It is asked for only where `out` has no room for the line.
 #[tactic(auto, unfolding(crate::specs::Writing::written, crate::specs::Writing::unfolded_text))]
 pub fn write_line(line: &Line, out: &mut Vec<u8>) -> Result<(), AllocError>
     ensures appended { OnOk result (out.new.items ≡ out.old.items ++ written line.now) }
     ensures err { OnErr result (out.new.items ≡ out.old.items) }
+    ensures room { HasRoomFor out.old (written line.now) → IsOk result }
+    ensures keeps { KeepsRoom out.old out.new }
 {
     write_property(
         line.name.as_str(),
@@ -40,6 +43,8 @@ fn write_property(
 ) -> Result<(), AllocError>
     ensures appended { OnOk result (out.new.items ≡ out.old.items ++ folded 0 (line_text name.now params.now value.now)) }
     ensures err { OnErr result (out.new.items ≡ out.old.items) }
+    ensures room { HasRoomFor out.old (folded 0 (line_text name.now params.now value.now)) → IsOk result }
+    ensures keeps { KeepsRoom out.old out.new }
 {
     write_parts(name, params.as_str().as_bytes(), value, out)
 }
@@ -47,7 +52,7 @@ fn write_property(
 /// Appends the line of a name, parameters and a value, with its breaks, as `write_line` does (RFC 5545 3.1).
 ///
 /// `params` is the text of the parameters, as `Params::as_str` gives it or `write_param` makes it; empty where there is none.
-/// Where memory is refused `out` stays as it was.
+/// Where memory is refused `out` stays as it was. It is asked for only where `out` has no room for the line.
 pub fn write_parts(
     name: &str,
     params: &[u8],
@@ -56,6 +61,8 @@ pub fn write_parts(
 ) -> Result<(), AllocError>
     ensures appended { OnOk result (out.new.items ≡ out.old.items ++ folded 0 (name.now ++ (params.now ++ 58 ∷ value.now))) }
     ensures err { OnErr result (out.new.items ≡ out.old.items) }
+    ensures room { HasRoomFor out.old (folded 0 (name.now ++ (params.now ++ 58 ∷ value.now))) → IsOk result }
+    ensures keeps { KeepsRoom out.old out.new }
 {
     let start = out.len();
     let done = write_all(name, params, value, out);
@@ -69,6 +76,8 @@ pub fn write_parts(
 fn write_all(name: &str, params: &[u8], value: &[u8], out: &mut Vec<u8>) -> Result<(), AllocError>
     ensures appended { OnOk result (out.new.items ≡ out.old.items ++ folded 0 (name.now ++ (params.now ++ 58 ∷ value.now))) }
     ensures extends { Extends out.old.items out.new.items }
+    ensures room { HasRoomFor out.old (folded 0 (name.now ++ (params.now ++ 58 ∷ value.now))) → IsOk result }
+    ensures keeps { KeepsRoom out.old out.new }
 {
     let used = write_octets(name.as_bytes(), 0, out)?;
     let used = write_octets(params, used, out)?;
@@ -79,9 +88,11 @@ fn write_all(name: &str, params: &[u8], value: &[u8], out: &mut Vec<u8>) -> Resu
 
 /// Appends a line with its breaks, where `text` is the line without them and without folds.
 ///
-/// Where memory is refused, perhaps a part of it is appended.
+/// Where memory is refused, perhaps a part of it is appended. It is asked for only where `out` has no room for the line.
 pub fn write_text(text: &str, out: &mut Vec<u8>) -> Result<(), AllocError>
-    ensures { OnOk result (out.new.items ≡ out.old.items ++ folded 0 text.now) }
+    ensures appended { OnOk result (out.new.items ≡ out.old.items ++ folded 0 text.now) }
+    ensures room { HasRoomFor out.old (folded 0 text.now) → IsOk result }
+    ensures keeps { KeepsRoom out.old out.new }
 {
     write_octets(text.as_bytes(), 0, out)?;
     out.extend_from_slice(b"\r\n")
@@ -90,10 +101,12 @@ pub fn write_text(text: &str, out: &mut Vec<u8>) -> Result<(), AllocError>
 /// Appends the text of a parameter with one value, without folds: `;`, its name, `=`, and the value, in quotes where it
 /// has `;`, `:` or `,`.
 ///
-/// Where memory is refused, perhaps a part of it is appended.
+/// Where memory is refused, perhaps a part of it is appended. It is asked for only where `out` has no room for the parameter.
 pub fn write_param(name: &str, value: &str, out: &mut Vec<u8>) -> Result<(), AllocError>
-    ensures { OnOk result (out.new.items
+    ensures appended { OnOk result (out.new.items
         ≡ out.old.items ++ params_text ((record { name = name.now; values = value.now ∷ [] }) ∷ [])) }
+    ensures room { HasRoomFor out.old (params_text ((record { name = name.now; values = value.now ∷ [] }) ∷ [])) → IsOk result }
+    ensures keeps { KeepsRoom out.old out.new }
 {
     out.push(b';')?;
     out.extend_from_slice(name.as_bytes())?;
@@ -103,7 +116,9 @@ pub fn write_param(name: &str, value: &str, out: &mut Vec<u8>) -> Result<(), All
 
 /// Appends a value of a parameter without folds, in quotes where it needs them.
 pub(crate) fn push_value(value: &[u8], out: &mut Vec<u8>) -> Result<(), AllocError>
-    ensures { OnOk result (out.new.items ≡ out.old.items ++ value_text value.now) }
+    ensures appended { OnOk result (out.new.items ≡ out.old.items ++ value_text value.now) }
+    ensures room { HasRoomFor out.old (value_text value.now) → IsOk result }
+    ensures keeps { KeepsRoom out.old out.new }
 {
     if !has_separator(value) {
         return out.extend_from_slice(value);
@@ -125,6 +140,8 @@ fn write_octets(octets: &[u8], used: usize, out: &mut Vec<u8>) -> Result<usize, 
     requires { used ≤ 75 }
     ensures wrote { IfOk result (Writes out.old.items used octets.now out.new.items) }
     ensures extends { Extends out.old.items out.new.items }
+    ensures room { HasRoomFor out.old (folded used octets.now) → IsOk result }
+    ensures keeps { KeepsRoom out.old out.new }
 {
     // Whatever their sequences are, so few octets end on the piece.
     if octets.len() >= (PIECE - 2).saturating_sub(used) {
@@ -139,6 +156,8 @@ fn write_each(octets: &[u8], mut used: usize, out: &mut Vec<u8>) -> Result<usize
     requires { used ≤ 75 }
     ensures wrote { IfOk result (Writes out.old.items used octets.now out.new.items) }
     ensures extends { Extends out.old.items out.new.items }
+    ensures room { HasRoomFor out.old (folded used octets.now) → IsOk result }
+    ensures keeps { KeepsRoom out.old out.new }
 {
     for octet in octets {
         used = write_octet(*octet, used, out)?;
@@ -151,6 +170,8 @@ fn write_octet(octet: u8, used: usize, out: &mut Vec<u8>) -> Result<usize, Alloc
     requires { used ≤ 75 }
     ensures wrote { IfOk result (Writes out.old.items used (octet ∷ []) out.new.items) }
     ensures extends { Extends out.old.items out.new.items }
+    ensures room { HasRoomFor out.old (folded used (octet ∷ [])) → IsOk result }
+    ensures keeps { KeepsRoom out.old out.new }
 {
     if used + 1 + following(octet) <= PIECE {
         out.push(octet)?;

@@ -5,7 +5,7 @@ use itip_desk::{DeskError, Refusal};
 use itip_message::ReadError;
 use itip_notation::NotationError;
 use itip_office::OfficeError;
-use itip_running::{LiveError, PassError};
+use itip_running::{LiveError, NotSubmitted, PassError};
 use itip_view::{BadWindow, ViewError};
 use itip_world::Cause;
 use std::alloc::{AllocError, AllocFailed, Global};
@@ -149,7 +149,8 @@ impl From<Refusal> for CallError {
             Refusal::TooManyRows => CallError::TooManyRows,
             Refusal::NoDesk(_) => CallError::NoDesk,
             Refusal::NoPacket(_) => CallError::NoPacket,
-            Refusal::NoCommand | Refusal::LongScript => CallError::NoSuchCall,
+            Refusal::NoCommand | Refusal::LongScript | Refusal::LongDelta | Refusal::File(_) =>
+                CallError::NoSuchCall,
         }
     }
 }
@@ -166,6 +167,12 @@ impl From<ViewError> for CallError {
             ViewError::NoMemory => CallError::NoMemory,
             ViewError::TooManyRows => CallError::TooManyRows,
         }
+    }
+}
+
+impl From<NotSubmitted> for CallError {
+    fn from(_: NotSubmitted) -> CallError {
+        CallError::NoMemory
     }
 }
 

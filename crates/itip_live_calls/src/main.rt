@@ -15,6 +15,7 @@ mod crossing;
 mod desks;
 mod error;
 mod gates;
+mod groups;
 mod joins;
 mod lists;
 mod office;
@@ -29,8 +30,9 @@ mod watch;
 use crate::beside::beside;
 use crate::call::Call;
 use crate::error::CallError;
+use crate::groups::grouped;
 use crate::office::{deaf_keeper, office};
-use crate::running::run_steps;
+use crate::running::{run_steps, scoped};
 use crate::texts::number;
 use std::io::{BufRead, BufReader};
 use std::process::ExitCode;
@@ -78,7 +80,9 @@ fn made<R: AllocGlobal + Eprint + Threads + Wait + Copy + Send + Sync + 'static>
 ) -> Result<Vec<u8>, CallError> {
     match (word, arguments) {
         ("running", steps) => run_steps(rt, steps),
+        ("scoped", texts) => scoped(rt, texts),
         ("beside", [batches]) => beside(rt, number(batches)?),
+        ("grouped", [publishes]) => grouped(rt, number(publishes)?),
         ("office", [desks, workers, gate, jobs @ ..]) => {
             office(rt, number(desks)?, number(workers)?, gate, jobs)
         }

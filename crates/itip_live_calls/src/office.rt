@@ -156,8 +156,5 @@ fn answered_alone<R: AllocGlobal + Wait>(
     drop(to_worker);
     let mut keepers = Vec::new(alloc);
     keepers.push(to_keeper)?;
-    if passes.len() != 1 {
-        return Err(CallError::NoMemory);
-    }
-    Ok(worker_loop(rt, passes, jobs, keepers, &OpenGate)?.len())
+    Ok(worker_loop(rt, 1, passes, jobs, keepers, &OpenGate)?.len())
 }

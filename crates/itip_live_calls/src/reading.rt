@@ -5,7 +5,8 @@ use crate::picture::octets;
 use crate::refusal::note_refusal;
 use itip_desk::{Batch, read_delta};
 use itip_items::Item;
-use itip_message::{ReadError, read_all, read_message};
+use itip_message::{ReadError, read_message};
+use itip_reading::read_all;
 use std::alloc::Global;
 use std::thread::Threads;
 

@@ -7,7 +7,10 @@ use crate::error::CallError;
 use crate::refusal::note_refusal;
 use crate::texts::{batch, number_of, text, window};
 use itip_desk::Batch;
-use itip_running::{Keeper, LiveError, Met, Pass, PassError, Receipt, meet, start_desk};
+use itip_running::{
+    Keeper, LiveError, Met, OpenDesk, Pass, PassError, Receipt, meet, start_desk, with_desk,
+};
+use itip_todo::Uid;
 use itip_view::Window;
 use std::alloc::Global;
 use std::sync::Wait;
@@ -24,8 +27,8 @@ struct Running {
 
 /// Takes these steps, then meets, and tells what each gave.
 ///
-/// A step is a message, which is submitted, or one of `pending`, `publish`, `learn P`, `list P`, `mine P ADDRESS`, `seen P` and
-/// `since P TICK`, where P is the pass 0 or 1.
+/// A step is a message, which is submitted, or one of `pending`, `publish`, `learn P`, `list P`, `mine P ADDRESS`, `seen P`,
+/// `since P TICK`, `rows P`, `shown P ADDRESS`, `kept P` and `of P UID`, where P is the pass 0 or 1. The last four tell how many there are.
 pub(crate) fn run_steps<R: AllocGlobal + Eprint + Wait>(
     rt: &R,
     steps: &[Vec<u8>],
@@ -75,7 +78,7 @@ impl Running {
     /// Submits a batch, once more where it comes back.
     fn submit<R: Eprint>(&mut self, rt: &R, batch: Batch) -> Result<(), CallError> {
         let pending = self.keeper.pending();
-        let Err(back) = self.keeper.submit(batch) else {
+        let Err(refused) = self.keeper.submit(batch) else {
             return Ok(());
         };
         note_refusal(rt);
@@ -83,7 +86,7 @@ impl Running {
             return Err(CallError::Changed);
         }
         self.keeper
-            .submit(back)
+            .submit(refused.batch)
             .map_err(|_| CallError::NothingOnceMore)
     }
 
@@ -119,6 +122,16 @@ impl Running {
             "mine" => self.list_for(rt, rest),
             "seen" => counted(rt.alloc(), word, self.seen(rest)?),
             "since" => counted(rt.alloc(), "items", self.since(rt, rest)?),
+            _ => counted(rt.alloc(), word, self.count(rt.alloc(), word, rest)?),
+        }
+    }
+
+    /// How many rows or items a pass shows.
+    fn count(&mut self, alloc: Global, word: &str, rest: &str) -> Result<u64, CallError> {
+        let (pass, rest) = rest.split_once(' ').unwrap_or((rest, ""));
+        match pass {
+            "0" => count_of(alloc, &mut self.first, word, rest),
+            "1" => count_of(alloc, &mut self.second, word, rest),
             _ => Err(CallError::NoSuchCall),
         }
     }
@@ -215,6 +228,25 @@ impl Running {
     }
 }
 
+fn count_of(alloc: Global, pass: &mut Pass, word: &str, rest: &str) -> Result<u64, CallError>
+    ensures { pass_pair pass.new ≡ pass_pair pass.old }
+{
+    match word {
+        "rows" => Ok(pass.rows(window()?)?.len() as u64),
+        "shown" => Ok(pass.rows_for(window()?, rest)?.len() as u64),
+        "kept" => Ok(pass.kept()?.entries() as u64),
+        "of" => items_of(alloc, pass, rest),
+        _ => Err(CallError::NoSuchCall),
+    }
+}
+
+fn items_of(alloc: Global, pass: &mut Pass, uid: &str) -> Result<u64, CallError>
+    ensures { pass_pair pass.new ≡ pass_pair pass.old }
+{
+    let uid = Uid::copy(alloc, uid)?;
+    Ok(pass.items_of(&uid)?.len() as u64)
+}
+
 /// A number after its word.
 fn counted(alloc: Global, word: &str, number: u64) -> Result<String, CallError> {
     Ok(format!(in alloc; "{word} {number}\n")?)
@@ -284,4 +316,37 @@ fn add_met(alloc: Global, met: &Met, told: &mut String) -> Result<(), CallError>
     }
     told.push_str("\n")?;
     Ok(())
+}
+
+/// The list of a desk that has taken these messages, whose pair is taken apart around the work, and how many batches were published.
+pub(crate) fn scoped<R: AllocGlobal + Wait>(
+    rt: &R,
+    texts: &[Vec<u8>],
+) -> Result<Vec<u8>, CallError> {
+    let (list, met) = with_desk(rt, 1, |desk: &mut OpenDesk| -> Result<Vec<u8>, CallError> {
+        listed(rt, desk, texts)
+    })?;
+    let published = met.published;
+    let list = text(list.as_slice())?;
+    Ok(format!(in rt.alloc(); "{list}published {published}\n")?.into_bytes())
+}
+
+fn listed<R: AllocGlobal + Wait>(
+    rt: &R,
+    desk: &mut OpenDesk,
+    texts: &[Vec<u8>],
+) -> Result<Vec<u8>, CallError> {
+    for text in texts {
+        desk.keeper.submit(batch(rt.alloc(), text)?)?;
+    }
+    desk.keeper.publish(rt)?;
+    match desk.passes.pop() {
+        Some(pass) => list_once(pass),
+        None => Err(CallError::NoPlace),
+    }
+}
+
+fn list_once(pass: Pass) -> Result<Vec<u8>, CallError> {
+    let mut pass = pass;
+    Ok(pass.list(window()?)?)
 }

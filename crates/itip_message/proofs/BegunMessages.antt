@@ -1,19 +1,22 @@
 -- A message of which only the beginning came, and the few octets that stand for it.
-use Rattle.std.proofs.Common.{◌≡◌, ◌∙◌, sym, ap, refl, subst, ℕ, suc, ◌+◌, ◌<◌, ◌≤◌, Bool, true, false, cond, ◌&&◌, ◌||◌, not}
-use Rattle.std.proofs.Common.{List, [], ◌∷◌, ◌++◌, length, drop, get_or, ◌≢◌, inl, inr, arith, append_assoc, append-nil}
+use Rattle.std.proofs.Common.{◌≡◌, ◌∙◌, sym, ap, refl, subst, ℕ, zero, suc, ◌+◌, ◌<◌, ◌≤◌, Bool, true, false, cond, ◌&&◌, ◌||◌, not}
+use Rattle.std.proofs.Common.{List, [], ◌∷◌, ◌++◌, length, map, drop, get_or, ◌≢◌, inl, inr, arith, append_assoc, append-nil}
 use Rattle.std.specs.Prelude.{◌==◌, codes}
-use Rattle.std.specs.List.{AllByRecursion, concat, list_all, onto_first}
-use Rattle.std.proofs.lemmas.Bool.{and_parts, eqb-true, eqb-false}
+use Rattle.std.specs.Char.{to_ascii_uppercase}
+use Rattle.std.specs.List.{AllByRecursion, concat, list_all, list_any, onto_first}
+use Rattle.std.proofs.lemmas.Bool.{and_parts, or_parts, eqb-true, eqb-false}
 use Rattle.std.proofs.lemmas.List.{length-append}
 use Rattle.std.proofs.lemmas.List.Folds.{list_all-append}
 use Rattle.itip_lines.specs.Cutting.{is_blank}
+use Rattle.itip_todo.specs.Participation.{same_text}
 use Rattle.itip_message.specs.Scanned.{begins_blank, ends_line, line_length, lines_of, is_return, said, said_behind, is_empty, ends_calendar}
-use Rattle.itip_message.specs.Scanned.{groups_of, texts_of, messages_of}
-use Rattle.itip_message.specs.Passing.{is_left_out, Passes}
+use Rattle.itip_message.specs.Scanned.{groups_of, texts_of, messages_of, StaysCut}
+use Rattle.itip_message.specs.Passing.{is_left_out, Passes, StaysPassing}
 use Rattle.itip_message.specs.Begun.{IsBegun, DifferInFirst, StandsIn, SaysTheSame, something_else, IsSaid, PassesLine}
 use Rattle.itip_message.specs.Begun.{begun_line, break_before, few_octets, stand_in_limit}
 use Rattle.itip_message.specs.declared.begun.BegunMessage.{BegunMessage}
 use Rattle.itip_message.specs.declared.begun.LineFront.{LineFront}
+use Rattle.itip_message.proofs.SaidMore.{says_else}
 use Rattle.itip_message.proofs.Messages.{concat_push, groups_none, none_ends_more, start_passing, texts_end}
 
 -- ---- texts that differ in the first
@@ -426,3 +429,98 @@ few_are_few all_empty front said_is =
     let before : length ((begun ++ text) ++ mark) ≡ length (begun ++ text) + length mark = length-append (begun ++ text) mark in
     let first : length (begun ++ text) ≡ length begun + length text = length-append begun text in
     omega (arith, all, before, first, short_begun all_empty, short_said text said_is, short_break front.is_behind)
+
+-- ---- where it is not known where a message ends, none is cut off
+
+and_false : (x : Bool) → (x && false) ≡ false
+and_false true = refl
+and_false false = refl
+
+-- a line that goes on, and a blank behind it: all of it is one line
+one_line : (line more : List ℕ) → line_length line ≡ length line → begins_blank more ≡ true → lines_of more ≡ more ∷ [] →
+    lines_of (line ++ more) ≡ (line ++ more) ∷ []
+one_line [] more whole blank one = one
+one_line (b ∷ []) more whole blank one =
+    let goes : ends_line b more ≡ false = ap (λ (t : Bool). b == 10 && not t) blank ∙ and_false (b == 10) in
+    ap (λ (t : Bool). cond t ((b ∷ []) ∷ lines_of more) (onto_first b (lines_of more))) goes ∙
+    ap (λ (ls : List (List ℕ)). onto_first b ls) one
+one_line (b ∷ (c ∷ line)) more whole blank one =
+    elim (ends_line b (c ∷ line)) as (λ (t : Bool). ends_line b (c ∷ line) ≡ t →
+    cond t 1 (suc (line_length (c ∷ line))) ≡ suc (length (c ∷ line)) →
+    lines_of (b ∷ ((c ∷ line) ++ more)) ≡ (b ∷ ((c ∷ line) ++ more)) ∷ []) [
+      | true ↦ λ ends h. absurd (omega (arith, h))
+      | false ↦ λ goes h.
+          ap (λ (t : Bool). cond t ((b ∷ []) ∷ lines_of ((c ∷ line) ++ more)) (onto_first b (lines_of ((c ∷ line) ++ more)))) goes ∙
+          ap (λ (ls : List (List ℕ)). onto_first b ls) (one_line (c ∷ line) more (omega (arith, h)) blank one)
+    ] refl whole
+
+-- what stands last, and is X (88), is said last
+x_said : (octets : List ℕ) (behind : Bool) → (text : List ℕ) × (said_behind behind (octets ++ 88 ∷ []) ≡ text ++ 88 ∷ [])
+x_said [] true = ([], refl)
+x_said [] false = ([], refl)
+x_said (b ∷ octets) behind =
+    elim (b == 10) as (λ (t : Bool). (text : List ℕ) × (cond t (said_behind true (octets ++ 88 ∷ []))
+    (cond (is_return b (octets ++ 88 ∷ []) || (behind && is_blank b)) (said_behind false (octets ++ 88 ∷ []))
+    (b ∷ said_behind false (octets ++ 88 ∷ []))) ≡ text ++ 88 ∷ [])) [
+      | true ↦ x_said octets true
+      | false ↦ elim (is_return b (octets ++ 88 ∷ []) || (behind && is_blank b)) as (λ (t : Bool). (text : List ℕ)
+          × (cond t (said_behind false (octets ++ 88 ∷ [])) (b ∷ said_behind false (octets ++ 88 ∷ [])) ≡ text ++ 88 ∷ [])) [
+            | true ↦ x_said octets false
+            | false ↦ let rest = x_said octets false in (b ∷ rest.0, ap (λ (t : List ℕ). b ∷ t) rest.1)
+          ]
+    ]
+
+not_among : (x : ℕ) (xs : List ℕ) (i : ℕ) → list_any (λ c. c == x) xs ≡ false → i < length xs → get_or xs i 0 ≡ x → ⊥
+not_among x [] i none within is = omega (arith, within)
+not_among x (y ∷ xs) zero none within is =
+    let apart : y ≢ x = eqb-false y x (or_parts (y == x) (list_any (λ c. c == x) xs) none).0 in apart is
+not_among x (y ∷ xs) (suc i) none within is =
+    not_among x xs i (or_parts (y == x) (list_any (λ c. c == x) xs) none).1 (omega (arith, within)) is
+
+-- a line that ends in X neither ends a calendar nor is empty
+x_line : (octets : List ℕ) → (ends_calendar (octets ++ 88 ∷ []) ≡ false) × (is_empty (octets ++ 88 ∷ []) ≡ false)
+x_line octets =
+    let text = x_said octets false in
+    let other = says_else text.0 88 (λ short at. not_among 88 (codes "END:VCALENDAR") (length text.0) refl short at) [] in (
+      ap (λ (t : List ℕ). same_text (map to_ascii_uppercase t) (codes "END:VCALENDAR")) text.1 ∙ other.ends,
+      ap (λ (t : List ℕ). same_text (map to_ascii_uppercase t) []) text.1 ∙ other.empty,
+    )
+
+-- the line goes on behind a fold, and says X last: the message has all octets
+module _ (octets line : List ℕ) (all_empty : Bool) (begun : StaysPassing octets line all_empty) (whole : line_length line ≡ length line)
+  where
+    all_of_it : (front : List ℕ) → begins_blank (front ++ 88 ∷ []) ≡ true → lines_of (front ++ 88 ∷ []) ≡ (front ++ 88 ∷ []) ∷ [] →
+        messages_of (octets ++ (front ++ 88 ∷ [])) ≡ (octets ++ (front ++ 88 ∷ [])) ∷ []
+    unfolding messages_of
+    all_of_it front blank one =
+        let more : List ℕ = front ++ 88 ∷ [] in
+        let came = begun more in
+        let last : List ℕ = line ++ more in
+        let says : (ends_calendar last ≡ false) × (is_empty last ≡ false) =
+        subst (λ (t : List ℕ). (ends_calendar t ≡ false) × (is_empty t ≡ false)) (append_assoc line front (88 ∷ [])) (x_line (line ++ front)) in
+        let lines : lines_of (octets ++ more) ≡ came.passed ++ last ∷ [] =
+        came.lines ∙ ap (λ (ls : List (List ℕ)). came.passed ++ ls) (one_line line more whole blank one) in
+        let some : list_all is_empty (came.passed ++ last ∷ []) ≡ false =
+        list_all-append is_empty came.passed (last ∷ []) ∙ ap (λ (b : Bool). list_all is_empty came.passed && (b && true)) says.1 ∙
+        and_false (list_all is_empty came.passed) in
+        let text : concat (came.passed ++ last ∷ []) ≡ octets ++ more = concat_push came.passed last ∙ sym came.whole in
+        ap (λ (ls : List (List ℕ)). texts_of (groups_of ls)) lines
+        ∙ none_texts (came.passed ++ last ∷ []) (none_ends_more came.passed last came.none_ends says.0)
+        ∙ ap (λ (b : Bool). cond b [] (concat (came.passed ++ last ∷ []) ∷ [])) some
+        ∙ ap (λ (t : List ℕ). t ∷ []) text
+
+    first_is : (front cut after : List ℕ) → begins_blank (front ++ 88 ∷ []) ≡ true →
+        lines_of (front ++ 88 ∷ []) ≡ (front ++ 88 ∷ []) ∷ [] → StaysCut octets cut after → octets ++ (front ++ 88 ∷ []) ≡ cut
+    first_is front cut after blank one stays =
+        let same : (octets ++ (front ++ 88 ∷ [])) ∷ [] ≡ cut ∷ messages_of (after ++ (front ++ 88 ∷ [])) =
+        sym (all_of_it front blank one) ∙ (stays (front ++ 88 ∷ [])).messages in
+        cc
+
+    -- no message is cut off that is the same whatever follows: with an octet more the first has one more
+    pub not_cut : (cut after : List ℕ) → StaysCut octets cut after → ⊥
+    not_cut cut after stays =
+        let one : length (octets ++ 32 ∷ (88 ∷ [])) ≡ length cut = ap length (first_is (32 ∷ []) cut after refl refl stays) in
+        let two : length (octets ++ 32 ∷ (88 ∷ (88 ∷ []))) ≡ length cut = ap length (first_is (32 ∷ (88 ∷ [])) cut after refl refl stays) in
+        let short = length-append octets (32 ∷ (88 ∷ [])) in
+        let long = length-append octets (32 ∷ (88 ∷ (88 ∷ []))) in
+        omega (arith, one, two, short, long)

@@ -1,4 +1,5 @@
 pub mod BegunMessages
+pub mod Building
 pub mod Cuts
 pub mod Dating
 pub mod DraftItems
@@ -12,6 +13,7 @@ pub mod Messages
 pub mod OneCut
 pub mod OneDraft
 pub mod OneMessage
+pub mod Parted
 pub mod Placing
 pub mod Plain
 pub mod Properties
@@ -23,3 +25,4 @@ pub mod SomeMessage
 pub mod Stages
 pub mod StaysPassing
 pub mod Unfolding
+pub mod BeforeRanges

@@ -1,11 +1,12 @@
 -- The lines of a canonical form are framed, have a head, and hold one to-do.
-use Rattle.std.proofs.Common.{◌≡◌, ◌∙◌, sym, ap, refl, ℕ, Bool, true, false, List, [], ◌∷◌, ◌++◌, length, map, append-nil, append_assoc}
+use Rattle.std.proofs.Common.{◌≡◌, ◌∙◌, sym, ap, refl, ℕ, Bool, true, false, List, [], ◌∷◌, ◌++◌, map, append-nil, append_assoc}
 use Rattle.std.proofs.Common.{subst, Option, Some, None, Ok, IsTrue}
 use Rattle.std.specs.Prelude.{Result, not, ◌||◌, codes}
 use Rattle.std.specs.List.{AllByRecursion, list_all}
 use Rattle.std.proofs.lemmas.Bool.{and_parts}
 use Rattle.itip_lines.specs.Reading.{line_at, plain_lines}
 use Rattle.itip_lines.specs.declared.line.Line.{Line}
+use Rattle.itip_lines.specs.declared.line.Param.{Param}
 use Rattle.itip_lines.specs.declared.line.NumberedLine.{NumberedLine}
 use Rattle.itip_todo.specs.Lawful.{IsLawfulContent}
 use Rattle.itip_todo.specs.Parts.{Parts}
@@ -15,7 +16,7 @@ use Rattle.itip_message.specs.Frame.{frame, place, with_front, begun, todos, tod
 use Rattle.itip_items.specs.Needs.{is_begin, is_end}
 use Rattle.itip_todo.specs.Participation.{same_text}
 use Rattle.itip_message.specs.Head.{head, head_of}
-use Rattle.itip_items.specs.Items.{bare, canonical_contents, method_of, method_text}
+use Rattle.itip_items.specs.Items.{bare, method_of, method_text}
 use Rattle.itip_items.specs.Needs.{is_property}
 use Rattle.itip_message.specs.declared.sort.Component.{Component}
 use Rattle.itip_message.specs.declared.frame.Placed.{Placed}
@@ -80,7 +81,7 @@ parts_properties p h = (
 
 -- they are placed in the to-do
 
-abbrev ends : List Content
+abbrev pub ends : List Content
 ends = bare (codes "END") (codes "VTODO") ∷ bare (codes "END") (codes "VCALENDAR") ∷ []
 
 abbrev front : (cs ds : List Content) → AllByRecursion IsLawfulContent (cs ++ ds) → AllByRecursion IsLawfulContent cs
@@ -177,19 +178,25 @@ pub record IsFramed (k : Kind) (p : Parts) (lines : List NumberedLine) : Type 0 
   pub todos_are : todos placed ≡ inner ∷ []
   pub contents : map content_of (plain_lines inner.lines) ≡ parts_contents p
 
-abbrev product : Content
-product = bare (codes "PRODID") (codes "-//itipdesk//1//EN")
+abbrev pub product : List Param → Content
+product params = record { name = codes "PRODID"; params = params; value = codes "-//itipdesk//1//EN" }
 
-abbrev version : Content
-version = bare (codes "VERSION") (codes "2.0")
+abbrev pub version : List Param → Content
+version params = record { name = codes "VERSION"; params = params; value = codes "2.0" }
 
-abbrev method_line : Kind → Content
+abbrev pub method_line : Kind → Content
 method_line k = bare (codes "METHOD") (method_text (method_of k))
 
-head_is : (k : Kind) (l m n : ℕ) (a : IsLawfulContent product) (b : IsLawfulContent version) (c : IsLawfulContent (method_line k))
-    (todo : Component)
-    → head_of (line_at l (line_of product a) ∷ line_at m (line_of version b) ∷ line_at n (line_of (method_line k) c) ∷ []) (todo ∷ []) ≡ Ok
-    (method_of k)
+-- the canonical form, with these parameters of PRODID and VERSION
+abbrev pub marked_contents : List Param → List Param → Kind → Parts → List Content
+marked_contents ps vs k p =
+    (bare (codes "BEGIN") (codes "VCALENDAR") ∷ product ps ∷ version vs ∷ method_line k ∷ bare (codes "BEGIN") (codes "VTODO") ∷ [])
+    ++ (parts_contents p ++ ends)
+
+head_is : {ps vs : List Param} (k : Kind) (l m n : ℕ) (a : IsLawfulContent (product ps)) (b : IsLawfulContent (version vs))
+    (c : IsLawfulContent (method_line k)) (todo : Component)
+    → head_of (line_at l (line_of (product ps) a) ∷ line_at m (line_of (version vs) b) ∷ line_at n (line_of (method_line k) c) ∷ [])
+    (todo ∷ []) ≡ Ok (method_of k)
 head_is kind.Request l m n a b c todo = refl
 head_is kind.Add l m n a b c todo = refl
 head_is kind.Remove l m n a b c todo = refl
@@ -198,29 +205,29 @@ head_is kind.Reply l m n a b c todo = refl
 head_is kind.Refresh l m n a b c todo = refl
 
 -- the five lines before those of the to-do, where each has some number
-module _ (k : Kind) (p : Parts) (h : AllByRecursion IsLawfulContent (canonical_contents k p)) where
+module _ (ps vs : List Param) (k : Kind) (p : Parts) (h : AllByRecursion IsLawfulContent (marked_contents ps vs k p)) where
   abbrev before : ℕ → ℕ → ℕ → ℕ → List Placed
-  before l m n o = CalendarLine (line_at l (line_of product h.1.0)) ∷ CalendarLine (line_at m (line_of version h.1.1.0)) ∷
+  before l m n o = CalendarLine (line_at l (line_of (product ps) h.1.0)) ∷ CalendarLine (line_at m (line_of (version vs) h.1.1.0)) ∷
       CalendarLine (line_at n (line_of (method_line k) h.1.1.1.0)) ∷ TodoBegins o ∷ []
 
   framed_so : (a b c d e : NumberedLine) (rest inner : List NumberedLine)
-      → a.line ≡ line_of (bare (codes "BEGIN") (codes "VCALENDAR")) h.0 → b.line ≡ line_of product h.1.0 →
-      c.line ≡ line_of version h.1.1.0 → d.line ≡ line_of (method_line k) h.1.1.1.0 →
+      → a.line ≡ line_of (bare (codes "BEGIN") (codes "VCALENDAR")) h.0 → b.line ≡ line_of (product ps) h.1.0 →
+      c.line ≡ line_of (version vs) h.1.1.0 → d.line ≡ line_of (method_line k) h.1.1.1.0 →
       e.line ≡ line_of (bare (codes "BEGIN") (codes "VTODO")) h.1.1.1.1.0
       → place inside rest ≡ Ok (map TodoLine inner) →
       frame (a ∷ b ∷ c ∷ d ∷ e ∷ rest) ≡ Ok (before b.number c.number d.number e.number ++ map TodoLine inner)
   framed_so a b c d e rest inner x y z u v placed =
       (λ i. frame (line_at a.number (x i) ∷ line_at b.number (y i) ∷ line_at c.number (z i) ∷ line_at d.number (u i) ∷
       line_at e.number (v i) ∷ rest))
-      ∙ ap (λ (r : Result (List Placed) MessageRefusal). with_front (CalendarLine (line_at b.number (line_of product h.1.0)) ∷ [])
-      (with_front (CalendarLine (line_at c.number (line_of version h.1.1.0)) ∷ [])
+      ∙ ap (λ (r : Result (List Placed) MessageRefusal). with_front (CalendarLine (line_at b.number (line_of (product ps) h.1.0)) ∷ [])
+      (with_front (CalendarLine (line_at c.number (line_of (version vs) h.1.1.0)) ∷ [])
       (with_front (CalendarLine (line_at d.number (line_of (method_line k) h.1.1.1.0)) ∷ [])
       (with_front (TodoBegins e.number ∷ []) r)))) placed
 
-pub canonical_framed : (k : Kind) (p : Parts) (h : AllByRecursion IsLawfulContent (canonical_contents k p)) →
-    IsTrue (list_all is_property p.others) → (ns : List NumberedLine) → plain_lines ns ≡ lines_from (canonical_contents k p) h →
+pub marked_framed : (ps vs : List Param) (k : Kind) (p : Parts) (h : AllByRecursion IsLawfulContent (marked_contents ps vs k p)) →
+    IsTrue (list_all is_property p.others) → (ns : List NumberedLine) → plain_lines ns ≡ lines_from (marked_contents ps vs k p) h →
     IsFramed k p ns
-canonical_framed k p h others ns e =
+marked_framed ps vs k p h others ns e =
     let cs : List Content = parts_contents p in
     let a = begins ns _ _ e in
     let b = begins a.others _ _ a.are in
@@ -234,11 +241,11 @@ canonical_framed k p h others ns e =
     ap (λ (ls : List NumberedLine). b.first ∷ ls) (c.whole ∙
     ap (λ (ls : List NumberedLine). c.first ∷ ls) (d.whole ∙ ap (λ (ls : List NumberedLine). d.first ∷ ls) f.whole))) in
     record {
-      placed = before k p h b.first.number c.first.number d.first.number f.first.number ++ map TodoLine rest.inner;
+      placed = before ps vs k p h b.first.number c.first.number d.first.number f.first.number ++ map TodoLine rest.inner;
       inner = with_lines first rest.inner;
-      framed = ap frame all ∙ framed_so k p h a.first b.first c.first d.first f.first f.others rest.inner a.is b.is c.is d.is f.is
+      framed = ap frame all ∙ framed_so ps vs k p h a.first b.first c.first d.first f.first f.others rest.inner a.is b.is c.is d.is f.is
           rest.placed;
-      headed = (λ i. head_of (line_at b.first.number (line_of product h.1.0) ∷ line_at c.first.number (line_of version h.1.1.0) ∷
+      headed = (λ i. head_of (line_at b.first.number (line_of (product ps) h.1.0) ∷ line_at c.first.number (line_of (version vs) h.1.1.0) ∷
           line_at d.first.number (line_of (method_line k) h.1.1.1.0) ∷ none_calendar rest.inner i) (one_todo first rest.inner i))
           ∙ head_is k b.first.number c.first.number d.first.number h.1.0 h.1.1.0 h.1.1.1.0 (with_lines first rest.inner);
       todos_are = one_todo first rest.inner;

@@ -4,9 +4,12 @@ pub mod Head
 pub mod Sorting
 pub mod CauseLines
 pub mod Message
+pub mod Several
 pub mod Drafts
+pub mod Building
 pub mod RefusalNumbers
 pub mod Cutting
 pub mod Scanned
 pub mod Passing
 pub mod Begun
+pub mod Parting

@@ -6,7 +6,8 @@ use Rattle.itip_lines.specs.Reading.{plain_lines}
 use Rattle.itip_lines.specs.declared.error.LineRefusal.{LineRefusal}
 use Rattle.itip_lines.specs.declared.line.NumberedLine.{NumberedLine}
 use Rattle.itip_todo.specs.PartsOf.{parts_of}
-use Rattle.itip_todo.specs.Reading.{ReadsTodo, RefusesTodo}
+use Rattle.itip_todo.specs.Limits.{Limits, present}
+use Rattle.itip_todo.specs.Reading.{ReadsTodo, ReadsTodoWithin, RefusesTodo}
 use Rattle.itip_todo.specs.declared.error.TodoRefusal.{TodoRefusal}
 use Rattle.itip_todo.specs.declared.todo.Todo.{Todo}
 use Rattle.itip_items.specs.Given.{AreItemsOf, FirstOver, drafts_each}
@@ -25,10 +26,13 @@ use Rattle.itip_message.specs.declared.sort.Component.{Component}
 use Rattle.itip_message.specs.declared.error.MessageCause.TheVariants as causes
 use Rattle.itip_message.specs.declared.error.MessageRefusal.{MessageRefusal}
 
--- the component is this to-do, and it is what the method needs
-pub record ReadsComponent (m : Method) (component : Component) (todo : Todo) : Type 0 where
-  pub reads : ReadsTodo (plain_lines component.lines) todo
+-- the component is this to-do, within these limits of to-dos, and it is what the method needs
+pub record ReadsComponentWithin (limits : Limits) (m : Method) (component : Component) (todo : Todo) : Type 0 where
+  pub reads : ReadsTodoWithin limits (plain_lines component.lines) todo
   pub fits : method_cause m (parts_of todo) ≡ None
+
+abbrev pub ReadsComponent : Method → Component → Todo → Type 0
+ReadsComponent = ReadsComponentWithin present
 
 -- the component of this number is no to-do, or one that is not what the method needs
 abbrev pub RefusesComponent : Method → ℕ → Component → MessageRefusal → Type 0
@@ -37,12 +41,16 @@ RefusesComponent m number component refusal =
     ⊎ ((todo : Todo) × (cause : MethodCause) × ReadsTodo (plain_lines component.lines) todo × (method_cause m (parts_of todo) ≡ Some cause)
     × (refusal ≡ in_todo number (causes.Misfit cause) (line_of_cause cause component.lines)))
 
--- these components are these to-dos
+-- these components are these to-dos, within these limits
+abbrev pub AreComponentsWithin : Limits → Method → List Component → List Todo → Type 0
+AreComponentsWithin limits m [] [] = Unit {0}
+AreComponentsWithin limits m [] (todo ∷ todos) = ⊥
+AreComponentsWithin limits m (component ∷ components) [] = ⊥
+AreComponentsWithin limits m (component ∷ components) (todo ∷ todos) =
+    ReadsComponentWithin limits m component todo × AreComponentsWithin limits m components todos
+
 abbrev pub AreComponents : Method → List Component → List Todo → Type 0
-AreComponents m [] [] = Unit {0}
-AreComponents m [] (todo ∷ todos) = ⊥
-AreComponents m (component ∷ components) [] = ⊥
-AreComponents m (component ∷ components) (todo ∷ todos) = ReadsComponent m component todo × AreComponents m components todos
+AreComponents = AreComponentsWithin present
 
 -- the refusal of the first component that is refused; the first of all has the number `number`
 abbrev pub FirstRefused : Method → ℕ → List Component → MessageRefusal → Type 0
@@ -60,15 +68,18 @@ pub record HasHead (bytes : List ℕ) (m : Method) (components : List Component)
   pub headed : head placed ≡ Ok m
   pub components_are : components ≡ todos placed
 
--- the octets are a message that gives these items, by to-do and then by ATTENDEE line
-pub record ReadsMessage (bytes : List ℕ) (items : List Item) : Type 0 where
+-- the octets are a message that gives these items, by to-do and then by ATTENDEE line, within these limits of to-dos
+pub record ReadsMessageWithin (limits : Limits) (bytes : List ℕ) (items : List Item) : Type 0 where
   pub method_is : Method
   pub components : List Component
   pub all : List Todo
   pub begins : HasHead bytes method_is components
-  pub read : AreComponents method_is components all
+  pub read : AreComponentsWithin limits method_is components all
   pub within : AllByRecursion IsWithinLimits (drafts method_is (map parts_of all))
   pub items_are : AreItemsOf (drafts method_is (map parts_of all)) items
+
+abbrev pub ReadsMessage : List ℕ → List Item → Type 0
+ReadsMessage = ReadsMessageWithin present
 
 -- all components are read, and the to-do of this number is the first with a canonical form that is too large
 pub record IsTooLarge (bytes : List ℕ) (todo : ℕ) : Type 0 where

@@ -1,9 +1,10 @@
 //! Cutting a text of many messages, such as a delta, into messages. Nothing is copied: each is a slice of the text.
-ghost use Rattle.std.specs.Prelude.{◌≡◌, ◌<◌, ◌≤◌, [], length, MatchOption, IfSome, IfNone, IfOk, IfErr};
+ghost use Rattle.std.specs.Prelude.{◌≡◌, ◌<◌, ◌≤◌, ℕ, List, [], length, MatchOption, IfSome, IfNone, IfOk, IfErr, IsOk};
 ghost use Rattle.itip_message.specs.Begun.{IsBegun};
 ghost use Rattle.itip_message.specs.Scanned.{begins_blank, ends_line, line_length, is_return, says, said, is_empty, ends_calendar};
 ghost use Rattle.itip_message.specs.Scanned.{messages_of, CutsMessage, StaysCut};
 ghost use Rattle.itip_message.specs.Passing.{IsFirstLine, StaysFirstLine, SaysFirst, is_left_out};
+ghost use Rattle.itip_message.specs.Parting.{ClosesLine};
 ghost use Rattle.itip_lines.specs.Cutting.{is_blank};
 
 use crate::begun::BegunMessage;
@@ -34,8 +35,11 @@ pub fn next_message(bytes: &[u8]) -> Option<(&[u8], &[u8])>
 /// The first message of some octets that others may follow, and what stands behind it; or else what is known of the message that
 /// these octets begin, where it is not known yet where it ends: a line is at its end only where an octet behind it shows that no
 /// fold goes on.
+///
+/// A message is cut off wherever there is one that is the same whatever follows.
 pub fn cut_message(bytes: &[u8]) -> Result<(&[u8], &[u8]), BegunMessage<'_>>
     ensures cut { IfOk result (λ cut. StaysCut bytes.now cut.0.now cut.1.now) }
+    ensures finds { (message after : List ℕ) → StaysCut bytes.now message after → IsOk result }
     ensures begun { IfErr result IsBegun }
     ensures octets { IfErr result (λ message. message.octets.now ≡ bytes.now) }
 {
@@ -57,10 +61,11 @@ pub fn cut_message(bytes: &[u8]) -> Result<(&[u8], &[u8]), BegunMessage<'_>>
 }
 
 /// The first line as it came, with its folds and its break, and what follows it, where an octet behind shows that it is at its end.
-fn whole_line(bytes: &[u8]) -> Option<(&[u8], &[u8])>
+pub(crate) fn whole_line(bytes: &[u8]) -> Option<(&[u8], &[u8])>
     ensures stays { IfSome result (λ cut. StaysFirstLine bytes.now cut.0.now cut.1.now) }
     ensures shorter { IfSome result (λ cut. length cut.1.now < length bytes.now) }
     ensures some { IfSome result (λ cut. 0 < length cut.1.now) }
+    ensures ends { IfSome result (λ cut. ClosesLine cut.0.now cut.1.now) }
     ensures goes_on { IfNone result (line_length bytes.now ≡ length bytes.now) }
 {
     let end = line_length(bytes);
@@ -127,7 +132,8 @@ fn is_return(b: u8, after: &[u8]) -> bool
     }
 }
 
-fn ends_calendar(line: &[u8]) -> bool
+/// Whether a line, unfolded and without regard to case, is END:VCALENDAR.
+pub(crate) fn ends_calendar(line: &[u8]) -> bool
     ensures { result ≡ ends_calendar line.now }
 {
     says(line, b"END:VCALENDAR")

@@ -155,13 +155,13 @@ fn place_end(
     Ok(None)
 }
 
-fn is_begin(line: &Line) -> bool
+pub(crate) fn is_begin(line: &Line) -> bool
     ensures { result ≡ is_begin line.now }
 {
     line.name.as_str() == "BEGIN"
 }
 
-fn is_end(line: &Line) -> bool
+pub(crate) fn is_end(line: &Line) -> bool
     ensures { result ≡ is_end line.now }
 {
     line.name.as_str() == "END"

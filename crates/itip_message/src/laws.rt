@@ -2,13 +2,15 @@
 ghost use Rattle.std.specs.Prelude.{◌≡◌, ◌⊎◌, ◌∷◌, [], List, ℕ, map};
 ghost use Rattle.std.specs.List.{AllByRecursion};
 ghost use Rattle.itip_message.specs.Cutting.{IsCutInto};
-ghost use Rattle.itip_message.specs.Message.{ReadsMessage, RefusesMessage};
+ghost use Rattle.itip_message.specs.Message.{ReadsMessage, ReadsMessageWithin, RefusesMessage};
+ghost use Rattle.itip_message.specs.Several.{ReadsMessagesWithin};
 ghost use Rattle.itip_message.specs.Drafts.{ReadsDraft, RefusesDraft, IsUndated, HasCanonicalBase};
 ghost use Rattle.itip_message.specs.CauseLines.{NamesPlace};
 ghost use Rattle.itip_message.specs.declared.error.MessageRefusal.{MessageRefusal};
 ghost use Rattle.itip_items.specs.Needs.{Suits};
 ghost use Rattle.itip_items.specs.declared.item.Item.{Item};
 ghost use Rattle.itip_items.specs.declared.kind.Method.TheVariants as method;
+ghost use Rattle.itip_todo.specs.Limits.{present, before_ranges};
 ghost use Rattle.itip_todo.specs.PartsOf.{parts_of};
 ghost use Rattle.itip_todo.specs.declared.todo.Todo.{Todo};
 
@@ -36,6 +38,14 @@ pub fn one_reading()
     ensures apart { (bytes : List ℕ) (items : List Item) (refusal : MessageRefusal)
         → ReadsMessage bytes items → RefusesMessage bytes refusal → ⊥ }
     ensures place { (bytes : List ℕ) (refusal : MessageRefusal) → RefusesMessage bytes refusal → NamesPlace refusal }
+{}
+
+/// A message that was read before instances had ranges is read as the same items, and so are the messages of a delta: before, RANGE
+/// was refused, and more than 500 attendees of a to-do were. What differs is a limit of reading, of which these are two values.
+pub fn read_as_before()
+    ensures message { (bytes : List ℕ) (items : List Item) → ReadsMessageWithin before_ranges bytes items → ReadsMessage bytes items }
+    ensures messages { (bytes : List ℕ) (given : List (List Item))
+        → ReadsMessagesWithin before_ranges bytes given → ReadsMessagesWithin present bytes given }
 {}
 
 /// A text is read as the to-dos of one draft, or it is refused for one cause in one place, and not both. None of the to-dos has a

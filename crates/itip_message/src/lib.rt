@@ -3,6 +3,7 @@
 #![tactic(auto)]
 
 mod begun;
+mod builder;
 mod cause_lines;
 mod components;
 mod cutting;
@@ -11,17 +12,18 @@ mod error;
 mod frame;
 mod head;
 mod laws;
-mod parallel;
+mod parting;
 mod read;
 mod sort;
 
 pub use begun::{BegunMessage, stand_in};
+pub use builder::TodoBuilder;
 pub use cutting::{cut_message, next_message};
 pub use draft::read_draft;
 pub use error::{MessageCause, MessageRefusal, ReadError};
 pub use frame::Placed;
-pub use laws::{message_cutting, one_draft, one_reading, read_again};
-pub use parallel::read_all;
+pub use laws::{message_cutting, one_draft, one_reading, read_again, read_as_before};
+pub use parting::part_messages;
 pub use read::read_message;
 pub use sort::Component;
 pub use std::alloc::AllocError as NoMemory;

@@ -1,10 +1,12 @@
 -- What a text spells beside a zone, and that one that spells no date, no date-time in UTC and no local one spells no moment.
 use Rattle.std.proofs.Common.{◌≡◌, ◌∙◌, refl, sym, ap, ℕ, ℤ, List, [], Bor, Option, Some, None, unwrap_or, IfSome, IfNone, IfOk, Result, Ok, Err}
 use Rattle.std.specs.Prelude.{option_copied}
+use Rattle.itip_moment.specs.declared.stamp.Stamp.{Stamp}
 use Rattle.itip_moment.specs.declared.moment.Moment.{Moment}
 use Rattle.itip_moment.specs.declared.moment.Moment.TheVariants.{Date, Floating, Utc, Zoned}
 use Rattle.itip_moment.specs.Spelling.{IsDateText, IsLocalText, IsUtcText, MomentText}
-use Rattle.itip_moment.specs.Zone.{Name}
+use Rattle.itip_moment.specs.Moment.{local_moment}
+use Rattle.itip_moment.specs.Zone.{Name, zone_text}
 use Rattle.itip_moment.proofs.OptionLemmas.{Some-one}
 
 pub no_moment : (text : List ℕ) (tzid : Option (List ℕ)) → ((day : ℤ) → IsDateText text day → ⊥) →
@@ -26,30 +28,30 @@ named : (tzid : Option (List ℕ)) (text : List ℕ) (zone : Name) → text ≡ 
 named None text zone e same = absurd (zone.not_empty (sym (Some-one same) ∙ e))
 named (Some tzid) text zone e same = ap Some (sym e ∙ Some-one same)
 
-beside : (text zone : List ℕ) (tzid : Option (List ℕ)) → zone ≡ unwrap_or tzid [] → (m : Moment) → MomentText text (Some zone) m →
-    MomentText text tzid m
-beside text zone tzid e (Date day) is = is
-beside text zone tzid e (Floating stamp) is = (is.0, sym e ∙ is.1)
-beside text zone tzid e (Utc stamp) is = is
-beside text zone tzid e (Zoned name stamp) is = (is.0, named tzid zone name e is.1)
+-- a text that spells no local time is read alike beside any TZID
+unzoned : (text : List ℕ) (a b : Option (List ℕ)) → ((day : ℤ) (second : ℕ) → IsLocalText text day second → ⊥) → (m : Moment) →
+    MomentText text a m → MomentText text b m
+unzoned text a b local (Date day) is = is
+unzoned text a b local (Floating stamp) is = absurd (local stamp.day stamp.second is.0)
+unzoned text a b local (Utc stamp) is = is
+unzoned text a b local (Zoned zone stamp) is = absurd (local stamp.day stamp.second is.0)
 
-beside_back : (text zone : List ℕ) (tzid : Option (List ℕ)) → zone ≡ unwrap_or tzid [] → (m : Moment) → MomentText text tzid m →
-    MomentText text (Some zone) m
-beside_back text zone tzid e (Date day) is = is
-beside_back text zone tzid e (Floating stamp) is = (is.0, e ∙ is.1)
-beside_back text zone tzid e (Utc stamp) is = is
-beside_back text zone tzid e (Zoned name stamp) is = (is.0, ap Some (e ∙ ap (λ t. unwrap_or t []) is.1))
+pub found_unzoned : {E : Type 0} (r : Result (Option Moment) E) (text : List ℕ) (a b : Option (List ℕ)) →
+    ((day : ℤ) (second : ℕ) → IsLocalText text day second → ⊥) → IfOk r (λ o. IfSome o (MomentText text a)) →
+    IfOk r (λ o. IfSome o (MomentText text b))
+found_unzoned (Ok (Some m)) text a b local is = unzoned text a b local m is
+found_unzoned (Ok None) text a b local is = tt
+found_unzoned (Err error) text a b local is = tt
 
--- what is read beside a zone is what is read beside its TZID
-pub found_beside : {E : Type 0} (r : Result (Option Moment) E) (text : List ℕ) (tzid : Option (List ℕ)) (zone : List ℕ) →
-    zone ≡ unwrap_or tzid [] → IfOk r (λ o. IfSome o (MomentText text (Some zone))) → IfOk r (λ o. IfSome o (MomentText text tzid))
-found_beside (Ok (Some m)) text tzid zone e is = beside text zone tzid e m is
-found_beside (Ok None) text tzid zone e is = tt
-found_beside (Err error) text tzid zone e is = tt
+pub none_unzoned : {E : Type 0} (r : Result (Option Moment) E) (text : List ℕ) (a b : Option (List ℕ)) →
+    ((day : ℤ) (second : ℕ) → IsLocalText text day second → ⊥) → IfOk r (λ o. IfNone o ((m : Moment) → MomentText text a m → ⊥)) →
+    IfOk r (λ o. IfNone o ((m : Moment) → MomentText text b m → ⊥))
+none_unzoned (Ok (Some m)) text a b local none = tt
+none_unzoned (Ok None) text a b local none = λ m is. none m (unzoned text b a local m is)
+none_unzoned (Err error) text a b local none = tt
 
-pub none_beside : {E : Type 0} (r : Result (Option Moment) E) (text : List ℕ) (tzid : Option (List ℕ)) (zone : List ℕ) →
-    zone ≡ unwrap_or tzid [] → IfOk r (λ o. IfNone o ((m : Moment) → MomentText text (Some zone) m → ⊥)) →
-    IfOk r (λ o. IfNone o ((m : Moment) → MomentText text tzid m → ⊥))
-none_beside (Ok (Some m)) text tzid zone e none = tt
-none_beside (Ok None) text tzid zone e none = λ m is. none m (beside_back text zone tzid e m is)
-none_beside (Err error) text tzid zone e none = tt
+-- a local time is the moment in the zone that TZID names
+pub local_found : (text : List ℕ) (tzid : Option (List ℕ)) (zone : Option Name) (stamp : Stamp) →
+    IsLocalText text stamp.day stamp.second → zone_text zone ≡ unwrap_or tzid [] → MomentText text tzid (local_moment zone stamp)
+local_found text tzid None stamp is e = (is, sym e)
+local_found text tzid (Some name) stamp is e = (is, named tzid name.bytes name e refl)

@@ -7,4 +7,5 @@ pub mod Moment
 pub mod Order
 pub mod OrderLaws
 pub mod Shift
+pub mod Room
 pub mod Shown

@@ -1,5 +1,7 @@
 -- The parts of a moment: its form, its day, its second of the day, its zone (our own form).
 use Rattle.std.specs.Prelude.{ℕ, ℤ, Option, Some, None, List, []}
+use Rattle.itip_moment.specs.Zone.{Name}
+use Rattle.itip_moment.specs.declared.stamp.Stamp.{Stamp}
 use Rattle.itip_moment.specs.declared.moment.Form as form
 use Rattle.itip_moment.specs.declared.moment.Form.{Form}
 use Rattle.itip_moment.specs.declared.moment.Moment.{Moment}
@@ -38,3 +40,8 @@ moment_zone (Date day) = []
 moment_zone (Floating stamp) = []
 moment_zone (Utc stamp) = []
 moment_zone (Zoned zone stamp) = zone.bytes
+
+-- a local time in a zone, floating where there is none
+abbrev pub local_moment : Option Name → Stamp → Moment
+local_moment None stamp = Floating stamp
+local_moment (Some zone) stamp = Zoned zone stamp

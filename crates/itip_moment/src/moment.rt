@@ -84,8 +84,13 @@ impl Moment {
     }
 }
 
+/// A moment in no zone is cloned without any memory.
 impl Clone for Moment {
+    ghost use Rattle.itip_moment.specs.Room.{IsInNoZone};
+
     ghost is_clone = { λ m copy. copy ≡ m };
+
+    ghost is_infallible = { IsInNoZone };
 
     fn clone(&self) -> Result<Moment, AllocError> {
         Ok(match self {

@@ -1,4 +1,6 @@
-ghost use Rattle.std.specs.Prelude.{◌<◌, ◌≢◌, ℕ, ℤ, [], Some, option_copied, unwrap_or, IfSome, IfNone, IfOk, OnErr};
+ghost use Rattle.std.specs.Prelude.{◌≡◌, ◌<◌, ◌≢◌, ℕ, ℤ, [], Some, option_copied, unwrap_or, IfSome, IfNone, IfOk, IsOk, OnErr};
+ghost use Rattle.itip_moment.specs.Moment.{local_moment};
+ghost use Rattle.itip_moment.specs.Room.{IsZonedText};
 ghost use Rattle.itip_moment.specs.Spelling.{IsDayOf, IsDateText, IsClockText, IsLocalText, IsUtcText, IsStampText, MomentText};
 ghost use Rattle.itip_moment.specs.Zone.{zone_text};
 ghost use Rattle.itip_moment.specs.declared.stamp.Stamp.{Stamp};
@@ -33,7 +35,7 @@ pub fn read_stamp(text: &str) -> Option<Stamp>
 ///
 /// The text decides the form: TZID names the zone of a date-time without `Z` alone, which is floating
 /// where TZID is absent or empty. `None` of any other text. An error only when out of memory for the
-/// zone's name.
+/// zone's name, which only a date-time without `Z` beside a TZID has.
 pub fn read_moment(
     alloc: Global,
     text: &str,
@@ -43,22 +45,36 @@ pub fn read_moment(
     ensures none { IfOk result (λ r. IfNone r (
         (m : Moment) → MomentText text.now (option_copied tzid.entry) m → ⊥)) }
     ensures err { OnErr result (unwrap_or (option_copied tzid.entry) [] ≢ []) }
+    ensures room { ¬ IsZonedText text.now (option_copied tzid.entry) → IsOk result }
 {
+    let Some(stamp) = local(text.as_bytes()) else {
+        // A date and a time in UTC stand in no zone, whatever TZID says.
+        return read_moment_in(text, None);
+    };
     let zone = ZoneName::new(alloc, tzid.unwrap_or(""))?;
-    let moment = read_moment_in(text, zone.as_ref());
-    // By a call: what is dropped in place is proved anew.
-    drop(zone);
-    moment
+    Ok(Some(local_moment(zone, stamp)))
+}
+
+/// A local time in a zone, floating where there is none.
+fn local_moment(zone: Option<ZoneName>, stamp: Stamp) -> Moment
+    ensures { result ≡ local_moment zone stamp }
+{
+    match zone {
+        None => Moment::Floating(stamp),
+        Some(zone) => Moment::Zoned(zone, stamp),
+    }
 }
 
 /// The moment that a text spells beside the zone given, or beside none: as [`read_moment`], with the name made before.
 ///
-/// A zoned moment shares the name, so that many in one zone hold it once. An error only when out of memory.
+/// A zoned moment shares the name, so that many in one zone hold it once. An error only of a local time in a zone, where the name
+/// can't be shared once more.
 pub fn read_moment_in(text: &str, zone: Option<&ZoneName>) -> Result<Option<Moment>, NoMemory>
     ensures found { IfOk result (λ r. IfSome r (MomentText text.now (Some (zone_text (option_copied zone.entry))))) }
     ensures none { IfOk result (λ r. IfNone r (
         (m : Moment) → MomentText text.now (Some (zone_text (option_copied zone.entry))) m → ⊥)) }
     ensures err { OnErr result (zone_text (option_copied zone.entry) ≢ []) }
+    ensures room { ¬ IsZonedText text.now (Some (zone_text (option_copied zone.entry))) → IsOk result }
 {
     let bytes = text.as_bytes();
     if let Some(day) = date(bytes) {

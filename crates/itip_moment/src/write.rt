@@ -1,5 +1,6 @@
-ghost use Rattle.std.specs.Prelude.{◌≡◌, ◌<◌, ◌++◌, ◌∷◌, [], OnOk, OnErr};
+ghost use Rattle.std.specs.Prelude.{◌≡◌, ◌<◌, ◌++◌, ◌∷◌, [], OnOk, OnErr, IsOk};
 ghost use Rattle.itip_moment.specs.Digits.{two_digits};
+ghost use Rattle.itip_moment.specs.Room.{HasRoomFor, KeepsRoom};
 ghost use Rattle.itip_moment.specs.Years.{IsDayNumber};
 ghost use Rattle.itip_moment.specs.Written.{date_text, clock_text, local_text, stamp_text, moment_text};
 
@@ -7,20 +8,24 @@ use crate::{Day, Moment, NoMemory, Stamp};
 
 /// Appends the text of a stamp, `YYYYMMDDTHHMMSSZ` (RFC 5545 3.3.5).
 ///
-/// On an error (out of memory) the vector is as before.
+/// On an error the vector is as before: it is asked for memory only where it has no room for the text.
 pub fn write_stamp(stamp: &Stamp, out: &mut Vec<u8>) -> Result<(), NoMemory>
     ensures ok { OnOk result (out.new.items ≡ out.old.items ++ stamp_text stamp.now) }
     ensures err { OnErr result (out.new.items ≡ out.old.items) }
+    ensures room { HasRoomFor out.old (stamp_text stamp.now) → IsOk result }
+    ensures keeps { KeepsRoom out.old out.new }
 {
     out.extend_from_slice(&stamp_bytes(stamp))
 }
 
 /// Appends the value text of a moment (RFC 5545 3.3.4 and 3.3.5), without its TZID.
 ///
-/// On an error (out of memory) the vector is as before.
+/// On an error the vector is as before: it is asked for memory only where it has no room for the text.
 pub fn write_moment(moment: &Moment, out: &mut Vec<u8>) -> Result<(), NoMemory>
     ensures ok { OnOk result (out.new.items ≡ out.old.items ++ moment_text moment.now) }
     ensures err { OnErr result (out.new.items ≡ out.old.items) }
+    ensures room { HasRoomFor out.old (moment_text moment.now) → IsOk result }
+    ensures keeps { KeepsRoom out.old out.new }
 {
     match moment {
         Moment::Date(day) => out.extend_from_slice(&date_bytes(day.number)),
@@ -33,6 +38,8 @@ fn write_local(stamp: &Stamp, out: &mut Vec<u8>) -> Result<(), NoMemory>
     ensures ok { OnOk result (out.new.items
         ≡ out.old.items ++ local_text stamp.now.day stamp.now.second) }
     ensures err { OnErr result (out.new.items ≡ out.old.items) }
+    ensures room { HasRoomFor out.old (local_text stamp.now.day stamp.now.second) → IsOk result }
+    ensures keeps { KeepsRoom out.old out.new }
 {
     out.extend_from_slice(&local_bytes(stamp))
 }

@@ -1,37 +1,25 @@
 -- An office from the answers of its threads to its end.
-use Rattle.std.proofs.Common.{◌≡◌, ℕ, List, map, length, All, sym, subst}
+use Rattle.std.proofs.Common.{◌≡◌, ℕ, List, length, All, sym, subst}
 use Rattle.std.specs.Prelude.{IsPermutation}
-use Rattle.std.specs.List.{Contains}
 use Rattle.std.proofs.lemmas.List.Sorted.{All-permutation, Contains-permutation, IsPermutation-sym}
 use Rattle.itip_items.specs.declared.item.Item.{Item}
 use Rattle.itip_state.specs.Kept.{AreKept}
 use Rattle.itip_desk.specs.Desk.{Shown}
 use Rattle.itip_office.specs.declared.job.Job.{Job}
 use Rattle.itip_office.specs.declared.outcome.Outcome.{Outcome}
-use Rattle.itip_office.specs.Texts.{IsCarry}
 use Rattle.itip_office.specs.Answers.{Answer, IsOutcome}
-use Rattle.itip_office.specs.Ended.{IsTaken, Tells, AreRepliesFrom, HasEnded}
-
-taken_of : (some all : List Answer) → ((a : Answer) → Contains some a → Contains all a) → (item : Item) → IsTaken some item →
-    IsTaken all item
-taken_of some all within item taken = record {
-  answer = taken.answer;
-  among = within taken.answer taken.among;
-  took = taken.took;
-  items = taken.items;
-  reads = taken.reads;
-  there = taken.there;
-}
+use Rattle.itip_office.specs.Ended.{Tells, AreRepliesFrom, HasEnded}
+use Rattle.itip_office.proofs.Taking.{taken_among}
 
 tells_permuted : (desks : ℕ) (given answers : List Answer) (set : List Item) → IsPermutation given answers → Tells desks given set →
     Tells desks answers set
 tells_permuted desks given answers set order tells = record {
   each = All-permutation (λ (a : Answer). IsOutcome desks a.0.work a.1) given answers order tells.each;
-  told = λ item taken. tells.told item (taken_of answers given
-      (λ a h. Contains-permutation answers given a (IsPermutation-sym given answers order) h) item taken);
-  exact = λ none item there. taken_of given answers (λ a h. Contains-permutation given answers a order h) item
-      (tells.exact (All-permutation (λ (a : Answer). ¬ IsCarry a.0.work) answers given (IsPermutation-sym given answers order) none) item
-      there);
+  taken = λ item. (
+    λ h. taken_among given answers (λ a in_given. Contains-permutation given answers a order in_given) item ((tells.taken item).0 h),
+    λ taken. (tells.taken item).1
+        (taken_among answers given (λ a h. Contains-permutation answers given a (IsPermutation-sym given answers order) h) item taken),
+  );
 }
 
 pub has_ended : (desks : ℕ) (jobs sorted : List Job) (given : List Answer) (replies : List (ℕ × Outcome)) (set : List Item)

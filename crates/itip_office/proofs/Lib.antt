@@ -1,11 +1,14 @@
 pub mod Windows
 pub mod Texts
 pub mod Merging
-pub mod Reports
-pub mod Replying
+pub mod Taking
 pub mod Whole
 pub mod Sharing
+pub mod Beside
+pub mod Reports
+pub mod Replying
 pub mod Ending
+pub mod OneEnd
 pub mod Numbering
 pub mod Listing
 pub mod Refusing

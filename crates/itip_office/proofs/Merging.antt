@@ -1,9 +1,11 @@
--- One more job that was merged.
-use Rattle.std.proofs.Common.{◌≡◌, ℕ, List, [], ◌∷◌, ◌++◌, refl, sym, ap, ◌∙◌, append_assoc}
+-- One more job that was merged, and published where there is a running desk.
+use Rattle.std.proofs.Common.{◌≡◌, ℕ, List, [], ◌∷◌, ◌++◌, refl, sym, ap, ◌∙◌, append_assoc, Option, Some, None}
 use Rattle.std.proofs.lemmas.List.{append-nil}
 use Rattle.itip_items.specs.declared.item.Item.{Item}
+use Rattle.itip_running.specs.Ends.{published}
+use Rattle.itip_running.specs.declared.keeper.Keeper.{Keeper}
 use Rattle.itip_office.specs.Answers.{Answer, AnswersMerged}
-use Rattle.itip_office.specs.Merged.{AreMerged, GrewBy, GrewByOne}
+use Rattle.itip_office.specs.Merged.{AreMerged, GrewBy, IsIdle, ShowsOne, GrewShown}
 
 pub merged_more : (desk : ℕ) (answers : List Answer) (batches : List (List Item)) (answer : Answer) (batch : List Item) →
     AreMerged desk answers batches
@@ -16,10 +18,34 @@ merged_more desk (a ∷ answers) (b ∷ batches) answer batch are one = (are.0, 
 pub grew_by_none : (desk : ℕ) (old : List (List Item)) → GrewBy desk old old []
 grew_by_none desk old = record { batches = []; merged = tt; whole = sym (append-nil old) }
 
-pub grew_more : (desk : ℕ) (old mid new : List (List Item)) (answers : List Answer) (answer : Answer) → GrewBy desk old mid answers →
-    GrewByOne desk mid new answer → GrewBy desk old new (answers ++ answer ∷ [])
-grew_more desk old mid new answers answer grew one = record {
-  batches = grew.batches ++ one.batch ∷ [];
-  merged = merged_more desk answers grew.batches answer one.batch grew.merged one.merged;
-  whole = one.whole ∙ ap (λ (l : List (List Item)). l ++ one.batch ∷ []) grew.whole ∙ append_assoc old grew.batches (one.batch ∷ []);
+grew_more : (desk : ℕ) (old mid new : List (List Item)) (answers : List Answer) (answer : Answer) (batch : List Item) →
+    GrewBy desk old mid answers → AnswersMerged desk batch answer.0.work answer.1 → new ≡ mid ++ batch ∷ []
+    → GrewBy desk old new (answers ++ answer ∷ [])
+grew_more desk old mid new answers answer batch grew one whole = record {
+  batches = grew.batches ++ batch ∷ [];
+  merged = merged_more desk answers grew.batches answer batch grew.merged one;
+  whole = whole ∙ ap (λ (l : List (List Item)). l ++ batch ∷ []) grew.whole ∙ append_assoc old grew.batches (batch ∷ []);
 }
+
+pub grew_shown_none : (desk : ℕ) (shown : Option Keeper) → GrewShown desk shown shown []
+grew_shown_none desk None = tt
+grew_shown_none desk (Some keeper) = (grew_by_none desk (published keeper), refl)
+
+pub grew_shown_more : (desk : ℕ) (old mid new : Option Keeper) (answers : List Answer) (answer : Answer) (batch : List Item) →
+    GrewShown desk old mid answers → AnswersMerged desk batch answer.0.work answer.1 → ShowsOne mid new batch
+    → GrewShown desk old new (answers ++ answer ∷ [])
+grew_shown_more desk None None None answers answer batch grew one shows = tt
+grew_shown_more desk None None (Some n) answers answer batch grew one shows = absurd shows
+grew_shown_more desk None (Some m) new answers answer batch grew one shows = absurd grew
+grew_shown_more desk (Some o) None new answers answer batch grew one shows = absurd grew
+grew_shown_more desk (Some o) (Some m) None answers answer batch grew one shows = absurd shows
+grew_shown_more desk (Some o) (Some m) (Some n) answers answer batch grew one shows = (
+  grew_more desk (published o) (published m) (published n) answers answer batch grew.0 one shows.0,
+  shows.2 ∙ grew.1,
+)
+
+pub idle_after : (mid new : Option Keeper) (batch : List Item) → ShowsOne mid new batch → IsIdle new
+idle_after None None batch shows = tt
+idle_after None (Some n) batch shows = absurd shows
+idle_after (Some m) None batch shows = absurd shows
+idle_after (Some m) (Some n) batch shows = shows.1

@@ -1,9 +1,9 @@
 -- Desks that each take what the others keep, as what is kept of all that they heard.
-use Rattle.std.proofs.Common.{◌≡◌, ℕ, ◌+◌, ◌<◌, List, [], ◌∷◌, ◌++◌, length, take, get_or, map, All, suc, arith, ◌↔◌, inl, inr, refl, sym}
+use Rattle.std.proofs.Common.{◌≡◌, ℕ, ◌+◌, ◌<◌, List, [], ◌∷◌, ◌++◌, length, take, get_or, All, zero, suc, arith, ◌↔◌, inl, inr, refl, sym}
 use Rattle.std.proofs.Common.{ap, subst, ◌∙◌, append_assoc, append-nil}
-use Rattle.std.specs.List.{Contains, AllZip, flat_map}
+use Rattle.std.specs.List.{Contains, AllZip}
 use Rattle.std.proofs.lemmas.List.{take_more}
-use Rattle.std.proofs.lemmas.List.Elements.{All-push, Contains-append_cases, Contains-append_left, Contains-append_right}
+use Rattle.std.proofs.lemmas.List.Elements.{All-nil, All-cons, Contains-append_cases, Contains-append_left, Contains-append_right}
 use Rattle.itip_items.specs.declared.item.Item.{Item}
 use Rattle.itip_state.specs.Kept.{AreKept, IsKept}
 use Rattle.itip_state.proofs.Members.{none_in, cons_cases, cons_first, cons_later}
@@ -11,6 +11,7 @@ use Rattle.itip_state.proofs.Keeping.{Covers, covers_kept, covers_itself, kept_p
 use Rattle.itip_desk.specs.Desk.{Shown, IsDeskOf, IsDeltaOf}
 use Rattle.itip_desk.specs.Heard.{heard}
 use Rattle.itip_office.specs.Ended.{all_heard}
+use Rattle.itip_office.proofs.Taking.{heard_both}
 use Rattle.itip_office.proofs.Whole.{whole_delta}
 
 -- the batches that a desk heard
@@ -35,26 +36,6 @@ zip_length R [] [] are = refl
 zip_length R [] (b ∷ ys) are = absurd are
 zip_length R (a ∷ xs) [] are = absurd are
 zip_length R (a ∷ xs) (b ∷ ys) are = ap suc (zip_length R xs ys are.1)
-
--- one more desk that is met
-pub record Meets (all left : List History) (desks : List Shown) : Type 0 where
-  pub done : List History
-  pub are : AreDesksOf done desks
-  pub whole : done ++ left ≡ all
-
-pub meets_none : (all : List History) → Meets all all []
-meets_none all = record { done = []; are = tt; whole = refl }
-
-pub meets_more : (all left : List History) (desks : List Shown) (h : History) (d : Shown) → Meets all (h ∷ left) desks → IsDeskOf h 0 d →
-    Meets all left (desks ++ d ∷ [])
-meets_more all left desks h d met is = record {
-  done = met.done ++ h ∷ [];
-  are = zip_push (λ (h : History) (d : Shown). IsDeskOf h 0 d) met.done desks h d met.are is;
-  whole = append_assoc met.done (h ∷ []) left ∙ met.whole;
-}
-
-pub meets_all : (all : List History) (desks : List Shown) → Meets all [] desks → AreDesksOf all desks
-meets_all all desks met = subst (λ (l : List History). AreDesksOf l desks) (sym (append-nil met.done) ∙ met.whole) met.are
 
 -- one more delta that is taken
 abbrev pub Carries : List (List Item) → Shown → Shown → Type 0
@@ -109,11 +90,6 @@ covers_deltas (h ∷ hs) (d ∷ desks) (b ∷ deltas) are gives =
     covers_append d.kept b (all_kept desks) (heard deltas) (covers_kept d.kept b (whole_delta h d b are.0 gives.0))
     (covers_deltas hs desks deltas are.1 gives.1)
 
-heard_both : (steps more : History) → heard (steps ++ more) ≡ heard steps ++ heard more
-heard_both [] more = refl
-heard_both (step ∷ steps) more = ap (λ (l : List Item). step ++ l) (heard_both steps more) ∙
-    sym (append_assoc step (heard steps) (heard more))
-
 among_heard : (hs : List History) (h : History) → Contains hs h → (i : Item) → Contains (heard h) i → Contains (all_heard hs) i
 among_heard [] h there i is = absurd (none_in h there)
 among_heard (x ∷ hs) h there i is = elim (cons_cases x hs h there) [
@@ -142,8 +118,22 @@ pub record AreLeft (hs : List History) (desks : List Shown) : Type 0 where
   pub are : AreDesksOf left desks
   pub within : (h : History) → Contains left h → Contains hs h
 
-pub left_all : (hs : List History) (desks : List Shown) → AreDesksOf hs desks → AreLeft hs desks
-left_all hs desks are = record { left = hs; are = are; within = λ h there. there }
+-- the first so many desks
+pub left_some : (hs : List History) (desks : List Shown) (n : ℕ) → AreDesksOf hs desks → AreLeft hs (take n desks)
+left_some hs desks zero are = record { left = []; are = tt; within = λ h there. absurd (none_in h there) }
+left_some [] [] (suc n) are = record { left = []; are = tt; within = λ h there. there }
+left_some [] (d ∷ desks) (suc n) are = absurd are
+left_some (h ∷ hs) [] (suc n) are = absurd are
+left_some (h ∷ hs) (d ∷ desks) (suc n) are =
+    let rest = left_some hs desks n are.1 in
+    record {
+      left = h ∷ rest.left;
+      are = (are.0, rest.are);
+      within = λ x there. elim (cons_cases h rest.left x there) [
+        | inl same ↦ subst (λ (y : History). Contains (h ∷ hs) y) same (cons_first h hs)
+        | inr later ↦ cons_later h hs x (rest.within x later)
+      ];
+    }
 
 pub record IsNext (hs : List History) (d : Shown) (desks : List Shown) : Type 0 where
   pub history : History
@@ -163,36 +153,15 @@ left_next hs d desks l = by l.left l.are l.within
       rest = record { left = left; are = are.1; within = λ x there. within x (cons_later h left x there) };
     }
 
-pub deltas_more : (desks : List Shown) (i : ℕ) (d : Shown) (deltas new : List (List Item)) (b : List Item) → i < length desks →
-    d ≡ get_or desks i d → AreDeltasOf (take i desks) deltas → IsDeltaOf d 0 b
-    → new ≡ deltas ++ b ∷ [] → AreDeltasOf (take (i + 1) desks) new
-deltas_more desks i d deltas new b within at are one pushed =
-    let more : take (i + 1) desks ≡ take i desks ++ d ∷ [] = take_more desks i d within ∙
-    ap (λ (x : Shown). take i desks ++ x ∷ []) (sym at) in
-    subst (λ (l : List Shown). AreDeltasOf l new) (sym more)
-    (subst (λ (l : List (List Item)). AreDeltasOf (take i desks ++ d ∷ []) l) (sym pushed)
-    (zip_push (λ (d : Shown) (b : List Item). IsDeltaOf d 0 b) (take i desks) deltas d b are one))
-
-pub meets_ended : {X : Type 0} (f : X → History) (rest : List X) (all : List History) (desks : List Shown) → length rest ≡ 0 →
-    Meets all (map f rest) desks → AreDesksOf all desks
-meets_ended f [] all desks none met = meets_all all desks met
-meets_ended f (x ∷ rest) all desks none met = absurd (omega (arith, none))
-
-pub meets_next : (all left rest : List History) (desks new : List Shown) (h : History) (d : Shown) → rest ≡ h ∷ left →
-    Meets all rest desks → IsDeskOf h 0 d → new ≡ desks ++ d ∷ [] → Meets all left new
-meets_next all left rest desks new h d first met is pushed =
-    subst (λ (l : List Shown). Meets all left l) (sym pushed)
-    (meets_more all left desks h d (subst (λ (l : List History). Meets all l desks) first met) is)
-
--- one more desk has taken all deltas
-pub shares_more : (hs : List History) (desks : List Shown) (deltas : List (List Item)) (d r : Shown) (rest left ended new : List Shown) →
-    AreDesksOf hs desks → AreDeltasOf desks deltas → rest ≡ d ∷ left
-    → new ≡ ended ++ r ∷ [] → Carries deltas d r → AreLeft hs rest × All (λ (x : Shown). AreKept x.kept (all_heard hs)) ended →
-    AreLeft hs left × All (λ (x : Shown). AreKept x.kept (all_heard hs)) new
-shares_more hs desks deltas d r rest left ended new are gives first pushed one was =
-    let next : IsNext hs d left = left_next hs d left (subst (AreLeft hs) first was.0) in
-    let P : Shown → Type 0 = λ x. AreKept x.kept (all_heard hs) in (
-      next.rest,
-      subst (λ (l : List Shown). All P l) (sym pushed)
-          (All-push P ended r was.1 (shared hs desks deltas are gives next.history next.there r.kept (one next.history 0 next.is).kept)),
-    )
+-- a desk that is alone keeps what is kept of all that was heard
+pub alone_kept : (hs : List History) (desks : List Shown) → length desks < 2 → AreDesksOf hs desks →
+    All (λ (d : Shown). AreKept d.kept (all_heard hs)) desks
+alone_kept [] [] few are = All-nil (λ (d : Shown). AreKept d.kept (all_heard []))
+alone_kept [] (d ∷ desks) few are = absurd are
+alone_kept (h ∷ hs) [] few are = absurd are
+alone_kept (h ∷ []) (d ∷ []) few are =
+    let P : Shown → Type 0 = λ d. AreKept d.kept (all_heard (h ∷ [])) in
+    All-cons P d [] (subst (AreKept d.kept) (sym (append-nil (heard h))) are.0.kept) (All-nil P)
+alone_kept (h ∷ []) (d ∷ e ∷ desks) few are = absurd (omega (arith, few))
+alone_kept (h ∷ g ∷ hs) (d ∷ []) few are = absurd are.1
+alone_kept (h ∷ g ∷ hs) (d ∷ e ∷ desks) few are = absurd (omega (arith, few))

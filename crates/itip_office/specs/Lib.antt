@@ -1,10 +1,12 @@
 pub use Rattle.itip_desk.specs.Heard
 pub use Rattle.itip_desk.specs.Desk
 pub use Rattle.itip_state.specs.Kept
+pub mod Numbers
 pub mod Texts
 pub mod Answers
+pub mod Taken
 pub mod Steps
 pub mod Merged
-pub mod Team
 pub mod Ended
+pub mod Exchanged
 pub mod Scripts

@@ -1,12 +1,20 @@
 -- What a worker does with a job (our own form).
-use Rattle.std.specs.Prelude.{◌<◌, ℕ}
+use Rattle.std.specs.Prelude.{◌≡◌, ◌<◌, ℕ}
 use Rattle.itip_office.specs.declared.job.Work.{Work}
+use Rattle.itip_office.specs.declared.job.Work.TheVariants.{Text, Carry, Look}
 use Rattle.itip_office.specs.declared.job_loop.Step.{Step}
 use Rattle.itip_office.specs.declared.job_loop.Step.TheVariants.{Answers, HandsOn}
 use Rattle.itip_office.specs.Texts.{Merges, AreThere}
 use Rattle.itip_office.specs.Answers.{AnswersAlone}
 
--- It answers the job itself, or hands a batch on that the job is merged by, to a desk that is there, as are those that the job names.
+-- the desk is the one at which a job is merged
+abbrev pub IsMergedAt : Work → ℕ → Type 0
+IsMergedAt (Text at bytes) desk = desk ≡ at
+IsMergedAt (Carry from to) desk = desk ≡ to
+IsMergedAt (Look at window) desk = ⊥
+
+-- It answers the job itself, or hands a batch on that the job is merged by, to the desk that it names for that, which is there, as are
+-- all that it names.
 abbrev pub IsStepOf : ℕ → Work → Step → Type 0
 IsStepOf desks work (Answers outcome) = AnswersAlone desks work outcome
-IsStepOf desks work (HandsOn desk batch) = (desk < desks) × AreThere desks work × Merges work batch
+IsStepOf desks work (HandsOn desk batch) = (desk < desks) × IsMergedAt work desk × AreThere desks work × Merges work batch

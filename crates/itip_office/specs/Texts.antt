@@ -30,7 +30,7 @@ AreThere desks (Text desk bytes) = desk < desks
 AreThere desks (Carry from to) = (from < desks) × (to < desks)
 AreThere desks (Look desk window) = desk < desks
 
-abbrev pub IsCarry : Work → Type 0
-IsCarry (Text desk bytes) = ⊥
-IsCarry (Carry from to) = Unit {0}
-IsCarry (Look desk window) = ⊥
+abbrev pub IsText : Work → Type 0
+IsText (Text desk bytes) = Unit {0}
+IsText (Carry from to) = ⊥
+IsText (Look desk window) = ⊥

@@ -1,43 +1,47 @@
 //! The loop of a keeper.
-ghost use Rattle.std.specs.Prelude.{◌≡◌, [], length, IfOk};
-ghost use Rattle.itip_running.specs.Ends.{published, pending, keeper_pair};
+ghost use Rattle.std.specs.Prelude.{◌≡◌, ◌≢◌, length, IfOk, OnOk, IfErr, IsErrOf};
 ghost use Rattle.itip_office.specs.Texts.{Merges};
 ghost use Rattle.itip_office.specs.Answers.{AnswersMerged};
-ghost use Rattle.itip_office.specs.Merged.{GrewBy, GrewByOne};
+ghost use Rattle.itip_office.specs.Merged.{IsIdle, ShowsOne, GrewShown, TookText, GrewTexts, MergedOne};
 
 use crate::error::OfficeError;
 use crate::gate::Gate;
 use crate::job::{Job, Work};
 use crate::merge::Merge;
 use crate::outcome::Outcome;
+use crate::owned_keeper::close;
 use crate::team::live_error;
 use crossbeam_channel::Receiver;
-use itip_desk::Batch;
-use itip_running::{Keeper, meet};
+use itip_desk::{Batch, Desk, DeskError};
+use itip_running::Keeper;
 use std::sync::Wait;
 
-/// Merges what comes until the channel is closed, each batch published before the next, and gives back the keeper, with the jobs that
-/// it answered and their outcomes, in the order in which it merged them. The keeper is handed in with nothing pending, and nothing is
-/// pending then.
+/// Merges what comes until the channel is closed, and gives back what it was handed, with the jobs that it answered and their outcomes, in
+/// the order in which it merged them: the desk of texts takes the batches of texts alone, and the running desk, where there is one, all
+/// batches, each published before the next. The keeper is handed in with nothing pending, and nothing is pending then.
 ///
-/// Ends early if an allocation failed (40), if the gate is closed (42), or for what a keeper refuses (21, 41); the keeper is spent then.
+/// Ends early if an allocation failed (40), if the gate is closed (42), or for what a desk or a keeper refuses (21, 41); the keeper is
+/// spent then.
 pub fn keeper_loop<R: AllocGlobal + Wait, G: Gate>(
     rt: &R,
     desk: u64,
-    keeper: Keeper,
-    merges: Receiver<Merge>,
+    texts: Desk,
+    shown: Option<Keeper>,
+    merges: Receiver<Vec<Merge>>,
     gate: &G,
-) -> Result<(Keeper, Vec<(Job, Outcome)>), OfficeError>
-    requires nothing { pending keeper ≡ [] }
-    ensures nothing { IfOk result (λ r. pending r.0 ≡ []) }
-    ensures published { IfOk result (λ r. GrewBy desk (published keeper) (published r.0) r.1.items) }
-    ensures pair { IfOk result (λ r. keeper_pair r.0 ≡ keeper_pair keeper) }
+) -> Result<(Desk, Option<Keeper>, Vec<(Job, Outcome)>), OfficeError>
+    requires nothing { IsIdle shown }
+    ensures texts { IfOk result (λ r. GrewTexts desk texts r.0 r.2.items) }
+    ensures published { IfOk result (λ r. GrewShown desk shown r.1 r.2.items) }
+    ensures nothing { IfOk result (λ r. IsIdle r.1) }
+    ensures closed { IsErrOf result OfficeError.GateClosed → G.may_close }
 {
-    let mut keeper = keeper;
-    match merge_all(rt, desk, &mut keeper, &merges, gate) {
-        Ok(answers) => Ok((keeper, answers)),
+    let mut texts = texts;
+    let mut shown = shown;
+    match merge_all(rt, desk, &mut texts, &mut shown, &merges, gate) {
+        Ok(answers) => Ok((texts, shown, answers)),
         Err(error) => {
-            let _ = meet(rt, keeper, Vec::new(rt.alloc()));
+            close(rt, shown);
             Err(error)
         }
     }
@@ -46,25 +50,29 @@ pub fn keeper_loop<R: AllocGlobal + Wait, G: Gate>(
 fn merge_all<R: AllocGlobal + Wait, G: Gate>(
     rt: &R,
     desk: u64,
-    keeper: &mut Keeper,
-    merges: &Receiver<Merge>,
+    texts: &mut Desk,
+    shown: &mut Option<Keeper>,
+    merges: &Receiver<Vec<Merge>>,
     gate: &G,
 ) -> Result<Vec<(Job, Outcome)>, OfficeError>
-    requires nothing { pending keeper.old ≡ [] }
-    ensures nothing { IfOk result (λ answers. pending keeper.new ≡ []) }
-    ensures published { IfOk result (λ answers. GrewBy desk (published keeper.old) (published keeper.new) answers.items) }
-    ensures pair { keeper_pair keeper.new ≡ keeper_pair keeper.old }
+    requires nothing { IsIdle shown.old }
+    ensures texts { IfOk result (λ answers. GrewTexts desk texts.old texts.new answers.items) }
+    ensures published { IfOk result (λ answers. GrewShown desk shown.old shown.new answers.items) }
+    ensures nothing { OnOk result (IsIdle shown.new) }
+    ensures closed { IsErrOf result OfficeError.GateClosed → G.may_close }
 {
     let mut answers = Vec::new(rt.alloc());
     for _ in rt.forever() {
-        let Ok(merge) = merges.recv(rt) else {
+        let Ok(some) = merges.recv(rt) else {
             return Ok(answers);
         };
-        let answer = merge_one(rt, desk, keeper, merge, gate)?;
-        let number = answer.0.number;
-        answers.push(answer)?;
-        if !gate.done(number) {
-            return Err(OfficeError::GateClosed);
+        for merge in some {
+            let answer = merge_one(rt, desk, texts, shown, merge, gate)?;
+            let number = answer.0.number;
+            answers.push(answer)?;
+            if !gate.done(number) {
+                return Err(OfficeError::GateClosed);
+            }
         }
     }
     unreachable!()
@@ -73,27 +81,58 @@ fn merge_all<R: AllocGlobal + Wait, G: Gate>(
 fn merge_one<R: Wait, G: Gate>(
     rt: &R,
     desk: u64,
-    keeper: &mut Keeper,
+    texts: &mut Desk,
+    shown: &mut Option<Keeper>,
     merge: Merge,
     gate: &G,
 ) -> Result<(Job, Outcome), OfficeError>
-    requires nothing { pending keeper.old ≡ [] }
-    ensures nothing { IfOk result (λ answer. pending keeper.new ≡ []) }
-    ensures published { IfOk result (λ answer. GrewByOne desk (published keeper.old) (published keeper.new) answer) }
-    ensures pair { keeper_pair keeper.new ≡ keeper_pair keeper.old }
+    requires nothing { IsIdle shown.old }
+    ensures merged { IfOk result (λ answer. MergedOne desk texts.old texts.new shown.old shown.new answer) }
+    ensures closed { IsErrOf result OfficeError.GateClosed → G.may_close }
 {
     let (job, batch) = merge.into_parts();
-    let number = job.number;
-    let outcome = outcome_of(desk, &job.work, &batch);
-    if keeper.submit(batch).is_err() {
-        return Err(OfficeError::NoMemory);
-    }
-    if !gate.keeper(desk, number) {
+    if !gate.keeper(desk, job.number) {
         return Err(OfficeError::GateClosed);
     }
-    match keeper.publish(rt) {
-        Ok(_) => Ok((job, outcome)),
-        Err(refused) => Err(live_error(refused)),
+    let outcome = outcome_of(desk, &job.work, &batch);
+    take_text(texts, &job.work, &batch)?;
+    show(rt, shown, batch)?;
+    Ok((job, outcome))
+}
+
+/// Has the desk of texts take the batch of a text, and nothing of another job.
+fn take_text(texts: &mut Desk, work: &Work, batch: &Batch) -> Result<(), OfficeError>
+    ensures took { OnOk result (TookText work.now texts.old texts.new batch.now) }
+    ensures open { IfErr result (λ e. e ≢ OfficeError.GateClosed) }
+{
+    match work {
+        Work::Text { .. } => match texts.take(batch) {
+            Ok(_) => Ok(()),
+            Err(DeskError::NoMemory) => Err(OfficeError::NoMemory),
+            Err(DeskError::TicksSpent) => Err(OfficeError::CountSpent),
+        },
+        Work::Carry { .. } => Ok(()),
+        Work::Look { .. } => Ok(()),
+    }
+}
+
+/// Publishes a batch by itself, where there is a running desk.
+fn show<R: Wait>(rt: &R, shown: &mut Option<Keeper>, batch: Batch) -> Result<(), OfficeError>
+    requires nothing { IsIdle shown.old }
+    ensures shows { OnOk result (ShowsOne shown.old shown.new batch) }
+    ensures open { IfErr result (λ e. e ≢ OfficeError.GateClosed) }
+{
+    match shown {
+        None => Ok(()),
+        Some(keeper) => {
+            if keeper.submit(batch).is_err() {
+                return Err(OfficeError::NoMemory);
+            }
+            match keeper.publish(rt) {
+                Ok(_) => Ok(()),
+                Err(refused) => Err(live_error(refused)),
+            }
+        }
     }
 }
 

@@ -1,6 +1,6 @@
 //! Why an office, or the run of a script on one, ended before its end.
-ghost use Rattle.std.specs.Prelude.{◌≡◌};
-ghost use Rattle.itip_office.specs.declared.error.OfficeError.TheVariants.{NoMemory};
+ghost use Rattle.std.specs.Prelude.{◌≡◌, ◌≢◌, ◌⊎◌};
+ghost use Rattle.itip_office.specs.declared.error.OfficeError.TheVariants.{NoMemory, ChannelClosed};
 ghost use Rattle.itip_office.specs.declared.error.ScriptError.TheVariants.{Stream, Office};
 ghost use Rattle.itip_streams.specs.declared.fault.StreamFault.TheVariants.{Memory};
 
@@ -23,11 +23,11 @@ pub enum OfficeError {
     /// The gate was closed (42).
     #[error("the gate of an office was closed")]
     GateClosed,
-    /// A channel refused a send, or a job has no outcome (43).
+    /// The keeper of a worker takes nothing more (43). An office never ends by it: a keeper that ends early says why.
     #[error("a channel of an office was closed")]
     ChannelClosed,
-    /// A job number appears twice, or an outcome came of a job that was not handed in, or from another desk's keeper, or a keeper merged a
-    /// job that names a desk that isn't there (44).
+    /// A job number appears twice. Or, which no run meets, an outcome came of a job that was not handed in, or from another desk's keeper, a
+    /// keeper merged a job that names a desk that isn't there, a job has no outcome, or a channel closed of itself (44).
     #[error("an outcome belongs to no job")]
     StrangeDone,
     /// A running desk refused an entry to a pass (45).
@@ -36,8 +36,12 @@ pub enum OfficeError {
 }
 
 impl OfficeError {
+    ghost use Rattle.itip_office.specs.Numbers.{number_of};
+
     /// The number under which it is shown: 21, or 40 to 45.
-    pub fn number(self) -> u32 {
+    pub fn number(self) -> u32
+        ensures { result ≡ number_of self }
+    {
         match self {
             OfficeError::CountSpent => 21,
             OfficeError::NoMemory => 40,
@@ -49,12 +53,28 @@ impl OfficeError {
         }
     }
 
-    /// Of two errors of loops, the one of the lower number.
-    pub(crate) fn or(self, other: OfficeError) -> OfficeError {
-        if self.number() <= other.number() {
+    /// Of two errors of loops, the one of the lower number; but a channel that is closed gives way to every other, which says why it is.
+    pub(crate) fn or(self, other: OfficeError) -> OfficeError
+        ensures { (result ≡ self) ⊎ (result ≡ other) }
+    {
+        if self == OfficeError::ChannelClosed {
+            return other;
+        }
+        if other == OfficeError::ChannelClosed || self.number() <= other.number() {
             self
         } else {
             other
+        }
+    }
+
+    /// The error of an office all of whose threads have returned: a channel that closed with no other error is a strange one.
+    pub(crate) fn of_all(self) -> OfficeError
+        ensures error { (result ≡ self) ⊎ (result ≡ OfficeError.StrangeDone) }
+        ensures channel { result ≢ ChannelClosed }
+    {
+        match self {
+            OfficeError::ChannelClosed => OfficeError::StrangeDone,
+            error => error,
         }
     }
 }

@@ -1,85 +1,83 @@
 //! The desks of an office, once its threads have returned.
-ghost use Rattle.std.specs.Prelude.{◌≡◌, ◌++◌, ℕ, List, length, map, All, IfOk};
+ghost use Rattle.std.specs.Prelude.{◌≡◌, ◌<◌, ℕ, List, length, map, All, Ok, IfOk, IfErr, slice_index_or};
 ghost use Rattle.std.specs.List.{AllZip};
 ghost use Rattle.itip_items.specs.declared.item.Item.{Item};
 ghost use Rattle.itip_state.specs.Kept.{AreKept};
-ghost use Rattle.itip_running.specs.Ends.{published};
-ghost use Rattle.itip_desk.specs.Desk.{IsDeskOf, IsDeltaOf};
+ghost use Rattle.itip_desk.specs.Desk.{IsDeskOf};
 ghost use Rattle.itip_office.specs.Ended.{all_heard};
+ghost use Rattle.itip_office.specs.Exchanged.{GivesDelta, TakesAll, AreNoLoops};
 
 use crate::error::OfficeError;
-use crate::owned_keeper::OwnedKeeper;
-use crate::team::live_error;
 use itip_desk::{Batch, Desk, DeskError};
-use itip_running::meet;
-use std::alloc::Global;
-use std::sync::Wait;
+use std::alloc::{AllocError, Global};
+use std::thread;
+use std::thread::Threads;
 
-/// The published desks of these keepers, each of which has taken what the others keep.
-pub(crate) fn ended_desks<R: AllocGlobal + Wait + Copy>(
+/// So many of these desks, each of which has taken what all keep, each on a thread of its own. A desk that is alone stays as it is. 44
+/// where there are fewer.
+pub(crate) fn exchange<R: Threads + Sync>(
     rt: &R,
-    keepers: Vec<OwnedKeeper<R>>,
+    alloc: Global,
+    parts: Vec<Desk>,
+    desks: usize,
 ) -> Result<Vec<Desk>, OfficeError>
-    ensures count { IfOk result (λ ended. length ended.items ≡ length keepers.items) }
-    ensures kept { IfOk result (λ ended.
-        All (λ desk. AreKept desk.kept (all_heard (map (λ h. published h.keeper) keepers.items))) ended.items) }
-{
-    let desks = meet_all(rt, keepers)?;
-    exchange(rt.alloc(), desks)
-}
-
-// The published desks of these keepers.
-fn meet_all<R: AllocGlobal + Wait + Copy>(
-    rt: &R,
-    keepers: Vec<OwnedKeeper<R>>,
-) -> Result<Vec<Desk>, OfficeError>
-    ensures { IfOk result (λ desks.
-        AllZip (λ batches desk. IsDeskOf batches 0 desk) (map (λ h. published h.keeper) keepers.items) desks.items) }
-{
-    let mut desks = Vec::new(rt.alloc());
-    for held in keepers {
-        desks.push(published_desk(held)?)?;
-    }
-    Ok(desks)
-}
-
-fn published_desk<R: AllocGlobal + Wait + Copy>(held: OwnedKeeper<R>) -> Result<Desk, OfficeError>
-    ensures { IfOk result (λ desk. IsDeskOf (published held.keeper) 0 desk) }
-{
-    let (keeper, rt) = held.into_parts();
-    match meet(&rt, keeper, Vec::new(rt.alloc())) {
-        Ok(met) => Ok(met.desk),
-        Err(refused) => Err(live_error(refused)),
-    }
-}
-
-// The desks, each of which has taken what the others keep.
-fn exchange(alloc: Global, desks: Vec<Desk>) -> Result<Vec<Desk>, OfficeError>
-    ensures count { IfOk result (λ ended. length ended.items ≡ length desks.items) }
-    ensures kept { (histories : List (List (List Item))) → AllZip (λ batches desk. IsDeskOf batches 0 desk) histories desks.items
+    ensures count { IfOk result (λ ended. length ended.items ≡ desks) }
+    ensures kept { (histories : List (List (List Item))) → AllZip (λ batches desk. IsDeskOf batches 0 desk) histories parts.items
         → IfOk result (λ ended. All (λ desk. AreKept desk.kept (all_heard histories)) ended.items) }
+    ensures causes { IfErr result AreNoLoops }
 {
-    let deltas = deltas(alloc, &desks)?;
-    let mut ended = Vec::new(alloc);
-    for desk in desks {
-        ended.push(with_all(desk, &deltas)?)?;
+    if parts.len() < desks {
+        return Err(OfficeError::StrangeDone);
     }
+    if parts.len() < 2 && parts.len() == desks {
+        return Ok(parts);
+    }
+    let given = deltas(rt, alloc, parts.as_slice())?;
+    let deltas = all_ok(alloc, given)?;
+    let mut first = parts;
+    first.truncate(desks);
+    let taken = with_deltas(rt, first, deltas.as_slice())?;
+    let ended = all_ok(alloc, taken)?;
     Ok(ended)
 }
 
-fn deltas(alloc: Global, desks: &[Desk]) -> Result<Vec<Batch>, OfficeError>
-    ensures { IfOk result (λ all. AllZip (λ desk delta. IsDeltaOf desk 0 delta) desks.now all.items) }
+// What each desk keeps, as a delta.
+fn deltas<R: Threads + Sync>(
+    rt: &R,
+    alloc: Global,
+    desks: &[Desk],
+) -> Result<Vec<Result<Batch, OfficeError>>, AllocError>
+    ensures count { IfOk result (λ all. length all.items ≡ length desks.now) }
+    ensures each { IfOk result (λ all. (i : ℕ) (desk : _) (given : _) → i < length desks.now
+        → GivesDelta (slice_index_or desks.now i desk) (slice_index_or all.items i given)) }
 {
-    let mut all = Vec::new(alloc);
-    for desk in desks {
-        all.push(desk.delta_since(0)?)?;
+    thread::map_indices(rt, alloc, desks.len(), &|i| delta_of(&desks[i]))
+}
+
+fn delta_of(desk: &Desk) -> Result<Batch, OfficeError>
+    ensures { GivesDelta desk.now result }
+{
+    match desk.delta_since(0) {
+        Ok(delta) => Ok(delta),
+        Err(_) => Err(OfficeError::NoMemory),
     }
-    Ok(all)
+}
+
+// Each desk with all deltas.
+fn with_deltas<R: Threads + Sync>(
+    rt: &R,
+    desks: Vec<Desk>,
+    deltas: &[Batch],
+) -> Result<Vec<Result<Desk, OfficeError>>, AllocError>
+    ensures count { IfOk result (λ all. length all.items ≡ length desks.items) }
+    ensures each { IfOk result (λ all. (i : ℕ) (desk : _) (ended : _) → i < length desks.items
+        → TakesAll deltas.now (slice_index_or desks.items i desk) (slice_index_or all.items i ended)) }
+{
+    thread::map_vec(rt, desks, &|desk| with_all(desk, deltas))
 }
 
 fn with_all(desk: Desk, deltas: &[Batch]) -> Result<Desk, OfficeError>
-    ensures { IfOk result (λ r. (steps : List (List Item)) (start : ℕ) →
-        IsDeskOf steps start desk → IsDeskOf (steps ++ deltas.now) start r) }
+    ensures { TakesAll deltas.now desk result }
 {
     let mut desk = desk;
     for delta in deltas {
@@ -90,4 +88,17 @@ fn with_all(desk: Desk, deltas: &[Batch]) -> Result<Desk, OfficeError>
         }
     }
     Ok(desk)
+}
+
+// What all of these are, where none is an error, or an error of them.
+fn all_ok<T: Drop>(alloc: Global, all: Vec<Result<T, OfficeError>>) -> Result<Vec<T>, OfficeError>
+    ensures all { IfOk result (λ values. all.items ≡ map Ok values.items) }
+    ensures cause { All (λ one. IfErr one AreNoLoops) all.items → IfErr result AreNoLoops }
+{
+    let mut values = Vec::with_capacity(alloc, all.len())?;
+    for one in all {
+        let value = one?;
+        values.push(value)?;
+    }
+    Ok(values)
 }

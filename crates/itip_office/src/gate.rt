@@ -1,15 +1,27 @@
 //! Who lets jobs through.
+ghost use Rattle.std.specs.Prelude.{IsFalse};
 
 /// What the loops of an office ask before they go on. Jobs and desks are meant by their numbers; `false` ends the office (42).
 pub trait Gate {
-    /// Asked by a worker before it does a job.
-    fn worker(&self, job: u64) -> bool;
+    // What is so where a gate of this type may say `false`. One that never does has nothing here that can be so.
+    ghost may_close: { Type 0 } = { Unit {0} };
 
-    /// Asked by the keeper of a desk before it publishes what a job brought.
-    fn keeper(&self, desk: u64, job: u64) -> bool;
+    /// Whether it may wait before it answers, as for another job. Where it may not, a worker hands several merges on at once.
+    fn may_wait(&self) -> bool {
+        true
+    }
+
+    /// Asked by a worker before it does a job.
+    fn worker(&self, job: u64) -> bool
+        ensures { IsFalse result → may_close };
+
+    /// Asked by the keeper of a desk before it takes and publishes what a job brought.
+    fn keeper(&self, desk: u64, job: u64) -> bool
+        ensures { IsFalse result → may_close };
 
     /// Asked once the outcome of a job is in the list of a loop.
-    fn done(&self, job: u64) -> bool;
+    fn done(&self, job: u64) -> bool
+        ensures { IsFalse result → may_close };
 }
 
 /// A gate that is always open.
@@ -17,6 +29,12 @@ pub trait Gate {
 pub struct OpenGate;
 
 impl Gate for OpenGate {
+    ghost may_close = { ⊥ };
+
+    fn may_wait(&self) -> bool {
+        false
+    }
+
     fn worker(&self, _job: u64) -> bool {
         true
     }

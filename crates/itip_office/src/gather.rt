@@ -1,37 +1,36 @@
 //! Gathering what the threads answered.
-ghost use Rattle.std.specs.Prelude.{◌≡◌, ◌≤◌, length, map, All, IfOk, IsTrue};
-ghost use Rattle.itip_running.specs.Ends.{published};
+ghost use Rattle.std.specs.Prelude.{◌≡◌, All, IfOk, IfErr, IsTrue};
 ghost use Rattle.itip_office.specs.Texts.{desk_of, AreThere};
 ghost use Rattle.itip_office.specs.Answers.{AnswersAlone};
-ghost use Rattle.itip_office.specs.Team.{AreOfDesks};
-ghost use Rattle.itip_office.specs.Ended.{Tells, all_heard};
+ghost use Rattle.itip_office.specs.Merged.{HasMerged};
+ghost use Rattle.itip_office.specs.Ended.{AreGathered};
+ghost use Rattle.itip_office.specs.Exchanged.{AreNoLoops};
 
 use crate::error::OfficeError;
 use crate::job::Job;
 use crate::outcome::Outcome;
-use crate::owned_keeper::OwnedKeeper;
 use crate::team::{Done, Merged};
+use itip_desk::Desk;
 use std::sync::Wait;
 
-/// All answers in one list, and the keepers in the order of desks. 44 where a keeper answered a job that is for another desk, or that names
+/// All answers in one list, and the desks of texts of all keepers. 44 where a keeper answered a job that is for another desk, or that names
 /// a desk that isn't there.
 pub(crate) fn gather<R: AllocGlobal + Wait + Copy>(
     rt: &R,
     desks: usize,
     done: Done<R>,
-) -> Result<(Vec<(Job, Outcome)>, Vec<OwnedKeeper<R>>), OfficeError>
+) -> Result<(Vec<(Job, Outcome)>, Vec<Desk>), OfficeError>
     requires alone { All (λ a. AnswersAlone desks a.0.work a.1) done.alone.items }
-    requires kept { AreOfDesks 0 (map (λ k. (k.answers.items, published k.held.keeper)) done.kept.items) }
-    requires count { length done.kept.items ≡ desks }
-    ensures tells { IfOk result (λ r. Tells desks r.0.items (all_heard (map (λ h. published h.keeper) r.1.items))) }
-    ensures count { IfOk result (λ r. length r.1.items ≡ desks) }
+    requires kept { All (λ k. HasMerged k.desk k.answers.items k.held.texts) done.kept.items }
+    ensures gathered { IfOk result (λ r. AreGathered desks r.0.items r.1.items) }
+    ensures causes { IfErr result AreNoLoops }
 {
     let Done { alone, kept } = done;
     let mut answers = alone;
-    let mut keepers = Vec::new(rt.alloc());
-    let mut desk: u64 = 0;
+    let mut texts = Vec::new(rt.alloc());
     for one in kept {
         let Merged {
+            desk,
             held,
             answers: mut merged,
         } = one;
@@ -39,10 +38,9 @@ pub(crate) fn gather<R: AllocGlobal + Wait + Copy>(
             return Err(OfficeError::StrangeDone);
         }
         answers.append(&mut merged)?;
-        keepers.push(held)?;
-        desk += 1;
+        texts.push(held.into_texts())?;
     }
-    Ok((answers, keepers))
+    Ok((answers, texts))
 }
 
 // Whether these are jobs for this desk, of so many desks.

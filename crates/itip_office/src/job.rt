@@ -52,6 +52,11 @@ impl Job {
         }
     }
 
+    /// Whether a running desk is read for it.
+    pub(crate) fn needs_pass(&self) -> bool {
+        !matches!(self.work, Work::Text { .. })
+    }
+
     ghost use Rattle.itip_office.specs.Texts.{desk_of, AreThere};
 }
 

@@ -1,11 +1,13 @@
 //! An office: jobs run on threads, over one running desk for each place, as a script asks for them.
 //!
 //! Workers take jobs from one channel: they read texts, carry deltas from desk to desk and look at lists. What is to be merged they
-//! send to the desk's keeper, which merges and publishes. Once all jobs are done the desks meet and exchange everything.
+//! send to the desk's keeper. It has a desk of its own, which takes texts alone; and where some job looks or carries, a running desk beside
+//! it, into which it merges all that comes and publishes it, for readers. Once all jobs are done the desks of texts exchange everything.
 //!
 //! Where an office answers, the same texts are taken whatever the schedule, and all desks end with what is kept of one set, which has
-//! each item of these texts. Where no job is a carry it has no other, so the desks end as those of one thread. What a carry brings
-//! depends on the schedule, and no clause says which items these may be.
+//! the items of these texts and no others: what carries brought is in no desk of texts, since the exchange brings all of it. So the desks
+//! end as those of one thread. What a carry brings and what a look shows depends on the schedule, and no clause says which items these may
+//! be.
 #![tactic(auto)]
 
 mod desk_loop;
@@ -13,8 +15,10 @@ mod error;
 mod exchange;
 mod gate;
 mod gather;
+mod hands;
 mod job;
 mod job_loop;
+mod laws;
 mod merge;
 mod office;
 mod outcome;
@@ -30,6 +34,7 @@ pub use error::{OfficeError, ScriptError};
 pub use gate::{Gate, OpenGate};
 pub use job::{Job, Work};
 pub use job_loop::worker_loop;
+pub use laws::one_end;
 pub use merge::Merge;
 pub use office::{Office, run_office};
 pub use outcome::Outcome;

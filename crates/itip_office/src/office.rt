@@ -1,9 +1,9 @@
 //! An office from its jobs to its desks.
-ghost use Rattle.std.specs.Prelude.{◌≤◌, IfOk};
+ghost use Rattle.std.specs.Prelude.{◌≤◌, IfOk, IsErrOf};
 ghost use Rattle.itip_office.specs.Ended.{HasEnded};
 
 use crate::error::OfficeError;
-use crate::exchange::ended_desks;
+use crate::exchange::exchange;
 use crate::gate::Gate;
 use crate::gather::gather;
 use crate::job::Job;
@@ -24,13 +24,12 @@ pub struct Office {
 }
 
 /// Runs jobs on threads: one for each worker, and one for the keeper of each desk. Desks are empty in the beginning. Once the jobs are done
-/// the desks meet, and each takes what the others keep.
+/// each desk takes what the others keep of texts. What carries brought meanwhile is seen by looks and by other carries; in the end it is
+/// nothing that a desk lacks.
 ///
-/// Ends early if an allocation failed (40), if a thread could not be made or a desk gave no place (41), if the gate is closed (42), if a
-/// channel refused a send or a job has no outcome (43), if two jobs have one number, or an outcome is of no job or not of its own desk, or
-/// a job was merged that names a desk that isn't there (44), if a desk refused an entry (45), or if a count is spent (21): with 41 before
-/// all if not all threads were made, else with the lowest number among what the threads answer, and after them with 44. All threads have
-/// returned by then.
+/// Ends early if an allocation failed (40), if a thread could not be made or a desk gave no place (41), if the gate said so (42), if two
+/// jobs have one number (44), if a desk refused an entry (45), or if a count is spent (21): with 41 before all if not all threads were made,
+/// else with the lowest number among what the threads answer, and after them with 44. All threads have returned by then.
 pub fn run_office<
     R: AllocGlobal + Threads + Wait + Copy + Send + Sync + 'static,
     G: Gate + Send + Sync + Drop + 'static,
@@ -38,14 +37,16 @@ pub fn run_office<
     requires desks { (1 ≤ desks) × (desks ≤ 16) }
     requires workers { (1 ≤ workers) × (workers ≤ 8) }
     ensures ended { IfOk result (λ office. HasEnded desks jobs.items office.replies.items office.desks.items) }
+    ensures closed { IsErrOf result OfficeError.GateClosed → G.may_close }
+    ensures channel { IsErrOf result OfficeError.ChannelClosed → ⊥ }
 {
     let alloc = rt.alloc();
     let sent = jobs.clone()?;
     let mut jobs = jobs;
     jobs.sort_by_key(|job| job.number)?;
     let done = run_team(rt, desks, workers, sent, gate)?;
-    let (answers, keepers) = gather(rt, desks, done)?;
+    let (answers, texts) = gather(rt, desks, done)?;
     let replies = replies(alloc, &jobs, answers)?;
-    let desks = ended_desks(rt, keepers)?;
+    let desks = exchange(rt, alloc, texts, desks)?;
     Ok(Office { desks, replies })
 }

@@ -1,5 +1,5 @@
 //! The outcomes of jobs, in the order of their numbers.
-ghost use Rattle.std.specs.Prelude.{◌≡◌, map, IfOk, IsTrue};
+ghost use Rattle.std.specs.Prelude.{◌≡◌, ◌⊎◌, map, IfOk, IfErr, IsTrue};
 ghost use Rattle.std.specs.List.Sorted.{IsStrictlyIncreasing};
 ghost use Rattle.itip_office.specs.Ended.{AreRepliesFrom};
 
@@ -10,22 +10,20 @@ use std::alloc::Global;
 
 /// The outcome of each of these jobs, which stand in the order of their numbers.
 ///
-/// Refused where two jobs have one number, or an answer is of no job or of one that was answered before (44), and then where a job
-/// has no answer (43).
+/// Refused where two jobs have one number; or, which no run meets, where an answer is of no job or of one that was answered before, or a
+/// job has no answer (44).
 pub(crate) fn replies(
     alloc: Global,
     jobs: &[Job],
     answers: Vec<(Job, Outcome)>,
 ) -> Result<Vec<(u64, Outcome)>, OfficeError>
-    ensures { IfOk result (λ replies. AreRepliesFrom answers.items jobs.now replies.items) }
+    ensures replies { IfOk result (λ replies. AreRepliesFrom answers.items jobs.now replies.items) }
+    ensures causes { IfErr result (λ e. (e ≡ OfficeError.NoMemory) ⊎ (e ≡ OfficeError.StrangeDone)) }
 {
     let mut answers = answers;
     answers.sort_by_key(|answer| answer.0.number)?;
-    if !is_each_once(jobs) || !is_each_answered_once(&answers) || !are_of(jobs, &answers) {
+    if !is_each_once(jobs) || !are_all_answered(jobs, &answers) {
         return Err(OfficeError::StrangeDone);
-    }
-    if !are_all_answered(jobs, &answers) {
-        return Err(OfficeError::ChannelClosed);
     }
     let mut replies = Vec::with_capacity(alloc, answers.len())?;
     for (job, outcome) in answers {
@@ -39,22 +37,6 @@ fn is_each_once(jobs: &[Job]) -> bool
     ensures { IsTrue result → IsStrictlyIncreasing (map (λ job. job.number) jobs.now) }
 {
     jobs.is_sorted_by(|one, other| one.number < other.number)
-}
-
-fn is_each_answered_once(answers: &[(Job, Outcome)]) -> bool {
-    answers.is_sorted_by(|one, other| one.0.number < other.0.number)
-}
-
-// Whether each answer is that of one of the jobs.
-fn are_of(jobs: &[Job], answers: &[(Job, Outcome)]) -> bool {
-    answers.iter().all(|answer| is_of(jobs, &answer.0))
-}
-
-fn is_of(jobs: &[Job], answered: &Job) -> bool {
-    match jobs.binary_search_by_key(&answered.number, |job| job.number) {
-        Ok(at) => jobs.get(at).is_some_and(|job| job.is_same(answered)),
-        Err(_) => false,
-    }
 }
 
 // Whether these are the answers to the jobs, one after another.

@@ -55,6 +55,8 @@ pub fn run_jobs<
     ensures unread { IsErrOf result (ScriptError.Stream StreamFault.Read) → Keeps (W.contents writer.old) (W.contents writer.new) }
     ensures unended { (error : OfficeError) → IsErrOf result (ScriptError.Office error) →
         Keeps (W.contents writer.old) (W.contents writer.new) }
+    ensures gate { IsErrOf result (ScriptError.Office OfficeError.GateClosed) → ⊥ }
+    ensures channel { IsErrOf result (ScriptError.Office OfficeError.ChannelClosed) → ⊥ }
     ensures unread_untold { IsErrOf result (ScriptError.Stream StreamFault.Read) → watch.new ≡ watch.old }
     ensures unended_untold { (error : OfficeError) → IsErrOf result (ScriptError.Office error) → watch.new ≡ watch.old }
 {

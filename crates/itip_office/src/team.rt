@@ -1,9 +1,9 @@
 //! The threads of an office.
-ghost use Rattle.std.specs.Prelude.{◌≡◌, ◌+◌, ◌<◌, ◌≤◌, ℕ, [], length, map, All, IfOk, OnOk};
-ghost use Rattle.itip_running.specs.Ends.{published, pending};
+ghost use Rattle.std.specs.Prelude.{◌≡◌, ◌≢◌, ◌⊎◌, ◌≤◌, ℕ, [], length, All, IfOk, OnOk, IfErr, IsErrOf};
+ghost use Rattle.itip_desk.specs.Desk.{IsDeskOf};
 ghost use Rattle.itip_office.specs.Answers.{AnswersAlone};
-ghost use Rattle.itip_office.specs.Merged.{AreMerged};
-ghost use Rattle.itip_office.specs.Team.{AreOfDesks, AreNumbered};
+ghost use Rattle.itip_office.specs.Merged.{IsIdle, HasMerged};
+ghost use Rattle.itip_office.specs.Exchanged.{AreNoLoops};
 
 use crate::desk_loop::keeper_loop;
 use crate::error::OfficeError;
@@ -14,48 +14,57 @@ use crate::merge::Merge;
 use crate::outcome::Outcome;
 use crate::owned_keeper::OwnedKeeper;
 use crossbeam_channel::{Receiver, Sender, unbounded};
-use itip_running::{LiveError, Pass, start_desk};
+use itip_desk::Desk;
+use itip_running::{Keeper, LiveError, Pass, start_desk};
 use std::alloc::Global;
+use std::marker::PhantomData;
 use std::sync::{Arc, Wait};
 use std::thread;
 use std::thread::{Promise, PromisedHandle, Threads};
 
-/// What the thread of a keeper returns: the keeper, and the jobs that it merged, with their outcomes.
+/// What the thread of a keeper returns: for which desk it merged, what it owns, and the jobs that it merged, with their outcomes.
 #[derive(Drop)]
 pub(crate) struct Merged<R: AllocGlobal + Wait + Copy> {
+    pub(crate) desk: u64,
     pub(crate) held: OwnedKeeper<R>,
     pub(crate) answers: Vec<(Job, Outcome)>,
 }
 
-/// That a keeper merges for one desk.
-#[derive(Clone, Copy)]
-pub(crate) struct OfDesk {
-    desk: u64,
-}
-
-impl<R: AllocGlobal + Wait + Copy> Promise<Result<Merged<R>, OfficeError>> for OfDesk {
-    ghost kept_by = { λ p r. IfOk r (λ kept. AreMerged p.desk kept.answers.items (published kept.held.keeper)) };
-}
-
-/// That a worker answers for so many desks.
-#[derive(Clone, Copy)]
-pub(crate) struct OfDesks {
-    desks: usize,
-}
-
-impl Promise<Result<Vec<(Job, Outcome)>, OfficeError>> for OfDesks {
-    ghost kept_by = { λ p r. IfOk r (λ answers. All (λ a. AnswersAlone p.desks a.0.work a.1) answers.items) };
-}
-
-type KeeperThread<R> = PromisedHandle<Result<Merged<R>, OfficeError>, OfDesk>;
-
-type WorkerThread = PromisedHandle<Result<Vec<(Job, Outcome)>, OfficeError>, OfDesks>;
-
-/// The threads that were made: keepers in the order of desks, and workers.
+/// That a keeper has a desk of the texts that it answers, under a gate of this type.
 #[derive(Drop)]
-pub(crate) struct Team<R: AllocGlobal + Wait + Copy> {
-    keepers: Vec<KeeperThread<R>>,
-    workers: Vec<WorkerThread>,
+pub(crate) struct OfTexts<G: Gate> {
+    gate: PhantomData<G>,
+}
+
+impl<R: AllocGlobal + Wait + Copy, G: Gate> Promise<Result<Merged<R>, OfficeError>> for OfTexts<G> {
+    ghost use Rattle.itip_office.specs.declared.error.OfficeError.{OfficeError};
+
+    ghost kept_by = { λ p r. IfOk r (λ kept. HasMerged kept.desk kept.answers.items kept.held.texts)
+        × (IsErrOf r OfficeError.GateClosed → G.may_close) };
+}
+
+/// That a worker answers for so many desks, under a gate of this type.
+#[derive(Drop)]
+pub(crate) struct OfDesks<G: Gate> {
+    desks: usize,
+    gate: PhantomData<G>,
+}
+
+impl<G: Gate> Promise<Result<Vec<(Job, Outcome)>, OfficeError>> for OfDesks<G> {
+    ghost use Rattle.itip_office.specs.declared.error.OfficeError.{OfficeError};
+
+    ghost kept_by = { λ p r. IfOk r (λ answers. All (λ a. AnswersAlone p.desks a.0.work a.1) answers.items)
+        × (IsErrOf r OfficeError.GateClosed → G.may_close) };
+}
+
+type KeeperThread<R, G> = PromisedHandle<Result<Merged<R>, OfficeError>, OfTexts<G>>;
+
+type WorkerThread<G> = PromisedHandle<Result<Vec<(Job, Outcome)>, OfficeError>, OfDesks<G>>;
+
+/// The threads that were made. It can't be let go: whoever has it has to join them.
+pub(crate) struct Team<R: AllocGlobal + Wait + Copy, G: Gate> {
+    keepers: Vec<KeeperThread<R, G>>,
+    workers: Vec<WorkerThread<G>>,
 }
 
 /// What the threads returned: the jobs that workers answered, and what each keeper did.
@@ -65,37 +74,47 @@ pub(crate) struct Done<R: AllocGlobal + Wait + Copy> {
     pub(crate) kept: Vec<Merged<R>>,
 }
 
-// What a worker works with: a pass and a way to the keeper, for each desk.
+// What a worker works with: a way to each keeper, and a pass of each desk where jobs look or carry.
 #[derive(Drop)]
 struct Bench {
     passes: Vec<Pass>,
-    keepers: Vec<Sender<Merge>>,
+    keepers: Vec<Sender<Vec<Merge>>>,
 }
 
-/// Runs the jobs on threads, one for each worker and one for the keeper of each desk, and joins them all, whatever they answer.
+/// Runs the jobs on threads, one for each worker and one for each keeper, and joins them all, whatever they answer.
+///
+/// Where no job looks or carries, and there are more workers than desks, a desk has several keepers, among which its texts are divided by
+/// UID: one alone would be slower than those who read.
 pub(crate) fn run_team<
     R: AllocGlobal + Threads + Wait + Copy + Send + Sync + 'static,
     G: Gate + Send + Sync + Drop + 'static,
 >(rt: &R, desks: usize, workers: usize, jobs: Vec<Job>, gate: G) -> Result<Done<R>, OfficeError>
     requires workers { (1 ≤ workers) × (workers ≤ 8) }
     ensures alone { IfOk result (λ done. All (λ a. AnswersAlone desks a.0.work a.1) done.alone.items) }
-    ensures kept { IfOk result (λ done. AreOfDesks 0 (map (λ k. (k.answers.items, published k.held.keeper)) done.kept.items)) }
-    ensures count { IfOk result (λ done. length done.kept.items ≡ desks) }
+    ensures kept { IfOk result (λ done. All (λ k. HasMerged k.desk k.answers.items k.held.texts) done.kept.items) }
+    ensures closed { IsErrOf result OfficeError.GateClosed → G.may_close }
+    ensures channel { IfErr result (λ e. e ≢ OfficeError.ChannelClosed) }
 {
     let alloc = rt.alloc();
-    let mut team = Team {
+    let mut team: Team<R, G> = Team {
         keepers: Vec::with_capacity(alloc, desks)?,
         workers: Vec::with_capacity(alloc, workers)?,
     };
     let started = team.start(rt, desks, workers, jobs, gate);
     let done = team.join(rt);
     started?;
-    done
+    match done {
+        Ok(done) => Ok(done),
+        Err(error) => Err(error.of_all()),
+    }
 }
 
-impl<R: AllocGlobal + Threads + Wait + Copy + Send + Sync + 'static> Team<R> {
+impl<
+    R: AllocGlobal + Threads + Wait + Copy + Send + Sync + 'static,
+    G: Gate + Send + Sync + Drop + 'static,
+> Team<R, G> {
     // Makes the threads. The ends of channels that no thread got are dropped, so that those that were made return.
-    fn start<G: Gate + Send + Sync + Drop + 'static>(
+    fn start(
         &mut self,
         rt: &R,
         desks: usize,
@@ -103,41 +122,45 @@ impl<R: AllocGlobal + Threads + Wait + Copy + Send + Sync + 'static> Team<R> {
         jobs: Vec<Job>,
         gate: G,
     ) -> Result<(), OfficeError>
-        requires none { (self.old.keepers.items ≡ []) × (self.old.workers.items ≡ []) }
+        requires none { self.old.workers.items ≡ [] }
         requires workers { (1 ≤ workers) × (workers ≤ 8) }
-        ensures keepers { OnOk result (AreNumbered 0 (map (λ t. t.promise.desk) self.new.keepers.items)) }
-        ensures count { OnOk result (length self.new.keepers.items ≡ desks) }
         ensures workers { OnOk result (All (λ t. t.promise.desks ≡ desks) self.new.workers.items) }
+        ensures causes { IfErr result AreNoLoops }
     {
         let alloc = rt.alloc();
         let gate = Arc::new(alloc, gate)?;
+        let are_read = jobs.iter().any(|job| job.needs_pass());
         let jobs = queue(rt, jobs)?;
         let mut benches = benches(alloc, workers)?;
-        self.start_keepers(rt, desks, benches.as_mut_slice(), &gate)?;
+        let shares = if are_read { 1 } else { shares(desks, workers) };
+        for _ in 0..shares {
+            self.start_keepers(rt, desks, are_read, benches.as_mut_slice(), &gate)?;
+        }
         self.start_workers(rt, desks, benches, &jobs, &gate)
     }
 
-    fn start_keepers<G: Gate + Send + Sync + Drop + 'static>(
+    // One keeper more for each desk, in the order of desks.
+    fn start_keepers(
         &mut self,
         rt: &R,
         desks: usize,
+        are_read: bool,
         benches: &mut [Bench],
         gate: &Arc<G>,
     ) -> Result<(), OfficeError>
-        requires none { self.old.keepers.items ≡ [] }
         requires workers { (1 ≤ length benches.old) × (length benches.old ≤ 8) }
-        ensures keepers { OnOk result (AreNumbered 0 (map (λ t. t.promise.desk) self.new.keepers.items)) }
-        ensures count { OnOk result (length self.new.keepers.items ≡ desks) }
         ensures workers { self.new.workers.items ≡ self.old.workers.items }
+        ensures benches { length benches.new ≡ length benches.old }
+        ensures causes { IfErr result AreNoLoops }
     {
         for desk in 0..desks {
-            let thread = start_keeper(rt, desk as u64, benches, gate)?;
+            let thread = start_keeper(rt, desk as u64, are_read, benches, gate)?;
             self.keepers.push(thread)?;
         }
         Ok(())
     }
 
-    fn start_workers<G: Gate + Send + Sync + Drop + 'static>(
+    fn start_workers(
         &mut self,
         rt: &R,
         desks: usize,
@@ -146,8 +169,8 @@ impl<R: AllocGlobal + Threads + Wait + Copy + Send + Sync + 'static> Team<R> {
         gate: &Arc<G>,
     ) -> Result<(), OfficeError>
         requires none { self.old.workers.items ≡ [] }
-        ensures keepers { self.new.keepers.items ≡ self.old.keepers.items }
         ensures workers { OnOk result (All (λ t. t.promise.desks ≡ desks) self.new.workers.items) }
+        ensures causes { IfErr result AreNoLoops }
     {
         for bench in benches {
             let thread = start_worker(rt, desks, bench, jobs, gate)?;
@@ -159,9 +182,8 @@ impl<R: AllocGlobal + Threads + Wait + Copy + Send + Sync + 'static> Team<R> {
     fn join(self, rt: &R) -> Result<Done<R>, OfficeError>
         ensures alone { (desks : ℕ) → All (λ t. t.promise.desks ≡ desks) self.workers.items →
             IfOk result (λ done. All (λ a. AnswersAlone desks a.0.work a.1) done.alone.items) }
-        ensures kept { AreNumbered 0 (map (λ t. t.promise.desk) self.keepers.items) →
-            IfOk result (λ done. AreOfDesks 0 (map (λ k. (k.answers.items, published k.held.keeper)) done.kept.items)) }
-        ensures count { IfOk result (λ done. length done.kept.items ≡ length self.keepers.items) }
+        ensures kept { IfOk result (λ done. All (λ k. HasMerged k.desk k.answers.items k.held.texts) done.kept.items) }
+        ensures closed { IsErrOf result OfficeError.GateClosed → G.may_close }
     {
         let Team { keepers, workers } = self;
         let alone = join_workers(rt, workers);
@@ -178,16 +200,53 @@ impl<R: AllocGlobal + Threads + Wait + Copy + Send + Sync + 'static> Team<R> {
 fn start_keeper<
     R: AllocGlobal + Threads + Wait + Copy + Send + Sync + 'static,
     G: Gate + Send + Sync + Drop + 'static,
->(rt: &R, desk: u64, benches: &mut [Bench], gate: &Arc<G>) -> Result<KeeperThread<R>, OfficeError>
+>(
+    rt: &R,
+    desk: u64,
+    is_read: bool,
+    benches: &mut [Bench],
+    gate: &Arc<G>,
+) -> Result<KeeperThread<R, G>, OfficeError>
     requires workers { (1 ≤ length benches.old) × (length benches.old ≤ 8) }
-    ensures desk { IfOk result (λ thread. thread.promise.desk ≡ desk) }
     ensures workers { length benches.new ≡ length benches.old }
+    ensures causes { IfErr result AreNoLoops }
 {
-    let (keeper, passes) = start_desk(rt, benches.len()).map_err(live_error)?;
-    let held = OwnedKeeper { keeper, rt: *rt };
+    let (shown, passes) = shown_desk(rt, is_read, benches.len())?;
+    let held = OwnedKeeper {
+        texts: Desk::empty_at(rt.alloc(), 0),
+        shown,
+        rt: *rt,
+    };
     let (to, merges) = unbounded(rt.alloc())?;
     seat(benches, passes, &to)?;
     keeper_thread(rt, desk, held, merges, Arc::try_clone(gate)?)
+}
+
+// How many keepers a desk has: as many as there are workers for it.
+fn shares(desks: usize, workers: usize) -> usize {
+    if desks == 0 || workers < desks {
+        return 1;
+    }
+    workers / desks
+}
+
+// A running desk with so many passes, where it is read.
+fn shown_desk<R: AllocGlobal + Wait>(
+    rt: &R,
+    is_read: bool,
+    passes: usize,
+) -> Result<(Option<Keeper>, Vec<Pass>), OfficeError>
+    requires passes { (1 ≤ passes) × (passes ≤ 8) }
+    ensures idle { IfOk result (λ r. IsIdle r.0) }
+    ensures causes { IfErr result AreNoLoops }
+{
+    if !is_read {
+        return Ok((None, Vec::new(rt.alloc())));
+    }
+    match start_desk(rt, passes) {
+        Ok((keeper, passes)) => Ok((Some(keeper), passes)),
+        Err(refused) => Err(live_error(refused)),
+    }
 }
 
 fn start_worker<
@@ -199,28 +258,29 @@ fn start_worker<
     bench: Bench,
     jobs: &Receiver<Job>,
     gate: &Arc<G>,
-) -> Result<WorkerThread, OfficeError>
+) -> Result<WorkerThread<G>, OfficeError>
     ensures desks { IfOk result (λ thread. thread.promise.desks ≡ desks) }
+    ensures causes { IfErr result AreNoLoops }
 {
-    if bench.passes.len() != desks || bench.keepers.len() != desks {
-        return Err(OfficeError::NoPlace);
-    }
     worker_thread(rt, desks, bench, jobs.clone()?, Arc::try_clone(gate)?)
 }
 
-// A channel with all jobs in it, and nobody who sends more.
-fn queue<R: AllocGlobal + Wait>(rt: &R, jobs: Vec<Job>) -> Result<Receiver<Job>, OfficeError> {
+// A channel with all jobs in it, and nobody who sends more. Its receiver is here, so a send is refused for want of memory alone.
+fn queue<R: AllocGlobal + Wait>(rt: &R, jobs: Vec<Job>) -> Result<Receiver<Job>, OfficeError>
+    ensures { IfErr result (λ e. e ≡ OfficeError.NoMemory) }
+{
     let (to, queue) = unbounded(rt.alloc())?;
     for job in jobs {
         if to.send(rt, job).is_err() {
-            return Err(OfficeError::ChannelClosed);
+            return Err(OfficeError::NoMemory);
         }
     }
     Ok(queue)
 }
 
 fn benches(alloc: Global, workers: usize) -> Result<Vec<Bench>, OfficeError>
-    ensures { IfOk result (λ all. length all.items ≡ workers) }
+    ensures count { IfOk result (λ all. length all.items ≡ workers) }
+    ensures cause { IfErr result (λ e. e ≡ OfficeError.NoMemory) }
 {
     let mut all = Vec::new(alloc);
     for _ in 0..workers {
@@ -232,13 +292,20 @@ fn benches(alloc: Global, workers: usize) -> Result<Vec<Bench>, OfficeError>
     Ok(all)
 }
 
-// Gives each worker a pass of a desk, and a way to its keeper.
-fn seat(benches: &mut [Bench], passes: Vec<Pass>, keeper: &Sender<Merge>) -> Result<(), OfficeError>
-    ensures { length benches.new ≡ length benches.old }
+// Gives each worker a way to the keeper of a desk, and a pass of the desk where there are passes.
+fn seat(
+    benches: &mut [Bench],
+    passes: Vec<Pass>,
+    keeper: &Sender<Vec<Merge>>,
+) -> Result<(), OfficeError>
+    ensures count { length benches.new ≡ length benches.old }
+    ensures cause { IfErr result (λ e. e ≡ OfficeError.NoMemory) }
 {
+    for bench in benches.iter_mut() {
+        bench.keepers.push(keeper.clone()?)?;
+    }
     for (bench, pass) in benches.iter_mut().zip(passes) {
         bench.passes.push(pass)?;
-        bench.keepers.push(keeper.clone()?)?;
     }
     Ok(())
 }
@@ -250,17 +317,19 @@ fn keeper_thread<
     rt: &R,
     desk: u64,
     held: OwnedKeeper<R>,
-    merges: Receiver<Merge>,
+    merges: Receiver<Vec<Merge>>,
     gate: Arc<G>,
-) -> Result<KeeperThread<R>, OfficeError>
-    requires fresh { (published held.keeper ≡ []) × (pending held.keeper ≡ []) }
-    ensures desk { IfOk result (λ thread. thread.promise.desk ≡ desk) }
+) -> Result<KeeperThread<R, G>, OfficeError>
+    requires fresh { IsDeskOf [] 0 held.texts × IsIdle held.shown }
+    ensures cause { IfErr result (λ e. e ≡ OfficeError.NoPlace) }
 {
     let work = move || -> Result<Merged<R>, OfficeError>
-        requires { (published held.keeper ≡ []) × (pending held.keeper ≡ []) }
-        ensures { IfOk result (λ kept. AreMerged desk kept.answers.items (published kept.held.keeper)) }
+        requires { IsDeskOf [] 0 held.texts × IsIdle held.shown }
+        ensures { IfOk result (λ kept. HasMerged kept.desk kept.answers.items kept.held.texts)
+            × (IsErrOf result OfficeError.GateClosed → G.may_close) }
     { keep(desk, held, merges, gate) };
-    match thread::spawn_with(rt, OfDesk { desk }, work) {
+    let promise: OfTexts<G> = OfTexts { gate: PhantomData };
+    match thread::spawn_with(rt, promise, work) {
         Ok(thread) => Ok(thread),
         Err(_) => Err(OfficeError::NoPlace),
     }
@@ -269,16 +338,21 @@ fn keeper_thread<
 fn keep<R: AllocGlobal + Wait + Copy, G: Gate + Drop>(
     desk: u64,
     held: OwnedKeeper<R>,
-    merges: Receiver<Merge>,
+    merges: Receiver<Vec<Merge>>,
     gate: Arc<G>,
 ) -> Result<Merged<R>, OfficeError>
-    requires fresh { (published held.keeper ≡ []) × (pending held.keeper ≡ []) }
-    ensures { IfOk result (λ kept. AreMerged desk kept.answers.items (published kept.held.keeper)) }
+    requires fresh { IsDeskOf [] 0 held.texts × IsIdle held.shown }
+    ensures merged { IfOk result (λ kept. HasMerged kept.desk kept.answers.items kept.held.texts) }
+    ensures closed { IsErrOf result OfficeError.GateClosed → G.may_close }
 {
-    let (keeper, rt) = held.into_parts();
-    let (keeper, answers) = keeper_loop(&rt, desk, keeper, merges, &*gate)?;
-    let held = OwnedKeeper { keeper, rt };
-    Ok(Merged { held, answers })
+    let (texts, shown, rt) = held.into_parts();
+    let (texts, shown, answers) = keeper_loop(&rt, desk, texts, shown, merges, &*gate)?;
+    let held = OwnedKeeper { texts, shown, rt };
+    Ok(Merged {
+        desk,
+        held,
+        answers,
+    })
 }
 
 fn worker_thread<
@@ -290,16 +364,20 @@ fn worker_thread<
     bench: Bench,
     jobs: Receiver<Job>,
     gate: Arc<G>,
-) -> Result<WorkerThread, OfficeError>
-    requires desks { (length bench.passes.items ≡ desks) × (length bench.keepers.items ≡ desks) }
+) -> Result<WorkerThread<G>, OfficeError>
     ensures desks { IfOk result (λ thread. thread.promise.desks ≡ desks) }
+    ensures cause { IfErr result (λ e. e ≡ OfficeError.NoPlace) }
 {
     let own = *rt;
     let work = move || -> Result<Vec<(Job, Outcome)>, OfficeError>
-        requires { (length bench.passes.items ≡ desks) × (length bench.keepers.items ≡ desks) }
-        ensures { IfOk result (λ answers. All (λ a. AnswersAlone desks a.0.work a.1) answers.items) }
+        ensures { IfOk result (λ answers. All (λ a. AnswersAlone desks a.0.work a.1) answers.items)
+            × (IsErrOf result OfficeError.GateClosed → G.may_close) }
     { work(&own, desks, bench, jobs, gate) };
-    match thread::spawn_with(rt, OfDesks { desks }, work) {
+    let promise: OfDesks<G> = OfDesks {
+        desks,
+        gate: PhantomData,
+    };
+    match thread::spawn_with(rt, promise, work) {
         Ok(thread) => Ok(thread),
         Err(_) => Err(OfficeError::NoPlace),
     }
@@ -312,19 +390,20 @@ fn work<R: AllocGlobal + Wait, G: Gate + Drop>(
     jobs: Receiver<Job>,
     gate: Arc<G>,
 ) -> Result<Vec<(Job, Outcome)>, OfficeError>
-    requires desks { (length bench.passes.items ≡ desks) × (length bench.keepers.items ≡ desks) }
-    ensures { IfOk result (λ answers. All (λ a. AnswersAlone desks a.0.work a.1) answers.items) }
+    ensures alone { IfOk result (λ answers. All (λ a. AnswersAlone desks a.0.work a.1) answers.items) }
+    ensures closed { IsErrOf result OfficeError.GateClosed → G.may_close }
 {
     let Bench { passes, keepers } = bench;
-    worker_loop(rt, passes, jobs, keepers, &*gate)
+    worker_loop(rt, desks, passes, jobs, keepers, &*gate)
 }
 
-fn join_workers<R: AllocGlobal + Threads>(
+fn join_workers<R: AllocGlobal + Threads, G: Gate>(
     rt: &R,
-    workers: Vec<WorkerThread>,
+    workers: Vec<WorkerThread<G>>,
 ) -> Result<Vec<(Job, Outcome)>, OfficeError>
-    ensures { (desks : ℕ) → All (λ t. t.promise.desks ≡ desks) workers.items →
+    ensures alone { (desks : ℕ) → All (λ t. t.promise.desks ≡ desks) workers.items →
         IfOk result (λ all. All (λ a. AnswersAlone desks a.0.work a.1) all.items) }
+    ensures closed { IsErrOf result OfficeError.GateClosed → G.may_close }
 {
     let mut all = Ok(Vec::new(rt.alloc()));
     for worker in workers {
@@ -337,9 +416,10 @@ fn with_answers(
     all: Result<Vec<(Job, Outcome)>, OfficeError>,
     more: Result<Vec<(Job, Outcome)>, OfficeError>,
 ) -> Result<Vec<(Job, Outcome)>, OfficeError>
-    ensures { (desks : ℕ) → IfOk all (λ v. All (λ a. AnswersAlone desks a.0.work a.1) v.items) →
+    ensures alone { (desks : ℕ) → IfOk all (λ v. All (λ a. AnswersAlone desks a.0.work a.1) v.items) →
         IfOk more (λ v. All (λ a. AnswersAlone desks a.0.work a.1) v.items) →
         IfOk result (λ v. All (λ a. AnswersAlone desks a.0.work a.1) v.items) }
+    ensures closed { IsErrOf result OfficeError.GateClosed → IsErrOf all OfficeError.GateClosed ⊎ IsErrOf more OfficeError.GateClosed }
 {
     match (all, more) {
         (Ok(mut all), Ok(mut more)) => {
@@ -352,13 +432,12 @@ fn with_answers(
     }
 }
 
-fn join_keepers<R: AllocGlobal + Threads + Wait + Copy>(
+fn join_keepers<R: AllocGlobal + Threads + Wait + Copy, G: Gate>(
     rt: &R,
-    keepers: Vec<KeeperThread<R>>,
+    keepers: Vec<KeeperThread<R, G>>,
 ) -> Result<Vec<Merged<R>>, OfficeError>
-    ensures kept { AreNumbered 0 (map (λ t. t.promise.desk) keepers.items) →
-        IfOk result (λ all. AreOfDesks 0 (map (λ k. (k.answers.items, published k.held.keeper)) all.items)) }
-    ensures count { IfOk result (λ all. length all.items ≡ length keepers.items) }
+    ensures kept { IfOk result (λ all. All (λ k. HasMerged k.desk k.answers.items k.held.texts) all.items) }
+    ensures closed { IsErrOf result OfficeError.GateClosed → G.may_close }
 {
     let mut all = Ok(Vec::new(rt.alloc()));
     for keeper in keepers {
@@ -371,11 +450,10 @@ fn with_kept<R: AllocGlobal + Wait + Copy>(
     all: Result<Vec<Merged<R>>, OfficeError>,
     more: Result<Merged<R>, OfficeError>,
 ) -> Result<Vec<Merged<R>>, OfficeError>
-    ensures kept { (n : ℕ) →
-        IfOk all (λ v. (length v.items ≡ n) × AreOfDesks 0 (map (λ k. (k.answers.items, published k.held.keeper)) v.items)) →
-        IfOk more (λ k. AreMerged n k.answers.items (published k.held.keeper)) →
-        IfOk result (λ v. (length v.items ≡ n + 1) × AreOfDesks 0 (map (λ k. (k.answers.items, published k.held.keeper)) v.items)) }
-    ensures count { (n : ℕ) → IfOk all (λ v. length v.items ≡ n) → IfOk result (λ v. length v.items ≡ n + 1) }
+    ensures kept { IfOk all (λ v. All (λ k. HasMerged k.desk k.answers.items k.held.texts) v.items) →
+        IfOk more (λ k. HasMerged k.desk k.answers.items k.held.texts) →
+        IfOk result (λ v. All (λ k. HasMerged k.desk k.answers.items k.held.texts) v.items) }
+    ensures closed { IsErrOf result OfficeError.GateClosed → IsErrOf all OfficeError.GateClosed ⊎ IsErrOf more OfficeError.GateClosed }
 {
     match all {
         Ok(mut all) => {
@@ -391,7 +469,9 @@ fn with_kept<R: AllocGlobal + Wait + Copy>(
 }
 
 /// Why an office ends, where a running desk refused.
-pub(crate) fn live_error(refused: LiveError) -> OfficeError {
+pub(crate) fn live_error(refused: LiveError) -> OfficeError
+    ensures { AreNoLoops result }
+{
     match refused {
         LiveError::NoMemory => OfficeError::NoMemory,
         LiveError::NoPlace => OfficeError::NoPlace,

@@ -1,6 +1,11 @@
 pub mod Putting
 pub mod Shown
+pub mod Itself
+pub mod Reading
 pub mod Taken
 pub mod Harmless
 pub mod Lining
 pub mod Utf8
+pub mod Pieces
+pub mod RowRead
+pub mod PageRead

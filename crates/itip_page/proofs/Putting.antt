@@ -1,5 +1,6 @@
 -- Pieces that are put behind a page, one behind the other.
-use Rattle.std.proofs.Common.{◌≡◌, ℕ, ◌+◌, ◌<◌, List, ◌++◌, length, take, get_or, ap, sym, ◌∙◌}
+use Rattle.std.proofs.Common.{◌≡◌, ℕ, ◌+◌, ◌<◌, cond, List, [], ◌++◌, length, take, get_or, ap, sym, ◌∙◌, Ok, Err, Result}
+use Rattle.std.specs.Prelude.{OnOk, is_ok}
 use Rattle.std.specs.List.{flat_map}
 use Rattle.std.proofs.lemmas.List.{get_or_default}
 use Rattle.itip_view.proofs.FlatMap.{flat_map_more, then_more}
@@ -16,6 +17,13 @@ pub five : (old p q r s new a b c d e : List ℕ) → p ≡ old ++ a → q ≡ p
     new ≡ old ++ (a ++ (b ++ (c ++ (d ++ e))))
 five old p q r s new a b c d e first second third fourth fifth =
     then_more old p new a (b ++ (c ++ (d ++ e))) first (four p q r s new b c d e second third fourth fifth)
+
+-- a piece that was made apart, in a vector that was empty
+pub made_apart : {E : Type 0} (r : Result (Unit {0}) E) (old new slice made empty piece : List ℕ) →
+    new ≡ cond (is_ok r) (old ++ slice) old → slice ≡ made → made ≡ empty ++ piece → empty ≡ [] → OnOk r (new ≡ old ++ piece)
+made_apart (Ok u) old new slice made empty piece puts is made_is none =
+    puts ∙ ap (λ (t : List ℕ). old ++ t) (is ∙ made_is ∙ ap (λ (t : List ℕ). t ++ piece) none)
+made_apart (Err x) old new slice made empty piece puts is made_is none = tt
 
 -- the piece of one octet more
 pub octet_more : (f : ℕ → List ℕ) (octets : List ℕ) (i : ℕ) (old page new : List ℕ) → i < length octets →

@@ -5,3 +5,4 @@ pub mod Value
 pub mod Dates
 pub mod RowMarkup
 pub mod Page
+pub mod PageTokens

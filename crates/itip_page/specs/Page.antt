@@ -26,9 +26,7 @@ abbrev pub heading_markup : Window → List ℕ
 heading_markup window = codes "<body>\n<h1>To-dos <span>" ++ (days_text window ++ codes "</span></h1>\n")
 
 abbrev pub count_text : ℕ → List ℕ
-count_text number =
-    if number == 0 then codes "Nothing stands in these days."
-    else (if number == 1 then codes "1 row." else decimal number ++ codes " rows.")
+count_text number = if number == 1 then codes "1 row." else decimal number ++ codes " rows."
 
 abbrev pub counted_markup : ℤ → ℕ → List ℕ
 counted_markup today number = codes "<p>" ++ (count_text number ++ (codes " Today is " ++ (day_text today ++ codes ".</p>\n")))

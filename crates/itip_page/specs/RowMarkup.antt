@@ -22,18 +22,20 @@ use Rattle.itip_page.specs.Value.{value_markup}
 -- ---- the to-do
 
 -- the SUMMARY, or the UID in place of an empty one
-abbrev pub named_markup : List ℕ → List ℕ → List ℕ
-named_markup [] uid = escaped uid
-named_markup (octet ∷ octets) uid = value_markup (octet ∷ octets)
+abbrev pub named : List ℕ → List ℕ → List ℕ
+named [] uid = uid
+named (octet ∷ octets) uid = octet ∷ octets
 
-abbrev pub summary_markup : Option (List ℕ) → List ℕ → List ℕ
-summary_markup None uid = escaped uid
-summary_markup (Some summary) uid = named_markup summary uid
+-- or of an absent one
+abbrev pub name_of : Option (List ℕ) → List ℕ → List ℕ
+name_of None uid = uid
+name_of (Some summary) uid = named summary uid
 
+-- either is a value of type TEXT
 abbrev pub name_markup : Row → List ℕ
-name_markup row = summary_markup row.summary row.uid
+name_markup row = value_markup (name_of row.summary row.uid)
 
--- the UID stands in an attribute
+-- in an attribute the UID stands as it is
 abbrev pub name_cell : Row → List ℕ
 name_cell row =
     codes "<th scope=\"row\" title=\"" ++ (escaped row.uid ++ (codes "\"><bdi>" ++ (name_markup row ++ codes "</bdi></th>")))

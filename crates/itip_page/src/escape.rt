@@ -1,5 +1,5 @@
 //! Texts in a page (HTML Standard 13.1.3 and 13.1.4).
-ghost use Rattle.std.specs.Prelude.{◌≡◌, ◌++◌, OnOk};
+ghost use Rattle.std.specs.Prelude.{◌≡◌, ◌++◌, OnOk, OnErr};
 ghost use Rattle.std.specs.List.{flat_map};
 ghost use Rattle.itip_page.specs.Escaped.{escaped, octet_markup};
 
@@ -8,8 +8,18 @@ use itip_streams::visible_octets;
 use std::alloc::AllocError;
 
 /// Appends a text as it stands in an element or in a double-quoted attribute value: the characters that mean something there as
-/// references, and control characters as their octets, `\x07`. If an allocation fails a part of it may be there.
+/// references, and control characters as their octets, `\x07`. If an allocation fails `out` stays as it was.
 pub fn put_escaped(out: &mut Vec<u8>, text: &[u8]) -> Result<(), AllocError>
+    ensures ok { OnOk result (out.new.items ≡ out.old.items ++ escaped text.now) }
+    ensures err { OnErr result (out.new.items ≡ out.old.items) }
+{
+    let mut markup = Vec::with_capacity(*out.allocator(), text.len())?;
+    put_text(&mut markup, text)?;
+    out.extend_from_slice(markup.as_slice())
+}
+
+/// Appends an escaped text; where memory is refused, perhaps a part of it.
+fn put_text(out: &mut Vec<u8>, text: &[u8]) -> Result<(), AllocError>
     ensures { OnOk result (out.new.items ≡ out.old.items ++ escaped text.now) }
 {
     let shown = visible_octets(*out.allocator(), text)?;

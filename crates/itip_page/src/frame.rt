@@ -1,5 +1,5 @@
 //! What stands before and behind the rows of a page.
-ghost use Rattle.std.specs.Prelude.{◌≡◌, ◌++◌, OnOk};
+ghost use Rattle.std.specs.Prelude.{◌≡◌, ◌++◌, OnOk, OnErr};
 ghost use Rattle.itip_page.specs.Page.{head_markup, foot_markup, title_markup, heading_markup, counted_markup};
 ghost use Rattle.itip_page.specs.Page.{count_text, days_text, nearest};
 
@@ -46,8 +46,31 @@ const FIRST_DAY: i32 = -719_528;
 const LAST_DAY: i32 = 2_932_896;
 
 /// Appends what stands before the rows: the style, the days of the window, how many rows there are, today, and the names of the
-/// columns. If an allocation fails a part of it may be there.
+/// columns. If an allocation fails `out` stays as it was.
 pub fn put_head(
+    out: &mut Vec<u8>,
+    window: Window,
+    today: Day,
+    number: usize,
+) -> Result<(), AllocError>
+    ensures ok { OnOk result (out.new.items ≡ out.old.items ++ head_markup window today.number number) }
+    ensures err { OnErr result (out.new.items ≡ out.old.items) }
+{
+    let mut markup = Vec::new(*out.allocator());
+    put_head_parts(&mut markup, window, today, number)?;
+    out.extend_from_slice(markup.as_slice())
+}
+
+/// Appends what stands behind the rows. If an allocation fails `out` stays as it was.
+pub fn put_foot(out: &mut Vec<u8>) -> Result<(), AllocError>
+    ensures ok { OnOk result (out.new.items ≡ out.old.items ++ foot_markup) }
+    ensures err { OnErr result (out.new.items ≡ out.old.items) }
+{
+    out.extend_from_slice(CLOSING.as_bytes())
+}
+
+/// Appends the parts of a head; where memory is refused, perhaps some of them.
+fn put_head_parts(
     out: &mut Vec<u8>,
     window: Window,
     today: Day,
@@ -59,13 +82,6 @@ pub fn put_head(
     put_heading(out, window)?;
     put_counted(out, today, number)?;
     put(out, COLUMNS)
-}
-
-/// Appends what stands behind the rows. If an allocation fails nothing is there.
-pub fn put_foot(out: &mut Vec<u8>) -> Result<(), AllocError>
-    ensures { OnOk result (out.new.items ≡ out.old.items ++ foot_markup) }
-{
-    put(out, CLOSING)
 }
 
 fn put_title(out: &mut Vec<u8>, window: Window) -> Result<(), AllocError>
@@ -100,9 +116,6 @@ fn put_counted(out: &mut Vec<u8>, today: Day, number: usize) -> Result<(), Alloc
 fn put_count(out: &mut Vec<u8>, number: usize) -> Result<(), AllocError>
     ensures { OnOk result (out.new.items ≡ out.old.items ++ count_text number) }
 {
-    if number == 0 {
-        return put(out, "Nothing stands in these days.");
-    }
     if number == 1 {
         return put(out, "1 row.");
     }

@@ -1,22 +1,48 @@
-//! What an HTML parser makes of the texts in a page, as public functions without a body.
-ghost use Rattle.std.specs.Prelude.{◌≡◌, ℕ, List, Some, None};
-ghost use Rattle.std.specs.List.{All};
+//! What an HTML parser makes of a page, and of the texts in it, as public functions without a body.
+ghost use Rattle.std.specs.Prelude.{◌≡◌, ◌++◌, ℕ, List, [], Some, true};
+ghost use Rattle.std.specs.List.{All, list_all};
 ghost use Rattle.std.specs.Str.{IsUtf8};
+ghost use Rattle.itip_moment.specs.declared.day.Day.{Day};
 ghost use Rattle.itip_streams.specs.Visible.{visible};
+ghost use Rattle.itip_view.specs.declared.row.Row.{Row};
+ghost use Rattle.itip_view.specs.declared.window.Window.{Window};
 ghost use Rattle.itip_page.specs.Escaped.{escaped};
-ghost use Rattle.itip_page.specs.Tokens.{characters, tag_opens, quote_ends, IsHarmless};
+ghost use Rattle.itip_page.specs.Page.{page_markup};
+ghost use Rattle.itip_page.specs.PageTokens.{page_tokens, shown, value_tokens, style_sheet, is_of_page, fetches_nothing};
+ghost use Rattle.itip_page.specs.Tokens.{Tag, tokens, data_state, attribute_value, IsReadAs, IsHarmless};
+ghost use Rattle.itip_page.specs.Value.{value_markup};
+
+/// A page is read as its elements, each in its place, with the texts of messages as characters between them or as the value of a
+/// `title`. Its elements and attributes have names of two lists, in which there is no `script`, no `src` and no `href`.
+pub fn page_has_its_tokens()
+    ensures read { (window : Window) (today : Day) (rows : List Row)
+        → tokens (page_markup window today.number rows) ≡ Some (page_tokens window today.number rows) }
+    ensures names { (window : Window) (today : Day) (rows : List Row)
+        → list_all is_of_page (page_tokens window today.number rows) ≡ true }
+{}
+
+/// The style of a page has no word by which a style sheet fetches something.
+pub fn style_fetches_nothing()
+    ensures { fetches_nothing style_sheet ≡ true }
+{}
 
 /// Between the tags of an element a parser takes an escaped text for the text itself, its control characters shown as octets.
 pub fn values_stay_in_elements()
-    ensures { (text : List ℕ) → characters tag_opens None (escaped text) ≡ Some (visible text) }
+    ensures { (text : List ℕ) → IsReadAs data_state (escaped text) (shown text) data_state }
 {}
 
-/// So it does in an attribute value between double quotes.
+/// So it does in an attribute value between double quotes, behind what is there of the value.
 pub fn values_stay_in_attributes()
-    ensures { (text : List ℕ) → characters quote_ends None (escaped text) ≡ Some (visible text) }
+    ensures { (tag : Tag) (name value text : List ℕ)
+        → IsReadAs (attribute_value tag name value) (escaped text) [] (attribute_value tag name (value ++ visible text)) }
 {}
 
-/// An escaped text has no `<`, no `>`, no quote, and no control character of one octet.
+/// A value of type TEXT is read as its lines, with a tag `br` between two of them and no other tag.
+pub fn values_are_lines()
+    ensures { (value : List ℕ) → IsReadAs data_state (value_markup value) (value_tokens value) data_state }
+{}
+
+/// An escaped text has no `<`, no `>`, no double quote, and no control character of one octet.
 pub fn values_have_no_markup()
     ensures { (text : List ℕ) → All IsHarmless (escaped text) }
 {}

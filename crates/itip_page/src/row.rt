@@ -1,7 +1,7 @@
 //! A row of the list as a row of a table.
-ghost use Rattle.std.specs.Prelude.{◌≡◌, ◌++◌, OnOk};
+ghost use Rattle.std.specs.Prelude.{◌≡◌, ◌++◌, OnOk, OnErr};
 ghost use Rattle.itip_page.specs.RowMarkup.{row_markup, opening_markup, dated_markup, done_markup, name_cell, name_markup};
-ghost use Rattle.itip_page.specs.RowMarkup.{named_markup, when_cell, start_markup, repeats_markup, due_cell, due_markup, late_markup};
+ghost use Rattle.itip_page.specs.RowMarkup.{name_of, named, when_cell, start_markup, repeats_markup, due_cell, due_markup, late_markup};
 ghost use Rattle.itip_page.specs.RowMarkup.{status_cell, status_words, progress_cell, bar_markup, own_markup};
 
 use crate::dates::put_moment;
@@ -14,11 +14,21 @@ use itip_todo::Status;
 use itip_view::{Row, RowForm, RowId, is_overdue};
 use std::alloc::AllocError;
 
+/// More octets than most rows have.
+const USUAL: usize = 1_024;
+
 /// Rows of a table, on a day that is taken for today.
 ///
-/// A row has six cells: the SUMMARY, or the UID where there is none; DTSTART, or else what names the instance; DUE, and `overdue`
-/// where an open row is due before today; STATUS; PROGRESS as a bar and a number, and PERCENT-COMPLETE; the attendees with their
-/// answers. What is absent is an empty cell.
+/// A row has six cells:
+///
+/// - the value of SUMMARY, or the UID where that is absent or empty; the UID as it stands is the title of the cell;
+/// - DTSTART, or else the moment that names the instance; `repeats, shown once` where the recurrence isn't expanded;
+/// - DUE, and `overdue` where an open row is due before today;
+/// - STATUS;
+/// - PROGRESS as a bar and a number, and PERCENT-COMPLETE;
+/// - the attendees with their answers, and the percentage that each told.
+///
+/// A cell of which none of these is there is empty.
 #[derive(Clone, Copy, Debug)]
 pub struct PageRows {
     pub today: Day,
@@ -27,13 +37,26 @@ pub struct PageRows {
 impl RowForm for PageRows {
     ghost octets = { λ form row. row_markup form.today.number row };
 
-    fn put(&self, row: &Row, out: &mut Vec<u8>) -> Result<(), AllocError> {
-        let is_late = is_overdue(row, self.today.number);
-        put_opening(out, is_late)?;
-        put_dated(out, row, is_late)?;
-        put_done(out, row)?;
-        put(out, "</tr>\n")
+    /// Appends a row. If an allocation fails `out` stays as it was.
+    fn put(&self, row: &Row, out: &mut Vec<u8>) -> Result<(), AllocError>
+        ensures ok { OnOk result (out.new.items ≡ out.old.items ++ row_markup self.now.today.number row.now) }
+        ensures err { OnErr result (out.new.items ≡ out.old.items) }
+    {
+        let mut markup = Vec::with_capacity(*out.allocator(), USUAL)?;
+        put_row(&mut markup, row, self.today)?;
+        out.extend_from_slice(markup.as_slice())
     }
+}
+
+/// Appends a row; where memory is refused, perhaps a part of it.
+fn put_row(out: &mut Vec<u8>, row: &Row, today: Day) -> Result<(), AllocError>
+    ensures { OnOk result (out.new.items ≡ out.old.items ++ row_markup today.number row.now) }
+{
+    let is_late = is_overdue(row, today.number);
+    put_opening(out, is_late)?;
+    put_dated(out, row, is_late)?;
+    put_done(out, row)?;
+    put(out, "</tr>\n")
 }
 
 fn put_opening(out: &mut Vec<u8>, is_late: bool) -> Result<(), AllocError>
@@ -78,20 +101,26 @@ fn put_name_cell(out: &mut Vec<u8>, row: &Row) -> Result<(), AllocError>
 fn put_name(out: &mut Vec<u8>, row: &Row) -> Result<(), AllocError>
     ensures { OnOk result (out.new.items ≡ out.old.items ++ name_markup row.now) }
 {
+    put_value(out, name_of(row))
+}
+
+/// The SUMMARY, or the UID where there is none or an empty one.
+fn name_of(row: &Row) -> &[u8]
+    ensures { result.now ≡ name_of row.now.summary row.now.uid }
+{
     let uid = row.uid.as_str().as_bytes();
     match &row.summary {
-        Some(summary) => put_named(out, summary.as_str().as_bytes(), uid),
-        None => put_escaped(out, uid),
+        Some(summary) => named(summary.as_str().as_bytes(), uid),
+        None => uid,
     }
 }
 
-/// Appends a SUMMARY, or the UID in place of an empty one.
-fn put_named(out: &mut Vec<u8>, summary: &[u8], uid: &[u8]) -> Result<(), AllocError>
-    ensures { OnOk result (out.new.items ≡ out.old.items ++ named_markup summary.now uid.now) }
+fn named<'a>(summary: &'a [u8], uid: &'a [u8]) -> &'a [u8]
+    ensures { result.now ≡ named summary.now uid.now }
 {
     match summary {
-        [] => put_escaped(out, uid),
-        _ => put_value(out, summary),
+        [] => uid,
+        _ => summary,
     }
 }
 

@@ -1,5 +1,5 @@
 //! Values of type TEXT as a person reads them (RFC 5545 3.3.11).
-ghost use Rattle.std.specs.Prelude.{◌≡◌, ◌++◌, ◌<◌, [], length, OnOk, MatchOption};
+ghost use Rattle.std.specs.Prelude.{◌≡◌, ◌++◌, ◌<◌, [], length, OnOk, OnErr, MatchOption};
 ghost use Rattle.itip_page.specs.Value.{value_markup, IsNext, PutsNext, is_break, is_escaped};
 
 use crate::escape::put_escaped;
@@ -15,8 +15,18 @@ enum Shown {
 
 /// Appends the value of a property of type TEXT, such as SUMMARY: its commas, semicolons and backslashes without the backslash
 /// before them, and its line breaks as `<br>`, which is the only tag that comes of it; each line as [`put_escaped`] has it. If an
-/// allocation fails a part of it may be there.
+/// allocation fails `out` stays as it was.
 pub fn put_value(out: &mut Vec<u8>, value: &[u8]) -> Result<(), AllocError>
+    ensures ok { OnOk result (out.new.items ≡ out.old.items ++ value_markup value.now) }
+    ensures err { OnErr result (out.new.items ≡ out.old.items) }
+{
+    let mut markup = Vec::with_capacity(*out.allocator(), value.len())?;
+    put_lines(&mut markup, value)?;
+    out.extend_from_slice(markup.as_slice())
+}
+
+/// Appends a value line by line; where memory is refused, perhaps a part of it.
+fn put_lines(out: &mut Vec<u8>, value: &[u8]) -> Result<(), AllocError>
     ensures { OnOk result (out.new.items ≡ out.old.items ++ value_markup value.now) }
 {
     let mut line = Vec::new(*out.allocator());

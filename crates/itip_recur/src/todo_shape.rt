@@ -1,5 +1,5 @@
 //! How a to-do recurs.
-ghost use Rattle.std.specs.Prelude.{◌≡◌, ◌↔◌, IsTrue, IfOk, MatchOption, Option};
+ghost use Rattle.std.specs.Prelude.{◌≡◌, ◌↔◌, IsTrue, IfOk, IsOk, MatchOption, Option};
 ghost use Rattle.std.specs.List.Sorted.{IsStrictlySortedBy};
 ghost use Rattle.itip_moment.specs.Order.{moment_cmp};
 ghost use Rattle.itip_recur.specs.declared.rule.Rule.{Rule};
@@ -21,9 +21,11 @@ use std::alloc::Global;
 ///
 /// It is single without RRULE, RDATE and EXDATE. With one of these it is opaque where it has no DTSTART,
 /// more than one RRULE, a rule outside the profile, an UNTIL of another form than DTSTART or beside a
-/// DTSTART in a named zone, or an RDATE with a `/`. Otherwise it repeats. An error only when out of memory.
+/// DTSTART in a named zone, or an RDATE with a `/`. Otherwise it repeats. An error only when out of memory, which a single to-do
+/// doesn't ask for.
 pub fn shape(alloc: Global, todo: &Todo) -> Result<Shape, NoMemory>
-    ensures { IfOk result (IsShape todo.now) }
+    ensures found { IfOk result (IsShape todo.now) }
+    ensures room { ¬ Recurs todo.now → IsOk result }
 {
     if !recurs(todo) {
         return Ok(Shape::Single);

@@ -8,6 +8,7 @@ pub mod Ascii
 pub mod Resending
 pub mod Firsts
 pub mod Tallying
+pub mod Nothing
 pub mod Effective
 pub mod OfKept
 pub mod OneReport

@@ -14,6 +14,7 @@ use Rattle.std.proofs.lemmas.List.Folds.{list_any-append}
 use Rattle.itip_state.proofs.Members.{by_bool}
 use Rattle.itip_view.specs.declared.row.Row.{Row}
 use Rattle.itip_report.specs.Load.{same_text, keys_in, firsts, rows_with, load_line, load_lines}
+use Rattle.itip_report.specs.Records.{load_of, load_records}
 use Rattle.itip_report.specs.Tally.{one_if, AreTallied, IsCounted, IsTally, rows_before, rows_of}
 use Rattle.itip_report.specs.declared.load.Tallied.{Tallied}
 use Rattle.itip_report.specs.declared.load.Tally.{Tally}
@@ -337,3 +338,7 @@ rows_told rows keys counts tally i key below is =
 pub tally_lines : (rows : List Row) (keys : List (List ℕ)) (counts : Counts) → IsTally rows [] keys counts →
     map (load_line rows) keys ≡ load_lines rows
 tally_lines rows keys counts tally = ap (map (load_line rows)) (tally.keys_are ∙ ap firsts (append-nil (flat_map keys_in rows)))
+
+pub tally_records : (rows : List Row) (keys : List (List ℕ)) (counts : Counts) → IsTally rows [] keys counts →
+    map (load_of rows) keys ≡ load_records rows
+tally_records rows keys counts tally = ap (map (load_of rows)) (tally.keys_are ∙ ap firsts (append-nil (flat_map keys_in rows)))

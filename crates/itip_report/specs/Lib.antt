@@ -7,3 +7,4 @@ pub mod Named
 pub mod Organizing
 pub mod Sought
 pub mod Tally
+pub mod Records

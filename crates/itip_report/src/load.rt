@@ -1,15 +1,18 @@
 //! How many rows show each attendee.
-ghost use Rattle.std.specs.Prelude.{◌≡◌, ◌<◌, ◌≤◌, ◌+◌, ◌++◌, ◌∷◌, [], ℕ, List, IfOk, OnOk, codes, length, map};
+ghost use Rattle.std.specs.Prelude.{◌≡◌, ◌<◌, ◌≤◌, ◌+◌, ◌++◌, ◌∷◌, [], ℕ, List, IfOk, OnOk, IsOk, codes, length, map};
 ghost use Rattle.std.specs.Fmt.{decimal};
 ghost use Rattle.std.specs.BTreeMap.{get};
+ghost use Rattle.std.specs.List.{flat_map};
 ghost use Rattle.std.specs.Ordering.{nat_cmp};
 ghost use Rattle.std.specs.Cmp.Lexicographic.{slice_cmp};
 ghost use Rattle.std.specs.String.{string_bytes};
 ghost use Rattle.itip_view.specs.declared.row.Row.{Row};
-ghost use Rattle.itip_report.specs.Load.{load_lines};
+ghost use Rattle.itip_report.specs.Load.{keys_in, load_lines};
+ghost use Rattle.itip_report.specs.Records.{load_records};
 ghost use Rattle.itip_report.specs.Tally.{AreTallied, IsTally, rows_before, rows_of};
 
 use crate::NoMemory;
+use crate::records::AttendeeLoad;
 use itip_lines::Text;
 use itip_todo::attendee_key;
 use itip_view::Row;
@@ -47,18 +50,46 @@ impl Tally {
 }
 
 /// `address count` for each attendee whom rows show: the address with ASCII letters in lower case, and the number of rows that
-/// show him, in the order of first appearance.
+/// show him, in the order of first appearance. Where no row shows an attendee it takes no memory, and the answer is Ok.
 pub fn load_by_attendee(alloc: Global, rows: &[Row]) -> Result<Vec<String>, NoMemory>
-    ensures { IfOk result (λ lines. map string_bytes lines.items ≡ load_lines rows.now) }
+    ensures lines { IfOk result (λ lines. map string_bytes lines.items ≡ load_lines rows.now) }
+    ensures succeeds { load_lines rows.now ≡ [] → IsOk result }
 {
     let mut tally = Tally::new(alloc);
     count_rows(alloc, &mut tally, rows)?;
     tallied_lines(alloc, &tally)
 }
 
+/// The attendees whom rows show, each with the number of rows that show him, in the order of first appearance: the lines of
+/// [`load_by_attendee`] as records. Where no row shows an attendee it takes no memory, and the answer is Ok.
+pub fn load_records(alloc: Global, rows: &[Row]) -> Result<Vec<AttendeeLoad>, NoMemory>
+    ensures records { IfOk result (λ loads. loads.items ≡ load_records rows.now) }
+    ensures succeeds { load_records rows.now ≡ [] → IsOk result }
+{
+    let mut tally = Tally::new(alloc);
+    count_rows(alloc, &mut tally, rows)?;
+    tallied_records(alloc, &tally)
+}
+
+/// The records of [`load_records`] for the rows that were counted.
+fn tallied_records(alloc: Global, tally: &Tally) -> Result<Vec<AttendeeLoad>, NoMemory>
+    ensures records { IfOk result (λ loads. (done : List Row) → AreTallied done tally.now → loads.items ≡ load_records done) }
+    ensures succeeds { tally.now.keys.items ≡ [] → IsOk result }
+{
+    let mut loads = Vec::new(alloc);
+    for key in &tally.keys {
+        loads.push(AttendeeLoad {
+            attendee: key.clone()?,
+            rows: rows_of(&tally.counts, key),
+        })?;
+    }
+    Ok(loads)
+}
+
 /// The lines of [`load_by_attendee`] for the rows that were counted.
 pub(crate) fn tallied_lines(alloc: Global, tally: &Tally) -> Result<Vec<String>, NoMemory>
-    ensures { IfOk result (λ lines. (done : List Row) → AreTallied done tally.now → map string_bytes lines.items ≡ load_lines done) }
+    ensures lines { IfOk result (λ lines. (done : List Row) → AreTallied done tally.now → map string_bytes lines.items ≡ load_lines done) }
+    ensures succeeds { tally.now.keys.items ≡ [] → IsOk result }
 {
     let mut lines = Vec::new(alloc);
     for key in &tally.keys {
@@ -90,8 +121,9 @@ fn load_line(alloc: Global, key: &Text, rows: usize) -> Result<String, NoMemory>
 
 /// Counts rows, behind those that were counted.
 pub(crate) fn count_rows(alloc: Global, tally: &mut Tally, rows: &[Row]) -> Result<(), NoMemory>
-    ensures { OnOk result ((done : List Row) → length done + length rows.now ≤ usize.MAX
+    ensures counted { OnOk result ((done : List Row) → length done + length rows.now ≤ usize.MAX
         → AreTallied done tally.old → AreTallied (done ++ rows.now) tally.new) }
+    ensures succeeds { flat_map keys_in rows.now ≡ [] → IsOk result }
 {
     for row in rows {
         count_row(alloc, tally, row)?;
@@ -101,8 +133,9 @@ pub(crate) fn count_rows(alloc: Global, tally: &mut Tally, rows: &[Row]) -> Resu
 
 /// Counts a row, behind those that were counted, where a place is left for it.
 fn count_row(alloc: Global, tally: &mut Tally, row: &Row) -> Result<(), NoMemory>
-    ensures { OnOk result ((done : List Row) → length done < usize.MAX
+    ensures counted { OnOk result ((done : List Row) → length done < usize.MAX
         → AreTallied done tally.old → AreTallied (done ++ row.now ∷ []) tally.new) }
+    ensures succeeds { keys_in row.now ≡ [] → IsOk result }
 {
     let place = tally.rows;
     let Some(rows) = place.checked_add(1) else {
@@ -121,8 +154,9 @@ fn count_attendees(
     place: usize,
 ) -> Result<(), NoMemory>
     requires { place < usize.MAX }
-    ensures { OnOk result ((done : List Row) → length done ≡ place
+    ensures counted { OnOk result ((done : List Row) → length done ≡ place
         → IsTally done [] tally.old.keys.items tally.old.counts → IsTally (done ++ row.now ∷ []) [] tally.new.keys.items tally.new.counts) }
+    ensures succeeds { keys_in row.now ≡ [] → IsOk result }
 {
     for attendee in row.attendees.as_slice() {
         let key = attendee_key(alloc, attendee.address.as_str())?;

@@ -1,5 +1,5 @@
 //! The items that a report is about.
-ghost use Rattle.std.specs.Prelude.{IfOk, map};
+ghost use Rattle.std.specs.Prelude.{◌≡◌, [], IfOk, IsOk, map};
 ghost use Rattle.itip_report.specs.Lines.{AreReported};
 ghost use Rattle.itip_report.specs.Reports.{IsReported};
 
@@ -10,8 +10,23 @@ use itip_items::Item;
 use itip_state::{ItemsOfUid, State};
 use std::alloc::Global;
 
-/// The kept items that a report is about, by place.
-pub(crate) fn reported<'a>(
+/// The kept items that a report is about, by place: its lines are the texts of these. Where nothing is kept it takes no memory.
+pub fn report_items<'a>(
+    alloc: Global,
+    state: &'a State,
+    report: Report,
+) -> Result<Vec<&'a Item>, NoMemory>
+    ensures items { IfOk result (λ items. AreReported (IsReported report state.now) (map (λ item. item.now) items.items)) }
+    ensures succeeds { state.now ≡ [] → IsOk result }
+{
+    if state.entries() == 0 {
+        return Ok(Vec::new(alloc));
+    }
+    all_reported(alloc, state, report)
+}
+
+/// The same, where something is kept.
+fn all_reported<'a>(
     alloc: Global,
     state: &'a State,
     report: Report,

@@ -1,5 +1,5 @@
 //! How far the rows of a list are.
-ghost use Rattle.std.specs.Prelude.{◌≡◌, ◌++◌, IfOk, OnOk, map};
+ghost use Rattle.std.specs.Prelude.{◌≡◌, ◌++◌, [], IfOk, OnOk, IsOk, map};
 ghost use Rattle.std.specs.String.{string_bytes};
 ghost use Rattle.itip_view.specs.ListText.{id_text};
 ghost use Rattle.itip_report.specs.Progress.{line_with, progress_lines};
@@ -10,8 +10,10 @@ use itip_view::{Row, RowId};
 use std::alloc::Global;
 
 /// `uid id n` for each row that has a progress, in the order of the rows: its identifier as the list shows it, and the percentage.
+/// Where no row has one it takes no memory, and the answer is Ok.
 pub fn progress(alloc: Global, rows: &[Row]) -> Result<Vec<String>, NoMemory>
-    ensures { IfOk result (λ lines. map string_bytes lines.items ≡ progress_lines rows.now) }
+    ensures lines { IfOk result (λ lines. map string_bytes lines.items ≡ progress_lines rows.now) }
+    ensures succeeds { progress_lines rows.now ≡ [] → IsOk result }
 {
     let mut lines = Vec::new(alloc);
     for row in rows {

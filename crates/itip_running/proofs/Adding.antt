@@ -1,4 +1,4 @@
--- The exchange that adds a batch keeps the rule.
+-- The exchange that adds a group of batches keeps the rule.
 use Rattle.std.proofs.Common.{◌≡◌, ℕ, ◌+◌, ◌<◌, ◌==◌, Bool, true, false, List, [], ◌∷◌, ◌++◌, length, refl, ap, sym, subst, arith, inl}
 use Rattle.std.proofs.Common.{length-append, None}
 use Rattle.std.proofs.lemmas.List.{append-nil}
@@ -6,16 +6,16 @@ use Rattle.std.proofs.lemmas.Bool.Decides.{nat_tests}
 use mathlib.Core.List.{IsPrefix}
 use prog.Atomic.{either}
 use Rattle.logbook.specs.Pages.{Cell, cell, keeps, no_nib, step, Moves, Goes}
-use Rattle.itip_running.specs.History.{Items, IsCounted, Adds}
+use Rattle.itip_running.specs.History.{Group, IsCounted, Adds}
 use Rattle.itip_running.proofs.Fronts.{prefix_whole}
 
-abbrev pub shown : List Items → List Items
+abbrev pub shown : List Group → List Group
 shown log = []
 
-abbrev pub moved : Items → List Items → List Items → ℕ → Type 0
+abbrev pub moved : Group → List Group → List Group → ℕ → Type 0
 moved ask xs ys n = Unit {0}
 
-pub adds_goes : (log v : List Items) (e : Items) (old : ℕ) → length v ≡ old → IsPrefix v log
+pub adds_goes : (log v : List Group) (e : Group) (old : ℕ) → length v ≡ old → IsPrefix v log
     → (b : Bool) → (length log == old) ≡ b
     → Goes IsCounted shown (moved e) 0 (v, (no_nib, None)) (λ n. either (n == old) (old + 1) n)
     (Adds (step 0 old (old + 1) e) (v, (no_nib, None))) ((length log, true) ∷ (0, true) ∷ []) log
@@ -44,7 +44,7 @@ adds_goes log v e old len pre false is =
       rw is (ap length all),
     )
 
-pub adds_moves : (v : List Items) (e : Items) (old : ℕ) → length v ≡ old
+pub adds_moves : (v : List Group) (e : Group) (old : ℕ) → length v ≡ old
     → Moves IsCounted shown (moved e) 0 (v, (no_nib, None)) (λ n. either (n == old) (old + 1) n)
     (Adds (step 0 old (old + 1) e) (v, (no_nib, None)))
 adds_moves v e old len cs log kept pre away =

@@ -1,4 +1,6 @@
 pub mod Fronts
+pub mod Groups
+pub mod Publishing
 pub mod Adding
 pub mod Ties
 pub mod Telling

@@ -1,23 +1,25 @@
 -- What the desk of a history shows.
-use Rattle.std.proofs.Common.{◌≡◌, ◌↔◌, ◌⊎◌, inl, inr, ℕ, List, [], ◌∷◌, ◌++◌, refl, subst, Result, Ok, Err, IfErr}
+use Rattle.std.proofs.Common.{◌≡◌, ◌↔◌, inl, inr, ℕ, List, [], ◌∷◌, ◌++◌, refl, sym, subst}
+use Rattle.std.specs.List.{Contains}
 use Rattle.std.proofs.Math.Logic.{∥∥₁_map}
 use Rattle.itip_items.specs.KeyParts.{uid_of}
 use Rattle.itip_items.specs.declared.item.Item.{Item}
-use Rattle.itip_state.specs.Kept.{AreKept}
-use Rattle.itip_view.specs.ListText.{IsListText}
-use Rattle.itip_view.specs.Rows.{IsRow, AreTooMany}
-use Rattle.itip_view.specs.Showing.{Shows, AreTooManyWhere, IsListTextFor}
+use Rattle.itip_state.specs.Kept.{AreKept, ArePartOf}
+use Rattle.itip_state.proofs.Keeping.{kept_again, are_kept_by}
+use Rattle.itip_state.proofs.Members.{none_in, cons_cases, cons_first}
+use Rattle.itip_view.specs.Rows.{IsRow, AreRows}
+use Rattle.itip_view.specs.Showing.{Shows, AreRowsWhere}
 use Rattle.itip_view.specs.declared.row.Row.{Row}
 use Rattle.itip_view.specs.declared.window.Window.{Window}
-use Rattle.itip_view.proofs.OfKept.{text_of_kept, too_many_of_kept, text_for_of_kept, many_where_of_kept}
-use Rattle.itip_view.proofs.SameRows.{text_of_same_rows, many_of_same_rows, text_for_of_same_rows, many_for_of_same_rows}
+use Rattle.itip_view.proofs.Alike.{alike_back}
+use Rattle.itip_view.proofs.OfKept.{row_of_same}
 use Rattle.itip_view.specs.declared.error.ViewError.{ViewError}
 use Rattle.itip_view.specs.declared.error.ViewError.TheVariants as view
 use Rattle.itip_desk.specs.Desk.{Shown, IsDeskOf, IsDeltaOf}
 use Rattle.itip_running.specs.Refusals.{of_view}
-use Rattle.itip_running.specs.declared.error.PassError.{PassError}
 use Rattle.itip_running.specs.declared.error.PassError.TheVariants as pass
 use Rattle.itip_running.specs.Deltas.{IsDeltaAfter}
+use Rattle.itip_running.specs.Parts.{HasRowsOf, HasRowsFor, AreKeptOf}
 
 -- a desk that takes a batch is the desk of one batch more
 pub stepped : (steps : List (List Item)) (old new : Shown) (batch : List Item) →
@@ -42,34 +44,60 @@ pub too_many_rows : (fault : ViewError) → of_view fault ≡ pass.TooManyRows �
 too_many_rows view.TooManyRows e = refl
 too_many_rows view.NoMemory e = absurd (cc e)
 
--- which errors a list can have, of those that a desk has
-pub list_causes : (fault : ViewError) → (of_view fault ≡ pass.TooManyRows) ⊎ (of_view fault ≡ pass.NoListMemory)
-list_causes view.TooManyRows = inl refl
-list_causes view.NoMemory = inr refl
+-- which errors a list never has
+pub never_memory : (fault : ViewError) → of_view fault ≡ pass.NoMemory → ⊥
+never_memory view.TooManyRows e = absurd (cc e)
+never_memory view.NoMemory e = absurd (cc e)
 
--- what is known of the error of a result
-pub error_is : {T : Type 0} (P : PassError → Type 0) (r : Result T PassError) (e : PassError) → IfErr r P → r ≡ Err e → P e
-error_is P (Ok x) e h is = absurd cc
-error_is P (Err f) e h is = let same : f ≡ e = cc in subst P same h
+pub never_entry : (fault : ViewError) → of_view fault ≡ pass.NoEntry → ⊥
+never_entry view.TooManyRows e = absurd (cc e)
+never_entry view.NoMemory e = absurd (cc e)
 
--- what is known of the error that a result may have
-pub if_err_then : {T : Type 0} (P Q : PassError → Type 0) (r : Result T PassError) → ((e : PassError) → P e → Q e) → IfErr r P → IfErr r Q
-if_err_then P Q (Ok x) f h = tt
-if_err_then P Q (Err e) f h = f e h
+module _ (part kept all : List Item) (are : AreKept kept all) where
+  -- a part that has the rows of what is kept has those of all that was heard
+  pub rows_through : (window : Window) → ((row : Row) → IsRow part window row ↔ IsRow kept window row) → HasRowsOf part all window
+  rows_through window same row =
+      let alike = kept_again kept all are in (
+        λ h. row_of_same kept all alike window row ((same row).0 h),
+        λ h. (same row).1 (row_of_same all kept (alike_back kept all alike) window row h),
+      )
 
--- a part that has the same rows in a window as what is kept gives the list of all that was heard
-module _ (part kept all : List Item) (are : AreKept kept all) (window : Window) where
-  module _ (same : (row : Row) → IsRow part window row ↔ IsRow kept window row) where
-    pub listed_text : (text : List ℕ) → IsListText part window text → IsListText all window text
-    listed_text text is = text_of_kept kept all are window text (text_of_same_rows part kept window same text is)
+  pub rows_for_through : (address : List ℕ) → ((window : Window) (row : Row) → Shows address row →
+      IsRow part window row ↔ IsRow kept window row) → HasRowsFor address part all
+  rows_for_through address same window row shows =
+      let alike = kept_again kept all are in (
+        λ h. row_of_same kept all alike window row ((same window row shows).0 h),
+        λ h. (same window row shows).1 (row_of_same all kept (alike_back kept all alike) window row h),
+      )
 
-    pub listed_many : AreTooMany part window → AreTooMany all window
-    listed_many over = too_many_of_kept kept all are window (many_of_same_rows part kept window same over)
+  -- what is kept of what is kept is what is kept of all
+  pub kept_through : AreKept part kept → AreKept part all
+  kept_through is = are_kept_by part kept all (kept_again kept all are) is
 
-  module _ (address : List ℕ) (same : (row : Row) → Shows address row → IsRow part window row ↔ IsRow kept window row) where
-    pub listed_text_for : (text : List ℕ) → IsListTextFor address part window text → IsListTextFor address all window text
-    listed_text_for text is =
-        text_for_of_kept address kept all are window text (text_for_of_same_rows address part kept window same text is)
+one_uid : (uid other : List ℕ) → Contains (uid ∷ []) other → uid ≡ other
+one_uid uid other h = elim (cons_cases uid [] other h) [ inl same ↦ same | inr none ↦ absurd (none_in other none) ]
 
-    pub listed_many_for : AreTooManyWhere (Shows address) part window → AreTooManyWhere (Shows address) all window
-    listed_many_for over = many_where_of_kept (Shows address) kept all are window (many_for_of_same_rows address part kept window same over)
+-- the part of one UID has what is kept of it
+pub part_of_one : (uid : List ℕ) (part kept all : List Item) → AreKept kept all → ArePartOf part kept (uid ∷ []) → AreKeptOf uid part all
+part_of_one uid part kept all are of item = (
+  λ h. let both = (of item).0 h in ((are item).0 both.0, sym (one_uid uid (uid_of item.key) both.1)),
+  λ h. (of item).1 ((are item).1 h.0, subst (λ (u : List ℕ). Contains (uid ∷ []) u) (sym h.1) (cons_first uid [])),
+)
+
+-- a part that has the same rows has the same lists of them
+module _ (part all : List Item) (window : Window) (same : HasRowsOf part all window) where
+  pub rows_there : (rows : List Row) → AreRows part window rows → AreRows all window rows
+  rows_there rows are = record {
+    ascend = are.ascend;
+    each = λ row h. (same row).0 (are.each row h);
+    all = λ row is. are.all row ((same row).1 is);
+  }
+
+module _ (address : List ℕ) (part all : List Item) (window : Window) (same : HasRowsFor address part all) where
+  pub rows_for_there : (rows : List Row) → AreRowsWhere (Shows address) part window rows → AreRowsWhere (Shows address) all window rows
+  rows_for_there rows are = record {
+    ascend = are.ascend;
+    each = λ row h. (same window row (are.holds row h)).0 (are.each row h);
+    holds = are.holds;
+    all = λ row is shows. are.all row ((same window row shows).1 is) shows;
+  }

@@ -4,7 +4,7 @@ use mathlib.Core.Option.{some}
 use lib.ListN.{get_elem?}
 use Rattle.left_right.specs.Register.{Admits, TurnsAt}
 use Rattle.atomic_table.proofs.Lists.{at_set, at_snoc}
-use Rattle.itip_running.specs.History.{Items}
+use Rattle.itip_running.specs.History.{Items, Group, batches_of}
 use Rattle.logbook.specs.Pages.{Book}
 use Rattle.itip_running.specs.declared.front.Front.{Front}
 use Rattle.itip_running.specs.declared.published.Published.{Published}
@@ -23,10 +23,11 @@ admits x views h = (
       (λ (e : newcomer ≡ v). absurd (cc (ap (λ (u : KnownHistory). u.known) e, known))) (at_snoc views newcomer v seat at),
 )
 
-pub sees : (seat : ℕ) (v : KnownHistory) (x y : Published) → (x.history ≡ x.front.seen.log → y.history ≡ y.front.seen.log) →
+pub sees : (seat : ℕ) (v : KnownHistory) (x y : Published) →
+    (x.history ≡ batches_of x.front.seen.log → y.history ≡ batches_of y.front.seen.log) →
     name_of y.front.seen.book ≡ name_of x.front.seen.book → TurnsAt Tied seat v x y Sights
 sees seat v x y good same views h at =
-    let now : y.history ≡ y.front.seen.log = good h.0 in
+    let now : y.history ≡ batches_of y.front.seen.log = good h.0 in
     let w : KnownHistory = name_of y.front.seen.book in (
       w,
       (
@@ -38,7 +39,7 @@ sees seat v x y good same views h at =
     )
 
 -- what both copies are after what is pending, and the front last
-pub marked : (s : List Items × KnownHistory × List Items) (ops : List Op) (f : Op) →
+pub marked : (s : List Items × KnownHistory × List Group) (ops : List Op) (f : Op) →
     fold applied_to s (ops ++ f ∷ []) ≡ applied_to (s.0 ++ takes ops, (fold applied_to s ops).1, (fold applied_to s ops).2) f
 marked s [] f = ap (λ (l : List Items). applied_to (l, s.1, s.2) f) (sym (append-nil s.0))
 marked s (Take b ∷ ops) f = marked (s.0 ++ b ∷ [], s.1, s.2) ops f ∙
@@ -65,11 +66,11 @@ pub after_mark : (x next : Published) (ops : List Op) (m : Front) → state_of n
 after_mark x next ops m is = is ∙ marked (state_of x) ops (Mark m)
 
 pub publishes : (seat : ℕ) (v : KnownHistory) (x next : Published) (ops : List Op) (m : Front) →
-    name_of m.seen.book ≡ name_of x.front.seen.book → m.seen.log ≡ x.front.seen.log ++ takes ops
+    name_of m.seen.book ≡ name_of x.front.seen.book → batches_of m.seen.log ≡ batches_of x.front.seen.log ++ takes ops
     → state_of next ≡ fold applied_to (state_of x) (ops ++ Mark m ∷ []) → TurnsAt Tied seat v x next Sights
 publishes seat v x next ops m book log is =
     let s = after_mark x next ops m is in
-    sees seat v x next (λ e. ap (λ t. t.0) s ∙ (ap (λ (l : List Items). l ++ takes ops) e ∙ sym (ap (λ t. t.2) s ∙ log)))
+    sees seat v x next (λ e. ap (λ t. t.0) s ∙ (ap (λ (l : List Items). l ++ takes ops) e ∙ sym (ap (λ t. batches_of t.2) s ∙ log)))
     (ap (λ t. t.1) s ∙ book)
 
 abbrev book_of : KnownHistory → Book

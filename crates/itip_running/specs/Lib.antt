@@ -5,6 +5,7 @@ pub use Rattle.itip_view.specs.ListText
 pub use Rattle.itip_view.specs.Showing
 pub mod Refusals
 pub mod Deltas
+pub mod Parts
 pub mod History
 pub mod Pair
 pub mod Ends

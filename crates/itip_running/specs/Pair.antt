@@ -3,7 +3,7 @@ use Rattle.std.specs.Prelude.{◌≡◌, ℕ, true, List, [], ◌∷◌, ◌++�
 use mathlib.Core.Option.{some}
 use lib.ListN.{get_elem?}
 use Rattle.logbook.specs.Pages.{Book}
-use Rattle.itip_running.specs.History.{Items}
+use Rattle.itip_running.specs.History.{Items, Group, batches_of}
 use Rattle.itip_running.specs.declared.published.Published.{Published}
 use Rattle.itip_running.specs.declared.published.KnownHistory.{KnownHistory}
 use Rattle.itip_running.specs.declared.published.Op.{Op}
@@ -13,11 +13,11 @@ use Rattle.itip_running.specs.declared.published.Op.TheVariants.{Take, Mark}
 abbrev pub name_of : Book → KnownHistory
 name_of b = record { known = true; number = b.number; log_name = b.log_name; cells_name = b.cells_name }
 
--- what the two copies have in common: the batches that they have taken, and how long the history was at the last mark
-abbrev pub state_of : Published → List Items × KnownHistory × List Items
+-- what the two copies have in common: the batches that they have taken, and the history at the last mark
+abbrev pub state_of : Published → List Items × KnownHistory × List Group
 state_of x = (x.history, name_of x.front.seen.book, x.front.seen.log)
 
-abbrev pub applied_to : List Items × KnownHistory × List Items → Op → List Items × KnownHistory × List Items
+abbrev pub applied_to : List Items × KnownHistory × List Group → Op → List Items × KnownHistory × List Group
 applied_to s (Take b) = (s.0 ++ b ∷ [], s.1, s.2)
 applied_to s (Mark f) = (s.0, name_of f.seen.book, f.seen.log)
 
@@ -27,19 +27,23 @@ takes [] = []
 takes (Take b ∷ ops) = b ∷ takes ops
 takes (Mark f ∷ ops) = takes ops
 
--- the batches that are published where this value is shown
+-- the groups that are published where this value is shown
+abbrev pub published_groups : Published → List Group
+published_groups x = x.front.seen.log
+
+-- the batches of these groups
 abbrev pub published_log : Published → List Items
-published_log x = x.front.seen.log
+published_log x = batches_of x.front.seen.log
 
 -- the batches among the operations that readers do not see yet: all but so many at the front
 abbrev pub pending_log : ℕ → List Op → List Items
 pending_log behind ops = takes (drop behind ops)
 
--- the pair's rule: the value's history is its front's, and every seat that knows a history knows this one
+-- the pair's rule: the value's batches are those of its groups, and every seat that knows a history knows this one
 abbrev pub Tied : Published → List KnownHistory → Type 0
-Tied x views = (x.history ≡ x.front.seen.log)
+Tied x views = (x.history ≡ batches_of x.front.seen.log)
     × ((seat : ℕ) (v : KnownHistory) → get_elem? views seat ≡ some v → v.known ≡ true → v ≡ name_of x.front.seen.book)
 
 -- what entering and publishing tell
 abbrev pub Sights : KnownHistory → Published → Published → KnownHistory → Type 0
-Sights v x y w = (y.history ≡ y.front.seen.log) × (w ≡ name_of y.front.seen.book) × (v.known ≡ true → w ≡ v)
+Sights v x y w = (y.history ≡ batches_of y.front.seen.log) × (w ≡ name_of y.front.seen.book) × (v.known ≡ true → w ≡ v)

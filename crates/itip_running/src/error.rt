@@ -3,6 +3,7 @@ ghost use Rattle.std.specs.Prelude.{◌≡◌};
 ghost use Rattle.itip_running.specs.declared.error.LiveError.TheVariants as live;
 ghost use Rattle.itip_running.specs.declared.error.PassError.TheVariants as pass;
 
+use itip_desk::Batch;
 use itip_view::ViewError;
 use std::alloc::AllocError;
 use thiserror::Error;
@@ -20,6 +21,14 @@ pub enum LiveError {
     /// The number of published batches would pass `u64::MAX` (21).
     #[error("no further batch can be counted")]
     BatchesSpent,
+}
+
+/// A batch that a keeper did not take: out of memory, or `usize::MAX` batches are pending (40).
+#[derive(Debug, Drop, Error)]
+#[error("no memory for a further batch")]
+pub struct NotSubmitted {
+    /// The batch that was passed in.
+    pub batch: Batch,
 }
 
 /// Why a pass has no answer.
@@ -44,6 +53,14 @@ impl From<AllocError> for LiveError {
     ghost from_gives = { λ _ e. e ≡ live.NoMemory };
 
     fn from(_e: AllocError) -> LiveError {
+        LiveError::NoMemory
+    }
+}
+
+impl From<NotSubmitted> for LiveError {
+    ghost from_gives = { λ _ e. e ≡ live.NoMemory };
+
+    fn from(_refused: NotSubmitted) -> LiveError {
         LiveError::NoMemory
     }
 }

@@ -1,24 +1,28 @@
 //! Beginnings of the history.
-ghost use Rattle.std.specs.Prelude.{◌≡◌, ◌<◌, [], ◌∷◌, ◌++◌, length, MatchBool, IfSome};
+ghost use Rattle.std.specs.Prelude.{◌≡◌, ◌+◌, ◌<◌, [], ◌∷◌, ◌++◌, length, MatchBool, IfSome};
 ghost use mathlib.Core.List.{IsPrefix};
-ghost use Rattle.itip_running.specs.History.{head_of};
+ghost use Rattle.itip_running.specs.History.{head_of, batches_of};
 
+use crate::history::History;
 use crate::history_rule::{Add, Law, Nothing};
-use itip_desk::Batch;
 use logbook::{Offer, Seen, Start, Word};
 use std::snapshot::Snapshot;
 
-/// A beginning of the history. What runs has its length alone.
+/// A beginning of the history. What runs has two numbers alone.
 #[derive(Drop)]
 pub(crate) struct Front {
+    /// How many groups of batches it has.
     pub(crate) count: u64,
+    /// How many batches they have together.
+    pub(crate) batches: u64,
     /// The beginning itself, which exists in the proofs alone (`logbook`).
-    pub(crate) seen: Seen<Batch, u64, Law>,
+    pub(crate) seen: Seen<History, u64, Law>,
     ghost counted: { count ≡ length seen.log },
+    ghost summed: { batches ≡ length (batches_of seen.log) },
 }
 
 /// The one word by which a history grows.
-pub(crate) type Head = Word<Batch, u64, Law>;
+pub(crate) type Head = Word<History, u64, Law>;
 
 /// A new history, with nothing in it.
 pub(crate) fn open() -> (Head, Front)
@@ -26,7 +30,12 @@ pub(crate) fn open() -> (Head, Front)
     ensures empty { result.1.seen.log ≡ [] }
 {
     let (seen, mut first, _second) = Seen::open(Start::alone(), 0, 0);
-    (Word::tracked(0, &mut first), Front { count: 0, seen })
+    let front = Front {
+        count: 0,
+        batches: 0,
+        seen,
+    };
+    (Word::tracked(0, &mut first), front)
 }
 
 impl Front {
@@ -36,6 +45,7 @@ impl Front {
     {
         Front {
             count: self.count,
+            batches: self.batches,
             seen: self.seen.again(),
         }
     }
@@ -54,22 +64,29 @@ impl Front {
         false
     }
 
-    /// The history with one batch more. Nothing where it can't be counted, or where another has added to the history, as nobody else can.
-    pub(crate) fn followed_by(&self, head: &Head, batch: &Snapshot<Batch>) -> Option<Front>
+    /// The history with one group more, which has so many batches in all. Nothing where it can't be counted, or where another has added
+    /// to the history, as nobody else can.
+    pub(crate) fn followed_by(
+        &self,
+        head: &Head,
+        group: &Snapshot<History>,
+        batches: u64,
+    ) -> Option<Front>
         requires head { head.now ≡ head_of self.now.seen.book }
+        requires batches { batches ≡ length (batches_of self.now.seen.log) + length group.now.value }
         ensures { IfSome result (λ front. (front.seen.book ≡ self.now.seen.book)
-            × (front.seen.log ≡ self.now.seen.log ++ batch.now.value ∷ [])) }
+            × (front.seen.log ≡ self.now.seen.log ++ group.now.value ∷ [])) }
     {
         let count = self.count;
         if count == u64::MAX {
             return None;
         }
         let mut seen = self.seen.again();
-        let mut offer: Offer<Batch, u64, Law, Nothing> = seen.plain::<
+        let mut offer: Offer<History, u64, Law, Nothing> = seen.plain::<
             Nothing,
-            Snapshot<Batch>,
+            Snapshot<History>,
             Add,
-        >(batch);
+        >(group);
         let mut pen = seen.no_pen();
         let found = head.compare_exchange::<Add, Nothing>(
             count,
@@ -81,9 +98,11 @@ impl Front {
         if found != count {
             return None;
         }
-        Some(Front {
+        let front = Front {
             count: count + 1,
+            batches,
             seen,
-        })
+        };
+        Some(front)
     }
 }

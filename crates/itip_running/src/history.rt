@@ -1,4 +1,4 @@
-//! The batches that a published value stands for. It has no bytes.
+//! A list of batches, which has no bytes.
 ghost use Rattle.std.specs.Prelude.{◌≡◌, [], ◌∷◌, ◌++◌};
 
 use itip_desk::Batch;

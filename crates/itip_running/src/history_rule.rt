@@ -1,13 +1,13 @@
-//! The history of a desk, the list of the batches that its keeper submitted, which exists in the proofs alone.
+//! The history of a desk, the list of what each call of `publish` was to show, which exists in the proofs alone.
 
-use itip_desk::Batch;
+use crate::history::History;
 use logbook::{Gain, Plain, Play, Rule};
 use std::snapshot::Snapshot;
 
 /// The rule of the history's book: its first word is the length of the history.
 pub(crate) struct Law;
 
-impl Rule<Batch, u64> for Law {
+impl Rule<History, u64> for Law {
     ghost use Rattle.std.specs.Prelude.{[]};
     ghost use base.Fml.{ftrue};
     ghost use Rattle.itip_running.specs.History.{IsCounted};
@@ -28,22 +28,22 @@ impl Rule<Batch, u64> for Law {
 /// Who adds to the history gets nothing for it.
 pub(crate) struct Nothing;
 
-impl Gain<Batch, u64> for Nothing {
+impl Gain<History, u64> for Nothing {
     ghost use base.Fml.{ftrue};
 
     ghost after = { λ names about answer. ftrue };
 }
 
-/// The step that adds a batch.
+/// The step that adds a group of batches.
 pub(crate) struct Add;
 
-impl Play<Batch, u64> for Add {
+impl Play<History, u64> for Add {
     ghost use Rattle.itip_running.specs.History.{Adds};
 
     ghost then = { Adds };
 }
 
-impl Plain<Snapshot<Batch>, Batch, u64> for Add {
+impl Plain<Snapshot<History>, History, u64> for Add {
     ghost use Rattle.std.specs.Prelude.{None};
 
     ghost ask = { λ s. s.value };

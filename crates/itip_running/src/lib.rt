@@ -1,10 +1,10 @@
 //! Running desks: one keeper merges batches into a desk while passes read it, each on a thread of its own, with no lock.
 //!
 //! A keeper submits batches and publishes them, all that are pending at once. A pass lists the desk as it was published,
-//! and never goes back. A receipt tells a pass what was published when it was given. `meet` ends it all, once the threads
-//! have returned. There are two copies of the desk: passes read one while the keeper merges into the other, and
-//! publishing exchanges them (`left_right`). What was submitted, in order, is a history whose list exists in the proofs
-//! alone (`logbook`); what was published is a beginning of it.
+//! and never goes back. A receipt tells a pass what was published when it was given; it may be copied, and go through a
+//! channel. `meet` ends it all, once the threads have returned. There are two copies of the desk: passes read one while the
+//! keeper merges into the other, and publishing exchanges them (`left_right`). What each publish was to show, in order, is a
+//! history whose list exists in the proofs alone (`logbook`); what a pass has seen is a beginning of it.
 #![tactic(auto)]
 
 mod error;
@@ -12,18 +12,24 @@ mod front;
 mod history;
 mod history_rule;
 mod keeper;
+mod look;
 mod meeting;
+mod named_receipt;
+mod outside;
 mod pair_protocol;
 mod pass;
 mod published;
 mod read_end;
 mod receipt;
+mod scope;
 mod start;
 mod write_end;
 
-pub use error::{LiveError, PassError};
+pub use error::{LiveError, NotSubmitted, PassError};
 pub use keeper::Keeper;
 pub use meeting::{Met, meet};
+pub use named_receipt::{NamedReceipt, Naming};
 pub use pass::Pass;
 pub use receipt::Receipt;
+pub use scope::{OpenDesk, with_desk};
 pub use start::start_desk;

@@ -2,7 +2,7 @@
 ghost use Rattle.std.specs.Prelude.{◌≡◌, ◌⊎◌, length, map, Some, IfOk, IfErr, All};
 ghost use mathlib.Core.List.{IsPrefix};
 ghost use Rattle.itip_desk.specs.Desk.{IsDeskOf};
-ghost use Rattle.itip_running.specs.Ends.{published, keeper_pair, seen, pass_pair};
+ghost use Rattle.itip_running.specs.Ends.{publishes, published, keeper_pair, publishes_seen, seen, pass_pair};
 
 use crate::error::LiveError;
 use crate::front::Front;
@@ -28,7 +28,7 @@ pub struct Met {
 fn counts(alloc: Global, front: &Front, passes: &[Pass]) -> Result<Vec<u64>, LiveError>
     requires pair { All (λ p. pass_pair p ≡ Some front.now.seen.book) passes.now }
     ensures counts { IfOk result (λ v. v.items ≡ map (λ p. length (seen p)) passes.now) }
-    ensures within { IfOk result (λ v. All (λ p. IsPrefix (seen p) front.now.seen.log) passes.now) }
+    ensures within { IfOk result (λ v. All (λ p. IsPrefix (publishes_seen p) front.now.seen.log) passes.now) }
     ensures causes { IfErr result (λ e. (e ≡ LiveError.NoMemory) ⊎ (e ≡ LiveError.NoPlace)) }
 {
     let mut all = Vec::new(alloc);
@@ -46,7 +46,8 @@ fn counts(alloc: Global, front: &Front, passes: &[Pass]) -> Result<Vec<u64>, Liv
 /// Takes a pair apart, once the threads have returned: a keeper, and any of its passes, perhaps none. What was still
 /// pending is dropped.
 ///
-/// The desk is that of all published batches, from tick 0, and what each pass had seen is a beginning of these. Refused
+/// The desk is that of all published batches, from tick 0, and what each pass had seen is a beginning of these, and all of some of
+/// their groups. Refused
 /// when out of memory (40), or where a pass has seen more batches than were published, which no run of one pair meets
 /// (41); keeper and passes are spent then too.
 pub fn meet<R: Wait>(rt: &R, keeper: Keeper, passes: Vec<Pass>) -> Result<Met, LiveError>
@@ -55,6 +56,7 @@ pub fn meet<R: Wait>(rt: &R, keeper: Keeper, passes: Vec<Pass>) -> Result<Met, L
     ensures published { IfOk result (λ m. m.published ≡ length (published keeper)) }
     ensures counts { IfOk result (λ m. m.seen.items ≡ map (λ p. length (seen p)) passes.items) }
     ensures within { IfOk result (λ m. All (λ p. IsPrefix (seen p) (published keeper)) passes.items) }
+    ensures whole { IfOk result (λ m. All (λ p. IsPrefix (publishes_seen p) (publishes keeper)) passes.items) }
     ensures causes { IfErr result (λ e. (e ≡ LiveError.NoMemory) ⊎ (e ≡ LiveError.NoPlace)) }
 {
     let alloc = *passes.allocator();
@@ -66,7 +68,7 @@ pub fn meet<R: Wait>(rt: &R, keeper: Keeper, passes: Vec<Pass>) -> Result<Met, L
     let seen = counted?;
     Ok(Met {
         desk: shown.desk,
-        published: front.count,
+        published: front.batches,
         seen,
     })
 }

@@ -8,7 +8,7 @@ use itip_desk::{Batch, Desk};
 use left_right::Absorb;
 use std::alloc::{AllocError, Global};
 
-/// A desk, the history whose desk it is, and how long that is.
+/// A desk, the batches whose desk it is, and the history that they are of.
 #[derive(Drop)]
 pub(crate) struct Published {
     pub(crate) desk: Desk,
@@ -42,19 +42,19 @@ pub(crate) struct KnownHistory {
     pub cells_name: u64,
 }
 
-/// What the keeper hands to both copies: a batch, or how long the history is with all before it.
+/// What the keeper hands to both copies: a batch, or the history whose batches they have taken with all before it.
 #[derive(Drop)]
 pub(crate) enum Op {
     /// The desk takes a batch.
     Take(Batch),
-    /// So long is the history with all that was handed over before.
+    /// These are the groups of all that was handed over before.
     Mark(Front),
 }
 
 impl Absorb<Op> for Published {
     ghost use Rattle.itip_running.specs.Pair.{state_of, applied_to};
 
-    type State = ([Batch; 0], KnownHistory, [Batch; 0]);
+    type State = ([Batch; 0], KnownHistory, [History; 0]);
 
     ghost state = { λ s. state_of s };
 

@@ -1,26 +1,25 @@
 //! A reader's end of the pair, by value.
-ghost use Rattle.std.specs.Prelude.{◌≡◌, ◌⊎◌, MatchResult, IfOk, IfErr, IsErrOf};
+ghost use Rattle.std.specs.Prelude.{◌≡◌, ◌⊎◌, ◌≤◌, length, MatchResult, IfOk, IfErr, IsErrOf};
 ghost use mathlib.Core.List.{IsPrefix};
 ghost use Rattle.left_right.specs.Sides.{view};
+ghost use Rattle.itip_state.specs.Kept.{AreKept};
 ghost use Rattle.itip_desk.specs.Heard.{heard};
-ghost use Rattle.itip_desk.specs.Desk.{IsDeskOf};
-ghost use Rattle.itip_view.specs.ByUid.{IsTextLeft, AreTooManyLeft};
 ghost use Rattle.itip_view.specs.ListText.{IsListText};
-ghost use Rattle.itip_view.specs.Rows.{AreTooMany};
-ghost use Rattle.itip_view.specs.Showing.{Shows, AreTooManyWhere, IsListTextFor};
+ghost use Rattle.itip_view.specs.Rows.{AreRows, AreTooMany, row_limit};
+ghost use Rattle.itip_view.specs.Showing.{Shows, AreRowsWhere, AreTooManyWhere, IsListTextFor};
 ghost use Rattle.itip_running.specs.Deltas.{IsDeltaAfter};
+ghost use Rattle.itip_running.specs.Parts.{AreKeptOf};
 ghost use Rattle.itip_running.specs.Pair.{name_of};
-ghost use base.Stored.{Coded-set};
-ghost use Rattle.std.specs.Coded.{coded_list};
-ghost use Rattle.itip_items.specs.contracts.item.Item as item;
 
 use crate::error::PassError;
 use crate::front::Front;
-use crate::pair_protocol::{PublishedReader, PublishedReading, Sees};
+use crate::look::Look;
+use crate::pair_protocol::{PublishedReader, Sees};
 use crate::receipt::Receipt;
-use itip_desk::{Batch, Desk};
-use itip_state::State;
-use itip_view::{RowsByUid, Wanted, Window};
+use itip_desk::Batch;
+use itip_state::{SharedItem, State};
+use itip_todo::Uid;
+use itip_view::{Row, Window};
 use std::alloc::Global;
 
 /// A reader, and what it has seen.
@@ -32,22 +31,13 @@ pub(crate) struct ReadEnd {
     ghost tied: { view reader.place ≡ name_of front.seen.book },
 }
 
-/// An open read of what is published. It is not `Drop`: leave it by `close`.
-pub(crate) struct Look {
-    alloc: Global,
-    reading: PublishedReading,
-    front: Front,
-    ghost tied: { view reading.place ≡ name_of front.seen.book },
-    ghost whole: { reading.part.value.history ≡ front.seen.log } by { Coded-set (coded_list (coded_list item.the_row.coded)) _ _ },
-}
-
 impl ReadEnd {
-    ghost use Rattle.itip_running.specs.Ends.{reader_seen, reader_pair, told};
+    ghost use Rattle.itip_running.specs.Ends.{reader_groups, reader_seen, reader_pair, publishes_told};
 
     /// Looks at what is published, which begins with all that was seen. Where the pair lets nobody in or shows less, the
     /// end comes back as it was.
     fn look(self) -> Result<Look, ReadEnd>
-        ensures seen { MatchResult result (λ look. IsPrefix (reader_seen self) look.front.seen.log)
+        ensures seen { MatchResult result (λ look. IsPrefix (reader_groups self) look.front.seen.log)
             (λ end. end.front.seen ≡ self.front.seen) }
         ensures book { IfOk result (λ look. look.front.seen.book ≡ reader_pair self) }
     {
@@ -67,10 +57,12 @@ impl ReadEnd {
                         front,
                     });
                 }
+                let is_news = front.count != shown.count;
                 Ok(Look {
                     alloc,
                     reading,
                     front: shown,
+                    is_news,
                 })
             }
             Err(reader) => Err(ReadEnd {
@@ -81,34 +73,22 @@ impl ReadEnd {
         }
     }
 
-    /// The text of the task list in a window. During the read only what it is made of is taken, each item shared, so that
-    /// the keeper waits for no row. Beside the text the rows of one UID are held.
+    /// The text of the task list in a window.
     pub(crate) fn list(self, window: Window) -> (ReadEnd, Result<Vec<u8>, PassError>)
         ensures text { IfOk result.1 (λ text. IsListText (heard (reader_seen result.0)) window text.items) }
         ensures many { IsErrOf result.1 PassError.TooManyRows → AreTooMany (heard (reader_seen result.0)) window }
         ensures causes { IsErrOf result.1 PassError.NoMemory → ⊥ }
-        ensures grows { IsPrefix (reader_seen self) (reader_seen result.0) }
-        ensures no_entry { IsErrOf result.1 PassError.NoEntry → reader_seen result.0 ≡ reader_seen self }
+        ensures grows { IsPrefix (reader_groups self) (reader_groups result.0) }
+        ensures no_entry { IsErrOf result.1 PassError.NoEntry → reader_groups result.0 ≡ reader_groups self }
         ensures book { reader_pair result.0 ≡ reader_pair self }
     {
         match self.look() {
-            Ok(look) => {
-                let part = look.desk().part_in(window);
-                let end = look.close();
-                match part {
-                    Ok(part) => {
-                        let text = text_in(end.alloc, &part, window);
-                        (end, text)
-                    }
-                    Err(_) => (end, Err(PassError::NoListMemory)),
-                }
-            }
+            Ok(look) => look.list(window),
             Err(end) => (end, Err(PassError::NoEntry)),
         }
     }
 
-    /// The text of the rows in a window that show the attendee of an address. It is made once the read is over, as that of
-    /// the task list is.
+    /// The text of the rows in a window that show the attendee of an address.
     pub(crate) fn list_for(
         self,
         window: Window,
@@ -118,22 +98,76 @@ impl ReadEnd {
         ensures many { IsErrOf result.1 PassError.TooManyRows
             → AreTooManyWhere (Shows address.now) (heard (reader_seen result.0)) window }
         ensures causes { IsErrOf result.1 PassError.NoMemory → ⊥ }
-        ensures grows { IsPrefix (reader_seen self) (reader_seen result.0) }
-        ensures no_entry { IsErrOf result.1 PassError.NoEntry → reader_seen result.0 ≡ reader_seen self }
+        ensures grows { IsPrefix (reader_groups self) (reader_groups result.0) }
+        ensures no_entry { IsErrOf result.1 PassError.NoEntry → reader_groups result.0 ≡ reader_groups self }
         ensures book { reader_pair result.0 ≡ reader_pair self }
     {
         match self.look() {
-            Ok(look) => {
-                let part = look.desk().part_naming(address);
-                let end = look.close();
-                match part {
-                    Ok(part) => {
-                        let text = text_for(end.alloc, &part, window, address);
-                        (end, text)
-                    }
-                    Err(_) => (end, Err(PassError::NoListMemory)),
-                }
-            }
+            Ok(look) => look.list_for(window, address),
+            Err(end) => (end, Err(PassError::NoEntry)),
+        }
+    }
+
+    /// The rows of a window, which are made once the read is over.
+    pub(crate) fn rows(self, window: Window) -> (ReadEnd, Result<Vec<Row>, PassError>)
+        ensures rows { IfOk result.1 (λ rows. AreRows (heard (reader_seen result.0)) window rows.items) }
+        ensures few { IfOk result.1 (λ rows. length rows.items ≤ row_limit) }
+        ensures many { IsErrOf result.1 PassError.TooManyRows → AreTooMany (heard (reader_seen result.0)) window }
+        ensures causes { IsErrOf result.1 PassError.NoMemory → ⊥ }
+        ensures grows { IsPrefix (reader_groups self) (reader_groups result.0) }
+        ensures no_entry { IsErrOf result.1 PassError.NoEntry → reader_groups result.0 ≡ reader_groups self }
+        ensures book { reader_pair result.0 ≡ reader_pair self }
+    {
+        match self.look() {
+            Ok(look) => look.rows(window),
+            Err(end) => (end, Err(PassError::NoEntry)),
+        }
+    }
+
+    /// The rows of a window that show the attendee of an address, which are made once the read is over.
+    pub(crate) fn rows_for(
+        self,
+        window: Window,
+        address: &str,
+    ) -> (ReadEnd, Result<Vec<Row>, PassError>)
+        ensures rows { IfOk result.1 (λ rows. AreRowsWhere (Shows address.now) (heard (reader_seen result.0)) window rows.items) }
+        ensures many { IsErrOf result.1 PassError.TooManyRows
+            → AreTooManyWhere (Shows address.now) (heard (reader_seen result.0)) window }
+        ensures causes { IsErrOf result.1 PassError.NoMemory → ⊥ }
+        ensures grows { IsPrefix (reader_groups self) (reader_groups result.0) }
+        ensures no_entry { IsErrOf result.1 PassError.NoEntry → reader_groups result.0 ≡ reader_groups self }
+        ensures book { reader_pair result.0 ≡ reader_pair self }
+    {
+        match self.look() {
+            Ok(look) => look.rows_for(window, address),
+            Err(end) => (end, Err(PassError::NoEntry)),
+        }
+    }
+
+    /// All that is kept.
+    pub(crate) fn kept(self) -> (ReadEnd, Result<State, PassError>)
+        ensures kept { IfOk result.1 (λ kept. AreKept kept (heard (reader_seen result.0))) }
+        ensures causes { IfErr result.1 (λ e. (e ≡ PassError.NoMemory) ⊎ (e ≡ PassError.NoEntry)) }
+        ensures grows { IsPrefix (reader_groups self) (reader_groups result.0) }
+        ensures no_entry { IsErrOf result.1 PassError.NoEntry → reader_groups result.0 ≡ reader_groups self }
+        ensures book { reader_pair result.0 ≡ reader_pair self }
+    {
+        match self.look() {
+            Ok(look) => look.kept(),
+            Err(end) => (end, Err(PassError::NoEntry)),
+        }
+    }
+
+    /// What is kept of a UID.
+    pub(crate) fn items_of(self, uid: &Uid) -> (ReadEnd, Result<Vec<SharedItem>, PassError>)
+        ensures items { IfOk result.1 (λ items. AreKeptOf uid.now items.items (heard (reader_seen result.0))) }
+        ensures causes { IfErr result.1 (λ e. (e ≡ PassError.NoMemory) ⊎ (e ≡ PassError.NoEntry)) }
+        ensures grows { IsPrefix (reader_groups self) (reader_groups result.0) }
+        ensures no_entry { IsErrOf result.1 PassError.NoEntry → reader_groups result.0 ≡ reader_groups self }
+        ensures book { reader_pair result.0 ≡ reader_pair self }
+    {
+        match self.look() {
+            Ok(look) => look.items_of(uid),
             Err(end) => (end, Err(PassError::NoEntry)),
         }
     }
@@ -142,19 +176,12 @@ impl ReadEnd {
     pub(crate) fn delta_since(self, tick: u64) -> (ReadEnd, Result<Batch, PassError>)
         ensures delta { IfOk result.1 (λ batch. IsDeltaAfter (reader_seen result.0) tick batch) }
         ensures causes { IfErr result.1 (λ e. (e ≡ PassError.NoMemory) ⊎ (e ≡ PassError.NoEntry)) }
-        ensures grows { IsPrefix (reader_seen self) (reader_seen result.0) }
-        ensures no_entry { IsErrOf result.1 PassError.NoEntry → reader_seen result.0 ≡ reader_seen self }
+        ensures grows { IsPrefix (reader_groups self) (reader_groups result.0) }
+        ensures no_entry { IsErrOf result.1 PassError.NoEntry → reader_groups result.0 ≡ reader_groups self }
         ensures book { reader_pair result.0 ≡ reader_pair self }
     {
         match self.look() {
-            Ok(look) => {
-                let delta = look.desk().delta_since(tick);
-                let end = look.close();
-                match delta {
-                    Ok(delta) => (end, Ok(delta)),
-                    Err(_) => (end, Err(PassError::NoMemory)),
-                }
-            }
+            Ok(look) => look.delta_since(tick),
             Err(end) => (end, Err(PassError::NoEntry)),
         }
     }
@@ -162,81 +189,13 @@ impl ReadEnd {
     /// Takes in what was published when the receipt was given.
     pub(crate) fn learn(&mut self, receipt: &Receipt)
         requires book { receipt.now.front.seen.book ≡ reader_pair self.old }
-        ensures longer { (reader_seen self.new ≡ reader_seen self.old) ⊎ (reader_seen self.new ≡ told receipt.now) }
-        ensures own { IsPrefix (reader_seen self.old) (reader_seen self.new) }
-        ensures told { IsPrefix (told receipt.now) (reader_seen self.new) }
+        ensures longer { (reader_groups self.new ≡ reader_groups self.old) ⊎ (reader_groups self.new ≡ publishes_told receipt.now) }
+        ensures own { IsPrefix (reader_groups self.old) (reader_groups self.new) }
+        ensures told { IsPrefix (publishes_told receipt.now) (reader_groups self.new) }
         ensures book { reader_pair self.new ≡ reader_pair self.old }
     {
         if !receipt.front.begins(&self.front) {
             self.front = receipt.front.again();
-        }
-    }
-}
-
-/// The text of the rows of a state in a window.
-fn text_in(alloc: Global, state: &State, window: Window) -> Result<Vec<u8>, PassError>
-    ensures text { IfOk result (λ text. IsListText state.now window text.items) }
-    ensures many { IsErrOf result PassError.TooManyRows → AreTooMany state.now window }
-    ensures causes { IfErr result (λ e. (e ≡ PassError.TooManyRows) ⊎ (e ≡ PassError.NoListMemory)) }
-{
-    let Ok(rows) = RowsByUid::of(alloc, state, window, &Wanted::all()) else {
-        return Err(PassError::NoListMemory);
-    };
-    text_of(&rows)
-}
-
-/// The text of the rows of a state in a window that show the attendee of an address.
-fn text_for(
-    alloc: Global,
-    state: &State,
-    window: Window,
-    address: &str,
-) -> Result<Vec<u8>, PassError>
-    ensures text { IfOk result (λ text. IsListTextFor address.now state.now window text.items) }
-    ensures many { IsErrOf result PassError.TooManyRows → AreTooManyWhere (Shows address.now) state.now window }
-    ensures causes { IfErr result (λ e. (e ≡ PassError.TooManyRows) ⊎ (e ≡ PassError.NoListMemory)) }
-{
-    let wanted = Wanted::showing(Some(address));
-    let Ok(rows) = RowsByUid::of(alloc, state, window, &wanted) else {
-        return Err(PassError::NoListMemory);
-    };
-    text_of(&rows)
-}
-
-/// The text of rows, which are made a UID at a time.
-fn text_of(rows: &RowsByUid<'_, '_>) -> Result<Vec<u8>, PassError>
-    ensures text { IfOk result (λ text. IsTextLeft rows.now text.items) }
-    ensures many { IsErrOf result PassError.TooManyRows → AreTooManyLeft rows.now }
-    ensures causes { IfErr result (λ e. (e ≡ PassError.TooManyRows) ⊎ (e ≡ PassError.NoListMemory)) }
-{
-    match rows.text() {
-        Ok(text) => Ok(text),
-        Err(fault) => Err(fault.into()),
-    }
-}
-
-impl Look {
-    /// The published desk.
-    fn desk(&self) -> &Desk
-        ensures { IsDeskOf self.now.front.seen.log 0 result.now }
-    {
-        &self.reading.get().desk
-    }
-
-    /// Leaves, with all of it seen.
-    fn close(self) -> ReadEnd
-        ensures { result.front.seen ≡ self.front.seen }
-    {
-        let Look {
-            alloc,
-            reading,
-            front,
-        } = self;
-        let reader = reading.leave();
-        ReadEnd {
-            alloc,
-            reader,
-            front,
         }
     }
 }

@@ -2,10 +2,11 @@
 ghost use Rattle.std.specs.Prelude.{◌≡◌, ◌⊎◌, ◌≤◌, [], length, Some, IfOk, IfErr, All};
 ghost use Rattle.left_right.specs.Sides.{view};
 ghost use Rattle.itip_running.specs.Pair.{name_of};
-ghost use Rattle.itip_running.specs.Ends.{published, pending, keeper_pair, seen, pass_pair};
+ghost use Rattle.itip_running.specs.Ends.{publishes, pending, calls, fresh, keeper_pair, publishes_seen, pass_pair};
 
 use crate::error::LiveError;
 use crate::front::{Front, open};
+use crate::history::History;
 use crate::keeper::Keeper;
 use crate::pair_protocol::{PublishedWriter, Sees, Tells};
 use crate::pass::Pass;
@@ -22,7 +23,7 @@ fn seat(alloc: Global, writer: &mut PublishedWriter, last: &Front) -> Result<Pas
     ensures writer { (writer.new.desk.shown ≡ writer.old.desk.shown) × (writer.new.log ≡ writer.old.log)
         × (writer.new.behind ≡ writer.old.behind) }
     ensures known { view writer.new.desk.place ≡ view writer.old.desk.place }
-    ensures pass { IfOk result (λ p. (seen p ≡ last.now.seen.log) × (pass_pair p ≡ Some last.now.seen.book)) }
+    ensures pass { IfOk result (λ p. (publishes_seen p ≡ last.now.seen.log) × (pass_pair p ≡ Some last.now.seen.book)) }
     ensures cause { IfErr result (λ e. e ≡ LiveError.NoPlace) }
 {
     let mut reader = match writer.factory().reader() {
@@ -49,7 +50,7 @@ fn seats(
     ensures writer { (writer.new.desk.shown ≡ writer.old.desk.shown) × (writer.new.log ≡ writer.old.log)
         × (writer.new.behind ≡ writer.old.behind) }
     ensures count { IfOk result (λ ps. length ps.items ≡ passes) }
-    ensures each { IfOk result (λ ps. All (λ p. (seen p ≡ last.now.seen.log) × (pass_pair p ≡ Some last.now.seen.book)) ps.items) }
+    ensures each { IfOk result (λ ps. All (λ p. (publishes_seen p ≡ last.now.seen.log) × (pass_pair p ≡ Some last.now.seen.book)) ps.items) }
     ensures causes { IfErr result (λ e. (e ≡ LiveError.NoMemory) ⊎ (e ≡ LiveError.NoPlace)) }
 {
     let mut all = Vec::new(alloc);
@@ -71,9 +72,10 @@ pub fn start_desk<R: AllocGlobal + Wait>(
     passes: usize,
 ) -> Result<(Keeper, Vec<Pass>), LiveError>
     requires passes { (1 ≤ passes) × (passes ≤ 8) }
-    ensures keeper { IfOk result (λ r. (published r.0 ≡ []) × (pending r.0 ≡ [])) }
+    ensures keeper { IfOk result (λ r. (publishes r.0 ≡ []) × (pending r.0 ≡ [])) }
+    ensures none_called { IfOk result (λ r. (calls r.0 ≡ []) × (fresh r.0 ≡ [])) }
     ensures count { IfOk result (λ r. length r.1.items ≡ passes) }
-    ensures each { IfOk result (λ r. All (λ p. (seen p ≡ []) × (pass_pair p ≡ keeper_pair r.0)) r.1.items) }
+    ensures each { IfOk result (λ r. All (λ p. (publishes_seen p ≡ []) × (pass_pair p ≡ keeper_pair r.0)) r.1.items) }
     ensures causes { IfErr result (λ e. (e ≡ LiveError.NoMemory) ⊎ (e ≡ LiveError.NoPlace)) }
 {
     let alloc = rt.alloc();
@@ -93,14 +95,15 @@ pub fn start_desk<R: AllocGlobal + Wait>(
             return Err(LiveError::NoMemory);
         }
     }
-    match seats(alloc, &mut writer, &last, passes) {
+    let seated = seats(alloc, &mut writer, &last, passes);
+    match seated {
         Ok(all) => {
             let end = WriteEnd {
                 writer,
                 head,
                 last,
+                fresh: History::empty(),
                 pending: 0,
-                is_whole: true,
             };
             Ok((Keeper { end: Some(end) }, all))
         }

@@ -1,16 +1,17 @@
 //! The keeper's end of the pair, by value.
-ghost use Rattle.std.specs.Prelude.{◌≡◌, ◌↔◌, ◌+◌, ◌<◌, true, [], ◌∷◌, ◌++◌, length};
-ghost use Rattle.std.specs.Prelude.{MatchResult, OnOk, OnErr, IfOk, IsErrOf, IsTrue};
-ghost use Rattle.itip_running.specs.History.{head_of};
-ghost use Rattle.itip_running.specs.Pair.{published_log, pending_log};
+ghost use Rattle.std.specs.Prelude.{◌≡◌, ◌↔◌, ◌+◌, ◌<◌, [], ◌∷◌, ◌++◌, length, drop};
+ghost use Rattle.std.specs.Prelude.{MatchBool, MatchOption, MatchResult, OnOk, OnErr, IfOk, IfErr, IsErrOf};
+ghost use Rattle.itip_running.specs.History.{head_of, batches_of};
+ghost use Rattle.itip_running.specs.Pair.{published_groups, published_log, pending_log};
 
 use crate::error::LiveError;
 use crate::front::{Front, Head};
+use crate::history::History;
 use crate::pair_protocol::{PublishedWriter, Sees};
 use crate::published::{Op, Published};
 use crate::receipt::Receipt;
 use itip_desk::Batch;
-use std::alloc::{AllocError, Global};
+use std::alloc::Global;
 use std::snapshot::Snapshot;
 use std::sync::Wait;
 
@@ -18,13 +19,15 @@ use std::sync::Wait;
 pub(crate) struct WriteEnd {
     pub(crate) writer: PublishedWriter,
     pub(crate) head: Head,
-    /// The history with all that was submitted, as long as `is_whole`.
+    /// The groups of all calls of `publish`: those that are published, and then those of calls that were refused.
     pub(crate) last: Front,
+    /// The batches that were submitted since the last of these calls.
+    pub(crate) fresh: History,
     pub(crate) pending: usize,
-    /// Whether the history could be added to, each time.
-    pub(crate) is_whole: bool,
-    ghost whole: { is_whole ≡ true
-        → last.seen.log ≡ published_log writer.desk.shown.value ++ pending_log writer.behind writer.log.items },
+    ghost begins: { last.seen.log ≡ published_groups writer.desk.shown.value
+        ++ drop (length (published_groups writer.desk.shown.value)) last.seen.log },
+    ghost whole: { batches_of last.seen.log ++ fresh
+        ≡ published_log writer.desk.shown.value ++ pending_log writer.behind writer.log.items },
     ghost book: { last.seen.book ≡ writer.desk.shown.value.front.seen.book },
     ghost head_is: { head ≡ head_of last.seen.book },
     ghost kept_is: { writer.desk.shown.value.history ≡ published_log writer.desk.shown.value },
@@ -32,7 +35,8 @@ pub(crate) struct WriteEnd {
 }
 
 impl WriteEnd {
-    ghost use Rattle.itip_running.specs.Ends.{shown_value, writer_published, writer_pending, writer_pair, told};
+    ghost use Rattle.itip_running.specs.Ends.{shown_value, writer_groups, writer_published, writer_pending, writer_calls, writer_fresh};
+    ghost use Rattle.itip_running.specs.Ends.{writer_pair, publishes_told, IsShownCall, IsRefusedCall};
 
     /// Adds a batch after those that are pending. It comes back when out of memory, or where `usize::MAX` batches are
     /// pending, and nothing has changed then.
@@ -40,75 +44,96 @@ impl WriteEnd {
         ensures published { self.new.writer.desk ≡ self.old.writer.desk }
         ensures pending { MatchResult result (λ _. writer_pending self.new ≡ writer_pending self.old ++ batch ∷ [])
             (λ b. (b ≡ batch) × (writer_pending self.new ≡ writer_pending self.old)) }
+        ensures calls { writer_calls self.new ≡ writer_calls self.old }
+        ensures fresh { MatchResult result (λ _. writer_fresh self.new ≡ writer_fresh self.old ++ batch ∷ [])
+            (λ _. writer_fresh self.new ≡ writer_fresh self.old) }
         ensures book { writer_pair self.new ≡ writer_pair self.old }
     {
         if self.pending == usize::MAX {
             return Err(batch);
         }
-        let copy = Snapshot::of(&batch);
+        let fresh = self.fresh.followed_by(&batch);
         match self.writer.append(Op::Take(batch)) {
             Ok(()) => {}
             Err(Op::Take(batch)) => return Err(batch),
             Err(Op::Mark(_)) => unreachable!(),
         }
         self.pending += 1;
-        // Only now that the batch is pending: a history that had it before would be ahead of the queue after a refusal.
-        match self.last.followed_by(&self.head, &copy) {
-            Some(front) => self.last = front,
-            None => self.is_whole = false,
-        }
+        self.fresh = fresh;
         Ok(())
     }
 
-    /// Whether the published batches and the pending ones together can't be counted.
-    fn is_spent(&self) -> bool
-        ensures { IsTrue result ↔ (u64.MAX < length (writer_published self.now) + length (writer_pending self.now)) }
+    /// How many batches there are with those that are pending, or nothing where that can't be counted.
+    fn total(&self) -> Option<u64>
+        ensures { MatchOption result (u64.MAX < length (writer_published self.now) + length (writer_pending self.now))
+            (λ total. total ≡ length (writer_published self.now) + length (writer_pending self.now)) }
     {
-        let published = self.writer.published().front.count;
-        published.checked_add(self.pending as u64).is_none()
+        let published = self.writer.published().front.batches;
+        published.checked_add(self.pending as u64)
     }
 
     /// Publishes what is pending, all at once, or nothing, and all of it is still pending then.
     pub(crate) fn publish<R: Wait>(self, rt: &R) -> (WriteEnd, Result<Receipt, LiveError>)
         ensures ok { OnOk result.1 ((writer_published result.0 ≡ writer_published self ++ writer_pending self)
             × (writer_pending result.0 ≡ [])) }
-        ensures receipt { IfOk result.1 (λ r. (told r ≡ writer_published result.0)
+        ensures at_once { OnOk result.1 (IsShownCall (writer_groups self) (writer_calls self) (writer_fresh self)
+            (writer_groups result.0) (writer_calls result.0) (writer_fresh result.0)) }
+        ensures receipt { IfOk result.1 (λ r. (publishes_told r ≡ writer_groups result.0)
             × (r.front.seen.book ≡ writer_pair self)) }
         ensures err { OnErr result.1 ((shown_value result.0 ≡ shown_value self)
             × (writer_pending result.0 ≡ writer_pending self)) }
+        ensures refused { OnErr result.1 (IsRefusedCall (writer_groups self) (writer_calls self) (writer_fresh self)
+            (writer_groups result.0) (writer_calls result.0) (writer_fresh result.0)) }
         ensures spent { IsErrOf result.1 LiveError.BatchesSpent
             ↔ (u64.MAX < length (writer_published self) + length (writer_pending self)) }
         ensures book { writer_pair result.0 ≡ writer_pair self }
     {
-        if self.is_spent() {
+        let Some(total) = self.total() else {
             return (self, Err(LiveError::BatchesSpent));
+        };
+        let mut end = self;
+        if !end.call(total) {
+            return (end, Err(LiveError::NoPlace));
         }
-        if !self.is_whole {
-            return (self, Err(LiveError::NoPlace));
-        }
-        match self.exchange(rt) {
-            (end, Ok(receipt)) => (end, Ok(receipt)),
-            (end, Err(_)) => (end, Err(LiveError::NoMemory)),
+        end.exchange(rt)
+    }
+
+    /// Puts what is fresh behind the groups of all calls, where there are so many batches in all, and says whether it could.
+    fn call(&mut self, total: u64) -> bool
+        requires total { total ≡ length (writer_published self.old) + length (writer_pending self.old) }
+        ensures calls { MatchBool result ((writer_calls self.new ≡ writer_calls self.old ++ writer_fresh self.old ∷ []) × (writer_fresh self.new ≡ []))
+            ((writer_calls self.new ≡ writer_calls self.old) × (writer_fresh self.new ≡ writer_fresh self.old)) }
+        ensures writer { self.new.writer ≡ self.old.writer }
+        ensures book { writer_pair self.new ≡ writer_pair self.old }
+    {
+        let group = Snapshot::of(&self.fresh);
+        match self.last.followed_by(&self.head, &group, total) {
+            Some(last) => {
+                self.last = last;
+                self.fresh = History::empty();
+                true
+            }
+            None => false,
         }
     }
 
-    /// Marks how long the history is, and exchanges the two copies. When out of memory nothing is published.
-    fn exchange<R: Wait>(self, rt: &R) -> (WriteEnd, Result<Receipt, AllocError>)
-        requires whole { self.is_whole ≡ true }
-        ensures ok { OnOk result.1 ((writer_published result.0 ≡ writer_published self ++ writer_pending self)
-            × (writer_pending result.0 ≡ [])) }
-        ensures receipt { IfOk result.1 (λ r. (told r ≡ writer_published result.0)
-            × (r.front.seen.book ≡ writer_pair self)) }
+    /// Marks the history, where nothing is fresh, and exchanges the two copies. When out of memory nothing is published.
+    fn exchange<R: Wait>(self, rt: &R) -> (WriteEnd, Result<Receipt, LiveError>)
+        requires none_fresh { self.fresh ≡ [] }
+        ensures ok { OnOk result.1 ((writer_groups result.0 ≡ writer_calls self) × (writer_pending result.0 ≡ [])) }
+        ensures receipt { IfOk result.1 (λ r. (publishes_told r ≡ writer_calls self) × (r.front.seen.book ≡ writer_pair self)) }
         ensures err { OnErr result.1 ((shown_value result.0 ≡ shown_value self)
             × (writer_pending result.0 ≡ writer_pending self)) }
+        ensures cause { IfErr result.1 (λ e. e ≡ LiveError.NoMemory) }
+        ensures calls { (writer_calls result.0 ≡ writer_calls self) × (writer_fresh result.0 ≡ []) }
         ensures book { writer_pair result.0 ≡ writer_pair self }
     {
         let WriteEnd {
             mut writer,
             head,
             last,
+            fresh,
             pending,
-            is_whole,
         } = self;
         match writer.append(Op::Mark(last.again())) {
             Ok(()) => {}
@@ -117,10 +142,10 @@ impl WriteEnd {
                     writer,
                     head,
                     last,
+                    fresh,
                     pending,
-                    is_whole,
                 };
-                return (end, Err(AllocError));
+                return (end, Err(LiveError::NoMemory));
             }
         }
         let (writer, done) = writer.publish_as::<Sees, R>(rt);
@@ -133,8 +158,8 @@ impl WriteEnd {
                     writer,
                     head,
                     last,
+                    fresh,
                     pending: 0,
-                    is_whole,
                 };
                 (end, Ok(receipt))
             }
@@ -143,10 +168,10 @@ impl WriteEnd {
                     writer,
                     head,
                     last,
+                    fresh,
                     pending,
-                    is_whole,
                 };
-                (end, Err(AllocError))
+                (end, Err(LiveError::NoMemory))
             }
         }
     }
@@ -159,8 +184,8 @@ impl WriteEnd {
             writer,
             head: _,
             last: _,
+            fresh: _,
             pending: _,
-            is_whole: _,
         } = self;
         writer.take(rt)
     }

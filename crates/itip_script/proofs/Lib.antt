@@ -4,3 +4,4 @@ pub mod Stretches
 pub mod Cuttings
 pub mod Spellings
 pub mod Jobs
+pub mod Wishes

@@ -6,3 +6,4 @@ pub mod Cutting
 pub mod Spelling
 pub mod Jobs
 pub mod LeftJobs
+pub mod Stream

@@ -31,6 +31,24 @@ pub enum Command<'a> {
     Malformed,
 }
 
+impl<'a> Command<'a> {
+    /// What it is called.
+    pub fn word(&self) -> &'static str {
+        match self {
+            Command::Take { .. } => "take",
+            Command::List { .. } => "list",
+            Command::Mine { .. } => "mine",
+            Command::Post { .. } => "post",
+            Command::Arrive { .. } => "arrive",
+            Command::Report { .. } => "report",
+            Command::Resend { .. } => "resend",
+            Command::Next { .. } => "next",
+            Command::Entries { .. } => "entries",
+            Command::Malformed => "command",
+        }
+    }
+}
+
 /// The words that a command can begin with.
 #[derive(Clone, Copy)]
 pub(crate) enum Verb {
@@ -53,7 +71,12 @@ pub(crate) fn spelled<'a>(line: &'a [u8], message: &'a [u8]) -> Option<Command<'
     spelled_by(verb_of(word)?, arguments, message)
 }
 
-fn spelled_by<'a>(verb: Verb, arguments: &'a [u8], message: &'a [u8]) -> Option<Command<'a>>
+/// The command of a word with these arguments.
+pub(crate) fn spelled_by<'a>(
+    verb: Verb,
+    arguments: &'a [u8],
+    message: &'a [u8],
+) -> Option<Command<'a>>
     ensures { option_map order_of result ≡ spelled_by verb arguments.now message.now }
 {
     let (first, second) = split_word(arguments);
@@ -151,8 +174,8 @@ pub fn read_report_name(word: &[u8]) -> Option<ReportName>
     }
 }
 
-// What a line ends with, where it is there at all.
-fn rest_of(bytes: &[u8]) -> Option<&[u8]>
+/// What a line ends with, where it is there at all.
+pub(crate) fn rest_of(bytes: &[u8]) -> Option<&[u8]>
     ensures { option_map (λ rest. rest.now) result ≡ rest_of bytes.now }
 {
     if bytes.is_empty() { None } else { Some(bytes) }

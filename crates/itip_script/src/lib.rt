@@ -1,21 +1,25 @@
-//! Scripts: reading one whole, and cutting it into commands or jobs.
+//! Scripts: reading one whole, and cutting it into commands or jobs. Streams: reading a command at a time.
 //!
 //! A script is a run of physical lines. A line that begins with `!` is a command; the lines after a `!take` are the message that it
 //! takes, byte for byte; other lines than empty ones are out of place. The format is our own.
 #![tactic(auto)]
 
+mod body;
 mod command;
 mod commands;
 mod input;
 mod job;
 mod laws;
 mod line;
+mod stream;
 mod word;
 
+pub use body::{Body, read_body};
 pub use command::{Command, read_report_name};
 pub use commands::Commands;
 pub use input::{MAX_OCTETS, read_script};
 pub use itip_streams::StreamFault as ScriptFault;
 pub use job::{JobCommand, JobCommands};
 pub use laws::{one_cutting, one_spelling};
+pub use stream::{DELTA_OCTETS, LINE_OCTETS, MESSAGE_OCTETS, StreamLine};
 pub use word::read_number;

@@ -71,7 +71,7 @@ greater_eff i j h =
     ] refl
 
 -- Of a set, either nothing is about a key, or there is a best item of it.
-abbrev HasBest : List Item → Key → Type 0
+abbrev pub HasBest : List Item → Key → Type 0
 HasBest heard key = ((item : Item) → Contains heard item → item.key ≡ key → ⊥) ⊎ ((best : Item) × IsBest heard key best)
 
 with_other : (x : Item) (xs : List Item) (key : Key) → (x.key ≡ key → ⊥) → HasBest xs key → HasBest (x ∷ xs) key

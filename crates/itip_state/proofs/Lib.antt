@@ -18,6 +18,7 @@ pub mod Seeing
 pub mod Hearing
 pub mod Undoing
 pub mod News
+pub mod Nothing
 pub mod Ordered
 pub mod Reading
 pub mod Parting

@@ -2,6 +2,7 @@
 use Rattle.std.proofs.Common.{◌≡◌, ◌<◌, ℕ, List, [], ◌∷◌, ◌+◌, ◌++◌, refl, ap, subst, length, arith, suc, Option, Some, None}
 use Rattle.std.proofs.Math.ListN.{length-append}
 use Rattle.std.specs.List.{Contains}
+use Rattle.std.specs.Map.{keys_of}
 use Rattle.itip_join.specs.declared.lift.Lift.{Lift}
 use Rattle.itip_join.specs.declared.lift.Lift.TheVariants.{Nothing, Known}
 use Rattle.itip_items.specs.declared.item.Item.{Item}
@@ -16,6 +17,10 @@ use Rattle.itip_state.proofs.Maps.{items_at, IsSoundAt, sound_at, part_at}
 pub entries_long : (es : List (Key × Best)) → length (entry_items es) ≡ length es
 entries_long [] = refl
 entries_long (e ∷ es) = ap suc (entries_long es)
+
+pub keys_long : (es : List (List ℕ × UidState)) → length (keys_of es) ≡ length es
+keys_long [] = refl
+keys_long (e ∷ es) = ap suc (keys_long es)
 
 some_item : (xs : List Item) → 0 < length xs → (x : Item) × Contains xs x
 some_item [] some = absurd (omega (arith, some))

@@ -1,5 +1,5 @@
 -- A map by UID, seen as what it holds: what stands at a UID, and what becomes of it.
-use Rattle.std.proofs.Common.{◌≡◌, ℕ, List, [], ◌∷◌, refl, sym, ◌∙◌, ap, subst, Bool, true, false, Option, Some, None}
+use Rattle.std.proofs.Common.{◌≡◌, ℕ, List, [], ◌∷◌, refl, sym, ◌∙◌, ap, subst, length, suc, Bool, true, false, Option, Some, None}
 use Rattle.std.specs.Prelude.{cond, option_map}
 use Rattle.std.specs.List.Sorted.{IsStrictlySortedBy}
 use Rattle.std.specs.Map.{keys_of}
@@ -30,6 +30,10 @@ module _ {V : Type 0} (of : V → UidState) where
   pub keys_seen : (es : List (List ℕ × V)) → keys_of (uid_states es of) ≡ keys_of es
   keys_seen [] = refl
   keys_seen (e ∷ es) = ap (λ ks. e.0 ∷ ks) (keys_seen es)
+
+  pub states_long : (es : List (List ℕ × V)) → length (uid_states es of) ≡ length es
+  states_long [] = refl
+  states_long (e ∷ es) = ap suc (states_long es)
 
   pub in_order : (es : List (List ℕ × V)) → IsStrictlySortedBy uid_cmp (keys_of es) → AreOrdered (uid_states es of)
   in_order es s = subst (IsStrictlySortedBy uid_cmp) (sym (keys_seen es)) s

@@ -33,3 +33,7 @@ pub record HoldsNoEarlier (uid_state : UidState) (item : Item) : Type 0 where
   pub place : ((is_series item.key ≡ true) × (uid_state.series ≡ Known held)) ⊎
       ((is_series item.key ≡ false) × (value_at slot_cmp uid_state.entries item.key ≡ Some held))
   pub not_later : ¬ IsLater item held.value
+
+-- the same of all these items: hearing them changes nothing
+abbrev pub AreOutdone : List Item → List Item → Type 0
+AreOutdone set items = (item : Item) → Contains items item → IsOutdone set item

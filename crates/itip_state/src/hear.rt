@@ -2,15 +2,16 @@
 //!
 //! A series item of a UID of which something is held may make others dead, which could not be put back without memory. So of
 //! several items those are heard last, once nothing can be refused any more.
-ghost use Rattle.std.specs.Prelude.{◌≡◌, ◌↔◌, ◌++◌, ◌∷◌, ◌⊎◌, [], ℕ, List, Some, None, false, map, IsTrue, IfOk, OnOk, OnErr};
+ghost use Rattle.std.specs.Prelude.{◌≡◌, ◌↔◌, ◌++◌, ◌∷◌, ◌⊎◌, [], ℕ, List, Some, None, false, map, IsTrue, IfOk, OnOk, OnErr, IsOk};
 ghost use Rattle.std.specs.Ordering.{nat_cmp, is_eq};
 ghost use Rattle.std.specs.Cmp.Lexicographic.{slice_cmp};
 ghost use Rattle.itip_items.specs.KeyParts.{uid_of};
 ghost use Rattle.itip_items.specs.declared.item.Item.{Item};
-ghost use Rattle.itip_state.specs.Held.{UidState, at, alone, is_series, AreOrdered, HoldKept};
+ghost use Rattle.itip_state.specs.Held.{UidState, at, alone, is_series, items_of, AreOrdered, AreHeld, HoldKept};
 ghost use Rattle.itip_state.specs.Joined.{IsJoinedAt};
 ghost use Rattle.itip_state.specs.Undone.{IsNoted, IsUndone, AreUndone};
 ghost use Rattle.itip_state.specs.Newer.{IsNewerOf, IsTakenIn, AreAwaited, newer_items};
+ghost use Rattle.itip_state.specs.Told.{AreOutdone};
 
 use crate::NoMemory;
 use crate::held::Held;
@@ -18,6 +19,7 @@ use crate::held_of_uid::{of_nothing, put_back};
 use crate::revision::Best;
 use crate::shared::SharedItem;
 use crate::slot::Slot;
+use crate::told::outdoes_all;
 use itip_join::{Exact, Greatest, Join};
 use itip_todo::Uid;
 use std::alloc::Global;
@@ -74,13 +76,33 @@ fn newer_of(held: &Held, item: &SharedItem) -> Result<Option<Best>, NoMemory>
     }
 }
 
-/// Joins in what is kept of these items, in place. Where memory is refused, what was changed is changed back. A single
-/// item needs no note: its hearing is all or nothing.
+/// Joins in what is kept of these items, in place. A refusal (out of memory) changes nothing. Where none of them is news, the answer is
+/// Ok.
 pub(crate) fn hear_all(
     held: &mut Held,
     alloc: Global,
     items: &[&SharedItem],
 ) -> Result<(), NoMemory>
+    ensures ok { OnOk result ((heard : List Item)
+        → HoldKept heard held.old → HoldKept (heard ++ map (λ item. item.now) items.now) held.new) }
+    ensures succeeds { AreHeld held.old → AreOutdone (items_of held.old) (map (λ item. item.now) items.now) → IsOk result }
+    ensures err { OnErr result (held.new ≡ held.old) }
+{
+    match hear_each(held, alloc, items) {
+        Ok(()) => Ok(()),
+        Err(refused) => {
+            // Memory may have been asked for though none of the items is news.
+            if outdoes_all(held, items) {
+                return Ok(());
+            }
+            Err(refused)
+        }
+    }
+}
+
+/// Joins in what is kept of these items, in place. Where memory is refused, what was changed is changed back. A single
+/// item needs no note: its hearing is all or nothing.
+fn hear_each(held: &mut Held, alloc: Global, items: &[&SharedItem]) -> Result<(), NoMemory>
     ensures ok { OnOk result ((heard : List Item)
         → HoldKept heard held.old → HoldKept (heard ++ map (λ item. item.now) items.now) held.new) }
     ensures err { OnErr result (held.new ≡ held.old) }

@@ -157,6 +157,13 @@ impl Held {
         self.map.below(&other.map)
     }
 
+    /// How many UIDs there are.
+    pub(crate) fn len(&self) -> usize
+        ensures { result ≡ length self.now }
+    {
+        self.map.map.len()
+    }
+
     /// The UIDs, in order.
     pub(crate) fn uids(&self, alloc: Global) -> Result<Vec<&Uid>, NoMemory>
         ensures { IfOk result (λ uids. map (λ uid. uid.now) uids.items ≡ keys_of self.now) }
@@ -181,10 +188,11 @@ impl Held {
         Ok(items)
     }
 
-    /// All items, shared with this map.
+    /// All items, shared with this map. Of an empty map it takes no memory.
     pub(crate) fn shared_items(&self, alloc: Global) -> Result<Vec<SharedItem>, NoMemory>
         requires { AreSound self.now }
-        ensures { IfOk result (λ items. items.items ≡ items_of self.now) }
+        ensures items { IfOk result (λ items. items.items ≡ items_of self.now) }
+        ensures succeeds { items_of self.now ≡ [] → IsOk result }
     {
         let mut items = Vec::new(alloc);
         for (_, series) in self.map.map.iter() {

@@ -17,6 +17,7 @@ mod revision;
 mod shared;
 mod slot;
 mod state;
+mod told;
 mod tracked;
 
 pub use laws::{kept_of_kept, least_upper_bound, order_of_states, uid_by_uid};

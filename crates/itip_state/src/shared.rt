@@ -1,5 +1,5 @@
 //! Items that many can hold.
-ghost use Rattle.std.specs.Prelude.{◌≡◌, IfOk, map, refl};
+ghost use Rattle.std.specs.Prelude.{◌≡◌, [], IfOk, IsOk, map, refl};
 ghost use Rattle.std.specs.Option.{option_copied};
 ghost use Rattle.std.specs.Cmp.{partial_order_from_total, partial_equiv_from_equiv, eq_by_cmp_equiv};
 ghost use Rattle.std.specs.Ordering.{as_partial_cmp, eq_by_cmp};
@@ -187,9 +187,10 @@ fn slot_of(alloc: Global, key: &Key) -> Result<Option<Slot>, NoMemory>
     Ok(slot)
 }
 
-/// The items given, by canonical octets, each once. A refusal (out of memory) drops them.
+/// The items given, by canonical octets, each once. A refusal (out of memory) drops them. No item takes no memory.
 pub fn by_octets(items: Vec<SharedItem>) -> Result<Vec<SharedItem>, NoMemory>
-    ensures { IfOk result (λ sorted. IsItemsOf sorted.items items.items) }
+    ensures items { IfOk result (λ sorted. IsItemsOf sorted.items items.items) }
+    ensures succeeds { items.items ≡ [] → IsOk result }
 {
     let mut items = items;
     items.sort()?;
@@ -197,9 +198,10 @@ pub fn by_octets(items: Vec<SharedItem>) -> Result<Vec<SharedItem>, NoMemory>
     Ok(items)
 }
 
-/// The UIDs that items are about, by octets, each once.
+/// The UIDs that items are about, by octets, each once. Of no item it takes no memory.
 pub fn uids<'a>(alloc: Global, items: &[&'a SharedItem]) -> Result<Vec<&'a Uid>, NoMemory>
-    ensures { IfOk result (λ uids. AreUidsOf (map (λ uid. uid.now) uids.items) (map (λ item. item.now) items.now)) }
+    ensures uids { IfOk result (λ uids. AreUidsOf (map (λ uid. uid.now) uids.items) (map (λ item. item.now) items.now)) }
+    ensures succeeds { items.now ≡ [] → IsOk result }
 {
     let mut uids = Vec::with_capacity(alloc, items.len())?;
     for item in items {

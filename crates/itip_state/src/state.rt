@@ -1,13 +1,11 @@
 //! The state of a desk.
-ghost use Rattle.std.specs.Prelude.{◌≡◌, ◌↔◌, [], ◌++◌, IsTrue, IfOk, OnOk, OnErr, IsOk, MatchBool, length, min, map};
+ghost use Rattle.std.specs.Prelude.{◌≡◌, ◌↔◌, ℕ, List, [], ◌++◌, IsTrue, IfOk, OnOk, OnErr, IsOk, MatchBool, length, min, map};
 ghost use Rattle.std.specs.List.{Contains};
 ghost use Rattle.std.specs.Option.{option_copied};
 ghost use Rattle.itip_items.specs.KeyParts.{uid_of};
-ghost use Rattle.itip_items.specs.Later.{IsLater};
 ghost use Rattle.itip_items.specs.declared.item.Item.{Item};
-ghost use Rattle.itip_state.specs.Held.{items_of, uid_state_items, AreHeld};
+ghost use Rattle.itip_state.specs.Held.{uid_state_items};
 ghost use Rattle.itip_state.specs.UidStates.{uid_state};
-ghost use Rattle.itip_state.specs.Told.{IsOutdone, HoldsNoEarlier};
 ghost use Rattle.itip_state.specs.Greatest.{AreNotedWith};
 ghost use Rattle.std.specs.List.Sorted.{IsStrictlySortedBy};
 ghost use Rattle.std.specs.Map.{keys_of};
@@ -17,49 +15,16 @@ ghost use Rattle.std.specs.Cmp.Lexicographic.{slice_cmp};
 use crate::NoMemory;
 use crate::hear::{hear, hear_all};
 use crate::held::Held;
-use crate::held_of_uid::{HeldOfUid, holds, is_dead_below, share, share_at};
+use crate::held_of_uid::{HeldOfUid, holds, share, share_at};
 use crate::of_uid::ItemsOfUid;
 use crate::organizers::greatest;
-use crate::revision::Best;
 use crate::shared::{SharedItem, by_octets};
+use crate::told::outdoes;
 use itip_items::Item;
 use itip_join::{Lift, OrderedMap};
 use itip_todo::Uid;
 use std::alloc::Global;
 use std::marker::Model;
-
-/// Whether `item` is not later than what is held at its key.
-fn is_no_later(item: &Item, best: &Best) -> bool
-    ensures { IsTrue result ↔ (¬ IsLater item.now best.now.value) }
-{
-    item.cmp_rev(best.value.item()).is_le()
-}
-
-/// Whether what is held of the UID of `item` at its key is no earlier than it.
-fn holds_no_earlier(series: &HeldOfUid, item: &SharedItem) -> bool
-    ensures { IsTrue result ↔ HoldsNoEarlier (uid_state series.now) item.now }
-{
-    match item.slot() {
-        None => match &series.guard {
-            Lift::Nothing => false,
-            Lift::Known(best) => is_no_later(item.item(), best),
-        },
-        Some(slot) => match series.entries.get(slot) {
-            None => false,
-            Some(best) => is_no_later(item.item(), best),
-        },
-    }
-}
-
-/// Whether hearing an item changes nothing: an item of its key is held that is no earlier, or it is dead below the series item held.
-fn outdoes(held: &Held, item: &SharedItem) -> bool
-    ensures { AreHeld held.now → IsTrue result ↔ IsOutdone (items_of held.now) item.now }
-{
-    let Some(series) = held.get(item.uid()) else {
-        return false;
-    };
-    holds_no_earlier(series, item) || is_dead_below(&series.guard, item.key(), item.item())
-}
 
 /// Notes the effective sequence of a series item, if it is the greatest of its UID so far.
 fn note_greatest(greatest: &mut OrderedMap<Uid, u32>, item: &SharedItem) -> Result<(), NoMemory>
@@ -136,9 +101,10 @@ impl State {
         }
     }
 
-    /// What is kept of these items.
+    /// What is kept of these items. Of no item it takes no memory.
     pub fn of_items(alloc: Global, items: &[Item]) -> Result<State, NoMemory>
-        ensures { IfOk result (λ state. AreKept state items.now) }
+        ensures kept { IfOk result (λ state. AreKept state items.now) }
+        ensures succeeds { items.now ≡ [] → IsOk result }
     {
         let mut held = Held::empty(alloc);
         for item in items {
@@ -149,9 +115,12 @@ impl State {
     }
 
     /// Those of these items that are news: that this state doesn't tell already, and that are not dead beside it.
+    ///
+    /// Where none of them is news, no memory is asked for, and the answer is Ok.
     pub fn news<'a>(&self, items: &'a [SharedItem]) -> Result<Vec<&'a SharedItem>, NoMemory>
         ensures news { IfOk result (λ news. AreNews self.now items.now (map (λ item. item.now) news.items)) }
         ensures state { OnOk result (IsState self.now) }
+        ensures succeeds { IsBelow items.now self.now → IsOk result }
     {
         let mut news = Vec::new(self.alloc);
         for item in items {
@@ -163,16 +132,17 @@ impl State {
         Ok(news)
     }
 
-    /// Hears these items. A refusal (out of memory) changes nothing. Unlike `merge` it may ask for memory where nothing is new.
+    /// Hears these items. A refusal (out of memory) changes nothing. Where none of them is news, the answer is Ok.
     pub fn hear(&mut self, items: &[&SharedItem]) -> Result<(), NoMemory>
         ensures ok { OnOk result (AreKept self.new (self.old ++ map (λ item. item.now) items.now)) }
+        ensures succeeds { IsBelow (map (λ item. item.now) items.now) self.old → IsOk result }
         ensures err { OnErr result (self.new ≡ self.old) }
     {
         hear_all(&mut self.held, self.alloc, items)
     }
 
-    /// The kept items that can give way to these, shared with this state: those at their keys, and those that are dead below
-    /// them. In no particular order, and perhaps more than once. No other is looked at where they are many.
+    /// The kept items that can give way to these, and perhaps others, shared with this state: those at their keys, and those that
+    /// are dead below them. In no particular order, and perhaps more than once. No other is looked at where they are many.
     pub fn giving_way(&self, news: &[&SharedItem]) -> Result<Vec<SharedItem>, NoMemory>
         ensures { IfOk result (λ items. AreGivingWay self.now (map (λ item. item.now) news.now) items.items) }
     {
@@ -213,9 +183,10 @@ impl State {
     }
 
     /// The kept items of these UIDs, each shared with this state. Each UID is looked up, and what is kept of it shared,
-    /// as often as it is named; no other is looked at.
+    /// as often as it is named; no other is looked at. Where nothing is kept of them, no memory is asked for, and the answer is Ok.
     pub fn part(&self, uids: &[&Uid]) -> Result<State, NoMemory>
-        ensures { IfOk result (λ part. ArePartOf part self.now (map (λ uid. uid.now) uids.now)) }
+        ensures part { IfOk result (λ part. ArePartOf part self.now (map (λ uid. uid.now) uids.now)) }
+        ensures succeeds { ArePartOf [] self.now (map (λ uid. uid.now) uids.now) → IsOk result }
     {
         let mut held = Held::empty(self.alloc);
         for uid in uids {
@@ -231,9 +202,10 @@ impl State {
     }
 
     /// The kept items of these UIDs, shared with this state, in no particular order, and perhaps more than once. Each
-    /// UID is looked up; no other is looked at.
+    /// UID is looked up; no other is looked at. Where nothing is kept of them, no memory is asked for, and the answer is Ok.
     pub fn shared_of(&self, uids: &[&Uid]) -> Result<Vec<SharedItem>, NoMemory>
-        ensures { IfOk result (λ items. ArePartOf items.items self.now (map (λ uid. uid.now) uids.now)) }
+        ensures part { IfOk result (λ items. ArePartOf items.items self.now (map (λ uid. uid.now) uids.now)) }
+        ensures succeeds { ArePartOf [] self.now (map (λ uid. uid.now) uids.now) → IsOk result }
     {
         let mut items = Vec::new(self.alloc);
         for uid in uids {
@@ -244,9 +216,10 @@ impl State {
         Ok(items)
     }
 
-    /// Copies of the kept items, by canonical octets, each once.
+    /// Copies of the kept items, by canonical octets, each once. Where nothing is kept, it takes no memory.
     pub fn items(&self) -> Result<Vec<Item>, NoMemory>
-        ensures { IfOk result (λ items. IsItemsOf items.items self.now) }
+        ensures items { IfOk result (λ items. IsItemsOf items.items self.now) }
+        ensures succeeds { self.now ≡ [] → IsOk result }
     {
         let shared = self.shared_items()?;
         let mut items = Vec::new(self.alloc);
@@ -256,9 +229,10 @@ impl State {
         Ok(items)
     }
 
-    /// The kept items, shared with this state, by canonical octets, each once.
+    /// The kept items, shared with this state, by canonical octets, each once. Where nothing is kept, it takes no memory.
     pub fn shared_items(&self) -> Result<Vec<SharedItem>, NoMemory>
-        ensures { IfOk result (λ items. IsItemsOf items.items self.now) }
+        ensures items { IfOk result (λ items. IsItemsOf items.items self.now) }
+        ensures succeeds { self.now ≡ [] → IsOk result }
     {
         by_octets(self.held.shared_items(self.alloc)?)
     }
@@ -276,6 +250,13 @@ impl State {
         ensures state { OnOk result (IsState self.now) }
     {
         self.held.uids(self.alloc)
+    }
+
+    /// The number of UIDs of which something is kept. It takes no memory.
+    pub fn uid_count(&self) -> usize
+        ensures { (uids : List (List ℕ)) → AreUidsOf uids self.now → length uids ≡ result }
+    {
+        self.held.len()
     }
 
     /// Whether an item of a UID is kept. It takes no memory.

@@ -1,3 +1,4 @@
 pub mod Writing
 pub mod Escaping
 pub mod Reading
+pub mod LineReading

@@ -1,8 +1,13 @@
 //! Reading octets.
-ghost use Rattle.std.specs.Prelude.{◌≡◌, ◌<◌, ◌≤◌, ◌≢◌, length, vec_len, IfOk, IfErr, IfSome, IfNone};
+ghost use Rattle.std.specs.Prelude.{◌≡◌, ◌<◌, ◌≤◌, ◌≢◌, length, vec_len, option_map, IfOk, OnOk, IfErr, IfSome, IfNone};
+ghost use Rattle.std.specs.Prelude.{OnOk, IsErrOf};
+ghost use Rattle.std.specs.Result.{result_ok};
 ghost use Rattle.std.specs.Io.KnownBytes.{ReadConsumes};
+ghost use Rattle.itip_streams.specs.Once.{FailsReading, ReadsWell};
+ghost use Rattle.itip_streams.specs.Parts.{ReadsWithin, ReadsOctets, ReadsOctet, PassesLine, PassesOctets};
 
 use crate::fault::StreamFault;
+use crate::once::ReadOnce;
 use std::alloc::Global;
 use std::io::Read;
 
@@ -12,10 +17,13 @@ pub const MAX_READS: u64 = 33_554_432;
 // How much one read may bring.
 const ROOM: usize = 65_536;
 
+// The same where a few octets are asked for.
+const SMALL_ROOM: usize = 4_096;
+
 /// Reads all octets, of which there may be `limit`. `None` says that there are more: one more was read, and the rest is left.
 ///
 /// A failed read is [`StreamFault::Read`] at once, and so is one read more than [`MAX_READS`].
-pub fn read_within<R: Read>(
+pub fn read_within<R: Read + ReadOnce>(
     alloc: Global,
     reader: &mut R,
     limit: usize,
@@ -25,6 +33,8 @@ pub fn read_within<R: Read>(
     ensures long { IfOk result (λ found. IfNone found (
         IfSome (R.remaining reader.old) (λ input. limit < length input))) }
     ensures fault { IfErr result (λ fault. fault ≢ StreamFault.Write) }
+    ensures well { OnOk result (ReadsWell R.reads reader.old reader.new) }
+    ensures failed { IsErrOf result StreamFault.Read → FailsReading R.reads reader.old reader.new }
 {
     let mut text = Vec::new(alloc);
     let mut buffer = [0u8; ROOM];
@@ -45,14 +55,123 @@ pub fn read_within<R: Read>(
 
 /// Reads some octets to the front of a buffer, and gives their number: 0 at the end, or where the buffer is empty.
 ///
-/// A failed read is [`StreamFault::Read`].
-pub fn read_some<R: Read>(reader: &mut R, buffer: &mut [u8]) -> Result<usize, StreamFault>
+/// It reads once; a failed read is [`StreamFault::Read`].
+pub fn read_some<R: Read + ReadOnce>(
+    reader: &mut R,
+    buffer: &mut [u8],
+) -> Result<usize, StreamFault>
     ensures bound { IfOk result (λ count. count ≤ length buffer.new) }
     ensures bytes { ReadConsumes (R.remaining reader.old) (R.remaining reader.new) result buffer.new }
     ensures fault { IfErr result (λ fault. fault ≡ StreamFault.Read) }
+    ensures once { R.reads reader.old (result_ok result) reader.new buffer.new }
 {
-    match reader.read(buffer) {
+    match reader.read_once(buffer) {
         Ok(count) => Ok(count),
         Err(_) => Err(StreamFault::Read),
     }
+}
+
+/// Reads a line with its LF, or what is left where none follows: no octets at the end. Of a line of more than `limit` octets all is
+/// read, and nothing held: it is `None`.
+///
+/// A failed read is [`StreamFault::Read`] at once.
+pub fn read_line_within<R: Read>(
+    alloc: Global,
+    reader: &mut R,
+    limit: usize,
+) -> Result<Option<Vec<u8>>, StreamFault>
+    ensures reads { IfOk result (λ found. ReadsWithin limit (R.remaining reader.old) (R.remaining reader.new)
+        (option_map (λ line. line.items) found)) }
+    ensures fault { IfErr result (λ fault. fault ≢ StreamFault.Write) }
+{
+    let mut line = Vec::new(alloc);
+    while line.len() < limit {
+        let Some(octet) = read_octet(reader)? else {
+            return Ok(Some(line));
+        };
+        line.push(octet)?;
+        if octet == b'\n' {
+            return Ok(Some(line));
+        }
+    }
+    let Some(octet) = read_octet(reader)? else {
+        return Ok(Some(line));
+    };
+    pass_line(reader, octet)?;
+    Ok(None)
+}
+
+/// Reads what is left of a line of which this octet was read.
+fn pass_line<R: Read>(reader: &mut R, last: u8) -> Result<(), StreamFault>
+    ensures passes { OnOk result (PassesLine last (R.remaining reader.old) (R.remaining reader.new)) }
+    ensures fault { IfErr result (λ fault. fault ≡ StreamFault.Read) }
+{
+    let mut last = last;
+    for _ in 0..u64::MAX {
+        if last == b'\n' {
+            return Ok(());
+        }
+        match read_octet(reader)? {
+            Some(octet) => last = octet,
+            None => return Ok(()),
+        }
+    }
+    Err(StreamFault::Read)
+}
+
+/// Reads one octet; none at the end.
+fn read_octet<R: Read>(reader: &mut R) -> Result<Option<u8>, StreamFault>
+    ensures reads { IfOk result (ReadsOctet (R.remaining reader.old) (R.remaining reader.new)) }
+    ensures fault { IfErr result (λ fault. fault ≡ StreamFault.Read) }
+{
+    let mut buffer = [0u8; 1];
+    if read_some(reader, &mut buffer)? == 0 {
+        return Ok(None);
+    }
+    Ok(Some(buffer[0]))
+}
+
+/// Reads so many octets. `None` says that there were fewer: all that is left was read then.
+///
+/// A failed read is [`StreamFault::Read`] at once.
+pub fn read_octets<R: Read>(
+    alloc: Global,
+    reader: &mut R,
+    count: usize,
+) -> Result<Option<Vec<u8>>, StreamFault>
+    ensures reads { IfOk result (λ found. ReadsOctets count (R.remaining reader.old) (R.remaining reader.new)
+        (option_map (λ octets. octets.items) found)) }
+    ensures fault { IfErr result (λ fault. fault ≢ StreamFault.Write) }
+{
+    let mut octets = Vec::new(alloc);
+    let mut buffer = [0u8; SMALL_ROOM];
+    while octets.len() < count {
+        let room = (count - octets.len()).min(SMALL_ROOM);
+        let brought = read_some(reader, &mut buffer[..room])?;
+        if brought == 0 {
+            return Ok(None);
+        }
+        octets.extend_from_slice(&buffer[..brought])?;
+    }
+    Ok(Some(octets))
+}
+
+/// Reads past so many octets, of which a few are held at a time. `false` says that there were fewer: all that is left was read then.
+///
+/// A failed read is [`StreamFault::Read`] at once.
+pub fn pass_octets<R: Read>(reader: &mut R, count: u64) -> Result<bool, StreamFault>
+    ensures passes { IfOk result (PassesOctets count (R.remaining reader.old) (R.remaining reader.new)) }
+    ensures fault { IfErr result (λ fault. fault ≡ StreamFault.Read) }
+{
+    let mut buffer = [0u8; SMALL_ROOM];
+    let mut left = count;
+    while left > 0 {
+        let room = left.min(SMALL_ROOM as u64) as usize;
+        let brought = read_some(reader, &mut buffer[..room])?;
+        if brought == 0 {
+            return Ok(false);
+        }
+        left -= brought as u64;
+    }
+    Ok(true)
 }

@@ -5,6 +5,7 @@
 mod fault;
 mod folders;
 mod input;
+mod once;
 mod output;
 mod replacement;
 mod source;
@@ -14,8 +15,9 @@ mod visible;
 
 pub use fault::StreamFault;
 pub use folders::source_names;
-pub use input::{MAX_READS, read_some, read_within};
-pub use output::{write_if_many, write_output};
+pub use input::{MAX_READS, pass_octets, read_line_within, read_octets, read_some, read_within};
+pub use once::{ReadOnce, WriteOnce};
+pub use output::{write_at_once, write_if_many, write_output};
 pub use replacement::Replacement;
 pub use source::{Source, sources_of};
 pub use source_name::{SourceName, refused_line, unread_line};

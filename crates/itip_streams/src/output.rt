@@ -1,9 +1,12 @@
 //! Writing octets.
 ghost use Rattle.std.specs.Prelude.{◌≡◌, ◌≤◌, length, OnOk, OnErr, IfOk, IfErr};
 ghost use Rattle.std.specs.Io.KnownBytes.{Appends, WriteAppends};
+ghost use Rattle.std.specs.Result.{result_ok};
+ghost use Rattle.itip_streams.specs.Once.{FailsWriting, WritesAll};
 ghost use Rattle.itip_streams.specs.Written.{AppendsFront, MovesOut};
 
 use crate::fault::StreamFault;
+use crate::once::WriteOnce;
 use std::io::Write;
 
 // How many octets are kept before they are written.
@@ -11,10 +14,12 @@ const CHUNK: usize = 65_536;
 
 /// Writes all octets. A failed write is [`StreamFault::Write`] at once, and so is one that accepts no octet;
 /// what was written is then a front of them.
-pub fn write_output<W: Write>(writer: &mut W, bytes: &[u8]) -> Result<(), StreamFault>
+pub fn write_output<W: Write + WriteOnce>(writer: &mut W, bytes: &[u8]) -> Result<(), StreamFault>
     ensures all { OnOk result (Appends (W.contents writer.old) (W.contents writer.new) bytes.now) }
     ensures front { OnErr result (AppendsFront (W.contents writer.old) (W.contents writer.new) bytes.now) }
     ensures fault { IfErr result (λ fault. fault ≡ StreamFault.Write) }
+    ensures well { OnOk result (WritesAll W.writes writer.old bytes.now writer.new) }
+    ensures failed { OnErr result (FailsWriting W.writes writer.old bytes.now writer.new) }
 {
     let mut rest = bytes;
     while !rest.is_empty() {
@@ -27,8 +32,24 @@ pub fn write_output<W: Write>(writer: &mut W, bytes: &[u8]) -> Result<(), Stream
     Ok(())
 }
 
+/// Writes all octets, and has the writer hand them on. A fault is that of [`write_output`]; where handing on fails, all may be written.
+pub fn write_at_once<W: Write>(writer: &mut W, bytes: &[u8]) -> Result<(), StreamFault>
+    ensures all { OnOk result (Appends (W.contents writer.old) (W.contents writer.new) bytes.now) }
+    ensures front { OnErr result (AppendsFront (W.contents writer.old) (W.contents writer.new) bytes.now) }
+    ensures fault { IfErr result (λ fault. fault ≡ StreamFault.Write) }
+{
+    write_output(writer, bytes)?;
+    match writer.flush() {
+        Ok(()) => Ok(()),
+        Err(_) => Err(StreamFault::Write),
+    }
+}
+
 /// Writes the octets that are kept, and keeps none, once they are 65,536 or more. A fault is that of [`write_output`]; they are kept then.
-pub fn write_if_many<W: Write>(writer: &mut W, kept: &mut Vec<u8>) -> Result<(), StreamFault>
+pub fn write_if_many<W: Write + WriteOnce>(
+    writer: &mut W,
+    kept: &mut Vec<u8>,
+) -> Result<(), StreamFault>
     ensures moved { OnOk result (MovesOut (W.contents writer.old) (W.contents writer.new) kept.old.items kept.new.items) }
     ensures front { OnErr result (AppendsFront (W.contents writer.old) (W.contents writer.new) kept.old.items) }
     ensures fault { IfErr result (λ fault. fault ≡ StreamFault.Write) }
@@ -40,12 +61,13 @@ pub fn write_if_many<W: Write>(writer: &mut W, kept: &mut Vec<u8>) -> Result<(),
     Ok(())
 }
 
-fn write_some<W: Write>(writer: &mut W, bytes: &[u8]) -> Result<usize, StreamFault>
+fn write_some<W: Write + WriteOnce>(writer: &mut W, bytes: &[u8]) -> Result<usize, StreamFault>
     ensures bound { IfOk result (λ count. count ≤ length bytes.now) }
     ensures bytes { WriteAppends (W.contents writer.old) (W.contents writer.new) result bytes.now }
     ensures fault { IfErr result (λ fault. fault ≡ StreamFault.Write) }
+    ensures once { W.writes writer.old bytes.now (result_ok result) writer.new }
 {
-    match writer.write(bytes) {
+    match writer.write_once(bytes) {
         Ok(count) => Ok(count),
         Err(_) => Err(StreamFault::Write),
     }

@@ -86,7 +86,9 @@ impl<'a, R: Files + AllocGlobal> Replacement<'a, R> {
             part.file.set_permissions(permissions.clone()?)?;
         }
         part.file.sync_all()?;
-        fs::rename(self.files, part.path.as_str(), self.path.as_str())
+        fs::rename(self.files, part.path.as_str(), self.path.as_str())?;
+        sync_folder(self.files, self.path.as_str());
+        Ok(())
     }
 
     fn remove(&self) {
@@ -171,6 +173,19 @@ fn part_path(alloc: Global, path: &str, number: u32) -> Result<String, AllocErro
     match path.rsplit_once('/') {
         Some((folder, name)) => format!(in alloc; "{folder}/.{name}.{number}.part"),
         None => format!(in alloc; ".{path}.{number}.part"),
+    }
+}
+
+/// Has the system write down the folder of a path, so that a rename in it stays if the machine fails. Where it can't, the file is
+/// there all the same.
+fn sync_folder<R: Files>(files: &R, path: &str) {
+    let folder = match path.rsplit_once('/') {
+        Some(("", _)) => "/",
+        Some((folder, _)) => folder,
+        None => ".",
+    };
+    if let Ok(opened) = fs::open(files, folder) {
+        let _ = opened.sync_all();
     }
 }
 

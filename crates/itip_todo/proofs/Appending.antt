@@ -1,11 +1,11 @@
 -- Lines that are written as far as a limit of octets allows, one part after the other.
 use Rattle.std.proofs.Common.{◌≡◌, ◌∙◌, sym, ap, refl, subst, ℕ, ◌<◌, ◌≤◌, List, [], ◌∷◌, ◌++◌, length, take, drop, map, arith, inl, inr}
-use Rattle.std.proofs.Common.{append-nil, append_assoc}
+use Rattle.std.proofs.Common.{◌+◌, append-nil, append_assoc}
 use Rattle.std.proofs.lemmas.Bool.{cases_lt}
 use Rattle.std.proofs.lemmas.List.{length-append, map-append, take-append-drop, take_all}
 use Rattle.std.specs.Prelude.{◌⊎◌, codes}
 use Rattle.itip_todo.specs.Parts.{Parts}
-use Rattle.itip_todo.specs.UpTo.{AppendsUpTo}
+use Rattle.itip_todo.specs.UpTo.{AppendsEach, AppendsUpTo}
 use Rattle.itip_lines.specs.Writing.{folded, unfolded_text}
 use Rattle.itip_lines.specs.declared.line.Line.{Line}
 use Rattle.itip_todo.specs.Written.{Content, content_of, content_octets, contents_octets, head_contents, list_contents, parts_contents}
@@ -16,6 +16,38 @@ use Rattle.itip_todo.proofs.Segments.{status_on, percent_lines, percent_on, prio
 use Rattle.itip_todo.proofs.Segments.{organizer_lines, organizer_on, attendee_lines, rule_lines, rule_on, rdate_lines}
 use Rattle.itip_todo.proofs.Segments.{rdate_on, exdate_lines, exdate_on, other_lines, other_on}
 
+-- ---- each line is appended, or left out above the limit
+
+each_all : (limit : ℕ) (lines : List Content) (old : List ℕ) → AppendsEach limit lines old (old ++ contents_octets lines)
+each_all limit [] old = append-nil old
+each_all limit (line ∷ lines) old =
+    inl (subst (λ (new : List ℕ). AppendsEach limit lines (old ++ content_octets line) new)
+    (append_assoc old (content_octets line) (contents_octets lines)) (each_all limit lines (old ++ content_octets line)))
+
+each_left_out : (limit : ℕ) (lines : List Content) (old : List ℕ) → limit < length old → AppendsEach limit lines old old
+each_left_out limit [] old long = refl
+each_left_out limit (line ∷ lines) old long = inr (long, each_left_out limit lines old long)
+
+each_then : (limit : ℕ) (xs ys : List Content) (old mid new : List ℕ) → AppendsEach limit xs old mid → AppendsEach limit ys mid new →
+    AppendsEach limit (xs ++ ys) old new
+each_then limit [] ys old mid new first second = subst (λ (o : List ℕ). AppendsEach limit ys o new) first second
+each_then limit (x ∷ xs) ys old mid new (inl on) second = inl (each_then limit xs ys (old ++ content_octets x) mid new on second)
+each_then limit (x ∷ xs) ys old mid new (inr out) second = inr (out.0, each_then limit xs ys old mid new out.1 second)
+
+-- with octets in front of what stood there, and as many more in the limit
+pub each_behind : (limit room : ℕ) (front : List ℕ) → room + length front ≡ limit → (lines : List Content) (old new : List ℕ) →
+    AppendsEach room lines old new → AppendsEach limit lines (front ++ old) (front ++ new)
+each_behind limit room front sum [] old new same = ap (λ (octets : List ℕ). front ++ octets) same
+each_behind limit room front sum (line ∷ lines) old new (inl on) =
+    inl (subst (λ (o : List ℕ). AppendsEach limit lines o (front ++ new)) (sym (append_assoc front old (content_octets line)))
+    (each_behind limit room front sum lines (old ++ content_octets line) new on))
+each_behind limit room front sum (line ∷ lines) old new (inr out) =
+    let both = length-append front old in
+    let long : room < length old = out.0 in
+    inr (omega (arith, sum, both, long), each_behind limit room front sum lines old new out.1)
+
+-- ---- and what follows
+
 -- all lines are written
 pub appends_all : (limit : ℕ) (contents : List Content) (old new : List ℕ) → new ≡ old ++ contents_octets contents →
     AppendsUpTo limit contents old new
@@ -23,6 +55,7 @@ appends_all limit contents old new is =
     let same = ap length is in
     let both = length-append old (contents_octets contents) in
     record {
+      lines = subst (λ (octets : List ℕ). AppendsEach limit contents old octets) (sym is) (each_all limit contents old);
       grows = omega (arith, same, both);
       whole = λ short. is;
       over = λ long. subst (λ (octets : List ℕ). limit < length octets) is long;
@@ -41,6 +74,7 @@ over_behind limit xs ys old long =
 pub then_up_to : (limit : ℕ) (xs ys : List Content) (old mid new : List ℕ) → AppendsUpTo limit xs old mid → AppendsUpTo limit ys mid new →
     AppendsUpTo limit (xs ++ ys) old new
 then_up_to limit xs ys old mid new first second = record {
+  lines = each_then limit xs ys old mid new first.lines second.lines;
   grows = omega (arith, first.grows, second.grows);
   whole = λ short. then_lines old mid new xs ys (first.whole (omega (arith, second.grows, short))) (second.whole short);
   over = λ long. each long (cases_lt limit (length mid));
@@ -52,72 +86,113 @@ then_up_to limit xs ys old mid new first second = record {
         subst (λ (octets : List ℕ). limit < length octets) (then_lines old mid (mid ++ contents_octets ys) xs ys (first.whole few) refl)
         (second.over long)
 
+-- the lines so far are written, and those that are left are not, once there are more octets than the limit
+stopped_before : (limit : ℕ) (done left : List Content) (old now : List ℕ) → now ≡ old ++ contents_octets done → limit < length now →
+    AppendsUpTo limit (done ++ left) old now
+stopped_before limit done left old now is long =
+    let same = ap length is in
+    let both = length-append old (contents_octets done) in
+    let front : AppendsEach limit done old now =
+    subst (λ (octets : List ℕ). AppendsEach limit done old octets) (sym is) (each_all limit done old) in
+    record {
+      lines = each_then limit done left old now now front (each_left_out limit left now long);
+      grows = omega (arith, same, both);
+      whole = λ short. absurd (omega (arith, short, long));
+      over = λ more. over_behind limit done left old (subst (λ (octets : List ℕ). limit < length octets) is long);
+    }
+
 -- the lines of a list, of which none is written once there are more octets than the limit
 pub stopped : {A : Type 0} (f : A → Content) (xs : List A) (limit i : ℕ) (old now : List ℕ) →
     now ≡ old ++ contents_octets (map f (take i xs)) → limit < length now → AppendsUpTo limit (map f xs) old now
 stopped {A} f xs limit i old now is long =
-    let done : List Content = map f (take i xs) in
-    let left : List Content = map f (drop i xs) in
-    let all : done ++ left ≡ map f xs = sym (map-append f (take i xs) (drop i xs)) ∙ ap (map f) (take-append-drop i xs) in
-    let same = ap length is in
-    let both = length-append old (contents_octets done) in
-    record {
-      grows = omega (arith, same, both);
-      whole = λ short. absurd (omega (arith, short, long));
-      over = λ more. subst (λ (cs : List Content). limit < length (old ++ contents_octets cs)) all
-          (over_behind limit done left old (subst (λ (octets : List ℕ). limit < length octets) is long));
-    }
+    subst (λ (cs : List Content). AppendsUpTo limit cs old now)
+    (sym (map-append f (take i xs) (drop i xs)) ∙ ap (map f) (take-append-drop i xs))
+    (stopped_before limit (map f (take i xs)) (map f (drop i xs)) old now is long)
 
 pub finished : {A : Type 0} (f : A → Content) (xs : List A) (limit i : ℕ) (old now : List ℕ) → length xs ≤ i →
     now ≡ old ++ contents_octets (map f (take i xs)) → AppendsUpTo limit (map f xs) old now
 finished {A} f xs limit i old now done is =
     appends_all limit (map f xs) old now (is ∙ ap (λ (ys : List A). old ++ contents_octets (map f ys)) (take_all i xs done))
 
--- With the octets that are left to write, what stands there is that of all lines.
-pub record Leaves (contents : List Content) (old now left : List ℕ) : Type 0 where
-  pub grows : length old ≤ length now
-  pub whole : now ++ left ≡ old ++ contents_octets contents
+-- These lines are left to write: the others stand behind what stood there.
+pub record Leaves (contents : List Content) (old now : List ℕ) (left : List Content) : Type 0 where
+  pub done : List Content
+  pub all : done ++ left ≡ contents
+  pub wrote : now ≡ old ++ contents_octets done
 
-pub leaves_all : (contents : List Content) (old left : List ℕ) → left ≡ contents_octets contents → Leaves contents old old left
-leaves_all contents old left is = record { grows = omega arith; whole = ap (λ (octets : List ℕ). old ++ octets) is }
+pub leaves_all : (contents : List Content) (old : List ℕ) → Leaves contents old old contents
+leaves_all contents old = record { done = []; all = refl; wrote = sym (append-nil old) }
 
-pub leaves_less : (contents : List Content) (old now left first rest new : List ℕ) → Leaves contents old now left → left ≡ first ++ rest →
-    new ≡ now ++ first → Leaves contents old new rest
-leaves_less contents old now left first rest new before is wrote =
-    let same = ap length wrote in
-    let both = length-append now first in
-    record {
-      grows = omega (arith, before.grows, same, both);
-      whole = ap (λ (octets : List ℕ). octets ++ rest) wrote ∙ append_assoc now first rest
-          ∙ ap (λ (octets : List ℕ). now ++ octets) (sym is)
-          ∙ before.whole;
-    }
+pub leaves_less : (contents : List Content) (old now : List ℕ) (line : Content) (rest : List Content) (new : List ℕ) →
+    Leaves contents old now (line ∷ rest) → new ≡ now ++ contents_octets (line ∷ []) → Leaves contents old new rest
+leaves_less contents old now line rest new before wrote = record {
+  done = before.done ++ line ∷ [];
+  all = append_assoc before.done (line ∷ []) rest ∙ before.all;
+  wrote = then_lines old now new before.done (line ∷ []) before.wrote wrote;
+}
 
-pub leaves_none : (contents : List Content) (limit : ℕ) (old now left : List ℕ) → left ≡ [] → Leaves contents old now left →
-    AppendsUpTo limit contents old now
-leaves_none contents limit old now left none before =
-    appends_all limit contents old now (sym (append-nil now) ∙ ap (λ (octets : List ℕ). now ++ octets) (sym none) ∙ before.whole)
+pub leaves_none : (contents : List Content) (limit : ℕ) (old now : List ℕ) → Leaves contents old now [] → AppendsUpTo limit contents old now
+leaves_none contents limit old now before =
+    appends_all limit contents old now
+    (before.wrote ∙ ap (λ (cs : List Content). old ++ contents_octets cs) (sym (append-nil before.done) ∙ before.all))
 
-pub leaves_some : (contents : List Content) (limit : ℕ) (old now left : List ℕ) → limit < length now → Leaves contents old now left →
-    AppendsUpTo limit contents old now
+pub leaves_some : (contents : List Content) (limit : ℕ) (old now : List ℕ) (left : List Content) → limit < length now →
+    Leaves contents old now left → AppendsUpTo limit contents old now
 leaves_some contents limit old now left long before =
-    let same = ap length before.whole in
-    let both = length-append now left in
+    subst (λ (cs : List Content). AppendsUpTo limit cs old now) before.all
+    (stopped_before limit before.done left old now before.wrote long)
+
+-- ---- lines that are kept as texts
+
+-- the line of a text
+text_octets : (line : Line) → folded 0 (unfolded_text line) ≡ contents_octets (content_of line ∷ [])
+unfolding unfolded_text
+text_octets line = sym (append-nil (content_octets (content_of line)))
+
+-- the lines of which these are the texts are left to write
+pub record LeavesTexts (lines : List Line) (old now : List ℕ) (texts : List (List ℕ)) : Type 0 where
+  pub rest : List Line
+  pub texts_are : texts ≡ map unfolded_text rest
+  pub leaves : Leaves (map content_of lines) old now (map content_of rest)
+
+pub texts_all : (lines : List Line) (old : List ℕ) (texts : List (List ℕ)) → texts ≡ map unfolded_text lines →
+    LeavesTexts lines old old texts
+texts_all lines old texts are = record { rest = lines; texts_are = are; leaves = leaves_all (map content_of lines) old }
+
+-- of these lines, the first has this text
+text_first : (lines : List Line) (old now new : List ℕ) (text : List ℕ) (more : List (List ℕ)) (rest : List Line) →
+    text ∷ more ≡ map unfolded_text rest → Leaves (map content_of lines) old now (map content_of rest) → new ≡ now ++ folded 0 text →
+    LeavesTexts lines old new more
+text_first lines old now new text more [] e before wrote = absurd cc
+text_first lines old now new text more (line ∷ rest) e before wrote =
+    let both : text ∷ more ≡ unfolded_text line ∷ map unfolded_text rest = e in
+    let first : text ≡ unfolded_text line = cc in
+    let others : more ≡ map unfolded_text rest = cc in
     record {
-      grows = before.grows;
-      whole = λ short. absurd (omega (arith, short, long));
-      over = λ more. omega (arith, long, same, both);
+      rest = rest;
+      texts_are = others;
+      leaves = leaves_less (map content_of lines) old now (content_of line) (map content_of rest) new before
+          (wrote ∙ ap (λ (octets : List ℕ). now ++ octets) (ap (folded 0) first ∙ text_octets line));
     }
 
--- the octets of texts of lines
-abbrev pub texts_octets : List (List ℕ) → List ℕ
-texts_octets [] = []
-texts_octets (text ∷ texts) = folded 0 text ++ texts_octets texts
+pub texts_less : (lines : List Line) (old now new : List ℕ) (texts : List (List ℕ)) (text : List ℕ) (more : List (List ℕ)) →
+    LeavesTexts lines old now texts → texts ≡ text ∷ more → new ≡ now ++ folded 0 text → LeavesTexts lines old new more
+texts_less lines old now new texts text more before is wrote =
+    text_first lines old now new text more before.rest (sym is ∙ before.texts_are) before.leaves wrote
 
-pub octets_of_lines : (lines : List Line) → texts_octets (map unfolded_text lines) ≡ contents_octets (map content_of lines)
-unfolding unfolded_text
-octets_of_lines [] = refl
-octets_of_lines (line ∷ lines) = ap (λ (rest : List ℕ). content_octets (content_of line) ++ rest) (octets_of_lines lines)
+pub texts_none : (lines : List Line) (limit : ℕ) (old now : List ℕ) (texts : List (List ℕ)) → texts ≡ [] →
+    LeavesTexts lines old now texts → AppendsUpTo limit (map content_of lines) old now
+texts_none lines limit old now texts none before = by before.rest (sym none ∙ before.texts_are) before.leaves
+  where
+    by : (rest : List Line) → [] ≡ map unfolded_text rest → Leaves (map content_of lines) old now (map content_of rest) →
+        AppendsUpTo limit (map content_of lines) old now
+    by [] e l = leaves_none (map content_of lines) limit old now l
+    by (line ∷ rest) e l = absurd cc
+
+pub texts_some : (lines : List Line) (limit : ℕ) (old now : List ℕ) (texts : List (List ℕ)) → limit < length now →
+    LeavesTexts lines old now texts → AppendsUpTo limit (map content_of lines) old now
+texts_some lines limit old now texts long before =
+    leaves_some (map content_of lines) limit old now (map content_of before.rest) long before.leaves
 
 -- the lines up to ORGANIZER, one part after the other
 pub front_of : (parts : Parts) (o0 begun headed o1 o2 o3 o4 o5 o6 o7 o8 o9 : List ℕ) → begun ≡ o0 ++

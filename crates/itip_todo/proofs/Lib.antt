@@ -18,6 +18,7 @@ pub mod ReadingLaws
 pub mod SameTodo
 pub mod Segments
 pub mod SomeTodo
+pub mod BeforeRanges
 pub mod TodoOctets
 pub mod Sets
 pub mod WritingLaws

@@ -8,6 +8,7 @@ pub mod UpTo
 pub mod Lawful
 pub mod PartsOf
 pub mod Values
+pub mod Limits
 pub mod Reading
 pub mod Octets
 pub mod Causes

@@ -16,8 +16,8 @@ use Rattle.itip_moment.specs.declared.moment.Moment.{Moment}
 use Rattle.itip_moment.specs.declared.stamp.Stamp.{Stamp}
 use Rattle.itip_todo.specs.Participation.{same_text, param_value}
 use Rattle.itip_todo.specs.StatusText.{status_of}
-use Rattle.itip_todo.specs.Table.{property_of, is_same, stands_once, attendee_key, attendee_limit, sequence_limit, percent_limit}
-use Rattle.itip_todo.specs.Table.{priority_limit}
+use Rattle.itip_todo.specs.Limits.{Limits, present}
+use Rattle.itip_todo.specs.Table.{property_of, is_same, stands_once, attendee_key, sequence_limit, percent_limit, priority_limit}
 use Rattle.itip_todo.specs.Values.{IsNumberUpTo, IsMomentText, AreMoments, IsGoodValue}
 use Rattle.itip_todo.specs.Properties.{Property}
 use Rattle.itip_todo.specs.declared.property_name.PropertyName.{PropertyName}
@@ -55,14 +55,20 @@ abbrev pub range_of : Option Line → Bool
 range_of None = false
 range_of (Some line) = has_range line
 
--- RECURRENCE-ID with RANGE of another value
+-- RECURRENCE-ID with RANGE of another value, or of any where ranges are not allowed
+abbrev pub has_bad_range_within : Limits → PropertyName → Line → Bool
+has_bad_range_within limits p line = is_same p name.RecurrenceId &&
+    (list_any (λ (param : Param). same_text param.name (codes "RANGE")) line.params && not (limits.ranges && has_range line))
+
 abbrev pub has_bad_range : PropertyName → Line → Bool
-has_bad_range p line = is_same p name.RecurrenceId &&
-    (list_any (λ (param : Param). same_text param.name (codes "RANGE")) line.params && not (has_range line))
+has_bad_range = has_bad_range_within present
 
 -- one ATTENDEE too many
+abbrev pub is_too_many_within : Limits → (PropertyName → List Line) → PropertyName → Bool
+is_too_many_within limits above p = is_same p name.Attendee && nat_le limits.attendees (length (above name.Attendee))
+
 abbrev pub is_too_many : (PropertyName → List Line) → PropertyName → Bool
-is_too_many above p = is_same p name.Attendee && nat_le attendee_limit (length (above name.Attendee))
+is_too_many = is_too_many_within present
 
 abbrev pub key_of : Line → List ℕ
 key_of line = attendee_key line.value
@@ -71,13 +77,16 @@ key_of line = attendee_key line.value
 abbrev pub is_same_attendee : (PropertyName → List Line) → PropertyName → Line → Bool
 is_same_attendee above p line = is_same p name.Attendee && list_any (same_text (key_of line)) (map key_of (above name.Attendee))
 
--- nothing is wrong with a line that is read as p, where these lines of each property stand above it
-pub record IsGoodAs (above : PropertyName → List Line) (p : PropertyName) (line : Line) : Type 0 where
+-- nothing is wrong with a line that is read as p within these limits, where these lines of each property stand above it
+pub record IsGoodWithin (limits : Limits) (above : PropertyName → List Line) (p : PropertyName) (line : Line) : Type 0 where
   pub once : is_twice above p ≡ false
-  pub range : has_bad_range p line ≡ false
+  pub range : has_bad_range_within limits p line ≡ false
   pub value : IsGoodValue p line
-  pub few : is_too_many above p ≡ false
+  pub few : is_too_many_within limits above p ≡ false
   pub new : is_same_attendee above p line ≡ false
+
+abbrev pub IsGoodAs : (PropertyName → List Line) → PropertyName → Line → Type 0
+IsGoodAs = IsGoodWithin present
 
 -- what is wrong with a line that is read as p: the first of twice, another RANGE, a bad value, too many, and one attendee twice
 abbrev pub HasCauseAs : (PropertyName → List Line) → PropertyName → Line → TodoCause → Type 0
@@ -99,10 +108,14 @@ IsGood above line = IsGoodAs (lines_of above) (property_of line) line
 abbrev pub HasCause : List Line → Line → TodoCause → Type 0
 HasCause above line c = HasCauseAs (lines_of above) (property_of line) line c
 
--- nothing is wrong with any line
+-- nothing is wrong with any line, within these limits
+abbrev pub AreGoodWithin : Limits → List Line → List Line → Type 0
+AreGoodWithin limits above [] = Unit {0}
+AreGoodWithin limits above (line ∷ lines) =
+    IsGoodWithin limits (lines_of above) (property_of line) line × AreGoodWithin limits (above ++ line ∷ []) lines
+
 abbrev pub AreGood : List Line → List Line → Type 0
-AreGood above [] = Unit {0}
-AreGood above (line ∷ lines) = IsGood above line × AreGood (above ++ line ∷ []) lines
+AreGood = AreGoodWithin present
 
 -- the refusal names this line as the place, and what is wrong with it
 abbrev pub HasRefusal : List Line → NumberedLine → TodoRefusal → Type 0
@@ -172,9 +185,9 @@ pub record AreMomentsOf (lines : List Line) (moments : List Moment) : Type 0 whe
   pub ascending : IsStrictlySortedBy moment_cmp moments
   pub each : (m : Moment) → Contains moments m ↔ Contains listed m
 
--- the lines are this to-do
-pub record ReadsTodo (lines : List Line) (todo : Todo) : Type 0 where
-  pub good : AreGood [] lines
+-- the lines are this to-do, within these limits
+pub record ReadsTodoWithin (limits : Limits) (lines : List Line) (todo : Todo) : Type 0 where
+  pub good : AreGoodWithin limits [] lines
   pub uid : IsOptional IsUidOf (first_named name.Uid lines) (Some todo.uid)
   pub stamp : IsOptional IsStampOf (first_named name.DtStamp lines) (Some todo.stamp)
   pub seq : IsOrNought IsSequenceOf (first_named name.Sequence lines) todo.seq
@@ -193,6 +206,10 @@ pub record ReadsTodo (lines : List Line) (todo : Todo) : Type 0 where
   pub rdates : AreMomentsOf (lines_of lines name.RDate) todo.rdates
   pub exdates : AreMomentsOf (lines_of lines name.ExDate) todo.exdates
   pub others : todo.others ≡ lines_of lines name.Others
+
+-- the lines are this to-do
+abbrev pub ReadsTodo : List Line → Todo → Type 0
+ReadsTodo = ReadsTodoWithin present
 
 -- a property is missing, which is the fault of no line
 abbrev pub missing : PropertyName → TodoRefusal

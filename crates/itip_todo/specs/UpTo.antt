@@ -1,10 +1,17 @@
 -- Lines that are written as far as a limit of octets allows (our own form).
-use Rattle.std.specs.Prelude.{◌≡◌, ◌<◌, ◌≤◌, ℕ, List, ◌++◌, length}
-use Rattle.itip_todo.specs.Written.{Content, contents_octets}
+use Rattle.std.specs.Prelude.{◌≡◌, ◌⊎◌, ◌<◌, ◌≤◌, ℕ, List, [], ◌∷◌, ◌++◌, length}
+use Rattle.itip_todo.specs.Written.{Content, content_octets, contents_octets}
 
--- The octets of these lines stand behind what stood there. Where that would be more octets than the limit, not all of them have
--- to stand there, but so many that they are more.
+-- each line in turn is appended to what stands there, or it is left out where that has more octets than the limit already
+abbrev pub AppendsEach : ℕ → List Content → List ℕ → List ℕ → Type 0
+AppendsEach limit [] old new = new ≡ old
+AppendsEach limit (line ∷ lines) old new =
+    AppendsEach limit lines (old ++ content_octets line) new ⊎ ((limit < length old) × AppendsEach limit lines old new)
+
+-- The octets of lines stand behind what stood there, in their order: of all lines where there are no more octets than the limit then;
+-- and where there are more, all lines have more too.
 pub record AppendsUpTo (limit : ℕ) (contents : List Content) (old new : List ℕ) : Type 0 where
+  pub lines : AppendsEach limit contents old new
   pub grows : length old ≤ length new
   pub whole : length new ≤ limit → new ≡ old ++ contents_octets contents
   pub over : limit < length new → limit < length (old ++ contents_octets contents)

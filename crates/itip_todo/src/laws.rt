@@ -1,17 +1,19 @@
 //! What holds of reading and writing. The functions do nothing: their contracts are the laws.
-ghost use Rattle.std.specs.Prelude.{◌≡◌, ◌⊎◌, ◌↔◌, List, map, None};
+ghost use Rattle.std.specs.Prelude.{◌≡◌, ◌⊎◌, ◌↔◌, false, List, map, None};
 ghost use Rattle.itip_lines.specs.Reading.{plain_lines};
 ghost use Rattle.itip_lines.specs.declared.line.Line.{Line};
 ghost use Rattle.itip_lines.specs.declared.line.NumberedLine.{NumberedLine};
+ghost use Rattle.itip_todo.specs.Limits.{before_ranges};
 ghost use Rattle.itip_todo.specs.PartsOf.{parts_of};
-ghost use Rattle.itip_todo.specs.Reading.{ReadsTodo, RefusesTodo};
+ghost use Rattle.itip_todo.specs.Reading.{ReadsTodo, ReadsTodoWithin, RefusesTodo};
 ghost use Rattle.itip_todo.specs.Written.{content_of, parts_contents};
 ghost use Rattle.itip_todo.specs.declared.error.TodoCause.TheVariants as cause;
 ghost use Rattle.itip_todo.specs.declared.error.TodoRefusal.{TodoRefusal};
 ghost use Rattle.itip_todo.specs.declared.property_name.PropertyName.{PropertyName};
 ghost use Rattle.itip_todo.specs.declared.todo.Todo.{Todo};
 
-/// Lines are read as one to-do, or they are refused for one cause in one place, and not both.
+/// Lines are read as one to-do, or they are refused for one cause in one place, and not both. What was read before instances had
+/// ranges is read as the same to-do, which has none.
 pub fn reading_laws()
     ensures some { (lines : List NumberedLine)
         → ((todo : Todo) × ReadsTodo (plain_lines lines) todo) ⊎ ((refusal : TodoRefusal) × RefusesTodo lines refusal) }
@@ -22,6 +24,8 @@ pub fn reading_laws()
         → RefusesTodo lines refusal → RefusesTodo lines other → refusal ≡ other }
     ensures place { (lines : List NumberedLine) (refusal : TodoRefusal) → RefusesTodo lines refusal
         → (refusal.line ≡ None) ↔ ((p : PropertyName) × (refusal.cause ≡ cause.Missing p)) }
+    ensures as_before { (lines : List Line) (todo : Todo) → ReadsTodoWithin before_ranges lines todo → ReadsTodo lines todo }
+    ensures no_range { (lines : List Line) (todo : Todo) → ReadsTodoWithin before_ranges lines todo → todo.range ≡ false }
 {}
 
 /// The lines that a to-do is written as, between BEGIN and END, are read as this to-do.

@@ -1,6 +1,7 @@
 //! Writing a to-do.
-ghost use Rattle.std.specs.Prelude.{◌≡◌, ◌++◌, ◌∷◌, [], List, ℕ, map, OnOk, OnErr};
+ghost use Rattle.std.specs.Prelude.{◌≡◌, ◌++◌, ◌∷◌, [], List, ℕ, map, OnOk, OnErr, IsOk};
 ghost use Rattle.std.specs.Fmt.{decimal};
+ghost use Rattle.itip_lines.specs.Room.{HasRoomFor, KeepsRoom};
 ghost use Rattle.itip_todo.specs.Written.{content_of, contents_octets, todo_contents, head_contents, bare, plain, moment_line};
 ghost use Rattle.itip_todo.specs.Written.{property_line, optional, front_contents, rest_contents};
 ghost use Rattle.itip_todo.specs.Octets.{AreReadAs};
@@ -37,8 +38,8 @@ pub fn write_todo(todo: &Todo, out: &mut Vec<u8>) -> Result<(), AllocError>
 
 /// Appends the canonical lines of a to-do, as [`write_todo`] does, as far as a limit allows.
 ///
-/// Where `out` would have more than `limit` octets with all of them, it has more, and maybe not all lines: once it has more, no
-/// line of a list is written. On an error, when memory was refused, a part of the lines may stand in `out`.
+/// Where `out` would have more than `limit` octets with all of them, it has more, and maybe not all lines, in their order: once it
+/// has more, no line of a list is written. On an error, when memory was refused, a part of the lines may stand in `out`.
 pub fn write_todo_up_to(todo: &Todo, limit: usize, out: &mut Vec<u8>) -> Result<(), AllocError>
     ensures { OnOk result (AppendsUpTo limit (todo_contents (parts_of todo.now)) out.old.items out.new.items) }
 {
@@ -162,7 +163,7 @@ fn write_attendees(
 
 /// Appends the line of a property of this name, with its parameters (RFC 5545 3.1).
 ///
-/// Where memory is refused `out` stays as it was.
+/// Where memory is refused `out` stays as it was. It is asked for only where `out` has no room for the line.
 pub fn write_property(
     name: PropertyName,
     property: &Property,
@@ -170,6 +171,8 @@ pub fn write_property(
 ) -> Result<(), AllocError>
     ensures appended { OnOk result (out.new.items ≡ out.old.items ++ contents_octets (property_line name property.now ∷ [])) }
     ensures err { OnErr result (out.new.items ≡ out.old.items) }
+    ensures room { HasRoomFor out.old (contents_octets (property_line name property.now ∷ [])) → IsOk result }
+    ensures keeps { KeepsRoom out.old out.new }
 {
     let params = property.params().as_bytes();
     write_parts(name.as_str(), params, property.value().as_bytes(), out)

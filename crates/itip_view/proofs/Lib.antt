@@ -1,5 +1,6 @@
 pub mod FlatMap
 pub mod OfKept
+pub mod TodoLines
 pub mod Sequences
 pub mod Alike
 pub mod OneList
@@ -29,6 +30,7 @@ pub mod Ranging
 pub mod Made
 pub mod Asked
 pub mod Counting
+pub mod Putting
 pub mod Tallies
 pub mod Texts
 pub mod Left

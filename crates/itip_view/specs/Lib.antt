@@ -10,10 +10,12 @@ pub mod Ruling
 pub mod InUid
 pub mod ListText
 pub mod Showing
+pub mod TodoLines
 pub mod Blocks
 pub mod Wanting
 pub mod Wanted
 pub mod Places
+pub mod PutRows
 pub mod AscendingUids
 pub mod Most
 pub mod ByUid

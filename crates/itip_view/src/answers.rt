@@ -83,7 +83,7 @@ impl<'v, 'a> AnswerSearch<'v, 'a> {
         ensures { IfOk result (AreShown self.now.items.now.items (asked_by self.now.items.now.uid self.now.questions.now)
             (map (λ line. line.line.now) lines.now)) }
     {
-        let mut attendees = Vec::new(alloc);
+        let mut attendees = Vec::with_capacity(alloc, lines.len())?;
         for line in lines {
             let answer = self.deciding(line.key.as_str());
             if let Some(attendee) = shown_line(alloc, line.line, answer)? {

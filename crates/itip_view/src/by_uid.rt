@@ -4,10 +4,10 @@ ghost use Rattle.itip_view.specs.AscendingUids.{AreAscendingUids, AreAscendingUi
 
 use crate::NoMemory;
 use crate::error::ViewError;
+use crate::list_text::text_by_uid;
 use crate::most::{RowCount, count_among};
 use crate::row::Row;
 use crate::row_order::{rows_by_uid, sorted_uids};
-use crate::row_text::text_by_uid;
 use crate::shown::shown_rows;
 use crate::wanted::Wanted;
 use crate::window::Window;
@@ -32,7 +32,7 @@ pub struct RowsByUid<'s, 'w> {
 }
 
 impl<'s, 'w> RowsByUid<'s, 'w> {
-    ghost use Rattle.std.specs.Prelude.{◌≡◌, ◌↔◌, ◌<◌, List, IfOk, IfSome, IsErrOf, OnErr};
+    ghost use Rattle.std.specs.Prelude.{◌≡◌, ◌↔◌, ◌<◌, List, [], IfOk, IfSome, IsOk, IsErrOf, OnErr};
     ghost use Rattle.std.specs.Option.{option_map};
     ghost use Rattle.itip_state.specs.Kept.{AscendTexts};
     ghost use Rattle.itip_view.specs.Showing.{AreRowsWhere, IsAmong};
@@ -62,7 +62,7 @@ impl<'s, 'w> RowsByUid<'s, 'w> {
         })
     }
 
-    /// The rows of these UIDs, which stand in any order, perhaps more than once. No other UID is looked at.
+    /// The rows of these UIDs, which stand in any order, perhaps more than once. No other UID is looked at. Of no UID it takes no memory.
     pub fn among(
         alloc: Global,
         state: &'s State,
@@ -73,6 +73,8 @@ impl<'s, 'w> RowsByUid<'s, 'w> {
         ensures rows { IfOk result (λ asked. (rows : List Row) → AreLeft asked rows
             ↔ AreRowsWhere (IsAmong (map (λ uid. uid.now) uids.entry.items) (Wants wanted.now)) state.now window rows) }
         ensures asked { IfOk result (AreAsked (IsAmong (map (λ uid. uid.now) uids.entry.items) (Wants wanted.now)) state.now window) }
+        ensures none { uids.entry.items ≡ [] → IfOk result (λ asked. uids_of asked ≡ []) }
+        ensures succeeds { uids.entry.items ≡ [] → IsOk result }
     {
         let uids = sorted_uids(uids)?;
         Ok(RowsByUid {
@@ -100,11 +102,11 @@ impl<'s, 'w> RowsByUid<'s, 'w> {
 
     /// The rows of the next UID, in their order, perhaps none; `None` where no UID is left, from then on.
     ///
-    /// After an error (out of memory) the same rows are left: the UID is the next one still.
+    /// After an error (out of memory) the same UIDs and rows are left: the UID is the next one still.
     pub fn next(&mut self) -> Result<Option<Vec<Row>>, NoMemory>
         ensures rows { IfOk result (λ rows. IsNextOf self.old self.new (option_map (λ r. r.items) rows)) }
         ensures fewer { IfOk result (λ rows. IfSome rows (λ _. uids_left self.new < uids_left self.old)) }
-        ensures err { OnErr result ((rows : List Row) → AreLeft self.new rows ↔ AreLeft self.old rows) }
+        ensures err { OnErr result ((uids_of self.new ≡ uids_of self.old) × ((rows : List Row) → AreLeft self.new rows ↔ AreLeft self.old rows)) }
     {
         if self.done == self.uids.len() {
             return Ok(None);
@@ -115,12 +117,13 @@ impl<'s, 'w> RowsByUid<'s, 'w> {
         Ok(Some(rows))
     }
 
-    /// The text of the rows that are left. The rows of one UID at a time are held beside it.
+    /// The text of the rows that are left. One row at a time is held beside it. Where no UID is left, it takes no memory.
     ///
     /// Refused where they are more than 100,000 (31), or when out of memory (32).
     pub fn text(&self) -> Result<Vec<u8>, ViewError>
         ensures text { IfOk result (λ text. IsTextLeft self.now text.items) }
         ensures many { IsErrOf result ViewError.TooManyRows → AreTooManyLeft self.now }
+        ensures succeeds { uids_of self.now ≡ [] → IsOk result }
     {
         text_by_uid(
             self.alloc,

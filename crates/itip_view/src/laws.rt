@@ -59,8 +59,8 @@ pub fn view_of_kept()
         → FollowsFromKept (λ heard. IsMostOf (Wants wanted) heard window most) }
 {}
 
-/// What was heard has one list in a window, or too many rows for one, and never both; and so it is of the rows that are asked
-/// for, of which one to-do at most has the most. A UID and an identifier have one row, and the order tells all rows apart (our own
+/// What was heard has at most one list in a window, and none where it has too many rows for one; and so it is of the rows that are
+/// asked for, of which one to-do at most has the most. A UID and an identifier have one row, and the order tells all rows apart (our own
 /// rules).
 pub fn one_list()
     ensures row { (heard : List Item) (window : Window) (row other : Row) → IsRow heard window row → IsRow heard window other

@@ -8,6 +8,7 @@ ghost use Rattle.itip_view.specs.OfUid.{AreOccurrencesOf, ArePlaces, AreRowsOf, 
 ghost use Rattle.itip_view.specs.Places.{AreWanted, IsMade, IsPlaceAt, IsShownAt, IsWanted, governing_item, questions_of};
 ghost use Rattle.itip_view.specs.InUid.{HasWhole, HasBetween, HasItsRows, HasOccurrence, HasAll, IsViewOf};
 ghost use Rattle.itip_view.specs.InUid.{HasStanding, HasNoStanding, HasRuling, HasNoRuling, HasNoneAtStart, HasLiveSeries};
+ghost use Rattle.itip_view.specs.PutRows.{IsPut, IsPlacePut, ArePut};
 ghost use Rattle.itip_view.specs.Wanted.{shows_named};
 ghost use Rattle.itip_view.specs.declared.row.ShownAttendee.{ShownAttendee};
 ghost use Rattle.itip_view.specs.declared.window.Window.{Window};
@@ -20,6 +21,7 @@ use crate::keyed_item::{AttendeeLine, KeyedItem};
 use crate::progress::progress_of;
 use crate::row::Row;
 use crate::row_place::{Governing, RowKind, RowPlace};
+use crate::row_text::write_row;
 use crate::standing::{is_live, standing_item, stands_beside};
 use crate::wanted::Wanted;
 use crate::whole::{Whole, occurrences, sorted_moments, whole_of};
@@ -54,6 +56,21 @@ pub(crate) fn rows_of_uid(
 {
     let view = UidView::of(alloc, items, window)?;
     view.rows()
+}
+
+/// Appends the text of those of the rows of a UID in a window that are asked for, each as it is made, and gives how many they are. After
+/// an error (out of memory) a part of them may be there.
+pub(crate) fn put_rows_of_uid(
+    alloc: Global,
+    items: &ItemsOfUid<'_>,
+    window: Window,
+    wanted: &Wanted<'_>,
+    out: &mut Vec<u8>,
+) -> Result<usize, NoMemory>
+    ensures { IfOk result (ArePut wanted.now items.now window out.old.items out.new.items) }
+{
+    let view = UidView::of(alloc, items, window)?;
+    view.put(wanted, out)
 }
 
 /// How many of the rows of a UID in a window are asked for. None of them is made.
@@ -122,6 +139,35 @@ impl<'v, 'a> UidView<'v, 'a> {
             push_some(&mut rows, row)?;
         }
         Ok(rows)
+    }
+
+    /// Appends the text of those of the rows that are asked for, and gives how many they are.
+    fn put(&self, wanted: &Wanted<'_>, out: &mut Vec<u8>) -> Result<usize, NoMemory>
+        requires { HasAll self.now }
+        ensures { IfOk result (ArePut wanted.now self.now.items.now self.now.window out.old.items out.new.items) }
+    {
+        let is_put = self.put_place(&self.whole_place(), wanted, out)?;
+        let mut number = usize::from(is_put);
+        for at in &self.places {
+            let is_put = self.put_place(&self.place_at(at), wanted, out)?;
+            number += usize::from(is_put);
+        }
+        Ok(number)
+    }
+
+    /// Appends the text of the row of a place, where there is one that is asked for.
+    fn put_place(
+        &self,
+        place: &Option<RowPlace<'_>>,
+        wanted: &Wanted<'_>,
+        out: &mut Vec<u8>,
+    ) -> Result<bool, NoMemory>
+        ensures { IfOk result (IsPlacePut wanted.now self.now.items.now place.now out.old.items out.new.items) }
+    {
+        let row = self.made(place)?;
+        let is_put = put_if_wanted(&row, wanted, out);
+        drop(row);
+        is_put
     }
 
     /// How many of the rows are asked for.
@@ -385,6 +431,24 @@ fn push_some(rows: &mut Vec<Row>, row: Option<Row>) -> Result<(), NoMemory>
         rows.push(row)?;
     }
     Ok(())
+}
+
+/// Appends the text of a row where there is one that is asked for; gives whether it did.
+fn put_if_wanted(
+    row: &Option<Row>,
+    wanted: &Wanted<'_>,
+    out: &mut Vec<u8>,
+) -> Result<bool, NoMemory>
+    ensures { IfOk result (IsPut wanted.now row.now out.old.items out.new.items) }
+{
+    let Some(row) = row else {
+        return Ok(false);
+    };
+    if !wanted.has(row) {
+        return Ok(false);
+    }
+    write_row(row, out)?;
+    Ok(true)
 }
 
 fn summary(alloc: Global, todo: &Todo) -> Result<Option<Text>, NoMemory>

@@ -1,5 +1,5 @@
 //! The rows of several UIDs, one UID after the other.
-ghost use Rattle.std.specs.Prelude.{◌↔◌, ℕ, List, IfOk, map};
+ghost use Rattle.std.specs.Prelude.{◌≡◌, ◌↔◌, ℕ, List, [], IfOk, IsOk, map};
 ghost use Rattle.std.specs.List.{Contains};
 ghost use Rattle.itip_state.specs.Kept.{AscendTexts};
 ghost use Rattle.itip_view.specs.Showing.{AreRowsWhere, IsAmong};
@@ -16,11 +16,12 @@ use std::alloc::Global;
 
 pub(crate) const ROW_LIMIT: usize = 100_000;
 
-/// The UIDs given, by octets, each once. A refusal (out of memory) drops them.
+/// The UIDs given, by octets, each once. A refusal (out of memory) drops them. No UID takes no memory.
 pub fn sorted_uids<'a>(uids: Vec<&'a Uid>) -> Result<Vec<&'a Uid>, NoMemory>
     ensures ascend { IfOk result (λ sorted. AscendTexts (map (λ uid. uid.now) sorted.items)) }
     ensures same { IfOk result (λ sorted. (uid : List ℕ)
         → Contains (map (λ uid. uid.now) sorted.items) uid ↔ Contains (map (λ uid. uid.now) uids.entry.items) uid) }
+    ensures succeeds { uids.entry.items ≡ [] → IsOk result }
 {
     let mut uids = uids;
     uids.sort()?;

@@ -1,5 +1,5 @@
 //! The text of rows.
-ghost use Rattle.std.specs.Prelude.{◌≡◌, ◌++◌, IfOk, IsErrOf, OnErr, OnOk, Option, Some, None, map};
+ghost use Rattle.std.specs.Prelude.{◌≡◌, ◌<◌, ◌++◌, [], OnErr, OnOk, IsOk, Option, Some, None};
 ghost use Rattle.std.specs.Fmt.{decimal};
 ghost use Rattle.std.specs.List.{flat_map};
 ghost use Rattle.itip_lines.specs.Writing.{Extends};
@@ -7,56 +7,21 @@ ghost use Rattle.itip_moment.specs.Shown.{shown_moment};
 ghost use Rattle.itip_todo.specs.StatusText.{status_text};
 ghost use Rattle.itip_view.specs.ListText.{list_text, row_text, attendee_text, id_text, names_text, numbers_text, dates_text};
 ghost use Rattle.itip_view.specs.ListText.{summary_text, progress_text, shown};
-ghost use Rattle.itip_state.specs.Kept.{AscendTexts};
-ghost use Rattle.itip_view.specs.Showing.{AreTooManyWhere, IsAmong, IsTextAmong};
-ghost use Rattle.itip_view.specs.Wanting.{Wants};
 
-use crate::error::ViewError;
 use crate::row::{Row, RowId, ShownAttendee};
-use crate::row_order::ROW_LIMIT;
-use crate::shown::shown_rows;
-use crate::wanted::Wanted;
-use crate::window::Window;
 use itip_lines::Text;
 use itip_moment::{Moment, write_moment};
-use itip_state::State;
-use itip_todo::{Status, Uid};
+use itip_todo::Status;
 use itoa::Buffer;
-use std::alloc::{AllocError, Global};
+use std::alloc::AllocError;
 
-/// The text of the rows of these UIDs in a window that are asked for, at most 100,000. The rows of one UID at a time are held.
-pub(crate) fn text_by_uid(
-    alloc: Global,
-    state: &State,
-    uids: &[&Uid],
-    window: Window,
-    wanted: &Wanted<'_>,
-) -> Result<Vec<u8>, ViewError>
-    requires { AscendTexts (map (λ uid. uid.now) uids.now) }
-    ensures text { IfOk result (λ text. IsTextAmong
-        (Wants wanted.now) state.now window (map (λ uid. uid.now) uids.now) text.items) }
-    ensures many { IsErrOf result ViewError.TooManyRows
-        → AreTooManyWhere (IsAmong (map (λ uid. uid.now) uids.now) (Wants wanted.now)) state.now window }
-{
-    let mut text = Vec::new(alloc);
-    let mut number: usize = 0;
-    for uid in uids {
-        let more = shown_rows(alloc, state, uid, window, wanted)?;
-        if more.len() > ROW_LIMIT - number {
-            return Err(ViewError::TooManyRows);
-        }
-        number += more.len();
-        write_list(&more, &mut text)?;
-    }
-    Ok(text)
-}
-
-/// Appends the text of rows, in the order given.
+/// Appends the text of rows, in the order given. Of no row it takes no memory.
 ///
 /// On an error (out of memory) the vector is as before.
 pub fn write_list(rows: &[Row], out: &mut Vec<u8>) -> Result<(), AllocError>
     ensures ok { OnOk result (out.new.items ≡ out.old.items ++ list_text rows.now) }
     ensures err { OnErr result (out.new.items ≡ out.old.items) }
+    ensures succeeds { rows.now ≡ [] → IsOk result }
 {
     let start = out.len();
     let done = append_list(rows, out);
@@ -70,6 +35,7 @@ pub fn write_list(rows: &[Row], out: &mut Vec<u8>) -> Result<(), AllocError>
 fn append_list(rows: &[Row], out: &mut Vec<u8>) -> Result<(), AllocError>
     ensures text { OnOk result (out.new.items ≡ out.old.items ++ list_text rows.now) }
     ensures extends { Extends out.old.items out.new.items }
+    ensures succeeds { rows.now ≡ [] → IsOk result }
 {
     // A row is made apart, so that `out` has whole rows at each time, and what it had can be told from them.
     let mut text = Vec::new(*out.allocator());
@@ -218,8 +184,20 @@ fn put_shown_number(out: &mut Vec<u8>, number: Option<u8>) -> Result<(), AllocEr
 fn put_number(out: &mut Vec<u8>, number: u32) -> Result<(), AllocError>
     ensures { OnOk result (out.new.items ≡ out.old.items ++ decimal number) }
 {
+    // Most have one digit.
+    if number < 10 {
+        return put_digit(out, number as u8);
+    }
     let mut digits = Buffer::new();
     put(out, digits.format(number))
+}
+
+fn put_digit(out: &mut Vec<u8>, digit: u8) -> Result<(), AllocError>
+    requires { digit < 10 }
+    ensures { OnOk result (out.new.items ≡ out.old.items ++ decimal digit) }
+{
+    out.push(b'0' + digit)?;
+    Ok(())
 }
 
 fn put(out: &mut Vec<u8>, text: &str) -> Result<(), AllocError>

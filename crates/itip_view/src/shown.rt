@@ -1,11 +1,12 @@
 //! The rows of one UID that are asked for.
 ghost use Rattle.std.specs.Prelude.{IfOk};
 ghost use Rattle.itip_view.specs.Most.{HasRows};
+ghost use Rattle.itip_view.specs.PutRows.{PutsRows};
 ghost use Rattle.itip_view.specs.Showing.{AreRowsWhere, IsOf};
 ghost use Rattle.itip_view.specs.Wanting.{Wants};
 
 use crate::NoMemory;
-use crate::of_uid::{count_of_uid, rows_of_uid};
+use crate::of_uid::{count_of_uid, put_rows_of_uid, rows_of_uid};
 use crate::row::Row;
 use crate::wanted::Wanted;
 use crate::window::Window;
@@ -27,6 +28,22 @@ pub(crate) fn shown_rows(
     let mut rows = rows_of_uid(alloc, &items, window)?;
     rows.retain(|row| wanted.has(row));
     Ok(rows)
+}
+
+/// Appends the text of these rows, each as it is made, and gives how many they are. After an error (out of memory) a part of them may be
+/// there.
+pub(crate) fn put_shown(
+    alloc: Global,
+    state: &State,
+    uid: &Uid,
+    window: Window,
+    wanted: &Wanted<'_>,
+    out: &mut Vec<u8>,
+) -> Result<usize, NoMemory>
+    ensures { IfOk result (PutsRows (IsOf uid.now (Wants wanted.now)) state.now window out.old.items out.new.items) }
+{
+    let items = state.of_uid(uid)?;
+    put_rows_of_uid(alloc, &items, window, wanted, out)
 }
 
 /// How many they are. No row is made.

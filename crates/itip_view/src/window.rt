@@ -3,6 +3,7 @@ ghost use Rattle.std.specs.Prelude.{◌≡◌, ◌↔◌, IsOk, IfOk};
 ghost use Rattle.itip_view.specs.Window.{IsWindow};
 
 use crate::error::BadWindow;
+use itip_moment::Day;
 
 /// The days from one day number up to another that is not in it, counted from 1970-01-01: at least one day, at most 3,660.
 #[derive(Clone, Copy, Debug, PartialEq, Eq)]
@@ -25,6 +26,14 @@ impl Window {
             return Err(BadWindow);
         }
         Ok(Window { from, to })
+    }
+
+    /// The days from one up to another that is not in it. Refused as by [`new`](Window::new).
+    pub fn of(from: Day, to: Day) -> Result<Window, BadWindow>
+        ensures lawful { IsOk result ↔ IsWindow from.number to.number }
+        ensures window { IfOk result (λ w. (w.from ≡ from.number) × (w.to ≡ to.number)) }
+    {
+        Window::new(from.number, to.number)
     }
 
     /// Whether a day is in the window; what has no day is in each.

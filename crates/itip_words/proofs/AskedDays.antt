@@ -7,7 +7,7 @@ use Rattle.itip_moment.proofs.ValueLaws.{date_text-one}
 use Rattle.itip_view.specs.Window.{IsWindow}
 use Rattle.itip_view.specs.declared.window.Window.{Window}
 use Rattle.itip_view.specs.declared.error.BadWindow.{BadWindow}
-use Rattle.itip_words.specs.Days.{IsGiven, IsAskedWindow, HasAskedDays, first_day, day_after}
+use Rattle.itip_words.specs.Days.{IsGiven, IsAskedWindow, first_day, day_after}
 
 pub not_given : (word : List ℕ) → ((day : ℤ) → IsDateText word day → ⊥) → (day : Option ℤ) → IsGiven (Some word) day → ⊥
 not_given word never None given = given
@@ -68,9 +68,3 @@ asked_none from to today is_due a b x y (Err bad) o e lawful from_is to_is first
     let same : IsWindow x y = subst (λ (n : ℤ). IsWindow n y) (sym start) (subst (λ (n : ℤ). IsWindow w.from n) (sym end) w.lawful) in
     let bad = lawful.1 same in
     absurd cc)
-
-pub some_asked : (from to : Option (List ℕ)) (today : Option ℤ) (is_due : Bool) (o : Option Window) →
-    IfSome o (IsAskedWindow from to today is_due) → IfSome o HasAskedDays
-some_asked from to today is_due None asked = tt
-some_asked from to today is_due (Some w) asked =
-    record { from = from; to = to; today = today; is_due = is_due; asked = asked }

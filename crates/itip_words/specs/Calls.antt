@@ -1,27 +1,42 @@
 -- What a call of the program asks for (our own form).
 use Rattle.std.specs.Prelude.{ℕ, ◌+◌, nat_le, Bool, List, map, codes, string_bytes, IfSome, IsTrue}
-use Rattle.itip_view.specs.declared.window.Window.{Window}
 use Rattle.itip_words.specs.declared.filter.Filter.{Filter}
 use Rattle.itip_words.specs.declared.filter.Written.{Written}
 use Rattle.itip_words.specs.declared.filter.Written.TheVariants as written
 use Rattle.itip_words.specs.declared.words.Call.{Call}
 use Rattle.itip_words.specs.declared.words.Call.TheVariants as call
 use Rattle.itip_words.specs.declared.words.Scripted.{Scripted}
+use Rattle.itip_words.specs.declared.streamed.Streamed.{Streamed}
+use Rattle.itip_words.specs.Streams.{AreLoads, names_of}
 use Rattle.itip_words.specs.Words.{AreDesks, AreWorkers, AreThreads}
 use Rattle.itip_words.specs.Values.{inputs}
 use Rattle.itip_words.specs.Asked.{asked_word, inputs_of_draft}
-use Rattle.itip_words.specs.Days.{HasAskedDays}
 
 -- of a call: P of how a script is run, where one is
 abbrev pub IfRun : (Scripted → Type 0) → Call → Type 0
 IfRun P (call.Run scripted) = P scripted
+IfRun P (call.Stream streamed) = Unit {0}
 IfRun P (call.Office scripted workers) = Unit {0}
 IfRun P (call.Check why) = Unit {0}
 IfRun P (call.Filter f) = Unit {0}
 
+-- of a call: P of how a stream of commands is served, where one is
+abbrev pub IfStream : (Streamed → Type 0) → Call → Type 0
+IfStream P (call.Run scripted) = Unit {0}
+IfStream P (call.Stream streamed) = P streamed
+IfStream P (call.Office scripted workers) = Unit {0}
+IfStream P (call.Check why) = Unit {0}
+IfStream P (call.Filter f) = Unit {0}
+
+-- there can be such desks, and each that is read from a file is read from one
+pub record AreStreamed (streamed : Streamed) : Type 0 where
+  pub desks : AreDesks streamed.scripted.desks
+  pub loads : AreLoads streamed.scripted.desks (names_of streamed.loads.items)
+
 -- of a call: P of how the jobs of a script are run and by how many workers, where they are
 abbrev pub IfOffice : (Scripted → ℕ → Type 0) → Call → Type 0
 IfOffice P (call.Run scripted) = Unit {0}
+IfOffice P (call.Stream streamed) = Unit {0}
 IfOffice P (call.Office scripted workers) = P scripted workers
 IfOffice P (call.Check why) = Unit {0}
 IfOffice P (call.Filter f) = Unit {0}
@@ -29,6 +44,7 @@ IfOffice P (call.Filter f) = Unit {0}
 -- of a call: P of what is written of messages, where they are filtered
 abbrev pub IfFilter : (Filter → Type 0) → Call → Type 0
 IfFilter P (call.Run scripted) = Unit {0}
+IfFilter P (call.Stream streamed) = Unit {0}
 IfFilter P (call.Office scripted workers) = Unit {0}
 IfFilter P (call.Check why) = Unit {0}
 IfFilter P (call.Filter f) = P f
@@ -46,15 +62,6 @@ word_of (written.News than) = codes "news"
 word_of (written.Explanation uid) = codes "explain"
 word_of (written.Message asked at) = asked_word asked
 
--- of what is written: P of the window of days, where it has one
-abbrev pub IfWindow : (Window → Type 0) → Written → Type 0
-IfWindow P (written.Compaction output) = Unit {0}
-IfWindow P (written.List listing) = P listing.window
-IfWindow P (written.Report reported) = P reported.window
-IfWindow P (written.News than) = Unit {0}
-IfWindow P (written.Explanation uid) = Unit {0}
-IfWindow P (written.Message asked at) = Unit {0}
-
 -- how often standard input is read before the sources
 abbrev pub inputs_before : Written → ℕ
 inputs_before (written.Compaction output) = 0
@@ -68,9 +75,7 @@ inputs_before (written.Message asked at) = inputs_of_draft asked
 abbrev pub reads_input_once : Filter → Bool
 reads_input_once asked = nat_le (inputs_before asked.written + inputs (map string_bytes asked.intake.sources.items)) 1
 
--- Messages can be filtered so: by 1 to 8 threads where their number is given, with standard input read once at most, and where
--- rows are written, those of days that words ask for.
+-- Messages can be filtered so: by 1 to 8 threads where their number is given, and with standard input read once at most.
 pub record CanFilter (asked : Filter) : Type 0 where
   pub few : IfSome asked.intake.threads AreThreads
   pub once : IsTrue (reads_input_once asked)
-  pub days : IfWindow HasAskedDays asked.written

@@ -47,14 +47,6 @@ pub record IsAskedWindow (from to : Option (List ℕ)) (today : Option ℤ) (is_
   pub first : first_day is_due from_day to_day today ≡ Some window.from
   pub after : day_after is_due to_day from_day today ≡ Some window.to
 
--- some words ask for this window, on some day
-pub record HasAskedDays (window : Window) : Type 0 where
-  pub from : Option (List ℕ)
-  pub to : Option (List ℕ)
-  pub today : Option ℤ
-  pub is_due : Bool
-  pub asked : IsAskedWindow from to today is_due window
-
 -- the word for the day of today
 abbrev pub is_today : List ℕ → Bool
 is_today word = pointwise nat_eq word (codes "today")

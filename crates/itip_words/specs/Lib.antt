@@ -3,5 +3,9 @@ pub mod Values
 pub mod Days
 pub mod AskedValues
 pub mod Asked
+pub mod Options
+pub mod Asking
+pub mod Program
 pub mod Calls
+pub mod Streams
 pub mod Told

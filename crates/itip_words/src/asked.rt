@@ -1,8 +1,15 @@
 //! The words that write a message.
-ghost use Rattle.std.specs.Prelude.{◌≡◌};
+ghost use Rattle.std.specs.Prelude.{◌≡◌, Some, IfOk, IfSome, IsSomeAnd, codes};
+ghost use Rattle.std.specs.Option.{option_copied, option_map};
+ghost use Rattle.std.specs.String.{string_bytes};
 ghost use Rattle.itip_words.specs.Asked.{asked_word, inputs_of_draft, IsErrandOf};
+ghost use Rattle.itip_words.specs.AskedValues.{IsMomentName, answer_named};
+ghost use Rattle.itip_words.specs.Values.{address_of};
+ghost use Rattle.itip_words.specs.Options.{options_of, value_of};
+ghost use Rattle.itip_words.specs.Asking.{IsRead, IsPercent, AsksAbout, AsksMessage};
 
 use crate::asked_values::{answer_named, named_moment, percent_of};
+use crate::options::{is_set, value_of, values_of};
 use crate::values::{address_of, addresses_of, is_input};
 use clap::ArgMatches;
 use itip_moment::Moment;
@@ -126,30 +133,56 @@ pub(crate) fn asked_of(
     alloc: Global,
     word: &str,
     words: &ArgMatches<'_>,
-) -> Result<Option<Asked>, AllocError> {
+) -> Result<Option<Asked>, AllocError>
+    ensures { IfOk result (λ found. IfSome found (AsksMessage word.now (options_of words.now))) }
+{
     if word == "request" {
         return request_of(alloc, words);
     }
     let Some(uid) = asked_uid(alloc, words)? else {
         return Ok(None);
     };
-    let Some(id) = asked_id(alloc, words)? else {
+    if word == "resend" {
+        return Ok(Some(Asked::Resend { uid }));
+    }
+    let text = value_of(words, "id");
+    let Some(id) = asked_id(alloc, text)? else {
         return Ok(None);
     };
-    match word {
-        "reply" => reply_of(alloc, words, uid, id),
-        "refresh" => refresh_of(alloc, words, uid, id),
-        "cancel" => cancel_of(alloc, words, uid, id),
-        _ => Ok(Some(Asked::Resend { uid })),
-    }
+    asked_about(alloc, word, words, uid, id)
 }
 
-fn request_of(alloc: Global, words: &ArgMatches<'_>) -> Result<Option<Asked>, AllocError> {
-    let Some(name) = words.get_str("draft") else {
+fn request_of(alloc: Global, words: &ArgMatches<'_>) -> Result<Option<Asked>, AllocError>
+    ensures { IfOk result (λ found. IfSome found (AsksMessage (codes "request") (options_of words.now))) }
+{
+    let Some(name) = value_of(words, "draft") else {
         return Ok(None);
     };
     let draft = String::from_str(alloc, name)?;
     Ok(Some(Asked::Request { draft }))
+}
+
+/// The message that a word asks for about a to-do, or an instance of it.
+fn asked_about(
+    alloc: Global,
+    word: &str,
+    words: &ArgMatches<'_>,
+    uid: Uid,
+    id: Option<Moment>,
+) -> Result<Option<Asked>, AllocError>
+    requires { AsksAbout (options_of words.now) uid id }
+    ensures { IfOk result (λ found. IfSome found (AsksMessage word.now (options_of words.now))) }
+{
+    if word == "reply" {
+        return reply_of(alloc, words, uid, id);
+    }
+    if word == "refresh" {
+        return refresh_of(alloc, words, uid, id);
+    }
+    if word == "cancel" {
+        return cancel_of(alloc, words, uid, id);
+    }
+    Ok(None)
 }
 
 fn reply_of(
@@ -157,11 +190,19 @@ fn reply_of(
     words: &ArgMatches<'_>,
     uid: Uid,
     id: Option<Moment>,
-) -> Result<Option<Asked>, AllocError> {
-    let (Some(status), Some(percent)) = (asked_answer(words), asked_percent(words)) else {
+) -> Result<Option<Asked>, AllocError>
+    requires { AsksAbout (options_of words.now) uid id }
+    ensures { IfOk result (λ found. IfSome found (AsksMessage (codes "reply") (options_of words.now))) }
+{
+    let Some(status) = asked_answer(words) else {
         return Ok(None);
     };
-    let Some(attendee) = asked_attendee(alloc, words)? else {
+    let text = value_of(words, "percent");
+    let Some(percent) = asked_percent(text) else {
+        return Ok(None);
+    };
+    let address = value_of(words, "attendee");
+    let Some(attendee) = asked_attendee(alloc, address)? else {
         return Ok(None);
     };
     Ok(Some(Asked::Reply {
@@ -178,8 +219,12 @@ fn refresh_of(
     words: &ArgMatches<'_>,
     uid: Uid,
     id: Option<Moment>,
-) -> Result<Option<Asked>, AllocError> {
-    let Some(attendee) = asked_attendee(alloc, words)? else {
+) -> Result<Option<Asked>, AllocError>
+    requires { AsksAbout (options_of words.now) uid id }
+    ensures { IfOk result (λ found. IfSome found (AsksMessage (codes "refresh") (options_of words.now))) }
+{
+    let address = value_of(words, "attendee");
+    let Some(attendee) = asked_attendee(alloc, address)? else {
         return Ok(None);
     };
     Ok(Some(Asked::Refresh { uid, id, attendee }))
@@ -190,12 +235,15 @@ fn cancel_of(
     words: &ArgMatches<'_>,
     uid: Uid,
     id: Option<Moment>,
-) -> Result<Option<Asked>, AllocError> {
-    if let Some(named) = words.get_strs("attendee") {
+) -> Result<Option<Asked>, AllocError>
+    requires { AsksAbout (options_of words.now) uid id }
+    ensures { IfOk result (λ found. IfSome found (AsksMessage (codes "cancel") (options_of words.now))) }
+{
+    if let Some(named) = values_of(words, "attendee") {
         let attendees = addresses_of(alloc, named)?;
         return Ok(Some(Asked::Remove { uid, id, attendees }));
     }
-    if !words.get_flag("onward") {
+    if !is_set(words, "onward") {
         return Ok(Some(Asked::Cancel { uid, id }));
     }
     match id {
@@ -205,27 +253,33 @@ fn cancel_of(
 }
 
 /// The UID that is named.
-pub(crate) fn asked_uid(alloc: Global, words: &ArgMatches<'_>) -> Result<Option<Uid>, AllocError> {
-    match words.get_str("uid") {
+pub(crate) fn asked_uid(alloc: Global, words: &ArgMatches<'_>) -> Result<Option<Uid>, AllocError>
+    ensures { IfOk result (λ found. value_of (codes "uid") (options_of words.now) ≡ found) }
+{
+    match value_of(words, "uid") {
         Some(uid) => Ok(Some(Uid::copy(alloc, uid)?)),
         None => Ok(None),
     }
 }
 
-/// The address of the attendee who is named, where one is.
+/// The address of a word, where it is given.
 pub(crate) fn asked_attendee(
     alloc: Global,
-    words: &ArgMatches<'_>,
-) -> Result<Option<String>, AllocError> {
-    match words.get_str("attendee") {
+    word: Option<&str>,
+) -> Result<Option<String>, AllocError>
+    ensures { IfOk result (λ found. option_map string_bytes found ≡ option_map address_of (option_copied word.entry)) }
+{
+    match word {
         Some(word) => Ok(Some(address_of(alloc, word)?)),
         None => Ok(None),
     }
 }
 
-/// The instance that is named, where one is. `None` where the word is no moment.
-fn asked_id(alloc: Global, words: &ArgMatches<'_>) -> Result<Option<Option<Moment>>, AllocError> {
-    let Some(text) = words.get_str("id") else {
+/// The instance that a word names, where it is given. `None` where the word is no moment.
+fn asked_id(alloc: Global, word: Option<&str>) -> Result<Option<Option<Moment>>, AllocError>
+    ensures { IfOk result (λ found. IfSome found (IsRead IsMomentName (option_copied word.entry))) }
+{
+    let Some(text) = word else {
         return Ok(Some(None));
     };
     match named_moment(alloc, text)? {
@@ -234,13 +288,19 @@ fn asked_id(alloc: Global, words: &ArgMatches<'_>) -> Result<Option<Option<Momen
     }
 }
 
-fn asked_answer(words: &ArgMatches<'_>) -> Option<PartStat> {
-    answer_named(words.get_str("status")?)
+fn asked_answer(words: &ArgMatches<'_>) -> Option<PartStat>
+    ensures { IfSome result (λ status.
+        IsSomeAnd (value_of (codes "status") (options_of words.now)) (λ text. answer_named text ≡ Some status)) }
+{
+    let text = value_of(words, "status")?;
+    answer_named(text)
 }
 
-/// The percentage, where it is given. `None` where the word is none.
-fn asked_percent(words: &ArgMatches<'_>) -> Option<Option<u8>> {
-    let Some(text) = words.get_str("percent") else {
+/// The percentage of a word, where it is given. `None` where the word is none.
+fn asked_percent(word: Option<&str>) -> Option<Option<u8>>
+    ensures { IfSome result (IsRead IsPercent (option_copied word.entry)) }
+{
+    let Some(text) = word else {
         return Some(None);
     };
     let percent = percent_of(text)?;

@@ -1,16 +1,23 @@
 //! The words that there are, each with its help.
+ghost use Rattle.std.specs.Prelude.{IfOk, codes};
+ghost use Rattle.itip_words.specs.Program.{program, with_words, message_words, IsRule, IsWord, AddsRules};
+ghost use Rattle.itip_words.specs.Program.{run_word, office_word, check_word, compact_word, list_word, report_word, news_word};
+ghost use Rattle.itip_words.specs.Program.{explain_word, resend_word, request_word, reply_word, refresh_word, cancel_word};
+ghost use Rattle.itip_words.specs.Program.{positional, option, needed, flag, desks_rule, days_rules, window_rules, row_rules, intake_rules};
+ghost use Rattle.clap.specs.Simple.{App};
+
 use crate::help::{
     CANCEL_HELP, CHECK_HELP, COMPACT_HELP, EXPLAIN_HELP, LIST_HELP, NEWS_HELP, OFFICE_HELP,
     REFRESH_HELP, REPLY_HELP, REPORT_HELP, REQUEST_HELP, RESEND_HELP, RUN_HELP,
 };
 use clap::{Arg, ArgAction, Command};
+use itip_writing::VERSION;
 use std::alloc::{AllocError, Global};
 
-/// The version of the program.
-pub const VERSION: &str = "0.1.0";
-
 /// The program, with its words.
-pub(crate) fn command<'a>(alloc: Global) -> Result<Command<'a>, AllocError> {
+pub(crate) fn command<'a>(alloc: Global) -> Result<Command<'a>, AllocError>
+    ensures { IfOk result (IsWord program) }
+{
     let program = Command::new(alloc, "itipdesk")
         .bin_name("itipdesk")?
         .about("A desk for to-dos under iTIP (RFC 5546)")
@@ -29,8 +36,10 @@ pub(crate) fn command<'a>(alloc: Global) -> Result<Command<'a>, AllocError> {
 }
 
 /// A program with the words that write a message.
-fn with_messages<'a>(alloc: Global, program: Command<'a>) -> Result<Command<'a>, AllocError> {
-    program
+fn with_messages<'a>(alloc: Global, command: Command<'a>) -> Result<Command<'a>, AllocError>
+    ensures { (app : App) → IsWord app command.entry → IfOk result (IsWord (with_words message_words app)) }
+{
+    command
         .subcommand(resend_command(alloc)?)?
         .subcommand(request_command(alloc)?)?
         .subcommand(reply_command(alloc)?)?
@@ -38,15 +47,34 @@ fn with_messages<'a>(alloc: Global, program: Command<'a>) -> Result<Command<'a>,
         .subcommand(cancel_command(alloc)?)
 }
 
-fn run_command<'a>(alloc: Global) -> Result<Command<'a>, AllocError> {
+fn run_command<'a>(alloc: Global) -> Result<Command<'a>, AllocError>
+    ensures { IfOk result (IsWord run_word) }
+{
+    let stream = Arg::new(alloc, "stream")
+        .long("stream")
+        .action(ArgAction::SetTrue)
+        .help("Answers each command before the next is read, for as long as commands come");
+    let load = Arg::new(alloc, "load")
+        .long("load")
+        .value_name("D=FILE")
+        .action(ArgAction::Append)
+        .requires_arg("stream")?
+        .help(
+            "Desk D begins with what a `!save` wrote to this file; it may be given several times",
+        );
     let run = Command::new(alloc, "run")
-        .about("Runs a script from standard input")
+        .about("Runs a script from standard input, or serves a stream of commands")
         .after_help(RUN_HELP)
         .arg(desks_word(alloc))?;
-    days(alloc, run)?.arg(why_word(alloc))
+    days(alloc, run)?
+        .arg(stream)?
+        .arg(load)?
+        .arg(why_word(alloc))
 }
 
-fn office_command<'a>(alloc: Global) -> Result<Command<'a>, AllocError> {
+fn office_command<'a>(alloc: Global) -> Result<Command<'a>, AllocError>
+    ensures { IfOk result (IsWord office_word) }
+{
     let workers = Arg::new(alloc, "workers")
         .long("workers")
         .value_name("N")
@@ -59,14 +87,18 @@ fn office_command<'a>(alloc: Global) -> Result<Command<'a>, AllocError> {
     days(alloc, office)?.arg(workers)?.arg(why_word(alloc))
 }
 
-fn check_command<'a>(alloc: Global) -> Result<Command<'a>, AllocError> {
+fn check_command<'a>(alloc: Global) -> Result<Command<'a>, AllocError>
+    ensures { IfOk result (IsWord check_word) }
+{
     Command::new(alloc, "check")
         .about("Reads a message from standard input and shows its items")
         .after_help(CHECK_HELP)
         .arg(why_word(alloc))
 }
 
-fn compact_command<'a>(alloc: Global) -> Result<Command<'a>, AllocError> {
+fn compact_command<'a>(alloc: Global) -> Result<Command<'a>, AllocError>
+    ensures { IfOk result (IsWord compact_word) }
+{
     let output = Arg::new(alloc, "output")
         .long("output")
         .value_name("FILE")
@@ -78,7 +110,9 @@ fn compact_command<'a>(alloc: Global) -> Result<Command<'a>, AllocError> {
     intake_words(alloc, compact)
 }
 
-fn list_command<'a>(alloc: Global) -> Result<Command<'a>, AllocError> {
+fn list_command<'a>(alloc: Global) -> Result<Command<'a>, AllocError>
+    ensures { IfOk result (IsWord list_word) }
+{
     let list = Command::new(alloc, "list")
         .about("Reads messages and writes their task list")
         .after_help(LIST_HELP);
@@ -86,7 +120,9 @@ fn list_command<'a>(alloc: Global) -> Result<Command<'a>, AllocError> {
     intake_words(alloc, list)
 }
 
-fn report_command<'a>(alloc: Global) -> Result<Command<'a>, AllocError> {
+fn report_command<'a>(alloc: Global) -> Result<Command<'a>, AllocError>
+    ensures { IfOk result (IsWord report_word) }
+{
     let name = Arg::new(alloc, "name")
         .value_name("NAME")
         .required(true)
@@ -98,7 +134,9 @@ fn report_command<'a>(alloc: Global) -> Result<Command<'a>, AllocError> {
     intake_words(alloc, days_around_today(alloc, report)?)
 }
 
-fn news_command<'a>(alloc: Global) -> Result<Command<'a>, AllocError> {
+fn news_command<'a>(alloc: Global) -> Result<Command<'a>, AllocError>
+    ensures { IfOk result (IsWord news_word) }
+{
     let than = Arg::new(alloc, "than")
         .long("than")
         .value_name("SOURCE")
@@ -112,7 +150,9 @@ fn news_command<'a>(alloc: Global) -> Result<Command<'a>, AllocError> {
     intake_words(alloc, news)
 }
 
-fn explain_command<'a>(alloc: Global) -> Result<Command<'a>, AllocError> {
+fn explain_command<'a>(alloc: Global) -> Result<Command<'a>, AllocError>
+    ensures { IfOk result (IsWord explain_word) }
+{
     let explain = Command::new(alloc, "explain")
         .about("Reads messages and says what they tell of a to-do, and what came of it")
         .after_help(EXPLAIN_HELP)
@@ -120,7 +160,9 @@ fn explain_command<'a>(alloc: Global) -> Result<Command<'a>, AllocError> {
     intake_words(alloc, explain)
 }
 
-fn resend_command<'a>(alloc: Global) -> Result<Command<'a>, AllocError> {
+fn resend_command<'a>(alloc: Global) -> Result<Command<'a>, AllocError>
+    ensures { IfOk result (IsWord resend_word) }
+{
     let resend = Command::new(alloc, "resend")
         .about("Reads messages and writes those of a to-do that are to be sent again")
         .after_help(RESEND_HELP)
@@ -129,7 +171,9 @@ fn resend_command<'a>(alloc: Global) -> Result<Command<'a>, AllocError> {
     intake_words(alloc, resend)
 }
 
-fn request_command<'a>(alloc: Global) -> Result<Command<'a>, AllocError> {
+fn request_command<'a>(alloc: Global) -> Result<Command<'a>, AllocError>
+    ensures { IfOk result (IsWord request_word) }
+{
     let draft = Arg::new(alloc, "draft")
         .value_name("DRAFT")
         .required(true)
@@ -142,7 +186,9 @@ fn request_command<'a>(alloc: Global) -> Result<Command<'a>, AllocError> {
     intake_words(alloc, request)
 }
 
-fn reply_command<'a>(alloc: Global) -> Result<Command<'a>, AllocError> {
+fn reply_command<'a>(alloc: Global) -> Result<Command<'a>, AllocError>
+    ensures { IfOk result (IsWord reply_word) }
+{
     let status = Arg::new(alloc, "status")
         .long("status")
         .value_name("PARTSTAT")
@@ -164,7 +210,9 @@ fn reply_command<'a>(alloc: Global) -> Result<Command<'a>, AllocError> {
     intake_words(alloc, reply)
 }
 
-fn refresh_command<'a>(alloc: Global) -> Result<Command<'a>, AllocError> {
+fn refresh_command<'a>(alloc: Global) -> Result<Command<'a>, AllocError>
+    ensures { IfOk result (IsWord refresh_word) }
+{
     let refresh = Command::new(alloc, "refresh")
         .about("Reads messages and writes an attendee's wish to be sent a to-do again")
         .after_help(REFRESH_HELP)
@@ -175,7 +223,9 @@ fn refresh_command<'a>(alloc: Global) -> Result<Command<'a>, AllocError> {
     intake_words(alloc, refresh)
 }
 
-fn cancel_command<'a>(alloc: Global) -> Result<Command<'a>, AllocError> {
+fn cancel_command<'a>(alloc: Global) -> Result<Command<'a>, AllocError>
+    ensures { IfOk result (IsWord cancel_word) }
+{
     let onward = Arg::new(alloc, "onward")
         .long("onward")
         .action(ArgAction::SetTrue)
@@ -200,14 +250,18 @@ fn cancel_command<'a>(alloc: Global) -> Result<Command<'a>, AllocError> {
     intake_words(alloc, cancel)
 }
 
-fn uid_word<'a>(alloc: Global) -> Arg<'a> {
+fn uid_word<'a>(alloc: Global) -> Arg<'a>
+    ensures { IsRule (positional (codes "uid")) result }
+{
     Arg::new(alloc, "uid")
         .value_name("UID")
         .required(true)
         .help("The UID of the to-do")
 }
 
-fn answering_word<'a>(alloc: Global) -> Arg<'a> {
+fn answering_word<'a>(alloc: Global) -> Arg<'a>
+    ensures { IsRule (needed (option (codes "attendee"))) result }
+{
     Arg::new(alloc, "attendee")
         .long("attendee")
         .value_name("ADDRESS")
@@ -215,19 +269,25 @@ fn answering_word<'a>(alloc: Global) -> Arg<'a> {
         .help("Who writes: the address of an attendee, as a@example.com")
 }
 
-fn id_word<'a>(alloc: Global) -> Arg<'a> {
+fn id_word<'a>(alloc: Global) -> Arg<'a>
+    ensures { IsRule (option (codes "id")) result }
+{
     Arg::new(alloc, "id").long("id").value_name("MOMENT").help(
         "One instance of the to-do, as lists show it: 20260105 or TZID=Europe/Vienna:20260105T090000",
     )
 }
 
-fn at_word<'a>(alloc: Global) -> Arg<'a> {
+fn at_word<'a>(alloc: Global) -> Arg<'a>
+    ensures { IsRule (option (codes "at")) result }
+{
     Arg::new(alloc, "at").long("at").value_name("STAMP").help(
         "The moment of writing, as 20260101T090000Z; without it that of the clock, in UTC",
     )
 }
 
-fn desks_word<'a>(alloc: Global) -> Arg<'a> {
+fn desks_word<'a>(alloc: Global) -> Arg<'a>
+    ensures { IsRule desks_rule result }
+{
     Arg::new(alloc, "desks")
         .long("desks")
         .value_name("D")
@@ -235,7 +295,9 @@ fn desks_word<'a>(alloc: Global) -> Arg<'a> {
         .help("How many desks there are: 1 to 16")
 }
 
-fn why_word<'a>(alloc: Global) -> Arg<'a> {
+fn why_word<'a>(alloc: Global) -> Arg<'a>
+    ensures { IsRule (flag (codes "why")) result }
+{
     Arg::new(alloc, "why")
         .long("why")
         .action(ArgAction::SetTrue)
@@ -243,7 +305,9 @@ fn why_word<'a>(alloc: Global) -> Arg<'a> {
 }
 
 /// A command with the days of a window.
-fn days<'a>(alloc: Global, command: Command<'a>) -> Result<Command<'a>, AllocError> {
+fn days<'a>(alloc: Global, command: Command<'a>) -> Result<Command<'a>, AllocError>
+    ensures { IfOk result (AddsRules days_rules command.entry) }
+{
     let from = Arg::new(alloc, "from")
         .long("from")
         .value_name("YYYYMMDD")
@@ -258,7 +322,9 @@ fn days<'a>(alloc: Global, command: Command<'a>) -> Result<Command<'a>, AllocErr
 }
 
 /// A command with the days of a window, which need not be given.
-fn days_around_today<'a>(alloc: Global, command: Command<'a>) -> Result<Command<'a>, AllocError> {
+fn days_around_today<'a>(alloc: Global, command: Command<'a>) -> Result<Command<'a>, AllocError>
+    ensures { IfOk result (AddsRules window_rules command.entry) }
+{
     let from = Arg::new(alloc, "from")
         .long("from")
         .value_name("YYYYMMDD")
@@ -274,7 +340,9 @@ fn days_around_today<'a>(alloc: Global, command: Command<'a>) -> Result<Command<
 }
 
 /// A command with the words for which rows are shown, and how.
-fn row_words<'a>(alloc: Global, command: Command<'a>) -> Result<Command<'a>, AllocError> {
+fn row_words<'a>(alloc: Global, command: Command<'a>) -> Result<Command<'a>, AllocError>
+    ensures { IfOk result (AddsRules row_rules command.entry) }
+{
     let attendee = Arg::new(alloc, "attendee")
         .long("attendee")
         .value_name("ADDRESS")
@@ -302,7 +370,9 @@ fn row_words<'a>(alloc: Global, command: Command<'a>) -> Result<Command<'a>, All
 }
 
 /// A command with its sources, and the words for how they are read.
-fn intake_words<'a>(alloc: Global, command: Command<'a>) -> Result<Command<'a>, AllocError> {
+fn intake_words<'a>(alloc: Global, command: Command<'a>) -> Result<Command<'a>, AllocError>
+    ensures { IfOk result (AddsRules intake_rules command.entry) }
+{
     let source = Arg::new(alloc, "source")
         .value_name("SOURCE")
         .action(ArgAction::Append)

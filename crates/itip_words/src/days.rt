@@ -1,8 +1,10 @@
 //! The clock, and the days that are asked for: those of the rows, and the day that they are due before.
 ghost use Rattle.std.specs.Prelude.{◌≡◌, ◌≤ℤ◌, ◌<◌, ◌/◌, ◌%◌, ℤ, pos, Option, IfSome, IfNone, MatchOption, MatchBool};
-ghost use Rattle.std.specs.Option.{option_copied};
+ghost use Rattle.std.specs.Option.{option_copied, option_map};
 ghost use Rattle.itip_moment.specs.Spelling.{IsDateText};
 ghost use Rattle.itip_view.specs.declared.window.Window.{Window};
+ghost use Rattle.itip_moment.specs.declared.stamp.Stamp.{Stamp};
+ghost use Rattle.itip_words.specs.Asking.{IsToday};
 ghost use Rattle.itip_words.specs.Days.{numbered, IsGiven, IsAskedWindow, first_day, day_after, days_back, days_long, is_today};
 
 use itip_moment::{Day, Stamp, read_date};
@@ -41,14 +43,34 @@ fn stamp_of_seconds(seconds: u64) -> Option<Stamp>
 }
 
 /// The day of a stamp.
-pub(crate) fn day_of(stamp: Stamp) -> Day
+fn day_of(stamp: Stamp) -> Day
     ensures { result.number ≡ stamp.day }
 {
     Day { number: stamp.day }
 }
 
+/// The day that is taken for today: that of a word, where it is given, else that of the clock. `None` where the word is no date.
+pub(crate) fn today_of(word: Option<&str>, clock: Option<Stamp>) -> Option<Option<Day>>
+    ensures { IfSome result (λ today. IsToday (option_copied word.entry) clock (numbered today)) }
+{
+    let Some(text) = word else {
+        return Some(clock_day(clock));
+    };
+    let day = read_date(text)?;
+    Some(Some(day))
+}
+
+fn clock_day(clock: Option<Stamp>) -> Option<Day>
+    ensures { numbered result ≡ option_map (λ (stamp : Stamp). stamp.day) clock }
+{
+    match clock {
+        Some(now) => Some(day_of(now)),
+        None => None,
+    }
+}
+
 /// The day of a word, where the word is given. `None` where it is no date.
-pub(crate) fn given_day(word: Option<&str>) -> Option<Option<Day>>
+fn given_day(word: Option<&str>) -> Option<Option<Day>>
     ensures found { IfSome result (λ day. IsGiven (option_copied word.entry) (numbered day)) }
     ensures none { IfNone result ((day : Option ℤ) → IsGiven (option_copied word.entry) day → ⊥) }
 {

@@ -1,14 +1,22 @@
 //! The words that read messages: `list`, `compact`, `report`, `news`, `explain`, and those that write a message.
-ghost use Rattle.std.specs.Prelude.{◌≡◌, IfOk, IfSome};
-ghost use Rattle.std.specs.Option.{option_copied, option_map};
+ghost use Rattle.std.specs.Prelude.{◌≡◌, ◌⊎◌, Option, IfOk, IfSome, IsSomeAnd, codes, map, false};
+ghost use Rattle.std.specs.Option.{option_copied, option_map, option_map_or};
 ghost use Rattle.std.specs.String.{string_bytes};
+ghost use Rattle.itip_moment.specs.declared.stamp.Stamp.{Stamp};
+ghost use Rattle.itip_report.specs.Named.{IsOfRows};
+ghost use Rattle.itip_script.specs.Orders.{report_of};
 ghost use Rattle.itip_words.specs.Words.{threads_of, AreThreads};
-ghost use Rattle.itip_words.specs.Days.{HasAskedDays};
-ghost use Rattle.itip_words.specs.Calls.{CanFilter, IfWindow, word_of, inputs_before, reads_input_once};
+ghost use Rattle.itip_words.specs.Days.{numbered, IsAskedWindow};
+ghost use Rattle.itip_words.specs.Calls.{CanFilter, word_of, inputs_before, reads_input_once};
+ghost use Rattle.itip_words.specs.Values.{is_input};
+ghost use Rattle.itip_words.specs.Options.{options_of, value_of, values_of};
+ghost use Rattle.itip_words.specs.Asking.{IsRead, AreThreadsOf, AsksIntake, AsksListing, AsksReport, AsksWritten, AsksFilter};
+ghost use Rattle.itip_words.specs.Asking.{IsToday, IsDueDay, IsFormatNamed, IsWritingTime, is_page, names_days, file_named, sources_of};
 
 use crate::asked::{Asked, asked_attendee, asked_of, asked_uid};
-use crate::days::{asked_window, day_of, due_day, given_day, is_today};
+use crate::days::{asked_window, due_day, is_today, today_of};
 use crate::no_call::NoCall;
+use crate::options::{is_given, is_set, value_of, values_of};
 use crate::values::{copies, inputs, is_input};
 use crate::wrong::input_read_twice;
 use clap::ArgMatches;
@@ -150,17 +158,16 @@ impl Listing {
     }
 }
 
-/// The filter that the words ask for, at the moment of a clock; `None` where they are of another word, or where a value is bad.
+/// The filter that a word asks for, at the moment of a clock; `None` where a value is bad.
 pub(crate) fn filter_of(
     alloc: Global,
-    matches: &ArgMatches<'_>,
+    word: &str,
+    words: &ArgMatches<'_>,
     clock: Option<Stamp>,
 ) -> Result<Option<Filter>, NoCall>
-    ensures { IfOk result (λ found. IfSome found CanFilter) }
+    ensures possible { IfOk result (λ found. IfSome found CanFilter) }
+    ensures asked { IfOk result (λ found. IfSome found (AsksFilter word.now (options_of words.now) clock)) }
 {
-    let Some((word, words)) = matches.subcommand() else {
-        return Ok(None);
-    };
     let Some(intake) = intake_of(alloc, words)? else {
         return Ok(None);
     };
@@ -172,9 +179,9 @@ pub(crate) fn filter_of(
 
 /// A filter, where standard input is read once at most.
 fn if_input_once(alloc: Global, filter: Filter) -> Result<Option<Filter>, NoCall>
-    requires few { IfSome filter.intake.threads AreThreads }
-    requires days { IfWindow HasAskedDays filter.written }
-    ensures { IfOk result (λ found. IfSome found CanFilter) }
+    requires { IfSome filter.intake.threads AreThreads }
+    ensures possible { IfOk result (λ found. IfSome found CanFilter) }
+    ensures same { IfOk result (λ found. IfSome found (λ same. same ≡ filter)) }
 {
     if filter.reads_input_once() {
         return Ok(Some(filter));
@@ -190,80 +197,88 @@ fn written_of(
     words: &ArgMatches<'_>,
     clock: Option<Stamp>,
 ) -> Result<Option<Written>, NoCall>
-    ensures { IfOk result (λ found. IfSome found (IfWindow HasAskedDays)) }
+    ensures { IfOk result (λ found. IfSome found (AsksWritten word.now (options_of words.now) clock)) }
 {
-    match word {
-        "compact" => compact_of(alloc, words),
-        "list" | "report" => dated_of(alloc, word, words, clock),
-        "news" => news_of(alloc, words),
-        "explain" => explanation_of(alloc, words),
-        _ => message_of(alloc, word, words, clock),
+    if word == "compact" {
+        return compaction_of(alloc, words);
     }
+    if word == "list" {
+        return list_of(alloc, words, clock);
+    }
+    if word == "report" {
+        return report_of(words, clock);
+    }
+    if word == "news" {
+        return news_of(alloc, words);
+    }
+    if word == "explain" {
+        return explanation_of(alloc, words);
+    }
+    message_of(alloc, word, words, clock)
 }
 
-fn compact_of(alloc: Global, words: &ArgMatches<'_>) -> Result<Option<Written>, NoCall>
-    ensures { IfOk result (λ found. IfSome found (IfWindow HasAskedDays)) }
+fn compaction_of(alloc: Global, words: &ArgMatches<'_>) -> Result<Option<Written>, NoCall>
+    ensures { IfOk result (λ found. IfSome found (λ written. (clock : Option Stamp) →
+        AsksWritten (codes "compact") (options_of words.now) clock written)) }
 {
-    let output = output_of(alloc, words)?;
+    let name = value_of(words, "output");
+    let output = file_named(alloc, name)?;
     Ok(Some(Written::Compaction { output }))
 }
 
 /// The name of the file that is written; none where it is `-`, for standard output.
-fn output_of(alloc: Global, words: &ArgMatches<'_>) -> Result<Option<String>, AllocError> {
-    match words.get_str("output") {
-        Some(name) if name != "-" => Ok(Some(String::from_str(alloc, name)?)),
-        _ => Ok(None),
-    }
-}
-
-/// What is asked for by the words that take days.
-fn dated_of(
-    alloc: Global,
-    word: &str,
-    words: &ArgMatches<'_>,
-    clock: Option<Stamp>,
-) -> Result<Option<Written>, NoCall>
-    ensures { IfOk result (λ found. IfSome found (IfWindow HasAskedDays)) }
+fn file_named(alloc: Global, name: Option<&str>) -> Result<Option<String>, AllocError>
+    ensures { IfOk result (λ file. option_map string_bytes file ≡ file_named (option_copied name.entry)) }
 {
-    let Some(today) = today_of(words, clock)? else {
+    let Some(name) = name else {
         return Ok(None);
     };
-    if word == "list" {
-        return Ok(list_of(alloc, words, today)?);
+    if is_input(name) {
+        return Ok(None);
     }
-    Ok(report_of(words, today))
+    Ok(Some(String::from_str(alloc, name)?))
 }
 
 fn list_of(
     alloc: Global,
     words: &ArgMatches<'_>,
-    today: Option<Day>,
-) -> Result<Option<Written>, AllocError>
-    ensures { IfOk result (λ found. IfSome found (IfWindow HasAskedDays)) }
+    clock: Option<Stamp>,
+) -> Result<Option<Written>, NoCall>
+    ensures { IfOk result (λ found. IfSome found (AsksWritten (codes "list") (options_of words.now) clock)) }
 {
-    match listing_of(alloc, words, today)? {
+    let Some(today) = asked_today(words, clock)? else {
+        return Ok(None);
+    };
+    match listing_of(alloc, words, clock, today)? {
         Some(listing) => Ok(Some(Written::List(listing))),
         None => Ok(None),
     }
 }
 
+/// The list that is asked for, on the day that is taken for today.
 fn listing_of(
     alloc: Global,
     words: &ArgMatches<'_>,
+    clock: Option<Stamp>,
     today: Option<Day>,
 ) -> Result<Option<Listing>, AllocError>
-    ensures { IfOk result (λ found. IfSome found (λ listing. HasAskedDays listing.window)) }
+    requires { IsToday (value_of (codes "today") (options_of words.now)) clock (numbered today) }
+    ensures { IfOk result (λ found. IfSome found (AsksListing (options_of words.now) clock)) }
 {
-    let is_due = words.get_str("due-before").is_some();
+    let is_due = is_given(words, "due-before");
     let Some(window) = window_in(words, today, is_due) else {
         return Ok(None);
     };
-    let (Some(due_before), Some(format)) = (asked_due(words, today), asked_format(words, today))
-    else {
+    let due = value_of(words, "due-before");
+    let Some(due_before) = asked_due(due, today) else {
         return Ok(None);
     };
-    let attendee = asked_attendee(alloc, words)?;
-    let is_open = words.get_flag("open");
+    let Some(format) = asked_format(words, today) else {
+        return Ok(None);
+    };
+    let address = value_of(words, "attendee");
+    let attendee = asked_attendee(alloc, address)?;
+    let is_open = is_set(words, "open");
     Ok(Some(Listing {
         window,
         attendee,
@@ -273,15 +288,22 @@ fn listing_of(
     }))
 }
 
-fn report_of(words: &ArgMatches<'_>, today: Option<Day>) -> Option<Written>
-    ensures { IfSome result (IfWindow HasAskedDays) }
+fn report_of(words: &ArgMatches<'_>, clock: Option<Stamp>) -> Result<Option<Written>, NoCall>
+    ensures { IfOk result (λ found. IfSome found (AsksWritten (codes "report") (options_of words.now) clock)) }
 {
-    let reported = reported_of(words, today)?;
-    Some(Written::Report(reported))
+    let Some(today) = asked_today(words, clock)? else {
+        return Ok(None);
+    };
+    match reported_of(words, clock, today) {
+        Some(reported) => Ok(Some(Written::Report(reported))),
+        None => Ok(None),
+    }
 }
 
-fn reported_of(words: &ArgMatches<'_>, today: Option<Day>) -> Option<Reported>
-    ensures { IfSome result (λ reported. HasAskedDays reported.window) }
+/// The report that is asked for, on the day that is taken for today.
+fn reported_of(words: &ArgMatches<'_>, clock: Option<Stamp>, today: Option<Day>) -> Option<Reported>
+    requires { IsToday (value_of (codes "today") (options_of words.now)) clock (numbered today) }
+    ensures { IfSome result (AsksReport (options_of words.now) clock) }
 {
     let name = asked_report(words)?;
     let window = window_in(words, today, false)?;
@@ -289,24 +311,33 @@ fn reported_of(words: &ArgMatches<'_>, today: Option<Day>) -> Option<Reported>
 }
 
 /// The report that is named, where the words for days are none that it doesn't take.
-fn asked_report(words: &ArgMatches<'_>) -> Option<ReportName> {
-    let name = read_report_name(words.get_str("name")?.as_bytes())?;
-    if name.is_of_rows() || !names_days(words) {
-        Some(name)
-    } else {
-        None
+fn asked_report(words: &ArgMatches<'_>) -> Option<ReportName>
+    ensures name { IfSome result (λ name. IsSomeAnd (value_of (codes "name") (options_of words.now)) (λ text. report_of text ≡ Some name)) }
+    ensures days { IfSome result (λ name. IsOfRows name ⊎ (names_days (options_of words.now) ≡ false)) }
+{
+    let text = value_of(words, "name")?;
+    let name = read_report_name(text.as_bytes())?;
+    if name.is_of_rows() {
+        return Some(name);
     }
+    if names_days(words) {
+        return None;
+    }
+    Some(name)
 }
 
 /// Whether words name days, or the day that is taken for today.
-fn names_days(words: &ArgMatches<'_>) -> bool {
-    words.contains_id("from") || words.contains_id("to") || words.contains_id("today")
+fn names_days(words: &ArgMatches<'_>) -> bool
+    ensures { result ≡ names_days (options_of words.now) }
+{
+    is_given(words, "from") || is_given(words, "to") || is_given(words, "today")
 }
 
 fn news_of(alloc: Global, words: &ArgMatches<'_>) -> Result<Option<Written>, NoCall>
-    ensures { IfOk result (λ found. IfSome found (IfWindow HasAskedDays)) }
+    ensures { IfOk result (λ found. IfSome found (λ written. (clock : Option Stamp) →
+        AsksWritten (codes "news") (options_of words.now) clock written)) }
 {
-    let Some(named) = words.get_strs("than") else {
+    let Some(named) = values_of(words, "than") else {
         return Ok(None);
     };
     let than = copies(alloc, named)?;
@@ -314,7 +345,8 @@ fn news_of(alloc: Global, words: &ArgMatches<'_>) -> Result<Option<Written>, NoC
 }
 
 fn explanation_of(alloc: Global, words: &ArgMatches<'_>) -> Result<Option<Written>, NoCall>
-    ensures { IfOk result (λ found. IfSome found (IfWindow HasAskedDays)) }
+    ensures { IfOk result (λ found. IfSome found (λ written. (clock : Option Stamp) →
+        AsksWritten (codes "explain") (options_of words.now) clock written)) }
 {
     match asked_uid(alloc, words)? {
         Some(uid) => Ok(Some(Written::Explanation { uid })),
@@ -328,9 +360,10 @@ fn message_of(
     words: &ArgMatches<'_>,
     clock: Option<Stamp>,
 ) -> Result<Option<Written>, NoCall>
-    ensures { IfOk result (λ found. IfSome found (IfWindow HasAskedDays)) }
+    ensures { IfOk result (λ found. IfSome found (AsksWritten word.now (options_of words.now) clock)) }
 {
-    let Some(at) = moment_of_writing(words, clock)? else {
+    let at = value_of(words, "at");
+    let Some(at) = writing_time(at, clock)? else {
         return Ok(None);
     };
     match asked_of(alloc, word, words)? {
@@ -342,11 +375,10 @@ fn message_of(
 /// The moment of writing: that of `--at`, else that of the clock. `None` where the word is no date-time in UTC.
 ///
 /// [`NoCall::NoClock`] where neither is there.
-fn moment_of_writing(
-    words: &ArgMatches<'_>,
-    clock: Option<Stamp>,
-) -> Result<Option<Stamp>, NoCall> {
-    match (words.get_str("at"), clock) {
+fn writing_time(word: Option<&str>, clock: Option<Stamp>) -> Result<Option<Stamp>, NoCall>
+    ensures { IfOk result (λ found. IfSome found (IsWritingTime (option_copied word.entry) clock)) }
+{
+    match (word, clock) {
         (Some(text), _) => Ok(read_stamp(text)),
         (None, Some(now)) => Ok(Some(now)),
         (None, None) => Err(NoCall::NoClock),
@@ -356,11 +388,14 @@ fn moment_of_writing(
 /// The day that is taken for today: that of `--today`, else that of the clock. `None` where the word is no date.
 ///
 /// [`NoCall::NoClock`] where neither is there, and something depends on it.
-fn today_of(words: &ArgMatches<'_>, clock: Option<Stamp>) -> Result<Option<Option<Day>>, NoCall> {
-    let Some(given) = given_day(words.get_str("today")) else {
+fn asked_today(words: &ArgMatches<'_>, clock: Option<Stamp>) -> Result<Option<Option<Day>>, NoCall>
+    ensures { IfOk result (λ found. IfSome found (λ today.
+        IsToday (value_of (codes "today") (options_of words.now)) clock (numbered today))) }
+{
+    let day = value_of(words, "today");
+    let Some(today) = today_of(day, clock) else {
         return Ok(None);
     };
-    let today = given.or(clock.map(day_of));
     if today.is_none() && needs_today(words) {
         return Err(NoCall::NoClock);
     }
@@ -368,34 +403,55 @@ fn today_of(words: &ArgMatches<'_>, clock: Option<Stamp>) -> Result<Option<Optio
 }
 
 fn needs_today(words: &ArgMatches<'_>) -> bool {
-    let is_named = words.contains_id("from") || words.contains_id("to");
+    let is_named = is_given(words, "from") || is_given(words, "to");
     !is_named
-        || words.get_str("due-before").is_some_and(is_today)
-        || words.get_str("format").is_some_and(is_page)
+        || value_of(words, "due-before").is_some_and(is_today)
+        || value_of(words, "format").is_some_and(is_page)
 }
 
 fn window_in(words: &ArgMatches<'_>, today: Option<Day>, is_due: bool) -> Option<Window>
-    ensures { IfSome result HasAskedDays }
+    ensures { IfSome result (IsAskedWindow (value_of (codes "from") (options_of words.now)) (value_of (codes "to") (options_of words.now))
+        (numbered today) is_due) }
 {
-    asked_window(words.get_str("from"), words.get_str("to"), today, is_due)
+    let from = value_of(words, "from");
+    let to = value_of(words, "to");
+    asked_window(from, to, today, is_due)
 }
 
 /// The day that rows are due before, where it is named. `None` where the word is no day.
-fn asked_due(words: &ArgMatches<'_>, today: Option<Day>) -> Option<Option<i32>> {
-    let Some(word) = words.get_str("due-before") else {
+fn asked_due(word: Option<&str>, today: Option<Day>) -> Option<Option<i32>>
+    ensures { IfSome result (IsRead (IsDueDay (numbered today)) (option_copied word.entry)) }
+{
+    let Some(text) = word else {
         return Some(None);
     };
-    let day = due_day(word, today)?;
+    let day = due_day(text, today)?;
     Some(Some(day.number))
 }
 
-fn asked_format(words: &ArgMatches<'_>, today: Option<Day>) -> Option<Format> {
-    match words.get_str("format")? {
-        "text" => Some(Format::Text),
-        "csv" => Some(Format::Csv),
-        "json" => Some(Format::Json),
-        "html" => Some(Format::Html(today?)),
-        _ => None,
+fn asked_format(words: &ArgMatches<'_>, today: Option<Day>) -> Option<Format>
+    ensures { IfSome result (λ format. IsSomeAnd (value_of (codes "format") (options_of words.now))
+        (λ text. IsFormatNamed (numbered today) text format)) }
+{
+    let text = value_of(words, "format")?;
+    format_named(text, today)
+}
+
+/// The form of a name. `None` of any other text, and of a page where today isn't known.
+fn format_named(text: &str, today: Option<Day>) -> Option<Format>
+    ensures { IfSome result (IsFormatNamed (numbered today) text.now) }
+{
+    if text == "text" {
+        Some(Format::Text)
+    } else if text == "csv" {
+        Some(Format::Csv)
+    } else if text == "json" {
+        Some(Format::Json)
+    } else if is_page(text) {
+        let day = today?;
+        Some(Format::Html(day))
+    } else {
+        None
     }
 }
 
@@ -405,19 +461,23 @@ pub(crate) fn names_format(word: &str) -> bool {
 }
 
 /// Whether a word names the format of the page, which marks what is overdue today.
-fn is_page(word: &str) -> bool {
+fn is_page(word: &str) -> bool
+    ensures { result ≡ is_page word.now }
+{
     word == "html"
 }
 
 fn intake_of(alloc: Global, words: &ArgMatches<'_>) -> Result<Option<Intake>, AllocError>
-    ensures { IfOk result (λ found. IfSome found (λ intake. IfSome intake.threads AreThreads)) }
+    ensures few { IfOk result (λ found. IfSome found (λ intake. IfSome intake.threads AreThreads)) }
+    ensures asked { IfOk result (λ found. IfSome found (AsksIntake (options_of words.now))) }
 {
-    let Some(threads) = asked_threads(words) else {
+    let text = value_of(words, "threads");
+    let Some(threads) = asked_threads(text) else {
         return Ok(None);
     };
     let sources = asked_sources(alloc, words)?;
-    let progress = words.get_flag("progress");
-    let why = words.get_flag("why");
+    let progress = is_set(words, "progress");
+    let why = is_set(words, "why");
     Ok(Some(Intake {
         sources,
         threads,
@@ -427,10 +487,11 @@ fn intake_of(alloc: Global, words: &ArgMatches<'_>) -> Result<Option<Intake>, Al
 }
 
 /// The number of threads, where it is given. `None` where the word is none.
-fn asked_threads(words: &ArgMatches<'_>) -> Option<Option<u64>>
-    ensures { IfSome result (λ threads. IfSome threads AreThreads) }
+fn asked_threads(word: Option<&str>) -> Option<Option<u64>>
+    ensures few { IfSome result (λ threads. IfSome threads AreThreads) }
+    ensures asked { IfSome result (IsRead AreThreadsOf (option_copied word.entry)) }
 {
-    let Some(text) = words.get_str("threads") else {
+    let Some(text) = word else {
         return Some(None);
     };
     let threads = threads_of(text)?;
@@ -445,10 +506,25 @@ pub(crate) fn threads_of(text: &str) -> Option<u64>
 }
 
 /// The words that name sources. Where there is none, it is standard input, if no draft is read from there.
-fn asked_sources(alloc: Global, words: &ArgMatches<'_>) -> Result<Vec<String>, AllocError> {
-    match words.get_strs("source") {
-        Some(named) => copies(alloc, named),
-        None if words.get_str("draft").is_some_and(is_input) => Ok(Vec::new(alloc)),
-        None => copies(alloc, &["-"]),
+fn asked_sources(alloc: Global, words: &ArgMatches<'_>) -> Result<Vec<String>, AllocError>
+    ensures { IfOk result (λ sources. map string_bytes sources.items ≡ sources_of (options_of words.now)) }
+{
+    if let Some(named) = values_of(words, "source") {
+        return copies(alloc, named);
+    }
+    let draft = value_of(words, "draft");
+    if is_input_named(draft) {
+        return Ok(Vec::new(alloc));
+    }
+    copies(alloc, &["-"])
+}
+
+/// Whether a word is given and names standard input.
+fn is_input_named(word: Option<&str>) -> bool
+    ensures { result ≡ option_map_or is_input (option_copied word.entry) false }
+{
+    match word {
+        Some(name) => is_input(name),
+        None => false,
     }
 }

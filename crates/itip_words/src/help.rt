@@ -20,11 +20,24 @@ of the command. Lines are numbered from 1 in the message, as they stand there.
 
   (echo '!take 0'; cat message.ics; echo '!list 0') | itipdesk run --from 20260101 --to 20270101
 
+With --stream each command is answered, and the reply written, before the next is read, and a stream has no limit. A message
+comes by its number of octets, right behind the line, so that no text in it is taken for a command:
+
+  !take D N       desk D takes the message that the next N octets are
+  !post D T       what changed at desk D after its tick T: `post D tick T items I bytes N`, and these N octets, a delta
+  !arrive D N     the delta that the next N octets are reaches desk D
+  !save D FILE    desk D is written to a file, with its tick and what moved when; --load D=FILE begins with it
+
+  itipdesk run --stream --load 0=desk.ics --from 20260101 --to 20270101
+
+The other commands are those of a script. Where an N isn't a number, what follows the line is taken for commands.
+
 Exit status:
   0  no reply was a refusal
   1  a reply was a refusal
   2  the words or the window are bad
-  3  a read or a write failed, or there was no memory";
+  3  a read or a write failed, or there was no memory
+  4  a file of --load is of no desk, for the cause on standard error: nothing is read";
 
 /// What is shown of a message.
 pub(crate) const CHECK_HELP: &str =

@@ -1,12 +1,21 @@
 //! What a call of the program asks for.
-ghost use Rattle.std.specs.Prelude.{◌≡◌, ℕ, IfOk, IfSome, IfNone};
+ghost use Rattle.std.specs.Prelude.{◌≡◌, ℕ, Option, IfOk, IfSome, IfNone, codes, map};
+ghost use Rattle.std.specs.String.{string_bytes};
+ghost use Rattle.clap.specs.Simple.{subcommand_rows_of};
+ghost use Rattle.itip_moment.specs.declared.stamp.Stamp.{Stamp};
 ghost use Rattle.itip_words.specs.Words.{AreDesks, desks_of, workers_of, IsWindowOf, IsScriptedOf};
-ghost use Rattle.itip_words.specs.Calls.{IfRun, IfOffice, IfFilter, AreOffice, CanFilter};
+ghost use Rattle.itip_words.specs.Calls.{IfRun, IfStream, IfOffice, IfFilter, AreStreamed, AreOffice, CanFilter};
+ghost use Rattle.itip_words.specs.Options.{options_of};
+ghost use Rattle.itip_words.specs.Asking.{AsksScript, Asks, IsAsked};
+ghost use Rattle.itip_words.specs.Program.{IsAskedBy};
 ghost use Rattle.itip_view.specs.declared.window.Window.{Window};
+ghost use Rattle.itip_words.specs.declared.words.Scripted.{Scripted};
 
 use crate::commands::command;
 use crate::filter::{Filter, filter_of};
 use crate::no_call::{NoCall, no_call};
+use crate::options::{is_set, value_of, word_of};
+use crate::streamed::{Streamed, streamed_of};
 use crate::wrong::what_is_wrong;
 use clap::ArgMatches;
 use itip_moment::{Stamp, read_date};
@@ -25,6 +34,8 @@ const MAX_WORKERS: u64 = 8;
 pub enum Call {
     /// A script is run.
     Run(Scripted),
+    /// A stream of commands is served.
+    Stream(Streamed),
     /// The jobs of a script are run, by so many workers.
     Office { scripted: Scripted, workers: u64 },
     /// A message is read, and its items are shown.
@@ -45,8 +56,10 @@ pub struct Scripted {
 /// Reads the words, the first of which is the program's name. `clock` is the present moment, where it is known.
 pub fn read_words(alloc: Global, words: &[String], clock: Option<Stamp>) -> Result<Call, NoCall>
     ensures run { IfOk result (IfRun (λ scripted. AreDesks scripted.desks)) }
+    ensures stream { IfOk result (IfStream AreStreamed) }
     ensures office { IfOk result (IfOffice AreOffice) }
     ensures filter { IfOk result (IfFilter CanFilter) }
+    ensures asked { IfOk result (IsAskedBy (map string_bytes words.now) clock) }
 {
     let matches = match command(alloc)?.try_get_matches_from(words) {
         Ok(matches) => matches,
@@ -65,53 +78,88 @@ fn call_of(
     clock: Option<Stamp>,
 ) -> Result<Option<Call>, NoCall>
     ensures run { IfOk result (λ found. IfSome found (IfRun (λ scripted. AreDesks scripted.desks))) }
+    ensures stream { IfOk result (λ found. IfSome found (IfStream AreStreamed)) }
     ensures office { IfOk result (λ found. IfSome found (IfOffice AreOffice)) }
     ensures filter { IfOk result (λ found. IfSome found (IfFilter CanFilter)) }
+    ensures asked { IfOk result (λ found. IfSome found (IsAsked (subcommand_rows_of matches.now) clock)) }
 {
-    if let Some(words) = matches.subcommand_matches("check") {
-        let why = words.get_flag("why");
+    match word_of(matches) {
+        Some((word, words)) => named_call(alloc, word, words, clock),
+        None => Ok(None),
+    }
+}
+
+/// The call of a word; `None` where a value is bad.
+fn named_call(
+    alloc: Global,
+    word: &str,
+    words: &ArgMatches<'_>,
+    clock: Option<Stamp>,
+) -> Result<Option<Call>, NoCall>
+    ensures run { IfOk result (λ found. IfSome found (IfRun (λ scripted. AreDesks scripted.desks))) }
+    ensures stream { IfOk result (λ found. IfSome found (IfStream AreStreamed)) }
+    ensures office { IfOk result (λ found. IfSome found (IfOffice AreOffice)) }
+    ensures filter { IfOk result (λ found. IfSome found (IfFilter CanFilter)) }
+    ensures asked { IfOk result (λ found. IfSome found (Asks word.now (options_of words.now) clock)) }
+{
+    if word == "check" {
+        let why = is_set(words, "why");
         return Ok(Some(Call::Check { why }));
     }
-    if let Some(words) = matches.subcommand_matches("office") {
+    if word == "run" {
+        return run_of(alloc, words);
+    }
+    if word == "office" {
         return Ok(office_of(words));
     }
-    if let Some(words) = matches.subcommand_matches("run") {
-        return Ok(run_of(words));
-    }
-    match filter_of(alloc, matches, clock)? {
+    match filter_of(alloc, word, words, clock)? {
         Some(filter) => Ok(Some(Call::Filter(filter))),
         None => Ok(None),
     }
 }
 
-fn run_of(words: &ArgMatches<'_>) -> Option<Call>
+fn run_of(alloc: Global, words: &ArgMatches<'_>) -> Result<Option<Call>, NoCall>
+    ensures run { IfOk result (λ found. IfSome found (IfRun (λ scripted. AreDesks scripted.desks))) }
+    ensures stream { IfOk result (λ found. IfSome found (IfStream AreStreamed)) }
+    ensures office { IfOk result (λ found. IfSome found (IfOffice AreOffice)) }
+    ensures filter { IfOk result (λ found. IfSome found (IfFilter CanFilter)) }
+    ensures asked { IfOk result (λ found. IfSome found (λ call. (clock : Option Stamp) →
+        Asks (codes "run") (options_of words.now) clock call)) }
+{
+    if !is_set(words, "stream") {
+        return Ok(scripted_of(words).map(Call::Run));
+    }
+    match streamed_of(alloc, words)? {
+        Some(streamed) => Ok(Some(Call::Stream(streamed))),
+        None => Ok(None),
+    }
+}
+
+/// How the words have a script run.
+pub(crate) fn office_of(words: &ArgMatches<'_>) -> Option<Call>
     ensures run { IfSome result (IfRun (λ scripted. AreDesks scripted.desks)) }
+    ensures stream { IfSome result (IfStream AreStreamed) }
     ensures office { IfSome result (IfOffice AreOffice) }
     ensures filter { IfSome result (IfFilter CanFilter) }
+    ensures asked { IfSome result (λ call. (clock : Option Stamp) → Asks (codes "office") (options_of words.now) clock call) }
 {
     let scripted = scripted_of(words)?;
-    Some(Call::Run(scripted))
-}
-
-fn scripted_of(matches: &ArgMatches<'_>) -> Option<Scripted>
-    ensures { IfSome result (λ scripted. AreDesks scripted.desks) }
-{
-    scripted_of_texts(
-        matches.get_str("desks")?,
-        matches.get_str("from")?,
-        matches.get_str("to")?,
-        matches.get_flag("why"),
-    )
-}
-
-fn office_of(matches: &ArgMatches<'_>) -> Option<Call>
-    ensures run { IfSome result (IfRun (λ scripted. AreDesks scripted.desks)) }
-    ensures office { IfSome result (IfOffice AreOffice) }
-    ensures filter { IfSome result (IfFilter CanFilter) }
-{
-    let scripted = scripted_of(matches)?;
-    let workers = workers_of(matches.get_str("workers")?)?;
+    let text = value_of(words, "workers")?;
+    let workers = workers_of(text)?;
     Some(Call::Office { scripted, workers })
+}
+
+/// How a script is run. `None` where a value is bad.
+pub(crate) fn scripted_of(words: &ArgMatches<'_>) -> Option<Scripted>
+    ensures asked { IfSome result (AsksScript (options_of words.now)) }
+    ensures none { IfNone result ((scripted : Scripted) → AsksScript (options_of words.now) scripted → ⊥) }
+    ensures desks { IfSome result (λ scripted. AreDesks scripted.desks) }
+{
+    let desks = value_of(words, "desks")?;
+    let from = value_of(words, "from")?;
+    let to = value_of(words, "to")?;
+    let why = is_set(words, "why");
+    scripted_of_texts(desks, from, to, why)
 }
 
 /// What the values of the words ask for, where they are what they have to be.
@@ -119,6 +167,7 @@ fn scripted_of_texts(desks: &str, from: &str, to: &str, why: bool) -> Option<Scr
     ensures found { IfSome result (λ scripted. IsScriptedOf desks.now from.now to.now scripted.desks scripted.window) }
     ensures none { IfNone result ((count : ℕ) (window : Window) → IsScriptedOf desks.now from.now to.now count window → ⊥) }
     ensures desks { IfSome result (λ scripted. AreDesks scripted.desks) }
+    ensures why { IfSome result (λ scripted. scripted.why ≡ why) }
 {
     let desks = desks_of(desks)?;
     let window = window_of(from, to)?;

@@ -2,6 +2,7 @@
 use crate::asked_values::{answer_named, named_moment, percent_of};
 use crate::days::is_today;
 use crate::filter::{names_format, threads_of};
+use crate::streamed::{Load, loads_named, next_load};
 use crate::words::{desks_of, workers_of};
 use clap::ArgMatches;
 use itip_moment::{read_date, read_stamp};
@@ -38,7 +39,29 @@ pub(crate) fn what_is_wrong(alloc: Global, matches: &ArgMatches<'_>) -> Result<S
             }
         }
     }
+    if let Some(value) = wrong_load(alloc, words)? {
+        let why = "not the number of a desk that no other names, =, and a file";
+        return bad_value(alloc, value, "--load <D=FILE>", why);
+    }
     wrong_days(alloc, words)
+}
+
+/// The first desk that can't begin with its file, where the number of desks is good.
+fn wrong_load<'a>(alloc: Global, words: &ArgMatches<'a>) -> Result<Option<&'a str>, AllocError> {
+    let Some(desks) = words.get_str("desks").and_then(desks_of) else {
+        return Ok(None);
+    };
+    let mut before = Vec::new(alloc);
+    for text in loads_named(words) {
+        match next_load(text, desks, before.as_slice()) {
+            Some((desk, _)) => before.push(Load {
+                desk,
+                file: String::new(alloc),
+            })?,
+            None => return Ok(Some(*text)),
+        }
+    }
+    Ok(None)
 }
 
 /// What a value has to be, where it isn't.

@@ -1,18 +1,12 @@
 -- The answer to one command, over a world, whatever happened before.
-use Rattle.std.proofs.Common.{◌≡◌, ℕ, suc, ◌≤◌, [], ◌∷◌, List, ◌++◌, length, sym, ap, subst, ◌∙◌, arith, refl, inl, inr}
-use Rattle.std.proofs.Common.{Option, Some, None}
-use Rattle.std.specs.Prelude.{slice_get, codes}
-use Rattle.std.specs.Option.{option_map}
-use Rattle.itip_view.specs.declared.by_uid.RowsByUid.{RowsByUid}
-use Rattle.itip_view.specs.declared.most.MostRows.{MostRows}
+use Rattle.std.proofs.Common.{◌≡◌, ℕ, suc, ◌≤◌, [], ◌∷◌, List, length, sym, ap, subst, arith, refl}
+use Rattle.std.proofs.Common.{Option, Some}
+use Rattle.std.specs.Prelude.{slice_get}
 use Rattle.itip_view.specs.declared.window.Window.{Window}
 use Rattle.itip_view.specs.declared.row.Row.{Row}
-use Rattle.itip_view.specs.ByUid.{AreAsked}
 use Rattle.itip_view.specs.Rows.{AreTooMany}
 use Rattle.itip_view.specs.Showing.{Shows, AreTooManyWhere}
-use Rattle.itip_view.proofs.Left.{left_where, too_many_where}
 use Rattle.itip_view.proofs.OfKept.{rows_of_kept, too_many_of_kept, rows_where_of_kept, many_where_of_kept}
-use Rattle.itip_view.proofs.SameAsked.{rows_of_all, many_of_all}
 use Rattle.itip_report.specs.Named.{IsReportOf, IsOfRows}
 use Rattle.itip_report.specs.Organizing.{IsResendOf, IsNext}
 use Rattle.itip_report.specs.declared.report_name.ReportName.{ReportName}
@@ -22,8 +16,6 @@ use Rattle.itip_desk.specs.Heard.{heard}
 use Rattle.itip_desk.specs.declared.refusal.Refusal.{Refusal}
 use Rattle.itip_desk.specs.declared.refusal.Refusal.TheVariants as refusal
 use Rattle.itip_desk.specs.Desk.{Shown}
-use Rattle.itip_desk.specs.WrittenRows.{IsHeadedList, WritesListed, WritesListedFront}
-use Rattle.itip_streams.specs.Written.{AppendsFront, MovesOut}
 use Rattle.itip_streams.proofs.Writing.{moves_none, moves_more}
 use Rattle.itip_world.specs.Worlds.{Histories, AreDesksOf, Past, ShownWorld, IsWorldOf, IsEntriesOf, LacksOnlyPacket, RefusesEvent, desk_of}
 use Rattle.itip_world.specs.Worlds as worlds
@@ -34,7 +26,7 @@ use Rattle.itip_world.proofs.Desks.{history_at}
 use Rattle.itip_world.proofs.Packets.{texts_length}
 use Rattle.itip_script.specs.Orders.{Order, lists, lists_for, counts, reports, resends, asks_next, malformed}
 use Rattle.itip_world.specs.Running.{Answer, Happens, refused, listed, listed_for, counted, reported, resent, next_is, answer_to, event_of}
-use Rattle.itip_world.specs.Running.{HasTick, AreListed, AreListedFor, Step, Answers, answer_text, refusal_of, IsTold, Replies, RepliesFront}
+use Rattle.itip_world.specs.Running.{HasTick, AreListed, AreListedFor, Step, Answers, answer_text, IsTold, Replies}
 use Rattle.itip_world.specs.Running.Happens.{is_done, at_no_desk, of_no_packet, spends_ticks}
 use Rattle.itip_world.specs.Running.Step.{happens, lists_rows, lists_too_many, lists_no_desk, lists_rows_for, lists_too_many_for}
 use Rattle.itip_world.specs.Running.Step.{lists_no_desk_for, counts_kept, counts_no_desk, reports_lines, reports_too_many, reports_no_desk}
@@ -142,80 +134,6 @@ module _ (window : Window) (world : ShownWorld) where
         let h = history_at past.histories world.desks desk shown is.desks_are at in
         tells_next desk uid h.history sequence h.there (next_of_kept shown.kept (heard h.history.steps) h.is.kept uid sequence is_next))
 
--- ---- lists, which are written while they are made
-
--- an answer of this text, which is a refusal where a to-do has the most of too many rows
-pub record GivesText (window : Window) (world : ShownWorld) (order : Order) (most : Option MostRows) (text : List ℕ) : Type 0 where
-  pub answer : Answer
-  pub answers : Answers window order world answer world
-  pub text_is : answer_text answer ≡ text
-  pub refusal_is : option_map (λ (m : MostRows). refusal.TooManyRows) most ≡ refusal_of answer
-
-module _ (window : Window) (world : ShownWorld) (desk : ℕ) (shown : Shown) (at : slice_get world.desks desk ≡ Some shown) (asked : RowsByUid)
-  where
-    pub gives_list : AreAsked (λ (row : Row). Unit {0}) shown.kept window asked → (most : Option MostRows) (text : List ℕ) →
-        IsHeadedList (codes "list") desk asked most text → GivesText window world (lists desk) most text
-    gives_list are None text is = record {
-      answer = listed desk is.rows;
-      answers = answers_list window world desk shown at is.rows (record {
-        are_rows = rows_of_all (λ (row : Row). Unit {0}) shown.kept window (λ row there. tt) is.rows
-            ((left_where (λ (row : Row). Unit {0}) shown.kept window asked are is.rows).0 is.are_left);
-        few = is.few;
-      });
-      text_is = sym is.text_is;
-      refusal_is = refl;
-    }
-    gives_list are (Some most) text is = record {
-      answer = refused refusal.TooManyRows;
-      answers = answers_too_many window world desk shown at (many_of_all (λ (row : Row). Unit {0}) shown.kept window
-          (too_many_where (λ (row : Row). Unit {0}) shown.kept window asked are is.0.0));
-      text_is = sym is.1;
-      refusal_is = refl;
-    }
-
-    pub gives_list_for : (address : List ℕ) → AreAsked (Shows address) shown.kept window asked → (most : Option MostRows)
-        (text : List ℕ) → IsHeadedList (codes "mine") desk asked most text → GivesText window world (lists_for desk address) most text
-    gives_list_for address are None text is = record {
-      answer = listed_for desk is.rows;
-      answers = answers_list_for window world desk shown at address is.rows
-          (record { are_rows = (left_where (Shows address) shown.kept window asked are is.rows).0 is.are_left; few = is.few });
-      text_is = sym is.text_is;
-      refusal_is = refl;
-    }
-    gives_list_for address are (Some most) text is = record {
-      answer = refused refusal.TooManyRows;
-      answers = answers_too_many_for window world desk shown at address
-          (too_many_where (Shows address) shown.kept window asked are is.0.0);
-      text_is = sym is.1;
-      refusal_is = refl;
-    }
-
-module _ (window : Window) (world : ShownWorld) (order : Order) (word : List ℕ) (desk : ℕ) (asked : RowsByUid)
-    (gives : (most : Option MostRows) (text : List ℕ) → IsHeadedList word desk asked most text → GivesText window world order most text)
-    (old new : Option (List ℕ)) (kept : List ℕ) where
-  pub replies_list : (rest : List ℕ) (most : Option MostRows) (why : Option RefusedAs) → WritesListed word desk asked old new kept rest most →
-      option_map (λ (r : RefusedAs). r.refusal) why ≡ option_map (λ (m : MostRows). refusal.TooManyRows) most
-      → Replies window order world world old new kept rest why
-  replies_list rest most why writes same =
-      let it = gives most writes.text writes.is_listed in
-      record {
-        answer = it.answer;
-        answers = it.answers;
-        moved = subst (λ (t : List ℕ). MovesOut old new (kept ++ t) rest) (sym it.text_is) writes.moved;
-        refusal_is = same ∙ it.refusal_is;
-      }
-
-  pub front_of_list : WritesListedFront word desk asked old new kept → RepliesFront window order world old new kept
-  front_of_list (inl front) = inl front
-  front_of_list (inr (text, is, front)) =
-      let it = gives None text is in
-      inr (record {
-        answer = it.answer;
-        after = world;
-        answers = it.answers;
-        appended = subst (λ (t : List ℕ). AppendsFront old new (kept ++ t)) (sym it.text_is) front;
-      })
-
 -- ---- other answers
 
 -- an answer is behind what is kept, and nothing was written
@@ -263,6 +181,8 @@ module _ (old new : ShownWorld) (event : Event) (still : new ≡ old) (window : 
     answers_refusal refusal.TooManyRows is = absurd is
     answers_refusal refusal.NoCommand is = absurd is
     answers_refusal refusal.LongScript is = absurd is
+    answers_refusal refusal.LongDelta is = absurd is
+    answers_refusal (refusal.File why) is = absurd is
 
 pub answers_event : (old new : ShownWorld) (event : Event) (outcome : Outcome) (answer : Answer) → worlds.Steps old event outcome new →
     HasTick outcome

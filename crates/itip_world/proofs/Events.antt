@@ -228,6 +228,8 @@ module _ (world : ShownWorld) (event : Event) (shown : Shown) (batch : List Item
     stops_for (cause.Refused refusal.TooManyRows) stops = absurd stops
     stops_for (cause.Refused refusal.NoCommand) stops = absurd stops
     stops_for (cause.Refused refusal.LongScript) stops = absurd stops
+    stops_for (cause.Refused refusal.LongDelta) stops = absurd stops
+    stops_for (cause.Refused (refusal.File why)) stops = absurd stops
 
 pub stops_for_all : {T : Type 0} (world : ShownWorld) (event : Event) (shown : Shown) (batch : List Item) →
     (IsAtLastTick shown batch → Spends world event)

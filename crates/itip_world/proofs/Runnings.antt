@@ -20,7 +20,7 @@ use Rattle.itip_streams.specs.Written.{AppendsFront, MovesOut, WritesOutput}
 use Rattle.itip_streams.proofs.Writing.{front_none, front_behind}
 use Rattle.itip_world.specs.Running.{Answer, answer_text, is_refusal, refusal_of, Step, Runs, Writes, WritesSome, WritesRunFront, RunsSoFar}
 use Rattle.itip_world.specs.Running.{Answers, Replies, RepliesFront, refused, took, posted, arrived, listed, listed_for, counted, reported}
-use Rattle.itip_world.specs.Running.{resent, next_is}
+use Rattle.itip_world.specs.Running.{resent, next_is, sent, reached, saved}
 use Rattle.itip_world.specs.declared.watch.Refused.{Refused as RefusedAs}
 
 pub on_err : {T E P : Type 0} (r : Result T E) → P → OnErr r P
@@ -136,7 +136,7 @@ module _ (window : Window) (desks : ℕ) (old new : Option (List ℕ)) (orders d
       }
 
 -- a refusal has a cause, and nothing else has one
-cause_of : (answer : Answer) → is_some (refusal_of answer) ≡ is_refusal answer
+pub cause_of : (answer : Answer) → is_some (refusal_of answer) ≡ is_refusal answer
 cause_of (refused refusal) = refl
 cause_of (took desk tick changed) = refl
 cause_of (posted packet items) = refl
@@ -147,8 +147,11 @@ cause_of (counted desk entries) = refl
 cause_of (reported desk named lines) = refl
 cause_of (resent desk bytes) = refl
 cause_of (next_is desk sequence) = refl
+cause_of (sent desk tick items octets) = refl
+cause_of (reached desk tick changed) = refl
+cause_of (saved desk tick) = refl
 
-some_mapped : (why : Option RefusedAs) → is_some (option_map (λ (r : RefusedAs). r.refusal) why) ≡ is_some why
+pub some_mapped : (why : Option RefusedAs) → is_some (option_map (λ (r : RefusedAs). r.refusal) why) ≡ is_some why
 some_mapped (Some r) = refl
 some_mapped None = refl
 

@@ -43,3 +43,21 @@ resent_text desk None = codes "resend " ++ decimal desk ++ codes " none" ++ 10 �
 abbrev pub next_text : ℕ → Option ℕ → List ℕ
 next_text desk (Some sequence) = codes "next " ++ decimal desk ++ codes " " ++ decimal sequence ++ 10 ∷ []
 next_text desk None = codes "next " ++ decimal desk ++ codes " none" ++ 10 ∷ []
+
+-- the line before the octets of a delta, with the tick of the desk, how many items there are and how many octets
+abbrev pub sent_head : ℕ → ℕ → ℕ → ℕ → List ℕ
+sent_head desk tick items count =
+    codes "post " ++ decimal desk ++ codes " tick " ++ decimal tick ++ codes " items " ++ decimal items
+    ++ codes " bytes " ++ decimal count ++ 10 ∷ []
+
+abbrev pub sent_text : ℕ → ℕ → ℕ → List ℕ → List ℕ
+sent_text desk tick items octets = sent_head desk tick items (length octets) ++ octets
+
+-- the tick after a delta reached a desk, and how many UIDs it changed
+abbrev pub reached_text : ℕ → ℕ → ℕ → List ℕ
+reached_text desk tick changed =
+    codes "arrive " ++ decimal desk ++ codes " tick " ++ decimal tick ++ codes " changed " ++ decimal changed ++ 10 ∷ []
+
+-- the tick at which a desk was saved
+abbrev pub saved_text : ℕ → ℕ → List ℕ
+saved_text desk tick = codes "save " ++ decimal desk ++ codes " tick " ++ decimal tick ++ 10 ∷ []

@@ -5,3 +5,5 @@ pub mod Worlds
 pub mod WorldCode
 pub mod AnswerTexts
 pub mod Running
+pub mod Looking
+pub mod Serving

@@ -28,6 +28,7 @@ use Rattle.itip_world.specs.declared.answer.Answer.TheVariants as given
 use Rattle.itip_world.specs.declared.watch.Refused.{Refused as RefusedAs}
 use Rattle.itip_script.specs.Orders.{Order, takes, lists, lists_for, posts, arrives, reports, resends, asks_next, counts, malformed}
 use Rattle.itip_world.specs.AnswerTexts.{taken_text, posted_text, arrived_text, counted_text, reported_text, resent_text, next_text}
+use Rattle.itip_world.specs.AnswerTexts.{sent_text, reached_text, saved_text}
 use Rattle.itip_script.specs.Script.{orders_of}
 use Rattle.itip_streams.specs.Written.{AppendsFront, MovesOut}
 
@@ -52,6 +53,12 @@ pub data Answer : Type 0 where
   resent : ℕ → Option (List ℕ) → Answer
   -- the next sequence of a UID at a desk, or that none is left
   next_is : ℕ → Option ℕ → Answer
+  -- what a desk posts to a stream: its tick, how many items there are, and their octets
+  sent : ℕ → ℕ → ℕ → List ℕ → Answer
+  -- a delta reached a desk, its tick then, and how many UIDs changed
+  reached : ℕ → ℕ → ℕ → Answer
+  -- a desk was saved at a tick
+  saved : ℕ → ℕ → Answer
 
 abbrev pub answer_text : Answer → List ℕ
 answer_text (refused refusal) = refused_text (number_of refusal)
@@ -64,6 +71,9 @@ answer_text (counted desk entries) = counted_text desk entries
 answer_text (reported desk named lines) = reported_text desk named lines
 answer_text (resent desk bytes) = resent_text desk bytes
 answer_text (next_is desk sequence) = next_text desk sequence
+answer_text (sent desk tick items octets) = sent_text desk tick items octets
+answer_text (reached desk tick changed) = reached_text desk tick changed
+answer_text (saved desk tick) = saved_text desk tick
 
 abbrev pub is_refusal : Answer → Bool
 is_refusal (refused refusal) = true
@@ -76,6 +86,9 @@ is_refusal (counted desk entries) = false
 is_refusal (reported desk named lines) = false
 is_refusal (resent desk bytes) = false
 is_refusal (next_is desk sequence) = false
+is_refusal (sent desk tick items octets) = false
+is_refusal (reached desk tick changed) = false
+is_refusal (saved desk tick) = false
 
 -- why a command was refused, if it was
 abbrev pub refusal_of : Answer → Option Refusal
@@ -89,6 +102,9 @@ refusal_of (counted desk entries) = None
 refusal_of (reported desk named lines) = None
 refusal_of (resent desk bytes) = None
 refusal_of (next_is desk sequence) = None
+refusal_of (sent desk tick items octets) = None
+refusal_of (reached desk tick changed) = None
+refusal_of (saved desk tick) = None
 
 -- an answer of the program
 abbrev pub answer_of : Given → Answer
@@ -101,19 +117,9 @@ answer_of (given.Counted desk entries) = counted desk entries
 answer_of (given.Reported desk named lines) = reported desk named (map string_bytes lines.items)
 answer_of (given.Resent desk messages) = resent desk (option_map (λ bytes. bytes.items) messages)
 answer_of (given.Next desk sequence) = next_is desk sequence
-
--- a command that asks for no list
-abbrev pub AsksForNoList : Order → Type 0
-AsksForNoList (takes desk text) = Unit {0}
-AsksForNoList (lists desk) = ⊥
-AsksForNoList (lists_for desk address) = ⊥
-AsksForNoList (posts desk since) = Unit {0}
-AsksForNoList (arrives packet desk) = Unit {0}
-AsksForNoList (reports desk name) = Unit {0}
-AsksForNoList (resends desk uid) = Unit {0}
-AsksForNoList (asks_next desk uid) = Unit {0}
-AsksForNoList (counts desk) = Unit {0}
-AsksForNoList malformed = Unit {0}
+answer_of (given.Sent desk tick items octets) = sent desk tick items octets.items
+answer_of (given.Reached desk heard) = reached desk heard.tick heard.changed
+answer_of (given.Saved desk tick) = saved desk tick
 
 -- the event that a command asks of a world
 abbrev pub event_of : Order → Option Event

@@ -9,6 +9,7 @@ use Rattle.itip_desk.specs.Desk.{Shown, IsDeskOf}
 use Rattle.itip_desk.specs.Octets.{AscendOctets}
 use Rattle.itip_desk.specs.declared.refusal.Refusal.{Refusal}
 use Rattle.itip_desk.specs.declared.refusal.Refusal.TheVariants.{Message, TicksSpent, TooManyRows, NoDesk, NoPacket, NoCommand, LongScript}
+use Rattle.itip_desk.specs.declared.refusal.Refusal.TheVariants.{LongDelta, File}
 use Rattle.itip_desk.specs.Delta.{delta_octets}
 use Rattle.itip_world.specs.declared.event.Event.{Event}
 use Rattle.itip_world.specs.declared.event.Event.TheVariants.{Deliver, Post, Arrive}
@@ -235,6 +236,8 @@ RefusesEvent world event (Message refusal) = ⊥
 RefusesEvent world event TooManyRows = ⊥
 RefusesEvent world event NoCommand = ⊥
 RefusesEvent world event LongScript = ⊥
+RefusesEvent world event LongDelta = ⊥
+RefusesEvent world event (File refusal) = ⊥
 
 -- a cause for which an event is not done
 abbrev pub StopsFor : ShownWorld → Event → Cause → Type 0
@@ -265,6 +268,8 @@ StopsHearing number shown batch (cause.Refused (Message refusal)) = ⊥
 StopsHearing number shown batch (cause.Refused TooManyRows) = ⊥
 StopsHearing number shown batch (cause.Refused NoCommand) = ⊥
 StopsHearing number shown batch (cause.Refused LongScript) = ⊥
+StopsHearing number shown batch (cause.Refused LongDelta) = ⊥
+StopsHearing number shown batch (cause.Refused (File refusal)) = ⊥
 
 -- a run stopped: out of memory at its start, with no desk, or at an event that was not done
 pub data StopsAfter (old : Past) (events : List Event) (done : ℕ)

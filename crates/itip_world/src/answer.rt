@@ -54,6 +54,23 @@ pub(crate) enum Answer {
         desk: u64,
         messages: Option<Vec<u8>>,
     },
+    /// What changed at a desk, as the octets of a delta of so many items, and its tick.
+    Sent {
+        desk: u64,
+        tick: u64,
+        items: usize,
+        octets: Vec<u8>,
+    },
+    /// A delta reached a desk.
+    Reached {
+        desk: u64,
+        heard: Heard,
+    },
+    /// A desk was saved at a tick.
+    Saved {
+        desk: u64,
+        tick: u64,
+    },
     /// The next sequence of a UID at a desk, or `None` where none is left.
     Next {
         desk: u64,

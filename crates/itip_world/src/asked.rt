@@ -1,13 +1,15 @@
 //! The commands of a script, each done and answered.
-ghost use Rattle.std.specs.Prelude.{◌≡◌, ◌≢◌, IfOk, IfErr, OnErr, Some};
+ghost use Rattle.std.specs.Prelude.{◌≡◌, ◌≢◌, IfOk, IfErr, OnErr, MatchBool, Some};
 ghost use Rattle.itip_world.specs.Worlds.{no_past, IsWorldOf};
 ghost use Rattle.itip_script.specs.Orders.{Order, order_of};
 ghost use Rattle.itip_view.specs.declared.window.Window.{Window};
 ghost use Rattle.itip_world.specs.Running.{Answers, answer_of, answer_to, heard_at, event_of, HasTick};
-ghost use Rattle.itip_world.specs.Running.{AsksForNoList, IsTold, Replies, RepliesFront};
+ghost use Rattle.itip_world.specs.Running.{Replies, RepliesFront};
+ghost use Rattle.itip_world.specs.Looking.{OnlyAsks, MovesSomething};
 
 use crate::answer::{Answer, Heard};
 use crate::event::{Event, Outcome};
+use crate::looks::{Look, told};
 use crate::stop::Cause;
 use crate::watch::Refused;
 use crate::world::World;
@@ -56,19 +58,28 @@ impl Desks {
             (W.contents writer.old) (W.contents writer.new) kept.old.items) }
         ensures fault { IfErr result (λ fault. fault ≢ StreamFault.Read) }
     {
-        match command {
-            Command::List { desk } => self.list(*desk, writer, kept),
-            Command::Mine { desk, address } => self.list_for(*desk, address, writer, kept),
-            _ => {
-                let answer = self.answer(command)?;
-                told(answer, kept)
-            }
+        if only_asks(command) {
+            return self.look().reply(command, writer, kept);
+        }
+        let answer = self.answer(command)?;
+        told(answer, kept)
+    }
+
+    /// What the desks are asked.
+    fn look(&self) -> Look<'_>
+        ensures desks { result.desks.now ≡ self.now.world.desks }
+        ensures window { result.window ≡ self.now.window }
+    {
+        Look {
+            alloc: self.alloc,
+            desks: self.world.desks(),
+            window: self.window,
         }
     }
 
-    /// Does a command that asks for no list, and answers it. An error means out of memory.
+    /// Does a command that brings something to a desk or has it post, and answers it. An error means out of memory.
     fn answer(&mut self, command: &Command<'_>) -> Result<Answer, StreamFault>
-        requires { AsksForNoList (order_of command.now) }
+        requires { MovesSomething (order_of command.now) }
         ensures answers { IfOk result (λ answer.
             Answers self.old.window (order_of command.now) self.old.world (answer_of answer) self.new.world) }
         ensures window { self.new.window ≡ self.old.window }
@@ -87,13 +98,8 @@ impl Desks {
                 packet: *packet as usize,
                 desk: *desk as usize,
             }),
-            Command::List { .. } => unreachable!(),
-            Command::Mine { .. } => unreachable!(),
-            Command::Entries { desk } => Ok(self.entries(*desk)),
-            Command::Report { desk, name } => self.report(*desk, *name),
-            Command::Resend { desk, uid } => self.resend(*desk, uid),
-            Command::Next { desk, uid } => self.next(*desk, uid),
             Command::Malformed => Ok(Answer::Refused(Refusal::NoCommand)),
+            _ => unreachable!(),
         }
     }
 
@@ -112,13 +118,15 @@ impl Desks {
     }
 }
 
-/// Puts an answer behind the octets that are kept to be written, and says why the command was refused, if it was.
-pub(crate) fn told(answer: Answer, kept: &mut Vec<u8>) -> Result<Option<Refused>, StreamFault>
-    ensures told { IfOk result (IsTold (answer_of answer) kept.old.items kept.new.items) }
-    ensures fault { IfErr result (λ fault. fault ≢ StreamFault.Read) }
+/// Whether a command only asks a desk.
+fn only_asks(command: &Command<'_>) -> bool
+    ensures { MatchBool result (OnlyAsks (order_of command.now)) (MovesSomething (order_of command.now)) }
 {
-    answer.append(kept)?;
-    Ok(answer.refused())
+    match command {
+        Command::Take { .. } | Command::Post { .. } | Command::Arrive { .. } | Command::Malformed =>
+            false,
+        _ => true,
+    }
 }
 
 fn delivery(alloc: Global, desk: u64, text: &[u8]) -> Result<Event, AllocError>

@@ -1,7 +1,11 @@
-//! The laws of a script's output. They hold with no code: the function is empty.
-ghost use Rattle.std.specs.Prelude.{◌≡◌, ◌++◌, ℕ, Bool, List};
+//! The laws of a script's output, and of a stream. They hold with no code: the functions are empty.
+ghost use Rattle.std.specs.Prelude.{◌≡◌, ◌++◌, ℕ, Bool, List, Option};
+ghost use Rattle.std.specs.List.{All};
+ghost use Rattle.itip_desk.specs.Desk.{Shown};
+ghost use Rattle.itip_desk.specs.DeskFile.{IsTold};
 ghost use Rattle.itip_script.specs.Orders.{Order};
 ghost use Rattle.itip_world.specs.Running.{IsOutput, Writes};
+ghost use Rattle.itip_world.specs.Serving.{Served, RunsStream};
 ghost use Rattle.itip_view.specs.declared.window.Window.{Window};
 
 /// A script has one output, and what the first so many commands write is a front of it.
@@ -11,4 +15,11 @@ pub fn one_output()
     ensures front { (window : Window) (desks : ℕ) (done left : List Order) (output part : List ℕ) (refusal other : Bool) →
         Writes window desks (done ++ left) output refusal → Writes window desks done part other →
         (rest : List ℕ) × (output ≡ part ++ rest) }
+{}
+
+/// Each desk of a stream that began with nothing, or with what a file told, is told whole by its file whenever it is saved: so a
+/// desk that begins with that file keeps the same, and sends the same since every tick.
+pub fn desks_saved_whole()
+    ensures { (window : Window) (input left : Option (List ℕ)) (desks after : List Shown) (served : List Served) →
+        RunsStream window input desks served left after → All IsTold desks → All IsTold after }
 {}

@@ -1,5 +1,5 @@
 //! What a desk posts.
-ghost use Rattle.std.specs.Prelude.{◌≡◌, IfOk};
+ghost use Rattle.std.specs.Prelude.{◌≡◌, [], IfOk, IsOk};
 
 use crate::NoMemory;
 use itip_desk::{Batch, write_delta};
@@ -40,10 +40,11 @@ impl Packet {
         Packet { batch }
     }
 
-    /// The octets, written by [`write_delta`](itip_desk::write_delta).
+    /// The octets, written by [`write_delta`](itip_desk::write_delta). Where there are none, it takes no memory.
     pub fn octets(&self, alloc: Global) -> Result<Vec<u8>, NoMemory>
         ensures octets { IfOk result (λ octets. octets.items ≡ self.now) }
         ensures delta { IsDelta self.now }
+        ensures succeeds { self.now ≡ [] → IsOk result }
     {
         write_delta(alloc, &self.batch)
     }

@@ -95,7 +95,7 @@ fn run_commands<W: Write, T: Watch>(
     for command in Commands::new(script) {
         let refused = asked.reply(&command, writer, &mut kept)?;
         is_refused |= refused.is_some();
-        watch.answered(&command, refused.as_ref());
+        watch.answered(command.word(), refused.as_ref());
         drop(refused);
         write_if_many(writer, &mut kept)?;
     }

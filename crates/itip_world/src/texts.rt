@@ -5,6 +5,7 @@ ghost use Rattle.std.specs.Option.{option_map};
 ghost use Rattle.std.specs.String.{string_bytes};
 ghost use Rattle.itip_world.specs.AnswerTexts.{taken_text, posted_text, arrived_text, counted_text};
 ghost use Rattle.itip_world.specs.AnswerTexts.{reported_text, resent_text, next_text, ended};
+ghost use Rattle.itip_world.specs.AnswerTexts.{sent_head, sent_text, reached_text, saved_text};
 ghost use Rattle.itip_world.specs.Running.{answer_of, answer_text};
 
 use crate::answer::{Answer, Heard};
@@ -30,6 +31,14 @@ impl Answer {
             Answer::Counted { desk, entries } => append_counted(output, *desk, *entries),
             Answer::Reported { desk, name, lines } => append_reported(output, *desk, *name, lines),
             Answer::Resent { desk, messages } => append_resent(output, *desk, messages.as_deref()),
+            Answer::Sent {
+                desk,
+                tick,
+                items,
+                octets,
+            } => append_sent(output, *desk, *tick, *items, octets),
+            Answer::Reached { desk, heard } => append_reached(output, *desk, *heard),
+            Answer::Saved { desk, tick } => append_saved(output, *desk, *tick),
             Answer::Next { desk, sequence } => append_next(output, *desk, *sequence),
         }
     }
@@ -122,5 +131,49 @@ fn append_next(output: &mut Vec<u8>, desk: u64, next: Option<u32>) -> Result<(),
         Some(sequence) => format!(in alloc; "next {desk} {sequence}\n")?,
         None => format!(in alloc; "next {desk} none\n")?,
     };
+    output.extend_from_slice(line.as_bytes())
+}
+
+/// Appends the octets of a delta, after the line that says how many they are.
+fn append_sent(
+    output: &mut Vec<u8>,
+    desk: u64,
+    tick: u64,
+    items: usize,
+    octets: &[u8],
+) -> Result<(), AllocError>
+    ensures { OnOk result (output.new.items ≡ output.old.items ++ sent_text desk tick items octets.now) }
+{
+    append_sent_head(output, desk, tick, items, octets.len())?;
+    output.extend_from_slice(octets)
+}
+
+fn append_sent_head(
+    output: &mut Vec<u8>,
+    desk: u64,
+    tick: u64,
+    items: usize,
+    count: usize,
+) -> Result<(), AllocError>
+    ensures { OnOk result (output.new.items ≡ output.old.items ++ sent_head desk tick items count) }
+{
+    let line = format!(in *output.allocator();
+        "post {desk} tick {tick} items {items} bytes {count}\n"
+    )?;
+    output.extend_from_slice(line.as_bytes())
+}
+
+fn append_reached(output: &mut Vec<u8>, desk: u64, heard: Heard) -> Result<(), AllocError>
+    ensures { OnOk result (output.new.items ≡ output.old.items ++ reached_text desk heard.tick heard.changed) }
+{
+    let Heard { tick, changed } = heard;
+    let line = format!(in *output.allocator(); "arrive {desk} tick {tick} changed {changed}\n")?;
+    output.extend_from_slice(line.as_bytes())
+}
+
+fn append_saved(output: &mut Vec<u8>, desk: u64, tick: u64) -> Result<(), AllocError>
+    ensures { OnOk result (output.new.items ≡ output.old.items ++ saved_text desk tick) }
+{
+    let line = format!(in *output.allocator(); "save {desk} tick {tick}\n")?;
     output.extend_from_slice(line.as_bytes())
 }

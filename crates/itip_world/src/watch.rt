@@ -2,7 +2,6 @@
 ghost use Rattle.std.specs.Prelude.{◌≡◌};
 
 use itip_desk::Refusal;
-use itip_script::Command;
 use itip_view::MostRows;
 
 /// Why a command was refused.
@@ -25,17 +24,17 @@ impl Refused {
     }
 }
 
-/// What is told of a script beside the output. Nothing that is read or written depends on it.
+/// What is told of a script or a stream beside the output. Nothing that is read or written depends on it.
 pub trait Watch {
-    /// The next command was answered, or refused.
-    fn answered(&mut self, command: &Command<'_>, refused: Option<&Refused>);
+    /// The next command was answered, or refused. It is given by what it is called.
+    fn answered(&mut self, command: &'static str, refused: Option<&Refused>);
 
     /// The script was refused as a whole.
     fn refused_script(&mut self, refusal: Refusal);
 }
 
 impl Watch for () {
-    fn answered(&mut self, _command: &Command<'_>, _refused: Option<&Refused>) {}
+    fn answered(&mut self, _command: &'static str, _refused: Option<&Refused>) {}
 
     fn refused_script(&mut self, _refusal: Refusal) {}
 }

@@ -5,9 +5,10 @@ ghost use Rattle.itip_world.specs.Worlds.{StopsFor, HearsBatch, StopsHearing, de
 
 use crate::NoMemory;
 use crate::event::{Event, Outcome};
+use crate::hearing::hear_batch;
 use crate::packet::Packet;
 use crate::stop::Cause;
-use itip_desk::{Batch, Desk, DeskError, Refusal, read_batch};
+use itip_desk::{Batch, Desk, Refusal, read_batch};
 use itip_message::ReadError;
 use std::alloc::Global;
 use std::marker::Model;
@@ -178,18 +179,9 @@ fn hear(desk: &mut Desk, number: usize, batch: &Batch) -> Result<Outcome, Cause>
     ensures cause { IfErr result (λ cause. StopsHearing number desk.old batch.now cause) }
     ensures err { OnErr result (desk.new ≡ desk.old) }
 {
-    match desk.take(batch) {
-        Ok(changed) => {
-            // No code: it tells the proof that the desk has each kept item once.
-            desk.state().lawful();
-            Ok(Outcome::Heard {
-                tick: changed.tick,
-                changed: changed.uids.len(),
-            })
-        }
-        Err(DeskError::NoMemory) => Err(Cause::NoMemory),
-        Err(DeskError::TicksSpent) => Err(Cause::Refused(Refusal::TicksSpent {
-            desk: number as u64,
-        })),
-    }
+    let heard = hear_batch(desk, number, batch)?;
+    Ok(Outcome::Heard {
+        tick: heard.tick,
+        changed: heard.changed,
+    })
 }

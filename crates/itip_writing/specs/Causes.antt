@@ -1,4 +1,6 @@
 -- What is said of an error, cause by cause, in the order of causes (our own form): nothing where memory was refused.
+use Rattle.std.specs.Prelude.{ℕ}
+use Rattle.itip_message.specs.RefusalNumbers as message
 use Rattle.itip_message.specs.declared.error.MessageRefusal.{MessageRefusal}
 use Rattle.itip_writing.specs.declared.error.WritingError.{WritingError}
 use Rattle.itip_writing.specs.declared.error.WritingError.TheVariants as error
@@ -37,3 +39,14 @@ IfLate late = IfCause ⊥ ⊥ ⊥ ⊥ ⊥ late (λ _. ⊥)
 -- a message that couldn't be read again
 abbrev pub IfUnread : (MessageRefusal → Type 0) → WritingError → Type 0
 IfUnread unread = IfCause ⊥ ⊥ ⊥ ⊥ ⊥ ⊥ unread
+
+-- the number under which an error is shown
+abbrev pub number_of : WritingError → ℕ
+number_of error.NothingStands = 80
+number_of error.NoSuchAttendee = 81
+number_of error.NoSequenceLeft = 82
+number_of error.AnswerOvertakes = 83
+number_of error.TwoOfOneKey = 84
+number_of error.NoTimeLeft = 85
+number_of (error.Unreadable refusal) = message.number_of refusal
+number_of error.NoMemory = 40

@@ -35,6 +35,27 @@ pub enum WritingError {
     NoMemory,
 }
 
+impl WritingError {
+    ghost use Rattle.itip_writing.specs.Causes.{number_of};
+
+    /// The number under which it is shown: 80 to 85; that of the refusal where the message would not be read again, and 40 where
+    /// memory was refused.
+    pub fn number(self) -> u32
+        ensures { result ≡ number_of self }
+    {
+        match self {
+            WritingError::NothingStands => 80,
+            WritingError::NoSuchAttendee => 81,
+            WritingError::NoSequenceLeft => 82,
+            WritingError::AnswerOvertakes => 83,
+            WritingError::TwoOfOneKey => 84,
+            WritingError::NoTimeLeft => 85,
+            WritingError::Unreadable(refusal) => refusal.number(),
+            WritingError::NoMemory => 40,
+        }
+    }
+}
+
 impl From<AllocError> for WritingError {
     ghost from_gives = { λ _ e. e ≡ NoMemory };
 

@@ -20,6 +20,7 @@ mod request;
 mod request_laws;
 mod rid;
 mod stamping;
+mod version;
 
 pub use answer::Answer;
 pub use cancel::cancellation;
@@ -35,3 +36,4 @@ pub use reply::reply_to;
 pub use request::request_of;
 pub use request_laws::{one_request, request_stands};
 pub use std::alloc::AllocError as NoMemory;
+pub use version::VERSION;

@@ -18,6 +18,7 @@ mod error;
 mod events;
 mod joins;
 mod kept;
+mod library;
 mod lines;
 mod maps;
 mod messages;

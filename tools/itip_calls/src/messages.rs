@@ -4,10 +4,13 @@
 //! - `items TEXT`: of each item the kind, the own and the effective sequence, X-DESK-BASE, and how many canonical octets
 //!   it has, with a semicolon after it
 //! - `read_all TEXT ..`: of each text how many items it has, or its fault, with blanks between, from many threads
+//! - `parted PLACE TEXT`: how many octets the first part has, where the text is parted between messages behind a place, or `None`
 
 use crate::error::{CallError, ShownMessage};
+use crate::texts::count;
 use itip_items::{Item, write_item};
-use itip_message::{ReadError, read_all, read_message};
+use itip_message::{ReadError, part_messages, read_message};
+use itip_reading::read_all;
 use std::alloc::{AllocError, Global};
 use std::thread::Threads;
 
@@ -20,6 +23,7 @@ pub(crate) fn answer<R: AllocGlobal + Threads + Sync>(
         ("read_message", [text]) => canonical(rt.alloc(), text),
         ("items", [text]) => listed(rt.alloc(), text),
         ("read_all", texts) => all_read(rt, texts),
+        ("parted", [place, text]) => parted(rt.alloc(), count(place)?, text),
         _ => Err(CallError::NoSuchCall),
     }
 }
@@ -58,6 +62,16 @@ fn all_read<R: AllocGlobal + Threads + Sync>(
         out.push_str(counted(rt.alloc(), answer)?.as_str())?;
     }
     Ok(out.into_bytes())
+}
+
+fn parted(alloc: Global, place: usize, text: &[u8]) -> Result<Vec<u8>, CallError> {
+    match part_messages(text, place) {
+        Some((front, _)) => {
+            let octets = front.len();
+            Ok(format!(in alloc; "{octets}")?.into_bytes())
+        }
+        None => Ok(Vec::from_slice(alloc, b"None")?),
+    }
 }
 
 fn counted(alloc: Global, answer: &Result<Vec<Item>, ReadError>) -> Result<String, CallError> {

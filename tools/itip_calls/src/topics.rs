@@ -4,8 +4,8 @@ use crate::call::Call;
 use crate::error::CallError;
 use crate::texts::all_texts;
 use crate::{
-    agree, deltas, desks, joins, kept, lines, maps, messages, moments, reports, rules, scripts,
-    series, states, todos, views, worlds,
+    agree, deltas, desks, joins, kept, library, lines, maps, messages, moments, reports, rules,
+    scripts, series, states, todos, views, worlds,
 };
 use std::alloc::Global;
 use std::thread::Threads;
@@ -34,7 +34,7 @@ fn made<R: AllocGlobal + Threads + Sync>(
         | "write_lines"
         | "show_bad_line"
         | "show_no_memory_for_lines" => lines::answer(alloc, word, arguments),
-        "read_message" | "items" | "read_all" => messages::answer(rt, word, arguments),
+        "read_message" | "items" | "read_all" | "parted" => messages::answer(rt, word, arguments),
         "read_moment" | "read_stamp" | "read_date" | "shift" | "cmp_moments" => {
             moments::answer(alloc, word, &all_texts(alloc, arguments)?)
         }
@@ -79,6 +79,27 @@ fn made_of_what_is_kept(
             worlds::answer(alloc, word, arguments)
         }
         "read_delta" | "read_back" => deltas::answer(alloc, word, arguments),
+        "window_of"
+        | "batch"
+        | "cut"
+        | "report_lines"
+        | "read"
+        | "item_of"
+        | "item_with"
+        | "todo_of"
+        | "file_of"
+        | "file_within"
+        | "desk_in"
+        | "load_records"
+        | "progress_records"
+        | "report_items"
+        | "write_reply"
+        | "write_refresh"
+        | "write_cancel"
+        | "write_onward"
+        | "write_removal"
+        | "write_request"
+        | "write_resend" => { library::answer(alloc, word, arguments) }
         _ => scripts::answer(alloc, word, arguments),
     }
 }

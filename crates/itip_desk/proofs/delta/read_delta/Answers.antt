@@ -14,7 +14,7 @@ loop-message-preserved c =
 pub returns-clause-found : goal.returns-clause-found
 returns-clause-found c =
     ends_reading c.args.octets.now c.loop-message.rest.now c.loop-message.items.items c.in_ok-of_items.field-0 c.loop-message.invariant
-    c.in_default.ensures c.in_ok-of_items.ensures
+    c.in_default.ensures c.in_ok-of_items.ensures.items
 
 pub returns-in_err-given-clause-fault : goal.returns-in_err-given-clause-fault
 returns-in_err-given-clause-fault c =

@@ -1,4 +1,5 @@
 use Rattle.std.proofs.Common.{◌≤◌, length, ◌∙◌, arith}
+use Rattle.itip_state.proofs.Nothing.{none_left}
 use Rattle.itip_desk.proofs.ReadDeltas.{write_more, write_done, written_so}
 use Rattle.itip_desk.specs.Delta.{delta_octets}
 use Rattle.std.proofs.Common.{ap}
@@ -20,3 +21,7 @@ returns-clause-octets c =
 pub returns-clause-read_again : goal.returns-clause-read_again
 returns-clause-read_again c =
     written_so c.loop-item.octets.items c.args.batch.now c.as_slice-item-items.ensures.ascend (returns-clause-octets c)
+
+pub returns-in_err-append_to-clause-succeeds : goal.returns-in_err-append_to-clause-succeeds
+returns-in_err-append_to-clause-succeeds c = λ none.
+    absurd (none_left c.as_slice-item-items.result.now c.loop-item.item-index c.loop-item-test.true (c.as_slice-item-items.ensures.items ∙ none))

@@ -1,51 +1,30 @@
-use Rattle.std.proofs.Common.{◌≡◌, sym, subst, refl, true, rules, w32}
-use Rattle.std.specs.BTreeMap.Range.{IsLeBy, range_contains}
-use Rattle.std.specs.declared.ops.Bound.TheVariants.{Included, Excluded}
-use Rattle.std.proofs.lemmas.Int.{to_z-of_z}
-use mir.Val.{SFits}
-use Rattle.itip_items.specs.KeyParts.{uid_of}
-use Rattle.itip_desk.specs.Entries.{entry_cmp, entry_of, before_all}
-use Rattle.itip_desk.specs.declared.entry.IndexEntry.{IndexEntry}
+use Rattle.std.proofs.Common.{◌≡◌, [], List, refl}
+use Rattle.itip_state.proofs.Nothing.{not_ok}
+use Rattle.itip_desk.specs.Entries.{day_cmp, day_entry}
 use Rattle.itip_desk.specs.declared.entry.Mark.TheVariants.{Day, Always}
-use Rattle.itip_desk.proofs.Between.{found_between, window_forward, day_inside, mark_inside, mark_forward}
+use Rattle.itip_desk.proofs.Finding.{none_there, nil_if, not_nil}
 use Rattle.itip_desk.proofs.found.find_in.Goals as goal
+use Rattle.itip_desk.proofs.found.find_in.Goals.{in-Some+in_ok-add_in, in_default}
 
-pub find_between-requires : goal.find_between-requires
-find_between-requires c =
-    let first : SFits w32 c.args.window.from = search rules in
-    let last : SFits w32 c.args.window.to = search rules in
-    let from : c.before_all-from.result ≡ before_all (Day c.args.window.from) = simp to_z-of_z at c.before_all-from.ensures in
-    let to : c.before_all-to.result ≡ before_all (Day c.args.window.to) = simp to_z-of_z at c.before_all-to.ensures in
-    subst (λ (low : IndexEntry). IsLeBy entry_cmp low c.before_all-to.result) (sym from)
-    (subst (λ (high : IndexEntry). IsLeBy entry_cmp (before_all (Day c.args.window.from)) high) (sym to)
-    (window_forward c.args.window.from c.args.window.to c.args.window.lawful.some))
-
-pub find_between-requires-2 : goal.find_between-requires-2
-find_between-requires-2 c =
-    subst (λ (low : IndexEntry). IsLeBy entry_cmp low c.after_all-to.result) (sym c.before_all-from-2.ensures)
-    (subst (λ (high : IndexEntry). IsLeBy entry_cmp (before_all Always) high) (sym c.after_all-to.ensures) (mark_forward Always))
-
+-- where there is a first entry, those that are there are found, and else none is there
 pub returns-clause-days : goal.returns-clause-days
-returns-clause-days c = λ item day low high there.
-    let first : SFits w32 c.args.window.from = search rules in
-    let last : SFits w32 c.args.window.to = search rules in
-    let from : c.before_all-from.result ≡ before_all (Day c.args.window.from) = simp to_z-of_z at c.before_all-from.ensures in
-    let to : c.before_all-to.result ≡ before_all (Day c.args.window.to) = simp to_z-of_z at c.before_all-to.ensures in
-    let e : IndexEntry = entry_of item (Day day) in
-    let inside : range_contains entry_cmp (Included c.before_all-from.result) (Excluded c.before_all-to.result) e ≡ true =
-    subst (λ (l : IndexEntry). range_contains entry_cmp (Included l) (Excluded c.before_all-to.result) e ≡ true) (sym from)
-    (subst (λ (h : IndexEntry). range_contains entry_cmp (Included (before_all (Day c.args.window.from))) (Excluded h) e ≡ true) (sym to)
-    (day_inside c.args.window.from c.args.window.to day item low high)) in
-    c.in_ok-find_between-2.ensures.keeps (uid_of item.key) (c.in_ok-find_between.ensures.adds item e
-    (found_between c.args.index.now c.before_all-from.result c.before_all-to.result e there inside) refl tt)
+returns-clause-days c = λ item day low high there. elim c.match-first.branch [
+  | in-Some+in_ok-add_in w ↦ rw (w.uids-is) (w.in_ok-add_in.ensures.days item day low high there)
+  | in_default w ↦ absurd (none_there day_cmp c.args.days.now (day_entry item (Day day)) (nil_if c.args.days.now.keys (λ some. not_ok (w.in_default.ensures.variant.1 some))) there)
+]
 
 pub returns-clause-always : goal.returns-clause-always
-returns-clause-always c = λ item there.
-    let e : IndexEntry = entry_of item Always in
-    let inside : range_contains entry_cmp (Included c.before_all-from-2.result) (Excluded c.after_all-to.result) e ≡ true =
-    subst (λ (l : IndexEntry). range_contains entry_cmp (Included l) (Excluded c.after_all-to.result) e ≡ true)
-    (sym c.before_all-from-2.ensures)
-    (subst (λ (h : IndexEntry). range_contains entry_cmp (Included (before_all Always)) (Excluded h) e ≡ true)
-    (sym c.after_all-to.ensures) (mark_inside Always item)) in
-    c.in_ok-find_between-2.ensures.adds item e
-    (found_between c.args.index.now c.before_all-from-2.result c.after_all-to.result e there inside) refl tt
+returns-clause-always c = λ item there. elim c.match-first.branch [
+  | in-Some+in_ok-add_in w ↦ rw (w.uids-is) (w.in_ok-add_in.ensures.always item there)
+  | in_default w ↦ absurd (none_there day_cmp c.args.days.now (day_entry item Always) (nil_if c.args.days.now.keys (λ some. not_ok (w.in_default.ensures.variant.1 some))) there)
+]
+
+-- of no entry there is no first
+pub returns-clause-none : goal.returns-clause-none
+returns-clause-none c = λ none. elim c.match-first.branch [
+  | in-Some+in_ok-add_in w ↦ absurd (not_nil c.args.days.now.keys (w.in-Some.ensures.variant.0 refl) none)
+  | in_default w ↦ rw (w.uids-is) (c.new-uids.ensures.items)
+]
+
+pub returns-in_err-add_in-clause-succeeds : goal.returns-in_err-add_in-clause-succeeds
+returns-in_err-add_in-clause-succeeds c = λ none. absurd (not_nil c.args.days.now.keys (c.in-Some.ensures.variant.0 refl) none)

@@ -1,34 +1,22 @@
-use Rattle.std.proofs.Common.{◌≡◌, ◌∙◌, ℕ, ap, sym, subst, refl, true}
-use Rattle.std.specs.BTreeMap.Range.{IsLeBy, range_contains}
-use Rattle.std.specs.declared.ops.Bound.TheVariants.{Included, Excluded}
-use Rattle.itip_desk.specs.Entries.{entry_cmp, entry_of, attendee_mark, before_all, after_all}
-use Rattle.itip_desk.specs.declared.entry.IndexEntry.{IndexEntry}
-use Rattle.itip_desk.specs.declared.entry.Mark.{Mark}
-use Rattle.itip_desk.specs.declared.entry.Mark.TheVariants.{Attendee}
-use Rattle.itip_desk.proofs.Between.{found_between, mark_inside, mark_forward}
+use Rattle.std.proofs.Common.{◌≡◌, [], List, refl}
+use Rattle.itip_state.proofs.Nothing.{not_ok}
+use Rattle.itip_desk.specs.Entries.{name_cmp, name_entry, address_number}
+use Rattle.itip_desk.proofs.Finding.{none_there, nil_if, not_nil}
 use Rattle.itip_desk.proofs.found.find_named.Goals as goal
+use Rattle.itip_desk.proofs.found.find_named.Goals.{in-Some+in_ok-add_named, in_default}
 
-pub find_naming-requires : goal.find_naming-requires
-find_naming-requires c =
-    let mark : Mark = attendee_mark c.args.address.now in
-    let from : c.before_all-from.result ≡ before_all mark = c.before_all-from.ensures ∙
-    ap (λ (n : ℕ). before_all (Attendee n)) c.attendee_number.ensures in
-    let to : c.after_all-to.result ≡ after_all mark = c.after_all-to.ensures ∙
-    ap (λ (n : ℕ). after_all (Attendee n)) c.attendee_number.ensures in
-    subst (λ (low : IndexEntry). IsLeBy entry_cmp low c.after_all-to.result) (sym from)
-    (subst (λ (high : IndexEntry). IsLeBy entry_cmp (before_all mark) high) (sym to) (mark_forward mark))
+pub returns-clause-names : goal.returns-clause-names
+returns-clause-names c = λ item names there. elim c.match-first.branch [
+  | in-Some+in_ok-add_named w ↦ rw (w.uids-is) (w.in_ok-add_named.ensures item names there)
+  | in_default w ↦ absurd (none_there name_cmp c.args.names.now (name_entry item (address_number c.args.address.now))
+      (nil_if c.args.names.now.keys (λ some. not_ok (w.in_default.ensures.variant.1 some))) there)
+]
 
-pub returns : goal.returns
-returns c = λ item names there.
-    let mark : Mark = attendee_mark c.args.address.now in
-    let from : c.before_all-from.result ≡ before_all mark = c.before_all-from.ensures ∙
-    ap (λ (n : ℕ). before_all (Attendee n)) c.attendee_number.ensures in
-    let to : c.after_all-to.result ≡ after_all mark = c.after_all-to.ensures ∙
-    ap (λ (n : ℕ). after_all (Attendee n)) c.attendee_number.ensures in
-    let e : IndexEntry = entry_of item mark in
-    let inside : range_contains entry_cmp (Included c.before_all-from.result) (Excluded c.after_all-to.result) e ≡ true =
-    subst (λ (l : IndexEntry). range_contains entry_cmp (Included l) (Excluded c.after_all-to.result) e ≡ true) (sym from)
-    (subst (λ (h : IndexEntry). range_contains entry_cmp (Included (before_all mark)) (Excluded h) e ≡ true) (sym to)
-    (mark_inside mark item)) in
-    c.in_ok-find_naming.ensures.adds item e
-    (found_between c.args.index.now c.before_all-from.result c.after_all-to.result e there inside) refl names
+pub returns-clause-none : goal.returns-clause-none
+returns-clause-none c = λ none. elim c.match-first.branch [
+  | in-Some+in_ok-add_named w ↦ absurd (not_nil c.args.names.now.keys (w.in-Some.ensures.variant.0 refl) none)
+  | in_default w ↦ rw (w.uids-is) (c.new-uids.ensures.items)
+]
+
+pub returns-in_err-add_named-clause-succeeds : goal.returns-in_err-add_named-clause-succeeds
+returns-in_err-add_named-clause-succeeds c = λ none. absurd (not_nil c.args.names.now.keys (c.in-Some.ensures.variant.0 refl) none)

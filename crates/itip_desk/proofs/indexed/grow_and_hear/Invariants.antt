@@ -1,7 +1,6 @@
 use Rattle.std.proofs.Common.{◌≡◌, map, take, true}
-use Rattle.itip_desk.specs.Entries.{IsNoted}
+use Rattle.itip_desk.specs.Entries.{IndexEntry, IsNoted}
 use Rattle.itip_desk.specs.Index.{has, HasGrown}
-use Rattle.itip_desk.specs.declared.entry.IndexEntry.{IndexEntry}
 use Rattle.itip_desk.proofs.indexed.grow_and_hear.Given as goal
 
 abbrev pub invariant-loop-item : goal.invariant-loop-item

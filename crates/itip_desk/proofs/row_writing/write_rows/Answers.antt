@@ -20,9 +20,9 @@ loop-rows-preserved g c = λ all are.
     one_more (g.F.RowForm.octets c.args.form.now) c.loop-rows.rows all _ _ _ c.loop-rows.kept.items (c.loop-rows.invariant all are)
     c.next.new.self c.in-Some.some.items
     (subst (λ (o : Option (List Row)). IsNextOf c.loop-rows.rows c.next.new.self o) (ap (option_map (λ r. r.items)) c.in-Some.is)
-    c.in_ok-some.ensures.rows) _ c.write_each-done.new.kept.items
-    (subst (λ (rows : List Row). MovesOut (g.W.Write.contents c.loop-rows.writer) (g.W.Write.contents c.write_each-done.new.writer)
-    (c.loop-rows.kept.items ++ flat_map (g.F.RowForm.octets c.args.form.now) rows) c.write_each-done.new.kept.items)
+    c.in_ok-some.ensures.rows) _ c.write_some_rows-done.new.kept.items
+    (subst (λ (rows : List Row). MovesOut (g.W.Write.contents c.loop-rows.writer) (g.W.Write.contents c.write_some_rows-done.new.writer)
+    (c.loop-rows.kept.items ++ flat_map (g.F.RowForm.octets c.args.form.now) rows) c.write_some_rows-done.new.kept.items)
     c.as_slice.ensures.value c.in_ok-done.ensures.moved)
 
 pub returns-in_err-done-clause-front : goal.returns-in_err-done-clause-front
@@ -32,7 +32,7 @@ returns-in_err-done-clause-front g c =
     c.next.new.self c.in-Some.some.items
     (subst (λ (o : Option (List Row)). IsNextOf c.loop-rows.rows c.next.new.self o) (ap (option_map (λ r. r.items)) c.in-Some.is)
     c.in_ok-some.ensures.rows) _
-    (subst (λ (rows : List Row). AppendsFront (g.W.Write.contents c.loop-rows.writer) (g.W.Write.contents c.write_each-done.new.writer)
+    (subst (λ (rows : List Row). AppendsFront (g.W.Write.contents c.loop-rows.writer) (g.W.Write.contents c.write_some_rows-done.new.writer)
     (c.loop-rows.kept.items ++ flat_map (g.F.RowForm.octets c.args.form.now) rows)) c.as_slice.ensures.value c.in_err-done.ensures.front))
 
 pub returns-clause-moved : goal.returns-clause-moved

@@ -30,8 +30,8 @@ returns-in_err-write_items-clause-front g c =
 pub returns-clause-output : goal.returns-clause-output
 returns-clause-output g c = λ inputs are.
     compaction_written (g.W.Write.contents c.args.writer.now) (g.W.Write.contents c.write_items.new.writer) inputs
-    c.in_ok-inbox.inbox.state c.in_ok-items.items.items c.in_ok-inbox.inbox.refusals.items c.has_refusals.result
+    c.in_ok-inbox.inbox.state c.in_ok-items.items.items c.in_ok-inbox.inbox.refusals.items c.has_refusals-is_refused.result
     (c.in_ok-inbox.ensures.holds inputs are) c.in_ok-items.ensures
     (subst (λ (items : List Item). Appends (g.W.Write.contents c.args.writer.now) (g.W.Write.contents c.write_items.new.writer)
     (delta_octets items)) c.as_slice.ensures.value c.in_ok-write_items.ensures.all)
-    c.has_refusals.ensures
+    c.has_refusals-is_refused.ensures

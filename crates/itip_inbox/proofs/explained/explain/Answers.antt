@@ -17,7 +17,7 @@ use Rattle.itip_inbox.proofs.explained.explain.Goals as goal
 pub explanation-requires : goal.explanation-requires
 explanation-requires g c =
     subst (λ (told : List ToldItem). AreOf c.args.uid.now (heard_of told)) (sym c.as_slice-told.ensures.value)
-    (told_of_uid c.args.uid.now c.in_ok-inbox.ensures.heard.messages c.in_ok-inbox.inbox.told.items c.in_ok-inbox.ensures.heard.keeps.tells)
+    (told_of_uid c.args.uid.now c.in_ok-inbox.ensures.heard.messages c.in_ok-inbox.inbox.told.items c.in_ok-inbox.ensures.heard.tells)
 
 pub returns-in_err-inbox-clause-front : goal.returns-in_err-inbox-clause-front
 returns-in_err-inbox-clause-front g c =

@@ -15,8 +15,8 @@ returns c =
     (λ sorted. (told heard : List Item) → AreKept c.args.known.now told → AreKept c.args.more.now heard →
     AreLacking told heard sorted.items)
     (λ sorted is told heard of_told of_heard.
-    lacking_of_kept told heard c.args.known.now c.args.more.now of_told of_heard items news sorted.items c.in_ok-told.ensures
+    lacking_of_kept told heard c.args.known.now c.args.more.now of_told of_heard items news sorted.items c.in_ok-told.ensures.items
     (subst (λ (t : List Item). AreNews c.args.known.now t news) c.as_slice.ensures.value c.in_ok-news.ensures.news)
     (subst (λ (t : List Item). IsItemsOf sorted.items t)
     (c.in_ok-shared.ensures ∙ ap (map (λ item. item.now)) c.as_slice-2.ensures.value) is))
-    c.by_octets.ensures
+    c.by_octets.ensures.items

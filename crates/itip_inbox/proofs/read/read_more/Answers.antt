@@ -1,71 +1,26 @@
-use Rattle.std.proofs.Common.{◌≡◌, ◌∙◌, ◌+◌, ap, ℕ, List, [], ◌∷◌, length, arith, Option}
+use Rattle.std.proofs.Common.{◌∙◌, sym, subst, List}
 use Rattle.std.specs.Option.{option_copied}
-use Rattle.std.proofs.lemmas.List.{nil_from_length}
-use Rattle.std.specs.Vec.Iter.{into_iter_items}
-use Rattle.itip_inbox.specs.Inbox.{Placed}
-use Rattle.itip_inbox.specs.Streaming.{KeepsMessages, HasHeard}
-use Rattle.itip_inbox.proofs.Hearing.{keeps_same}
-use Rattle.itip_inbox.proofs.Sources.{turn_begins, turn_more, turn_ends, turn_tells}
+use Rattle.itip_explain.specs.declared.told.ToldItem.{ToldItem}
+use Rattle.itip_inbox.specs.Following.{TellAbout}
+use Rattle.itip_inbox.proofs.Sources.{holds_closed, heard_closed}
 use Rattle.itip_inbox.proofs.read.read_more.Goals as goal
 
-pub loop-source-init : goal.loop-source-init
-loop-source-init g c =
-    let about : Option (List ℕ) = option_copied c.args.about in
-    let given : into_iter_items c.into_iter-source-iterator.result ≡ c.args.sources.items =
-    c.into_iter-source-iterator.ensures.into_iter_gives.0 in
-    let long : length (into_iter_items c.into_iter-source-iterator.result) ≡ length c.args.sources.items = ap length given in
-    record {
-      hears = λ inputs are. turn_begins g.R.Read.remaining about c.args.sources.items (into_iter_items c.into_iter-source-iterator.result)
-          inputs c.empty-inbox.result given are (c.empty-inbox.ensures.none about) c.empty-inbox.ensures.source;
-      heard = record { messages = []; keeps = c.empty-inbox.ensures.none about };
-      count = omega (arith, c.empty-inbox.ensures.source, long);
-      fresh = c.empty-inbox.ensures.messages;
-    }
-
-pub loop-source-preserved : goal.loop-source-preserved
-loop-source-preserved g c =
-    let about : Option (List ℕ) = option_copied c.args.about in
-    let step : into_iter_items c.loop-source.source-iterator ≡ c.in-Some.source ∷ into_iter_items c.next.new.self =
-    c.in-Some.ensures.steps.0 in
-    let place : c.next_source.new.self.source ≡ c.loop-source.inbox.source + 1 = c.in_ok-next_source.ensures.source ∙
-    ap (λ (n : ℕ). n + 1) c.in_ok-read_source.ensures.source in
-    let same : (messages : List Placed) → KeepsMessages about messages c.read_source.new.inbox →
-    KeepsMessages about messages c.next_source.new.self =
-    λ messages. keeps_same about messages c.read_source.new.inbox c.next_source.new.self c.in_ok-next_source.ensures.state
-    c.in_ok-next_source.ensures.refusals c.in_ok-next_source.ensures.told in
-    record {
-      hears = λ inputs are. turn_more g.R.Read.remaining about inputs c.in-Some.source (into_iter_items c.next.new.self)
-          c.loop-source.inbox c.read_source.new.inbox c.next_source.new.self c.loop-source.invariant.fresh place same
-          c.in_ok-read_source.ensures.keeps
-          (into_iter_items c.loop-source.source-iterator) (c.loop-source.invariant.hears inputs are) step;
-      heard = let more : HasHeard about c.read_source.new.inbox = c.in_ok-read_source.ensures.heard c.loop-source.invariant.heard in
-          record { messages = more.messages; keeps = same more.messages more.keeps };
-      count = omega (arith, c.loop-source.invariant.count, ap length step, place);
-      fresh = c.in_ok-next_source.ensures.messages;
-    }
-
 pub returns-clause-holds : goal.returns-clause-holds
-returns-clause-holds g c =
-    let none : into_iter_items c.loop-source.source-iterator ≡ [] =
-    nil_from_length _ (omega (arith, c.in-None.ensures.steps.0, c.loop-source.source-iterator.rest.ok.0)) in
-    λ inputs are. turn_ends g.R.Read.remaining (option_copied c.args.about) inputs (into_iter_items c.loop-source.source-iterator)
-    c.loop-source.inbox (c.loop-source.invariant.hears inputs are) none
+returns-clause-holds g c = λ inputs are.
+    holds_closed inputs c.in_ok-inbox.inbox.state c.in_ok-close.field-0.state c.in_ok-inbox.inbox.refusals.items
+    c.in_ok-close.field-0.refusals.items (c.in_ok-inbox.ensures.holds inputs are) c.in_ok-close.ensures.state
+    c.in_ok-close.ensures.refusals
 
 pub returns-clause-told : goal.returns-clause-told
-returns-clause-told g c =
-    let none : into_iter_items c.loop-source.source-iterator ≡ [] =
-    nil_from_length _ (omega (arith, c.in-None.ensures.steps.0, c.loop-source.source-iterator.rest.ok.0)) in
-    λ inputs are. turn_tells g.R.Read.remaining (option_copied c.args.about) inputs (into_iter_items c.loop-source.source-iterator)
-    c.loop-source.inbox (c.loop-source.invariant.hears inputs are) none
+returns-clause-told g c = λ inputs are.
+    subst (λ (told : List ToldItem). TellAbout (option_copied c.args.about) inputs told) (sym c.in_ok-close.ensures.told)
+    (c.in_ok-inbox.ensures.told inputs are)
 
 pub returns-clause-heard : goal.returns-clause-heard
-returns-clause-heard g c = c.loop-source.invariant.heard
+returns-clause-heard g c =
+    heard_closed (option_copied c.args.about) c.in_ok-inbox.inbox.state c.in_ok-close.field-0.state c.in_ok-inbox.inbox.refusals.items
+    c.in_ok-close.field-0.refusals.items c.in_ok-inbox.inbox.told.items c.in_ok-close.field-0.told.items c.in_ok-inbox.ensures.heard
+    c.in_ok-close.ensures.state c.in_ok-close.ensures.refusals c.in_ok-close.ensures.told
 
 pub returns-clause-source : goal.returns-clause-source
-returns-clause-source g c =
-    let none : into_iter_items c.loop-source.source-iterator ≡ [] =
-    nil_from_length _ (omega (arith, c.in-None.ensures.steps.0, c.loop-source.source-iterator.rest.ok.0)) in
-    omega (arith, c.loop-source.invariant.count, ap length none)
-
-pub returns-clause-messages : goal.returns-clause-messages
-returns-clause-messages g c = c.loop-source.invariant.fresh
+returns-clause-source g c = c.in_ok-close.ensures.source ∙ c.in_ok-inbox.ensures.source

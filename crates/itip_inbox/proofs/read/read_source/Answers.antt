@@ -1,6 +1,6 @@
 use Rattle.std.proofs.Common.{◌∙◌, refl}
 use Rattle.std.specs.Option.{option_copied}
-use Rattle.itip_inbox.proofs.Streams.{reads_none, reads_share, reads_last, heard_on}
+use Rattle.itip_inbox.proofs.Streams.{reads_none, reads_share, reads_last, some_on}
 use Rattle.itip_inbox.proofs.read.read_source.Goals as goal
 
 pub loop-init : goal.loop-init
@@ -10,22 +10,22 @@ loop-init g c = record {
   source = refl;
 }
 
-pub returns-then-is_end-clause-keeps : goal.returns-then-is_end-clause-keeps
-returns-then-is_end-clause-keeps g c = λ before kept.
+pub returns-then-is_end-clause-got : goal.returns-then-is_end-clause-got
+returns-then-is_end-clause-got g c = λ before kept.
     reads_last (option_copied c.args.about) before c.args.inbox.now c.loop.inbox (g.R.Read.remaining c.args.reader.now)
     (g.R.Read.remaining c.loop.reader) c.loop.held (c.loop.invariant.reads before kept) c.loop.invariant.source
-    (g.R.Read.remaining c.fill.new.reader) c.fill.new.held.items c.in_ok-is_end.ensures.fills.0 c.hear_all.new.inbox
-    c.in_ok-hear_all.ensures.hears (c.in_ok-is_end.ensures.fills.1 c.if-is_end.true)
+    (g.R.Read.remaining c.fill.new.reader) c.fill.new.held.items c.in_ok-is_end.ensures.fills.0 c.hear_last.new.inbox
+    c.in_ok-hear_last.ensures.hears (c.in_ok-is_end.ensures.fills.1 c.if-is_end.true)
 
-pub returns-then-is_end-clause-heard : goal.returns-then-is_end-clause-heard
-returns-then-is_end-clause-heard g c = λ had.
-    heard_on (option_copied c.args.about) had.messages c.args.inbox.now c.loop.inbox (g.R.Read.remaining c.args.reader.now)
-    (g.R.Read.remaining c.loop.reader) c.loop.held (c.loop.invariant.reads had.messages had.keeps) c.loop.invariant.source
-    (g.R.Read.remaining c.fill.new.reader) c.fill.new.held.items c.in_ok-is_end.ensures.fills.0 c.hear_all.new.inbox
-    c.in_ok-hear_all.ensures.hears
+pub returns-then-is_end-clause-some : goal.returns-then-is_end-clause-some
+returns-then-is_end-clause-some g c = λ had.
+    some_on (option_copied c.args.about) had.messages c.args.inbox.now c.loop.inbox (g.R.Read.remaining c.args.reader.now)
+    (g.R.Read.remaining c.loop.reader) c.loop.held (c.loop.invariant.reads had.messages had.got) c.loop.invariant.source
+    (g.R.Read.remaining c.fill.new.reader) c.fill.new.held.items c.in_ok-is_end.ensures.fills.0 c.hear_last.new.inbox
+    c.in_ok-hear_last.ensures.hears
 
 pub returns-then-is_end-clause-source : goal.returns-then-is_end-clause-source
-returns-then-is_end-clause-source g c = c.in_ok-hear_all.ensures.source ∙ c.loop.invariant.source
+returns-then-is_end-clause-source g c = c.in_ok-hear_last.ensures.source ∙ c.loop.invariant.source
 
 pub loop-preserved : goal.loop-preserved
 loop-preserved g c = record {

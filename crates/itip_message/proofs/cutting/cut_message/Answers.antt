@@ -1,6 +1,7 @@
 use Rattle.std.proofs.Common.{◌∙◌, sym, ap, refl, subst, ◌&&◌, Bool, arith}
 use Rattle.itip_message.specs.Scanned.{is_empty}
 use Rattle.itip_message.specs.Passing.{StaysPassing}
+use Rattle.itip_message.proofs.BegunMessages.{not_cut}
 use Rattle.itip_message.proofs.StaysPassing.{stays_more, stays_end, none_left}
 use Rattle.itip_message.proofs.cutting.cut_message.Goals as goal
 
@@ -38,3 +39,7 @@ returns-clause-begun c = record {
   goes_on = c.in_default.ensures.goes_on;
   some = c.loop-line.invariant.some;
 }
+
+pub returns-clause-finds : goal.returns-clause-finds
+returns-clause-finds c = λ message after stays. absurd (not_cut c.args.bytes.now c.loop-line.rest.now c.loop-line.all_empty
+    c.loop-line.invariant.passes c.in_default.ensures.goes_on message after stays)

@@ -8,3 +8,11 @@ pub returns-in_default-local-clause-none : goal.returns-in_default-local-clause-
 returns-in_default-local-clause-none c =
     rw (← c.as_bytes-bytes.ensures.value) (no_moment _ (Some (zone_text (option_copied c.args.zone))) c.in_default.ensures.none
     c.in_default-utc.ensures.none c.in_default-local.ensures.none)
+
+pub returns-in_err-clone-in-Some-zone-clause-room : goal.returns-in_err-clone-in-Some-zone-clause-room
+returns-in_err-clone-in-Some-zone-clause-room c = λ unzoned. absurd (unzoned (record {
+  day = c.in-Some-local.stamp.day;
+  second = c.in-Some-local.stamp.second;
+  local = rw c.as_bytes-bytes.ensures.value at c.in-Some-local.ensures.found;
+  named = rw c.in-Some-zone.is c.in-Some-zone.zone.now.not_empty;
+}))

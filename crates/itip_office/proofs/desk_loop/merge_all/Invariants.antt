@@ -1,8 +1,16 @@
-use Rattle.std.proofs.Common.{◌≡◌, []}
-use Rattle.itip_running.specs.Ends.{published, pending, keeper_pair}
-use Rattle.itip_office.specs.Merged.{GrewBy}
+use Rattle.itip_office.specs.Merged.{IsIdle, GrewShown, GrewTexts}
 use Rattle.itip_office.proofs.desk_loop.merge_all.Given as goal
 
 abbrev pub invariant-loop : goal.invariant-loop
-invariant-loop g l = (pending l.keeper ≡ []) × GrewBy l.desk (published l.initial.keeper) (published l.keeper) l.answers.items ×
-    (keeper_pair l.keeper ≡ keeper_pair l.initial.keeper)
+invariant-loop g l = record {
+  idle : IsIdle l.shown;
+  texts : GrewTexts l.desk l.fn.texts l.texts l.answers.items;
+  shown : GrewShown l.desk l.fn.shown l.shown l.answers.items;
+}
+
+abbrev pub invariant-loop-merge : goal.invariant-loop-merge
+invariant-loop-merge g l = record {
+  idle : IsIdle l.shown;
+  texts : GrewTexts l.desk l.fn.texts l.texts l.answers.items;
+  shown : GrewShown l.desk l.fn.shown l.shown l.answers.items;
+}

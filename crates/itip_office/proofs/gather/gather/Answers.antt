@@ -1,45 +1,40 @@
-use Rattle.std.proofs.Common.{rules, ◌≡◌, ◌<◌, List, [], ◌∷◌, ◌++◌, suc, length, map, All, ap, sym, subst, ◌∙◌, arith, refl}
+use Rattle.std.proofs.Common.{rules, ◌≡◌, List, [], ◌∷◌, ◌++◌, All, sym, subst, refl}
 use Rattle.std.specs.Vec.Iter.{into_iter_items}
-use Rattle.std.proofs.lemmas.List.{map-append, length_push}
-use Rattle.itip_items.specs.declared.item.Item.{Item}
-use Rattle.itip_desk.specs.Heard.{heard}
-use Rattle.itip_running.specs.Ends.{published}
-use Rattle.itip_office.specs.declared.owned_keeper.OwnedKeeper.{OwnedKeeper}
+use Rattle.std.proofs.lemmas.List.Elements.{All-head, All-tail}
+use Rattle.itip_desk.specs.Desk.{Shown}
 use Rattle.itip_office.specs.declared.team.Merged.{Merged}
 use Rattle.itip_office.specs.Answers.{Answer}
-use Rattle.itip_office.specs.Team.{AreOfDesks}
-use Rattle.itip_office.specs.Ended.{Tells, all_heard}
-use Rattle.itip_office.proofs.Reports.{IsFor, tells_more, heard_more}
+use Rattle.itip_office.specs.Merged.{HasMerged}
+use Rattle.itip_office.specs.Ended.{AreGathered}
+use Rattle.itip_office.proofs.Reports.{IsFor, gathered_none, gathered_more}
 use Rattle.itip_office.proofs.gather.gather.Goals as goal
+
+pub loop-one-init : goal.loop-one-init
+loop-one-init g c =
+    let all : into_iter_items c.into_iter-one-iterator.result ≡ c.args.done.kept.items = search rules in
+    let none : c.new-texts.result.items ≡ [] = c.new-texts.ensures.items in
+    record {
+      left = subst (λ (l : List (Merged g.row.R.Denot)). All (λ k. HasMerged k.desk k.answers.items k.held.texts) l) (sym all) c.requires.kept;
+      gathered = subst (λ (l : List Shown). AreGathered c.args.desks c.args.done.alone.items l) (sym none)
+          (gathered_none c.args.desks c.args.done.alone.items c.requires.alone);
+    }
 
 pub loop-one-preserved : goal.loop-one-preserved
 loop-one-preserved g c =
     let was = c.loop-one.invariant in
     let one = c.in-Some.one in
-    let desk = c.loop-one.desk in
     let rest = into_iter_items c.next.new.self in
-    let first : into_iter_items c.loop-one.one-iterator ≡ one ∷ rest = c.in-Some.ensures.steps.0 in
-    let long : length (into_iter_items c.loop-one.one-iterator) ≡ suc (length rest) = ap length first in
-    let left = subst (λ (l : List (Merged g.row.R.Denot)). AreOfDesks desk (map (λ k. (k.answers.items, published k.held.keeper)) l)) first
+    let left : All (λ k. HasMerged k.desk k.answers.items k.held.texts) (one ∷ rest) =
+    subst (λ (l : List (Merged g.row.R.Denot)). All (λ k. HasMerged k.desk k.answers.items k.held.texts) l) c.in-Some.ensures.steps.0
     was.left in
-    let keepers : c.push.new.self.items ≡ c.loop-one.keepers.items ++ one.held ∷ [] = c.in_ok-push.ensures.items in
-    let count : length c.push.new.self.items ≡ suc (length c.loop-one.keepers.items) = ap length keepers ∙
-    omega (arith, length_push c.loop-one.keepers.items one.held) in
+    let texts : c.push.new.self.items ≡ c.loop-one.texts.items ++ one.held.texts ∷ [] = search rules in
     let answers : c.append.new.self.items ≡ c.loop-one.answers.items ++ one.answers.items = c.in_ok-append.ensures.items in
-    let are : All (IsFor c.args.desks desk) one.answers.items =
-    subst (λ (l : List Answer). All (IsFor c.args.desks desk) l) c.deref.ensures.value (c.if-not-are_for.ensures refl) in
-    let histories : List (List (List Item)) = map (λ h. published h.keeper) c.loop-one.keepers.items in
-    let batches = published one.held.keeper in
-    let more : all_heard (map (λ h. published h.keeper) c.push.new.self.items) ≡ all_heard histories ++ heard batches =
-    ap (λ (l : List (OwnedKeeper g.row.R.Denot)). all_heard (map (λ h. published h.keeper) l)) keepers
-    ∙ ap all_heard (map-append (λ (h : OwnedKeeper g.row.R.Denot). published h.keeper) c.loop-one.keepers.items (one.held ∷ [])) ∙
-    heard_more histories batches in
+    let are : All (IsFor c.args.desks one.desk) one.answers.items =
+    subst (λ (l : List Answer). All (IsFor c.args.desks one.desk) l) c.deref.ensures.value (c.if-not-are_for.ensures refl) in
     record {
-      at = (let at = was.at in omega (arith, at, count));
-      count = (let sum = was.count in omega (arith, sum, long, count));
-      left = left.1;
-      tells = subst (λ (l : List Answer). Tells c.args.desks l (all_heard (map (λ h. published h.keeper) c.push.new.self.items)))
-          (sym answers)
-          (subst (Tells c.args.desks (c.loop-one.answers.items ++ one.answers.items)) (sym more)
-          (tells_more c.args.desks desk c.loop-one.answers.items one.answers.items (all_heard histories) batches was.tells are left.0));
+      left = All-tail (λ k. HasMerged k.desk k.answers.items k.held.texts) one rest left;
+      gathered = subst (λ (l : List Answer). AreGathered c.args.desks l c.push.new.self.items) (sym answers)
+          (subst (λ (l : List Shown). AreGathered c.args.desks (c.loop-one.answers.items ++ one.answers.items) l) (sym texts)
+          (gathered_more c.args.desks one.desk c.loop-one.answers.items one.answers.items c.loop-one.texts.items one.held.texts was.gathered
+          are (All-head (λ k. HasMerged k.desk k.answers.items k.held.texts) one rest left)));
     }

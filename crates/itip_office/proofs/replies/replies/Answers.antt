@@ -7,8 +7,8 @@ use Rattle.itip_office.specs.Answers.{Answer}
 use Rattle.itip_office.proofs.Replying.{ascend_answers, none_left}
 use Rattle.itip_office.proofs.replies.replies.Goals as goal
 
-pub returns : goal.returns
-returns c =
+pub returns-clause-replies : goal.returns-clause-replies
+returns-clause-replies c =
     let answers = into_iter_items c.into_iter-job-iterator.result in
     let whole : answers ≡ c.sort_by_key.new.self.items = search rules in
     let sorted_are : map (λ (a : Answer). a.0) c.sort_by_key.new.self.items ≡ c.args.jobs.now = search rules in

@@ -1,13 +1,11 @@
-use Rattle.std.proofs.Common.{◌≡◌, ℕ, ◌+◌, length, map}
-use Rattle.std.specs.Prelude.{IfOk}
-use Rattle.std.specs.Vec.Iter.{into_iter_items}
-use Rattle.itip_running.specs.Ends.{published}
-use Rattle.itip_office.specs.Team.{AreNumbered, AreOfDesks}
+use Rattle.std.proofs.Common.{All}
+use Rattle.std.specs.Prelude.{IfOk, IsErrOf}
+use Rattle.itip_office.specs.declared.error.OfficeError.TheVariants as error
+use Rattle.itip_office.specs.Merged.{HasMerged}
 use Rattle.itip_office.proofs.team.join_keepers.Given as goal
 
 abbrev pub invariant-loop-keeper : goal.invariant-loop-keeper
-invariant-loop-keeper g l = (n : ℕ) × (n + length (into_iter_items l.keeper-iterator) ≡ length l.fn.keepers.items)
-    × IfOk l.all (λ all. length all.items ≡ n)
-    × (AreNumbered 0 (map (λ t. t.promise.desk) l.fn.keepers.items)
-    → AreNumbered n (map (λ t. t.promise.desk) (into_iter_items l.keeper-iterator))
-    × IfOk l.all (λ all. (length all.items ≡ n) × AreOfDesks 0 (map (λ k. (k.answers.items, published k.held.keeper)) all.items)))
+invariant-loop-keeper g l = record {
+  kept : IfOk l.all (λ all. All (λ k. HasMerged k.desk k.answers.items k.held.texts) all.items);
+  closed : IsErrOf l.all error.GateClosed → g.G.Gate.may_close;
+}

@@ -1,21 +1,16 @@
-use Rattle.std.proofs.Common.{rules, ◌≡◌, ℕ, ◌+◌, [], ◌∷◌, ◌++◌, length, map, ap, sym, subst, ◌∙◌, arith}
-use Rattle.std.proofs.lemmas.List.{length_push}
+use Rattle.std.proofs.Common.{◌≡◌, List, [], ◌∷◌, ◌++◌, All, sym, subst}
+use Rattle.std.proofs.lemmas.List.Elements.{All-push}
 use Rattle.std.proofs.lemmas.Result.{IfOk-at_ok}
-use Rattle.itip_running.specs.Ends.{published}
-use Rattle.itip_office.specs.Merged.{AreMerged}
-use Rattle.itip_office.specs.Team.{AreOfDesks}
-use Rattle.itip_office.proofs.Reports.{reports_push}
+use Rattle.itip_office.specs.declared.team.Merged.{Merged}
+use Rattle.itip_office.specs.Merged.{HasMerged}
 use Rattle.itip_office.proofs.team.with_kept.Goals as goal
 
 pub returns-in_ok-push-in-Ok-clause-kept : goal.returns-in_ok-push-in-Ok-clause-kept
-returns-in_ok-push-in-Ok-clause-kept g c = λ n was one.
+returns-in_ok-push-in-Ok-clause-kept g c = λ was one.
     let old = c.in-Ok.all.items in
     let more = c.in_ok-more-in-Ok.more in
-    let w = IfOk-at_ok (λ v. (length v.items ≡ n) × AreOfDesks 0 (map (λ k. (k.answers.items, published k.held.keeper)) v.items))
-    c.in-Ok.is was in
-    let m = IfOk-at_ok (λ k. AreMerged n k.answers.items (published k.held.keeper)) c.in_ok-more-in-Ok.was one in
-    let pushed : c.push.new.self.items ≡ old ++ more ∷ [] = c.in_ok-push-in-Ok.ensures.items in (
-      ap length pushed ∙ length_push old more ∙ ap (λ (k : ℕ). k + 1) w.0,
-      reports_push (λ k. (k.answers.items, published k.held.keeper)) old c.push.new.self.items more pushed w.1
-          (subst (λ (d : ℕ). AreMerged d more.answers.items (published more.held.keeper)) (sym w.0) m),
-    )
+    let w = IfOk-at_ok (λ v. All (λ k. HasMerged k.desk k.answers.items k.held.texts) v.items) c.in-Ok.is was in
+    let m = IfOk-at_ok (λ k. HasMerged k.desk k.answers.items k.held.texts) c.in_ok-more-in-Ok.was one in
+    let pushed : c.push.new.self.items ≡ old ++ more ∷ [] = c.in_ok-push-in-Ok.ensures.items in
+    subst (λ (l : List (Merged g.row.R.Denot)). All (λ k. HasMerged k.desk k.answers.items k.held.texts) l) (sym pushed)
+    (All-push (λ k. HasMerged k.desk k.answers.items k.held.texts) old more w m)

@@ -12,7 +12,7 @@ returns c =
     five c.args.out.now.items c.put.new.out.items c.put_escaped.new.out.items c.put-2.new.out.items c.put_name.new.out.items
     c.put-3.new.out.items (codes "<th scope=\"row\" title=\"") (escaped c.args.row.now.uid) (codes "\"><bdi>")
     (name_markup c.args.row.now) (codes "</bdi></th>") c.in_ok-put.ensures
-    (c.in_ok-put_escaped.ensures ∙
+    (c.in_ok-put_escaped.ensures.ok ∙
     ap (λ (t : List ℕ). c.put.new.out.items ++ escaped t) (c.as_bytes-uid.ensures.value ∙ c.as_str.ensures))
     c.in_ok-put-2.ensures c.in_ok-put_name.ensures is)
     c.put-3.ensures

@@ -5,8 +5,8 @@ use Rattle.itip_report.specs.Tally.{IsTally}
 use Rattle.itip_report.proofs.Tallying.{end_row}
 use Rattle.itip_report.proofs.load.count_attendees.Goals as goal
 
-pub returns : goal.returns
-returns c = λ done long tally.
+pub returns-clause-counted : goal.returns-clause-counted
+returns-clause-counted c = λ done long tally.
     let all = take_all c.loop-attendee.attendee-index c.as_slice-attendee-items.result.now c.loop-attendee-test.false ∙
     c.as_slice-attendee-items.ensures in
     end_row done c.args.row.now c.loop-attendee.tally.keys.items c.loop-attendee.tally.counts

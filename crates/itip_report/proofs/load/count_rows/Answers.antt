@@ -2,7 +2,10 @@ use Rattle.std.proofs.Common.{◌≡◌, ◌<◌, ◌+◌, ◌∙◌, ◌++◌, 
 use Rattle.std.proofs.Common.{append-nil, append_assoc}
 use Rattle.std.proofs.lemmas.List.{length-append, length-take, take_more}
 use Rattle.itip_view.specs.declared.row.Row.{Row}
+use Rattle.itip_state.proofs.Nothing.{not_ok}
+use Rattle.itip_report.specs.Load.{keys_in}
 use Rattle.itip_report.specs.Tally.{AreTallied}
+use Rattle.itip_report.proofs.Nothing.{none_given}
 use Rattle.itip_report.proofs.load.count_rows.Goals as goal
 
 pub loop-row-init : goal.loop-row-init
@@ -21,9 +24,14 @@ loop-row-preserved c = λ done few are.
     ap (λ (r : Row). take i rows ++ r ∷ []) (sym c.row-item.is) in
     subst (λ (all : List Row). AreTallied all c.count_row.new.tally)
     (append_assoc done (take i rows) (row ∷ []) ∙ ap (λ (more : List Row). done ++ more) (sym grown))
-    (c.in_ok-count_row.ensures (done ++ take i rows) small (c.loop-row.invariant done few are))
+    (c.in_ok-count_row.ensures.counted (done ++ take i rows) small (c.loop-row.invariant done few are))
 
-pub returns : goal.returns
-returns c = λ done few are.
+pub returns-clause-counted : goal.returns-clause-counted
+returns-clause-counted c = λ done few are.
     subst (λ (rows : List Row). AreTallied (done ++ rows) c.loop-row.tally)
     (take_all c.loop-row.row-index c.args.rows.now c.loop-row-test.false) (c.loop-row.invariant done few are)
+
+pub returns-in_err-count_row-clause-succeeds : goal.returns-in_err-count_row-clause-succeeds
+returns-in_err-count_row-clause-succeeds c = λ none.
+    not_ok (c.in_err-count_row.ensures.succeeds
+    (none_given keys_in c.args.rows.now c.loop-row.row-index c.row-item.result c.loop-row-test.true c.row-item.is none))

@@ -27,8 +27,8 @@ loop-key-preserved c = λ done are.
     ap (map (load_line done))
     (sym (take_more keys i key c.loop-key-test.true ∙ ap (λ (k : List ℕ). take i keys ++ k ∷ []) (sym c.key-item.is)))
 
-pub returns : goal.returns
-returns c = λ done are.
+pub returns-clause-lines : goal.returns-clause-lines
+returns-clause-lines c = λ done are.
     let keys : List (List ℕ) = c.deref-key-items.result.now in
     let all : take c.loop-key.key-index keys ≡ c.args.tally.now.keys.items =
     take_all c.loop-key.key-index keys c.loop-key-test.false ∙ c.deref-key-items.ensures.value in

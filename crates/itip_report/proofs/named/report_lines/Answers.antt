@@ -17,14 +17,14 @@ returns-in-Progress c =
 pub returns-in-Cancelled : goal.returns-in-Cancelled
 returns-in-Cancelled c =
     told_of_kept c.cancelled.result (λ lines. map string_bytes lines.items) c.args.name name.Cancelled c.args.state.now c.args.rows
-    c.in-Cancelled.is (λ h. h) c.cancelled.ensures
+    c.in-Cancelled.is (λ h. h) c.cancelled.ensures.lines
 
 pub returns-in-Orphans : goal.returns-in-Orphans
 returns-in-Orphans c =
     told_of_kept c.orphans.result (λ lines. map string_bytes lines.items) c.args.name name.Orphans c.args.state.now c.args.rows
-    c.in-Orphans.is (λ h. h) c.orphans.ensures
+    c.in-Orphans.is (λ h. h) c.orphans.ensures.lines
 
 pub returns-in-Refresh : goal.returns-in-Refresh
 returns-in-Refresh c =
     told_of_kept c.refresh_wanted.result (λ lines. map string_bytes lines.items) c.args.name name.Refresh c.args.state.now c.args.rows
-    c.in-Refresh.is (λ h. h) c.refresh_wanted.ensures
+    c.in-Refresh.is (λ h. h) c.refresh_wanted.ensures.lines

@@ -19,7 +19,7 @@ loop-tally-preserved c = λ all are few.
     (subst (λ (o : Option (List Row)). IsNextOf c.loop-tally.rows c.next.new.self o) (ap (option_map (λ r. r.items)) c.in-Some.is)
     c.in_ok-some.ensures.rows) c.count_rows.new.tally
     (subst (λ (rows : List Row). (done : List Row) → length done + length rows ≤ 18446744073709551615 → AreTallied done c.loop-tally.tally →
-    AreTallied (done ++ rows) c.count_rows.new.tally) c.as_slice.ensures.value c.in_ok-count_rows.ensures)
+    AreTallied (done ++ rows) c.count_rows.new.tally) c.as_slice.ensures.value c.in_ok-count_rows.ensures.counted)
 
 pub returns : goal.returns
 returns c =
@@ -28,4 +28,4 @@ returns c =
     c.tallied_lines.result
     (λ lines told all are few. all_counted c.loop-tally.rows all c.loop-tally.tally (c.loop-tally.invariant all are few) c.next.new.self
     (subst (λ (o : Option (List Row)). IsNextOf c.loop-tally.rows c.next.new.self o) (ap (option_map (λ r. r.items)) c.in_default.is)
-    c.in_ok-some.ensures.rows) (map string_bytes lines.items) told) c.tallied_lines.ensures
+    c.in_ok-some.ensures.rows) (map string_bytes lines.items) told) c.tallied_lines.ensures.lines

@@ -20,7 +20,7 @@ loop-lines-preserved c = λ all are.
     c.in_ok-some.ensures.rows)
     (map string_bytes c.append.new.self.items) (map string_bytes c.in_ok-more.more.items)
     (ap (map string_bytes) c.in_ok-append.ensures.items ∙ map_both string_bytes c.loop-lines.lines.items c.in_ok-more.more.items)
-    (c.in_ok-more.ensures ∙ ap progress_lines c.deref.ensures.value)
+    (c.in_ok-more.ensures.lines ∙ ap progress_lines c.deref.ensures.value)
 
 pub returns : goal.returns
 returns c = λ all are.

@@ -6,6 +6,7 @@ use Rattle.itip_view.specs.declared.row.Row.{Row}
 use Rattle.itip_view.proofs.FlatMap.{flat_map_more}
 use Rattle.itip_report.specs.Progress.{line_with, progress_line, progress_lines}
 use Rattle.itip_report.proofs.Mapped.{map_both}
+use Rattle.itip_report.proofs.Nothing.{progress_there}
 use Rattle.itip_report.proofs.row_progress.progress.Goals as goal
 use Rattle.itip_report.proofs.row_progress.progress.Goals.{in-Some+in_ok-progress_line+in_ok-push, in_default}
 
@@ -27,3 +28,13 @@ loop-row-preserved c =
           ap (λ v. map string_bytes v.items) w.lines-is ∙ c.loop-row.invariant ∙ sym (append-nil before) ∙
           ap (λ lines. before ++ lines) (sym (told None w.in_default.is)) ∙ sym more
     ]
+
+pub returns-in_err-progress_line-clause-succeeds : goal.returns-in_err-progress_line-clause-succeeds
+returns-in_err-progress_line-clause-succeeds c = λ none.
+    absurd (progress_there c.args.rows.now c.loop-row.row-index c.row-item.result c.in-Some.percent c.loop-row-test.true c.row-item.is
+    c.in-Some.is none)
+
+pub returns-in_err-push-clause-succeeds : goal.returns-in_err-push-clause-succeeds
+returns-in_err-push-clause-succeeds c = λ none.
+    absurd (progress_there c.args.rows.now c.loop-row.row-index c.row-item.result c.in-Some.percent c.loop-row-test.true c.row-item.is
+    c.in-Some.is none)

@@ -3,12 +3,12 @@ use Rattle.std.proofs.lemmas.List.{take_more, take_all, map-append}
 use Rattle.std.proofs.lemmas.List.Elements.{All-push}
 use mathlib.Core.List.{IsPrefix}
 use Rattle.itip_running.specs.declared.pass.Pass.{Pass}
-use Rattle.itip_running.specs.Ends.{seen}
+use Rattle.itip_running.specs.Ends.{publishes_seen, seen}
 use Rattle.itip_running.proofs.meeting.counts.Goals as goal
 
 pub loop-pass-preserved : goal.loop-pass-preserved
 loop-pass-preserved c =
-    let P : Pass → Type 0 = λ p. IsPrefix (seen p) c.args.front.now.seen.log in
+    let P : Pass → Type 0 = λ p. IsPrefix (publishes_seen p) c.args.front.now.seen.log in
     let i = c.loop-pass.pass-index in
     let more : take (i + 1) c.args.passes.now ≡ take i c.args.passes.now ++ c.pass-item.result ∷ [] =
     take_more c.args.passes.now i c.pass-item.result c.loop-pass-test.true ∙
@@ -25,4 +25,4 @@ loop-pass-preserved c =
 pub returns-clause-within : goal.returns-clause-within
 returns-clause-within c =
     let whole : take c.loop-pass.pass-index c.args.passes.now ≡ c.args.passes.now = take_all _ _ c.loop-pass-test.false in
-    subst (λ (l : List Pass). All (λ p. IsPrefix (seen p) c.args.front.now.seen.log) l) whole c.loop-pass.invariant.1
+    subst (λ (l : List Pass). All (λ p. IsPrefix (publishes_seen p) c.args.front.now.seen.log) l) whole c.loop-pass.invariant.1

@@ -1,3 +1,4 @@
+use Rattle.itip_todo.proofs.BeforeRanges.{todo_now, no_range_before}
 use Rattle.itip_todo.proofs.ReadingLaws.{one_todo, one_refusal, read_or_refused, refusal_place}
 use Rattle.itip_todo.proofs.SomeTodo.{some_todo}
 use Rattle.itip_todo.proofs.laws.reading_laws.Goals as goal
@@ -8,6 +9,8 @@ returns c = record {
   one_todo = one_todo;
   read_or_refused = read_or_refused;
   one_refusal = one_refusal;
-  place =
-      refusal_place;
+  place = refusal_place;
+  as_before = todo_now;
+  no_range =
+      no_range_before;
 }

@@ -1,7 +1,5 @@
-use Rattle.std.proofs.Common.{map}
 use Rattle.itip_lines.specs.TextsLeft.{texts_left}
-use Rattle.itip_todo.specs.Written.{content_of}
-use Rattle.itip_todo.proofs.Appending.{Leaves, texts_octets}
+use Rattle.itip_todo.proofs.Appending.{LeavesTexts}
 use Rattle.itip_todo.proofs.write.write_others.Given as goal
 
 -- the lines that are left are still to be written
@@ -9,4 +7,4 @@ abbrev pub invariant-loop-text : goal.invariant-loop-text
 invariant-loop-text l =
     (goal.iterator-loop-text).can_next l.text-iterator ×
     (goal.iterator-loop-text).is_finite l.text-iterator ×
-    Leaves (map content_of l.fn.lines) l.fn.out.items l.out.items (texts_octets (texts_left l.text-iterator))
+    LeavesTexts l.fn.lines l.fn.out.items l.out.items (texts_left l.text-iterator)

@@ -1,4 +1,4 @@
-use Rattle.std.proofs.Common.{◌∙◌, ap, sym, map}
+use Rattle.std.proofs.Common.{◌≡◌, ◌∙◌, ap, sym, map, length, arith}
 use Rattle.std.specs.Ordering.{nat_cmp}
 use Rattle.std.specs.Cmp.Lexicographic.{slice_cmp, pointwise, nat_list_eq_equiv, nat_list_cmp_total, texts_ties}
 use Rattle.std.specs.Prelude.{nat_eq}
@@ -9,6 +9,7 @@ use Rattle.std.proofs.lemmas.Map.Lookups.{exact_bytes}
 use Rattle.std.proofs.lemmas.Map.Views.{tells_apart}
 use Rattle.itip_state.proofs.Ascending.{pairs_ascend}
 use Rattle.itip_state.proofs.Once.{dedup_map, sorted_map}
+use Rattle.itip_state.proofs.Nothing.{not_ok}
 use Rattle.itip_view.proofs.row_order.sorted_uids.Goals as goal
 
 pub returns-clause-ascend : goal.returns-clause-ascend
@@ -28,3 +29,8 @@ returns-clause-same c = λ uid.
       (λ (h : _). rw once (Contains-dedup nat_list_eq_equiv (λ x y e. tells_apart exact_bytes x y (sym (texts_ties x y) ∙ e)) _ uid
           (Contains-permutation _ _ uid moved h))),
     )
+
+pub returns-in_err-sort-clause-succeeds : goal.returns-in_err-sort-clause-succeeds
+returns-in_err-sort-clause-succeeds c = λ none.
+    let empty : length c.args.uids.items ≡ 0 = ap length none in
+    not_ok (c.in_err-sort.ensures.succeeds (omega (arith, empty, c.args.uids.ok)))

@@ -7,6 +7,7 @@ use Rattle.itip_view.specs.Showing.{Shows, IsListTextFor}
 use Rattle.itip_view.specs.declared.by_uid.RowsByUid.{RowsByUid}
 use Rattle.itip_view.proofs.Left.{too_many_where}
 use Rattle.itip_view.proofs.OfKept.{text_for_of_kept, many_where_of_kept}
+use Rattle.itip_state.proofs.Nothing.{not_ok}
 use Rattle.itip_desk.proofs.desk.Desk.list_for.Goals as goal
 
 pub returns-clause-text : goal.returns-clause-text
@@ -28,3 +29,9 @@ returns-clause-many c = λ refused heard are.
     many_where_of_kept (Shows c.args.address.now) kept heard are c.args.window
     (too_many_where (Shows c.args.address.now) kept c.args.window c.in_ok-shown.shown c.in_ok-shown.ensures.asked
     (c.text.ensures.many refused))
+
+pub returns-in_err-shown-clause-succeeds : goal.returns-in_err-shown-clause-succeeds
+returns-in_err-shown-clause-succeeds c = λ none. not_ok (c.in_err-shown.ensures.succeeds none)
+
+pub returns-clause-succeeds : goal.returns-clause-succeeds
+returns-clause-succeeds c = λ none. c.text.ensures.succeeds (c.in_ok-shown.ensures.none none)

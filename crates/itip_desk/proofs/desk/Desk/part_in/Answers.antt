@@ -15,7 +15,7 @@ use Rattle.itip_desk.proofs.desk.Desk.part_in.Goals.{After-part}
 found : (c : After-part) → (uid : List ℕ) → HasRowsIn c.args.self.now.kept c.args.window uid →
     Contains (map (λ u. u.now) c.in_ok-there.there.items) uid
 found c uid has = (c.in_ok-there.ensures.same uid).1
-    (c.in_ok-uids_in.ensures uid (subst (λ (k : List Item). HasRowsIn k c.args.window uid)
+    (c.in_ok-uids_in.ensures.uids uid (subst (λ (k : List Item). HasRowsIn k c.args.window uid)
     (sym (ap (λ (d : Shown). d.kept) c.self.view_is)) has))
 
 part_of : (c : After-part) (part : List Item) → ArePartOf part c.state.result.now (map (λ u. u.now) c.deref.result.now) →
@@ -30,7 +30,7 @@ returns-clause-part c =
     let at = (goal.at.returns-clause-part c).After-part in
     if_ok_then (λ part. ArePartOf part c.state.result.now (map (λ u. u.now) c.deref.result.now)) (λ part. (uids : List (List ℕ)) ×
     ArePartOf part c.args.self.now.kept uids) c.part.result
-    (λ part are. (map (λ u. u.now) c.in_ok-there.there.items, part_of at part are)) c.part.ensures
+    (λ part are. (map (λ u. u.now) c.in_ok-there.there.items, part_of at part are)) c.part.ensures.part
 
 pub returns-clause-rows : goal.returns-clause-rows
 returns-clause-rows c =
@@ -39,4 +39,4 @@ returns-clause-rows c =
     IsRow part c.args.window row ↔ IsRow c.args.self.now.kept c.args.window row) c.part.result
     (λ part are. rows_in part c.args.self.now.kept (map (λ u. u.now) c.in_ok-there.there.items) (part_of at part are) c.args.window
     (found at))
-    c.part.ensures
+    c.part.ensures.part

@@ -18,7 +18,7 @@ use Rattle.itip_desk.proofs.desk.Desk.part_naming.Goals.{After-part}
 found : (c : After-part) → (uid : List ℕ) → NamesIn c.args.self.now.kept (attendee_key c.args.address.now) uid →
     Contains (map (λ u. u.now) c.in_ok-naming.naming.items) uid
 found c uid names = (c.in_ok-naming.ensures.same uid).1
-    (c.in_ok-uids_naming.ensures uid (subst (λ (k : List Item). NamesIn k (attendee_key c.args.address.now) uid)
+    (c.in_ok-uids_naming.ensures.uids uid (subst (λ (k : List Item). NamesIn k (attendee_key c.args.address.now) uid)
     (sym (ap (λ (d : Shown). d.kept) c.self.view_is)) names))
 
 part_of : (c : After-part) (part : List Item) → ArePartOf part c.state.result.now (map (λ u. u.now) c.deref.result.now) →
@@ -33,7 +33,7 @@ returns-clause-part c =
     let at = (goal.at.returns-clause-part c).After-part in
     if_ok_then (λ part. ArePartOf part c.state.result.now (map (λ u. u.now) c.deref.result.now)) (λ part. (uids : List (List ℕ)) ×
     ArePartOf part c.args.self.now.kept uids) c.part.result
-    (λ part are. (map (λ u. u.now) c.in_ok-naming.naming.items, part_of at part are)) c.part.ensures
+    (λ part are. (map (λ u. u.now) c.in_ok-naming.naming.items, part_of at part are)) c.part.ensures.part
 
 pub returns-clause-rows : goal.returns-clause-rows
 returns-clause-rows c =
@@ -42,4 +42,4 @@ returns-clause-rows c =
     Shows c.args.address.now row → IsRow part window row ↔ IsRow c.args.self.now.kept window row) c.part.result
     (λ part are window. rows_showing part c.args.self.now.kept (map (λ u. u.now) c.in_ok-naming.naming.items) (part_of at part are) window
     c.args.address.now (found at))
-    c.part.ensures
+    c.part.ensures.part

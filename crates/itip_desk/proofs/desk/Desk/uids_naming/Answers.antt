@@ -13,4 +13,4 @@ returns c = λ heard window row are is shows.
     let key : List ℕ = attendee_key c.args.address.now in
     let same : c.self.inside.kept ≡ c.args.self.now.kept = ap (λ (d : Shown). d.kept) c.self.view_is in
     row_naming c.args.self.now.kept heard are window row is uids c.args.address.now
-    (subst (λ (k : List Item). (uid : List ℕ) → NamesIn k key uid → Contains uids uid) same c.in_ok-found.ensures) shows
+    (subst (λ (k : List Item). (uid : List ℕ) → NamesIn k key uid → Contains uids uid) same c.in_ok-found.ensures.uids) shows

@@ -1,9 +1,8 @@
 use Rattle.std.proofs.Common.{◌≡◌, ◌++◌, List, map, true, subst, sym, OnOk}
 use Rattle.itip_items.specs.declared.item.Item.{Item}
 use Rattle.itip_state.specs.Kept.{AreKept}
-use Rattle.itip_desk.specs.Entries.{IsNoted}
+use Rattle.itip_desk.specs.Entries.{IndexEntry, IsNoted}
 use Rattle.itip_desk.specs.Index.{has, IsIndexOf, HasSettled}
-use Rattle.itip_desk.specs.declared.entry.IndexEntry.{IndexEntry}
 use Rattle.itip_desk.proofs.Touching.{either_way, ok_both, index_after, index_back}
 use Rattle.itip_desk.proofs.indexed.IndexedState.hear_rows.Goals as goal
 

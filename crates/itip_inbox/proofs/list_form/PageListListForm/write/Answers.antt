@@ -14,7 +14,7 @@ use Rattle.itip_inbox.proofs.list_form.PageListListForm.write.Goals.{In_ok-put_h
 head : (g : Over) (c : In_ok-put_head g) →
     c.put_head.new.out.items ≡ head_markup c.args.window c.args.self.now.today.number c.args.number
 head g c =
-    c.in_ok-put_head.ensures ∙
+    c.in_ok-put_head.ensures.ok ∙
     ap (λ (t : List ℕ). t ++ head_markup c.args.window c.args.self.now.today.number c.args.number) c.new-kept.ensures.items
 
 pub returns-in_err-put_head-clause-front : goal.returns-in_err-put_head-clause-front
@@ -42,7 +42,7 @@ returns-clause-all g c =
     on_ok_weaker c.write_output.result (λ appended few.
     page_written c.args.window c.args.self.now.today.number c.args.rows c.args.number few _ _ _ c.write_rows.new.kept.items
     c.put_foot.new.out.items (head g (goal.at.returns-clause-all g c).In_ok-put_head)
-    (c.in_ok-write_rows.ensures.moved few.rows few.are_left) c.in_ok-put_foot.ensures _
+    (c.in_ok-write_rows.ensures.moved few.rows few.are_left) c.in_ok-put_foot.ensures.ok _
     (subst (λ (t : List ℕ). Appends (g.W.Write.contents c.write_rows.new.writer) (g.W.Write.contents c.write_output.new.writer) t)
     c.as_slice.ensures.value appended)) c.write_output.ensures.all
 
@@ -51,6 +51,6 @@ returns-clause-front g c =
     on_err_weaker c.write_output.result (λ front few.
     page_cut c.args.window c.args.self.now.today.number c.args.rows c.args.number few _ _ _ c.write_rows.new.kept.items
     c.put_foot.new.out.items (head g (goal.at.returns-clause-front g c).In_ok-put_head)
-    (c.in_ok-write_rows.ensures.moved few.rows few.are_left) c.in_ok-put_foot.ensures _
+    (c.in_ok-write_rows.ensures.moved few.rows few.are_left) c.in_ok-put_foot.ensures.ok _
     (subst (λ (t : List ℕ). AppendsFront (g.W.Write.contents c.write_rows.new.writer) (g.W.Write.contents c.write_output.new.writer) t)
     c.as_slice.ensures.value front)) c.write_output.ensures.front

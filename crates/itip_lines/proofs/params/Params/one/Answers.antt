@@ -8,10 +8,10 @@ pub from_text-requires : goal.from_text-requires
 from_text-requires c =
     let params : List Param = (record { name = c.args.name.now; values = c.args.value.now ∷ [] }) ∷ [] in
     is_params_text _ params (c.requires, tt)
-    (c.in_ok-write_param.ensures ∙ ap (λ (t : List ℕ). t ++ params_text params) c.new-text.ensures.items)
+    (c.in_ok-write_param.ensures.appended ∙ ap (λ (t : List ℕ). t ++ params_text params) c.new-text.ensures.items)
 
 pub returns : goal.returns
 returns c =
     let params : List Param = (record { name = c.args.name.now; values = c.args.value.now ∷ [] }) ∷ [] in
     c.from_text.ensures params (c.requires, tt)
-    (c.in_ok-write_param.ensures ∙ ap (λ (t : List ℕ). t ++ params_text params) c.new-text.ensures.items)
+    (c.in_ok-write_param.ensures.appended ∙ ap (λ (t : List ℕ). t ++ params_text params) c.new-text.ensures.items)

@@ -2,9 +2,11 @@ use Rattle.std.proofs.Common.{List, ◌++◌, ◌∙◌, sym, ap, subst, map}
 use Rattle.itip_join.proofs.Equal.{on_err_then}
 use Rattle.itip_items.specs.declared.item.Item.{Item}
 use Rattle.itip_state.specs.Kept.{AreKept}
+use Rattle.itip_state.specs.Order.{IsBelow}
 use Rattle.itip_state.specs.Held.{AreHeld, items_of}
 use Rattle.itip_state.proofs.Members.{on_both, on_ok_then}
 use Rattle.itip_state.proofs.Maps.{held_state}
+use Rattle.itip_state.proofs.Nothing.{below_outdone}
 use Rattle.itip_state.proofs.state.State.hear.Goals as goal
 
 pub invariant_of-self : goal.invariant_of-self
@@ -22,3 +24,9 @@ returns-clause-ok c = on_ok_then c.hear_all.result
 
 pub returns-clause-err : goal.returns-clause-err
 returns-clause-err c = on_err_then c.hear_all.result (λ same. ap items_of same ∙ c.self.view_is) c.hear_all.ensures.err
+
+pub returns-clause-succeeds : goal.returns-clause-succeeds
+returns-clause-succeeds c = λ below.
+    let items : List Item = map (λ item. item.now) c.args.items.now in
+    c.hear_all.ensures.succeeds c.self.invariant (below_outdone (items_of c.self.inside.held) items
+    (subst (λ (v : List Item). IsBelow items v) (sym c.self.view_is) below))

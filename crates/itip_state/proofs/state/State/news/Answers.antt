@@ -4,6 +4,7 @@ use Rattle.itip_items.specs.declared.item.Item.{Item}
 use Rattle.itip_state.specs.Order.{IsState}
 use Rattle.itip_state.specs.Told.{IsOutdone, AreNews}
 use Rattle.itip_state.proofs.News.{one_more_news, nothing_new}
+use Rattle.itip_state.proofs.Nothing.{below_outdone}
 use Rattle.itip_state.proofs.Maps.{held_state}
 use Rattle.itip_state.proofs.state.State.news.Goals as goal
 use Rattle.itip_state.proofs.state.State.news.Goals.{After-outdoes}
@@ -41,3 +42,11 @@ loop-item-preserved c =
 
 pub returns-clause-state : goal.returns-clause-state
 returns-clause-state c = subst IsState c.self.view_is (held_state c.self.inside.held c.self.invariant)
+
+pub returns-in_err-push-clause-succeeds : goal.returns-in_err-push-clause-succeeds
+returns-in_err-push-clause-succeeds c = λ below.
+    let at = (goal.at.returns-in_err-push-clause-succeeds c).After-outdoes in
+    let new : ¬ IsOutdone c.args.self.now c.item-item.result = λ old. let x : true ≡ false = sym ((test at).1 old) ∙ c.if-outdoes.false in
+    cc in
+    absurd (new (below_outdone c.args.self.now c.args.items.now below c.item-item.result
+    (c.loop-item.item-index, c.loop-item-test.true, sym c.item-item.is)))

@@ -4,6 +4,7 @@ use Rattle.itip_items.specs.declared.item.Item.{Item}
 use Rattle.itip_state.specs.Kept.{AreKept}
 use Rattle.itip_state.specs.Held.{HoldKept, items_of}
 use Rattle.itip_state.proofs.Hearing.{hold_nothing}
+use Rattle.itip_state.proofs.Nothing.{none_left}
 use Rattle.itip_state.proofs.state.State.of_items.Goals as goal
 
 pub loop-item-init : goal.loop-item-init
@@ -20,6 +21,18 @@ loop-item-preserved c = subst (λ (xs : List Item). HoldKept xs c.hear.new.held)
 pub invariant_of-result : goal.invariant_of-result
 invariant_of-result c = c.loop-item.invariant.held
 
-pub returns : goal.returns
-returns c = subst (λ (xs : List Item). AreKept (items_of c.loop-item.held) xs)
+pub returns-clause-kept : goal.returns-clause-kept
+returns-clause-kept c = subst (λ (xs : List Item). AreKept (items_of c.loop-item.held) xs)
     (take_all c.loop-item.item-index c.args.items.now c.loop-item-test.false) c.loop-item.invariant.kept
+
+pub returns-in_err-clone-clause-succeeds : goal.returns-in_err-clone-clause-succeeds
+returns-in_err-clone-clause-succeeds c =
+    λ none. absurd (none_left c.args.items.now c.loop-item.item-index c.loop-item-test.true none)
+
+pub returns-in_err-item-clause-succeeds : goal.returns-in_err-item-clause-succeeds
+returns-in_err-item-clause-succeeds c =
+    λ none. absurd (none_left c.args.items.now c.loop-item.item-index c.loop-item-test.true none)
+
+pub returns-in_err-hear-clause-succeeds : goal.returns-in_err-hear-clause-succeeds
+returns-in_err-hear-clause-succeeds c =
+    λ none. absurd (none_left c.args.items.now c.loop-item.item-index c.loop-item-test.true none)

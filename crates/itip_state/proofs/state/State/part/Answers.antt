@@ -1,11 +1,14 @@
 use Rattle.std.proofs.Common.{◌≡◌, ℕ, List, [], ◌∷◌, ◌++◌, sym, ◌∙◌, ap, ◌+◌, subst, map, take, None}
 use Rattle.std.specs.Prelude.{cond}
 use Rattle.std.proofs.lemmas.List.{map_more, take_all}
+use Rattle.std.specs.List.{Contains}
 use Rattle.itip_items.specs.declared.item.Item.{Item}
 use Rattle.itip_state.specs.Kept.{ArePartOf}
 use Rattle.itip_state.specs.Held.{at, items_of}
 use Rattle.itip_state.specs.UidStates.{uid_state}
 use Rattle.itip_state.proofs.Hearing.{hold_nothing}
+use Rattle.itip_state.proofs.Nothing.{none_of_these}
+use Rattle.itip_state.proofs.Reading.{held_some}
 use Rattle.itip_state.proofs.Parting.{is_listed, put_more, pass_more, part_held, part_of}
 use Rattle.itip_state.proofs.state.State.part.Goals as goal
 use Rattle.itip_state.proofs.state.State.part.Goals.{After-loop-uid}
@@ -52,8 +55,15 @@ invariant_of-result c =
     part_held c.self.inside.held c.loop-uid.held c.self.invariant c.loop-uid.invariant.ordered (map (λ uid. uid.now) c.args.uids.now)
     (all (goal.at.invariant_of-result c).After-loop-uid)
 
-pub returns : goal.returns
-returns c =
+pub returns-clause-part : goal.returns-clause-part
+returns-clause-part c =
     let uids : List (List ℕ) = map (λ uid. uid.now) c.args.uids.now in
     subst (λ (v : List Item). ArePartOf (items_of c.loop-uid.held) v uids) c.self.view_is
-    (part_of c.self.inside.held c.loop-uid.held c.self.invariant c.loop-uid.invariant.ordered uids (all (goal.at.returns c).After-loop-uid))
+    (part_of c.self.inside.held c.loop-uid.held c.self.invariant c.loop-uid.invariant.ordered uids (all (goal.at.returns-clause-part c).After-loop-uid))
+
+pub returns-in_err-put-clause-succeeds : goal.returns-in_err-put-clause-succeeds
+returns-in_err-put-clause-succeeds c = λ none.
+    let some = held_some c.self.inside.held c.self.invariant c.uid-item.result.now (uid_state c.in-Some.series.now)
+    (sym c.in-Some.ensures.found) in
+    absurd (none_of_these c.args.self.now (λ uid. uid.now) c.args.uids.now c.loop-uid.uid-index c.uid-item.result c.loop-uid-test.true
+    c.uid-item.is none some.0 (subst (λ (v : List Item). Contains v some.0) c.self.view_is some.1) some.2)

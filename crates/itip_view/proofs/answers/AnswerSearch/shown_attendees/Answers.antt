@@ -28,8 +28,8 @@ loop-line-preserved c = λ others rest.
     let decides : Decides items (asked line.line.now) answer =
     subst (λ (key : List ℕ). Decides items (asked_of uid questions key) answer) (c.as_str.ensures ∙ line.of_line) c.deciding-answer.ensures
     in
-    let now : c.match-branch-2.attendees.items ≡ before ++ in_front c.in_ok-attendee.field-0 [] =
-    elim c.match-branch-2.branch [
+    let now : c.match-branch-3.attendees.items ≡ before ++ in_front c.in_ok-attendee.field-0 [] =
+    elim c.match-branch-3.branch [
       | in-Some+in_ok-push w ↦ ap (λ v. v.items) w.attendees-is ∙ w.in_ok-push.ensures.items ∙
           ap (λ (s : Option ShownAttendee). before ++ in_front s []) (sym w.in-Some.is)
       | in_default w ↦ ap (λ v. v.items) w.attendees-is ∙ sym (append-nil before) ∙

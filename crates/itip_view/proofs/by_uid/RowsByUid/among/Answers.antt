@@ -1,10 +1,11 @@
-use Rattle.std.proofs.Common.{◌↔◌, ℕ, List, map, refl, arith}
+use Rattle.std.proofs.Common.{◌↔◌, ℕ, List, map, ap, refl, arith}
 use Rattle.std.specs.List.{Contains}
 use Rattle.std.specs.Ordering.{nat_cmp}
 use Rattle.std.specs.Cmp.Lexicographic.{slice_cmp}
 use Rattle.itip_view.specs.Showing.{IsAmong}
 use Rattle.itip_view.specs.Wanting.{Wants}
 use Rattle.itip_view.specs.declared.row.Row.{Row}
+use Rattle.itip_state.proofs.Nothing.{no_texts}
 use Rattle.itip_view.proofs.Left.{sorted_by_pairs}
 use Rattle.itip_view.proofs.SameAsked.{among_alike, rows_alike}
 use Rattle.itip_view.proofs.by_uid.RowsByUid.among.Goals as goal
@@ -37,3 +38,7 @@ returns-clause-asked c = record {
   alike = λ row is. same_uids (Wants c.args.wanted.now) (map (λ uid. uid.now) c.in_ok-uids.uids.items)
       (map (λ uid. uid.now) c.args.uids.items) c.in_ok-uids.ensures.same row;
 }
+
+pub returns-clause-none : goal.returns-clause-none
+returns-clause-none c = λ none. no_texts (map (λ uid. uid.now) c.in_ok-uids.uids.items) (map (λ uid. uid.now) c.args.uids.items)
+    c.in_ok-uids.ensures.same (ap (map (λ uid. uid.now)) none)

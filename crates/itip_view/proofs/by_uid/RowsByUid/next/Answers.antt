@@ -1,11 +1,11 @@
 use Rattle.std.proofs.Common.{◌≡◌, ◌≤◌, ◌<◌, ◌+◌, ◌++◌, ◌∙◌, ◌∷◌, ℕ, List, length, map, drop, get_or, refl, sym, ap, subst, arith}
-use Rattle.std.proofs.Common.{Result, Ok, Err}
-use Rattle.std.specs.Prelude.{OnErr}
 use Rattle.std.specs.Ordering.{nat_cmp}
 use Rattle.std.specs.Cmp.Lexicographic.{slice_cmp}
 use Rattle.std.specs.declared.cmp.Ordering.TheVariants.{Less}
 use Rattle.std.proofs.lemmas.List.{drop_all, drop_more, length-map}
 use Rattle.std.proofs.Math.ListN.{get_or-map}
+use Rattle.std.proofs.Common.{Result, Ok, Err}
+use Rattle.std.specs.Prelude.{OnErr}
 use Rattle.itip_state.proofs.Ascending.{pairs_ascend}
 use Rattle.itip_state.specs.Kept.{AscendTexts}
 use Rattle.itip_view.specs.Showing.{AreRowsWhere, IsAmong}
@@ -72,4 +72,4 @@ on_err (Ok x) p = tt
 on_err (Err e) p = p
 
 pub returns-in_err-rows-clause-err : goal.returns-in_err-rows-clause-err
-returns-in_err-rows-clause-err c = on_err c.from_residual.result (λ rows. (λ left. left, λ left. left))
+returns-in_err-rows-clause-err c = on_err c.from_residual.result (refl, λ rows. (λ left. left, λ left. left))

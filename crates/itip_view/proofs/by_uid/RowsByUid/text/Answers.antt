@@ -1,4 +1,5 @@
-use Rattle.std.proofs.Common.{ℕ, List, map, subst}
+use Rattle.std.proofs.Common.{◌∙◌, ℕ, List, map, subst}
+use Rattle.itip_state.proofs.Nothing.{no_view}
 use Rattle.itip_state.proofs.Members.{if_ok_then}
 use Rattle.itip_view.specs.ByUid.{IsTextLeft}
 use Rattle.itip_view.specs.Showing.{AreRowsWhere, AreTooManyWhere, IsAmong, IsTextAmong}
@@ -25,3 +26,6 @@ returns-clause-many c = λ refused.
     let asked : RowsByUid = c.args.self.now in
     subst (λ (us : List (List ℕ)). AreTooManyWhere (IsAmong us (Wants asked.wanted)) asked.state.now asked.window) c.left.ensures.uids
     (c.text_by_uid.ensures.many refused)
+
+pub returns-clause-succeeds : goal.returns-clause-succeeds
+returns-clause-succeeds c = λ none. c.text_by_uid.ensures.succeeds (no_view (λ uid. uid.now) c.left.result.now (c.left.ensures.uids ∙ none))

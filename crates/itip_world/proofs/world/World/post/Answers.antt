@@ -28,7 +28,7 @@ steps c =
     (ap (λ n. Posted n (length c.in_ok-batch.batch)) number ∙ ap (λ n. Posted c.len-number.result n) count)
     (steps_post (old c) (new c) c.args.desk c.args.since shown c.in_ok-batch.batch c.of_batch-packet.result
     (slice_get-get_or (old c).desks c.args.desk shown within ∙ ap Some (sym c.index.ensures))
-    c.in_ok-batch.ensures c.of_batch-packet.ensures refl c.in_ok-push.ensures.items)
+    c.in_ok-batch.ensures.delta c.of_batch-packet.ensures refl c.in_ok-push.ensures.items)
 
 pub returns-clause-step : goal.returns-clause-step
 returns-clause-step c =

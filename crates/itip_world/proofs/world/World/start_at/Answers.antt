@@ -6,7 +6,7 @@ use Rattle.itip_world.proofs.world.World.start_at.Goals as goal
 
 pub loop-preserved : goal.loop-preserved
 loop-preserved c =
-    let more = one_more_desk c.loop.counter c.args.tick c.loop.all.items c.empty_at.result c.loop.invariant c.empty_at.ensures in
+    let more = one_more_desk c.loop.counter c.args.tick c.loop.all.items c.empty_at.result c.loop.invariant c.empty_at.ensures.desk in
     let counted : AreDesksOf (histories_from (c.loop.counter + 1) c.args.tick) (c.loop.all.items ++ c.empty_at.result ∷ []) =
     subst (λ (n : ℕ). AreDesksOf (histories_from n c.args.tick) (c.loop.all.items ++ c.empty_at.result ∷ []))
     (sym (add-one c.loop.counter)) more in

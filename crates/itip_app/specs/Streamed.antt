@@ -1,0 +1,66 @@
+-- What `run --stream` does (docs/USING.md; our own rule).
+use Rattle.std.specs.Prelude.{◌≡◌, ◌⊎◌, ℕ, ◌+◌, Bool, List, [], ◌∷◌, length, Option}
+use Rattle.std.specs.List.{Contains}
+use Rattle.itip_desk.specs.Desk.{Shown, IsDeskOf}
+use Rattle.itip_desk.specs.DeskFile.{TellsDesk, RefusesFile}
+use Rattle.itip_streams.specs.declared.fault.StreamFault.TheVariants.{Memory}
+use Rattle.itip_words.specs.Streams.{names_of}
+use Rattle.itip_words.specs.declared.streamed.Streamed.{Streamed}
+use Rattle.itip_world.specs.Serving.{IsStream, IsStreamFront}
+use Rattle.itip_app.specs.declared.stream.LoadFault.{LoadFault}
+use Rattle.itip_app.specs.declared.stream.LoadFault.TheVariants as load
+use Rattle.itip_app.specs.declared.stream.Unserved.{Unserved}
+use Rattle.itip_app.specs.declared.stream.Unserved.TheVariants as unserved
+
+-- The desk of a number begins as the file tells it that is named for it; where none is named it has heard nothing, and its tick is 0.
+pub data Begins (holds : List ℕ → List ℕ → Type 0) (loads : List (ℕ × List ℕ)) (number : ℕ) (desk : Shown) : Type 0 where
+  of_file : (file octets : List ℕ) → Contains loads (number, file) → holds file octets → TellsDesk octets desk
+      → Begins holds loads number desk
+  of_nothing : ((file : List ℕ) → Contains loads (number, file) → ⊥) → IsDeskOf [] 0 desk → Begins holds loads number desk
+
+-- These desks, which are numbered from this number on, begin so.
+abbrev pub AreBegun : (List ℕ → List ℕ → Type 0) → List (ℕ × List ℕ) → ℕ → List Shown → Type 0
+AreBegun holds loads number [] = Unit {0}
+AreBegun holds loads number (desk ∷ desks) = Begins holds loads number desk × AreBegun holds loads (number + 1) desks
+
+-- why a file begins no desk
+abbrev pub IsLoadFault : (List ℕ → List ℕ → Type 0) → List ℕ → LoadFault → Type 0
+IsLoadFault holds file load.Read = Unit {0}
+IsLoadFault holds file (load.Refused refusal) = (octets : List ℕ) × holds file octets × RefusesFile octets refusal
+IsLoadFault holds file load.NoMemory = Unit {0}
+
+-- A desk doesn't begin, since its file begins none; or an allocation failed.
+abbrev pub IsUnbegun : (List ℕ → List ℕ → Type 0) → List (ℕ × List ℕ) → Unserved → Type 0
+IsUnbegun holds loads (unserved.Load file fault) = ((desk : ℕ) × Contains loads (desk, file.now)) × IsLoadFault holds file.now fault
+IsUnbegun holds loads (unserved.Stream fault) = fault ≡ Memory
+
+-- As many desks begin as are asked for.
+pub record BeginsAll (holds : List ℕ → List ℕ → Type 0) (streamed : Streamed) (desks : List Shown) : Type 0 where
+  pub count : length desks ≡ streamed.scripted.desks
+  pub are : AreBegun holds (names_of streamed.loads.items) 0 desks
+
+-- They serve a stream to its end, in the window that is asked for.
+pub record ServesStream (holds : List ℕ → List ℕ → Type 0) (streamed : Streamed) (input left output written : Option (List ℕ))
+    (refusal : Bool) : Type 0 where
+  pub desks : List Shown
+  pub begun : BeginsAll holds streamed desks
+  pub served : IsStream streamed.scripted.window desks input left output written refusal
+
+-- They serve a stream up to a fault.
+pub record ServesStreamFront (holds : List ℕ → List ℕ → Type 0) (streamed : Streamed) (input left output written : Option (List ℕ)) : Type 0
+  where
+    pub desks : List Shown
+    pub begun : BeginsAll holds streamed desks
+    pub served : IsStreamFront streamed.scripted.window desks input left output written
+
+-- nothing was read and nothing written
+abbrev pub AreUntouched : Option (List ℕ) → Option (List ℕ) → Option (List ℕ) → Option (List ℕ) → Type 0
+AreUntouched input left output written = (left ≡ input) × (written ≡ output)
+
+-- A desk doesn't begin, and then nothing was read or written; or there was a fault.
+abbrev pub IsUnserved : (List ℕ → List ℕ → Type 0) → Streamed → Option (List ℕ) → Option (List ℕ) → Option (List ℕ) → Option (List ℕ) →
+    Unserved → Type 0
+IsUnserved holds streamed input left output written (unserved.Load file fault) =
+    AreUntouched input left output written × IsUnbegun holds (names_of streamed.loads.items) (unserved.Load file fault)
+IsUnserved holds streamed input left output written (unserved.Stream fault) =
+    (AreUntouched input left output written × (fault ≡ Memory)) ⊎ ServesStreamFront holds streamed input left output written

@@ -1,0 +1,237 @@
+//! A stream of commands: the files with which its desks begin, and those in which they are saved.
+ghost use Rattle.std.specs.Prelude.{◌≡◌, ℕ, List, [], length, IfOk, IfErr, IfSome, IfNone, IsErrOf};
+ghost use Rattle.std.specs.List.{Contains};
+ghost use Rattle.itip_desk.specs.DeskFile.{TellsDesk, RefusesFile};
+ghost use Rattle.itip_desk.specs.declared.refusal.FileRefusal.{FileRefusal};
+ghost use Rattle.itip_words.specs.Streams.{names_of};
+ghost use Rattle.itip_app.specs.Status.{status_unloaded, status_served};
+ghost use Rattle.itip_app.specs.Streamed.{Begins, AreBegun, IsUnbegun, ServesStream, IsUnserved};
+
+use crate::filters::refused_status;
+use crate::run::FAULT;
+use crate::tell::{Explainer, complain, complain_of, complain_of_file};
+use itip_desk::{Desk, FileError, FileRefusal, read_desk, write_desk};
+use itip_streams::{Replacement, StreamFault, read_within, visible_text};
+use itip_words::{Load, Streamed};
+use itip_world::{Shelf, run_stream};
+use std::alloc::Global;
+use std::io::BufReader;
+use std::rt::Files;
+use std::{fs, io};
+
+// The status where a file of a desk is refused.
+const NOT_READ: u8 = 4;
+
+/// Files by their names. What they hold is a relation of which a function over all folders knows nothing. So one that ensures it
+/// has read the file.
+trait Folder {
+    /// What the file of a name may hold.
+    ghost holds: { Self → List ℕ → List ℕ → Type 0 };
+
+    /// The octets of a file.
+    fn octets(&self, name: &str) -> Result<Vec<u8>, StreamFault>
+        ensures { IfOk result (λ octets. holds self.now name.now octets.items) };
+}
+
+/// Files of desks.
+#[derive(Drop)]
+struct DeskFiles<'a, R> {
+    rt: &'a R,
+}
+
+impl<'a, R: Files + AllocGlobal> Folder for DeskFiles<'a, R> {
+    ghost holds = { λ _ _ _. Unit {0} };
+
+    fn octets(&self, name: &str) -> Result<Vec<u8>, StreamFault> {
+        let Ok(mut reader) = fs::open(self.rt, name) else {
+            return Err(StreamFault::Read);
+        };
+        match read_within(self.rt.alloc(), &mut reader, usize::MAX)? {
+            Some(octets) => Ok(octets),
+            None => Err(StreamFault::Read),
+        }
+    }
+}
+
+impl<'a, R: Files + AllocGlobal> Shelf for DeskFiles<'a, R> {
+    fn save(&mut self, name: &str, desk: &Desk) -> Result<(), StreamFault> {
+        let mut writer = Replacement::of(self.rt, name)?;
+        let done = write_desk(self.rt.alloc(), desk, &mut writer);
+        writer.end(done.map(|_| false))?;
+        Ok(())
+    }
+}
+
+/// Why a desk doesn't begin with its file.
+#[derive(Clone, Copy)]
+enum LoadFault {
+    Read,
+    Refused(FileRefusal),
+    NoMemory,
+}
+
+/// Why a stream is not served to its end.
+#[derive(Clone, Copy)]
+enum Unserved<'a> {
+    /// A desk doesn't begin with its file.
+    Load { file: &'a str, fault: LoadFault },
+    /// The commands were not read, or a reply not written; or an allocation failed.
+    Stream(StreamFault),
+}
+
+/// Serves a stream and gives the status.
+pub(crate) fn stream<R: AllocGlobal + Input + Print + Eprint + Files>(
+    rt: &R,
+    asked: &Streamed,
+) -> u8 {
+    let Ok(mut reader) = BufReader::new(rt.alloc(), rt.reader()) else {
+        return complain(rt, &"no memory", FAULT);
+    };
+    let mut writer = io::writer(rt);
+    let mut files = DeskFiles { rt };
+    let why = asked.scripted.why;
+    let mut watch = Explainer::new(rt, why);
+    let done = stream_on(
+        rt.alloc(),
+        &mut files,
+        &mut reader,
+        &mut writer,
+        asked,
+        &mut watch,
+    );
+    served(rt, done, why)
+}
+
+/// Serves a stream of a reader over desks that begin as it is asked for, in the window that is asked for.
+fn stream_on<'a, F: Folder + Shelf, I: io::Read, W: io::Write, S: itip_world::Watch>(
+    alloc: Global,
+    folder: &mut F,
+    reader: &mut I,
+    writer: &mut W,
+    asked: &'a Streamed,
+    watch: &mut S,
+) -> Result<bool, Unserved<'a>>
+    ensures served { IfOk result (ServesStream (F.holds folder.old) asked.now (I.remaining reader.old) (I.remaining reader.new)
+        (W.contents writer.old) (W.contents writer.new)) }
+    ensures unserved { IfErr result (IsUnserved (F.holds folder.old) asked.now (I.remaining reader.old) (I.remaining reader.new)
+        (W.contents writer.old) (W.contents writer.new)) }
+{
+    match begun(alloc, &*folder, asked) {
+        Ok(desks) => {
+            let window = asked.scripted.window;
+            match run_stream(alloc, reader, writer, desks, window, folder, watch) {
+                Ok(is_refused) => Ok(is_refused),
+                Err(fault) => Err(Unserved::Stream(fault)),
+            }
+        }
+        Err(why) => Err(why),
+    }
+}
+
+/// The desks of a stream as they begin.
+fn begun<'a, F: Folder>(
+    alloc: Global,
+    folder: &F,
+    asked: &'a Streamed,
+) -> Result<Vec<Desk>, Unserved<'a>>
+    ensures count { IfOk result (λ desks. length desks.items ≡ asked.now.scripted.desks) }
+    ensures begun { IfOk result (λ desks. AreBegun (F.holds folder.now) (names_of asked.now.loads.items) 0 desks.items) }
+    ensures unbegun { IfErr result (IsUnbegun (F.holds folder.now) (names_of asked.now.loads.items)) }
+{
+    let mut desks = Vec::new(alloc);
+    for number in 0..asked.scripted.desks {
+        match begin(alloc, folder, asked.loads.as_slice(), number) {
+            Ok(desk) => {
+                if desks.push(desk).is_err() {
+                    return Err(Unserved::Stream(StreamFault::Memory));
+                }
+            }
+            Err(why) => return Err(why),
+        }
+    }
+    Ok(desks)
+}
+
+/// The desk of a number as it begins.
+fn begin<'a, F: Folder>(
+    alloc: Global,
+    folder: &F,
+    loads: &'a [Load],
+    number: u64,
+) -> Result<Desk, Unserved<'a>>
+    ensures begins { IfOk result (Begins (F.holds folder.now) (names_of loads.now) number) }
+    ensures unbegun { IfErr result (IsUnbegun (F.holds folder.now) (names_of loads.now)) }
+{
+    match file_of(loads, number) {
+        Some(file) => match loaded(alloc, folder, file) {
+            Ok(desk) => Ok(desk),
+            Err(fault) => Err(Unserved::Load { file, fault }),
+        },
+        None => Ok(Desk::empty_at(alloc, 0)),
+    }
+}
+
+/// The file that is named for the desk of a number.
+fn file_of<'a>(loads: &'a [Load], number: u64) -> Option<&'a str>
+    ensures named { IfSome result (λ file. Contains (names_of loads.now) (number, file.now)) }
+    ensures none { IfNone result ((file : List ℕ) → Contains (names_of loads.now) (number, file) → ⊥) }
+{
+    for load in loads {
+        if load.desk == number {
+            return Some(load.file.as_str());
+        }
+    }
+    None
+}
+
+/// The desk of a file.
+fn loaded<F: Folder>(alloc: Global, folder: &F, file: &str) -> Result<Desk, LoadFault>
+    ensures told { IfOk result (λ desk. (octets : List ℕ) × F.holds folder.now file.now octets × TellsDesk octets desk) }
+    ensures refused { (refusal : FileRefusal) → IsErrOf result (LoadFault.Refused refusal) →
+        (octets : List ℕ) × F.holds folder.now file.now octets × RefusesFile octets refusal }
+{
+    match folder.octets(file) {
+        Ok(octets) => match read_desk(alloc, octets.as_slice()) {
+            Ok(desk) => Ok(desk),
+            Err(FileError::Refused(refusal)) => Err(LoadFault::Refused(refusal)),
+            Err(FileError::NoMemory) => Err(LoadFault::NoMemory),
+        },
+        Err(StreamFault::Memory) => Err(LoadFault::NoMemory),
+        Err(_) => Err(LoadFault::Read),
+    }
+}
+
+/// Says why a stream was not served to its end, and gives the status.
+fn served<R: AllocGlobal + Eprint>(rt: &R, done: Result<bool, Unserved<'_>>, why: bool) -> u8
+    ensures { result ≡ status_served done.entry }
+{
+    match done {
+        Ok(is_refused) => refused_status(is_refused),
+        Err(Unserved::Load { file, fault }) => complain_unloaded(rt, file, fault, why),
+        Err(Unserved::Stream(fault)) => complain(rt, &fault, FAULT),
+    }
+}
+
+/// Says why a desk doesn't begin with its file, and gives the status.
+fn complain_unloaded<R: AllocGlobal + Eprint>(rt: &R, file: &str, fault: LoadFault, why: bool) -> u8
+    ensures { result ≡ status_unloaded fault }
+{
+    let status = unloaded_status(fault);
+    let Ok(name) = visible_text(rt.alloc(), file) else {
+        return complain(rt, &"no memory", status);
+    };
+    match fault {
+        LoadFault::Read => complain_of(rt, name.as_str(), "read failed", status),
+        LoadFault::NoMemory => complain(rt, &"no memory", status),
+        LoadFault::Refused(refusal) => complain_of_file(rt, name.as_str(), refusal, why, status),
+    }
+}
+
+fn unloaded_status(fault: LoadFault) -> u8
+    ensures { result ≡ status_unloaded fault }
+{
+    match fault {
+        LoadFault::Read | LoadFault::NoMemory => FAULT,
+        LoadFault::Refused(_) => NOT_READ,
+    }
+}

@@ -1,0 +1,12 @@
+use Rattle.std.proofs.Common.{◌≡◌, ◌<◌, ◌≤◌, ◌∙◌, ℕ, List, length, inl, inr, sym, ap, subst, arith}
+use Rattle.itip_items.specs.declared.item.Item.{Item}
+use Rattle.itip_state.specs.Kept.{AreUidsOf}
+use Rattle.itip_desk.specs.Desk.{Shown}
+use Rattle.itip_desk.proofs.desk.Desk.are_as_many.Goals as goal
+
+-- how many UIDs the desk keeps something of
+pub returns-then-all-eq0 : goal.returns-then-all-eq0
+returns-then-all-eq0 c = λ all are.
+    let long : length all ≡ c.uid_count-all.result = c.uid_count-all.ensures all (subst (AreUidsOf all)
+    (sym (c.state.ensures ∙ ap (λ (d : Shown). d.kept) c.self.view_is)) are) in
+    inl (grind (arith, long))

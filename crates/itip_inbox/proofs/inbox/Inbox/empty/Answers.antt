@@ -1,5 +1,0 @@
-use Rattle.itip_inbox.proofs.Hearing.{keeps_none}
-use Rattle.itip_inbox.proofs.inbox.Inbox.empty.Goals as goal
-
-pub returns-clause-none : goal.returns-clause-none
-returns-clause-none c = λ about. keeps_none about _ c.empty.ensures c.new.ensures.items c.new-2.ensures.items

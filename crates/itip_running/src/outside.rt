@@ -1,0 +1,97 @@
+//! What is made of a part of a desk, once the read is over.
+ghost use Rattle.std.specs.Prelude.{◌≡◌, ◌≤◌, length, IfOk, IsErrOf};
+ghost use Rattle.itip_view.specs.ByUid.{IsTextLeft, AreTooManyLeft};
+ghost use Rattle.itip_view.specs.ListText.{IsListText};
+ghost use Rattle.itip_view.specs.Rows.{AreRows, AreTooMany, row_limit};
+ghost use Rattle.itip_view.specs.Showing.{Shows, AreRowsWhere, AreTooManyWhere, IsListTextFor};
+
+use crate::error::PassError;
+use itip_state::State;
+use itip_view::{Row, RowCount, RowsByUid, Wanted, Window, rows};
+use std::alloc::Global;
+
+/// The text of the rows of a state in a window. Beside the text the rows of one UID are held.
+pub(crate) fn text_in(alloc: Global, state: &State, window: Window) -> Result<Vec<u8>, PassError>
+    ensures text { IfOk result (λ text. IsListText state.now window text.items) }
+    ensures many { IsErrOf result PassError.TooManyRows → AreTooMany state.now window }
+    ensures memory { IsErrOf result PassError.NoMemory → ⊥ }
+    ensures entry { IsErrOf result PassError.NoEntry → ⊥ }
+{
+    let Ok(rows) = RowsByUid::of(alloc, state, window, &Wanted::all()) else {
+        return Err(PassError::NoListMemory);
+    };
+    text_of(&rows)
+}
+
+/// The text of the rows of a state in a window that show the attendee of an address.
+pub(crate) fn text_for(
+    alloc: Global,
+    state: &State,
+    window: Window,
+    address: &str,
+) -> Result<Vec<u8>, PassError>
+    ensures text { IfOk result (λ text. IsListTextFor address.now state.now window text.items) }
+    ensures many { IsErrOf result PassError.TooManyRows → AreTooManyWhere (Shows address.now) state.now window }
+    ensures memory { IsErrOf result PassError.NoMemory → ⊥ }
+    ensures entry { IsErrOf result PassError.NoEntry → ⊥ }
+{
+    let wanted = Wanted::showing(Some(address));
+    let Ok(rows) = RowsByUid::of(alloc, state, window, &wanted) else {
+        return Err(PassError::NoListMemory);
+    };
+    text_of(&rows)
+}
+
+/// The text of rows, which are made a UID at a time.
+fn text_of(rows: &RowsByUid<'_, '_>) -> Result<Vec<u8>, PassError>
+    ensures text { IfOk result (λ text. IsTextLeft rows.now text.items) }
+    ensures many { IsErrOf result PassError.TooManyRows → AreTooManyLeft rows.now }
+    ensures memory { IsErrOf result PassError.NoMemory → ⊥ }
+    ensures entry { IsErrOf result PassError.NoEntry → ⊥ }
+{
+    match rows.text() {
+        Ok(text) => Ok(text),
+        Err(fault) => Err(fault.into()),
+    }
+}
+
+/// The rows of a state in a window.
+pub(crate) fn rows_in(alloc: Global, state: &State, window: Window) -> Result<Vec<Row>, PassError>
+    ensures rows { IfOk result (λ rows. AreRows state.now window rows.items) }
+    ensures few { IfOk result (λ rows. length rows.items ≤ row_limit) }
+    ensures many { IsErrOf result PassError.TooManyRows → AreTooMany state.now window }
+    ensures memory { IsErrOf result PassError.NoMemory → ⊥ }
+    ensures entry { IsErrOf result PassError.NoEntry → ⊥ }
+{
+    match rows(alloc, state, window) {
+        Ok(rows) => Ok(rows),
+        Err(fault) => Err(fault.into()),
+    }
+}
+
+/// The rows of a state in a window that show the attendee of an address. They are counted before one is made.
+pub(crate) fn rows_for(
+    alloc: Global,
+    state: &State,
+    window: Window,
+    address: &str,
+) -> Result<Vec<Row>, PassError>
+    ensures rows { IfOk result (λ rows. AreRowsWhere (Shows address.now) state.now window rows.items) }
+    ensures many { IsErrOf result PassError.TooManyRows → AreTooManyWhere (Shows address.now) state.now window }
+    ensures memory { IsErrOf result PassError.NoMemory → ⊥ }
+    ensures entry { IsErrOf result PassError.NoEntry → ⊥ }
+{
+    let shown = Wanted::showing(Some(address));
+    let Ok(rows) = RowsByUid::of(alloc, state, window, &shown) else {
+        return Err(PassError::NoListMemory);
+    };
+    match rows.count() {
+        Ok(RowCount::Few(_)) => {}
+        Ok(RowCount::TooMany(_)) => return Err(PassError::TooManyRows),
+        Err(_) => return Err(PassError::NoListMemory),
+    }
+    match rows.to_vec() {
+        Ok(rows) => Ok(rows),
+        Err(_) => Err(PassError::NoListMemory),
+    }
+}

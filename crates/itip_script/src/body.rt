@@ -1,0 +1,49 @@
+//! The octets behind a line of a stream.
+ghost use Rattle.std.specs.Prelude.{ℕ, ◌≢◌, ◌<◌, IfOk, IfErr};
+ghost use Rattle.itip_script.specs.Stream.{ReadsBody, body_of};
+
+use itip_streams::{StreamFault, pass_octets, read_octets};
+use std::alloc::Global;
+use std::io::Read;
+
+/// The octets that belong to a line.
+#[derive(Debug, Drop)]
+pub enum Body {
+    /// All of them.
+    Whole(Vec<u8>),
+    /// There are more than the limit; they were read past.
+    Long,
+    /// The input ended before the last of them.
+    Cut,
+}
+
+/// Reads so many octets. Of more than `limit` none are held.
+///
+/// A failed read is [`StreamFault::Read`] at once.
+pub fn read_body<R: Read>(
+    alloc: Global,
+    reader: &mut R,
+    octets: u64,
+    limit: usize,
+) -> Result<Body, StreamFault>
+    ensures reads { IfOk result (λ body. ReadsBody limit octets (R.remaining reader.old) (R.remaining reader.new) (body_of body)) }
+    ensures fault { IfErr result (λ fault. fault ≢ StreamFault.Write) }
+{
+    if octets > limit as u64 {
+        return pass_body(reader, octets);
+    }
+    match read_octets(alloc, reader, octets as usize)? {
+        Some(octets) => Ok(Body::Whole(octets)),
+        None => Ok(Body::Cut),
+    }
+}
+
+/// Reads past so many octets, which are more than the limit.
+fn pass_body<R: Read>(reader: &mut R, octets: u64) -> Result<Body, StreamFault>
+    ensures reads { IfOk result (λ body. (limit : ℕ) → limit < octets
+        → ReadsBody limit octets (R.remaining reader.old) (R.remaining reader.new) (body_of body)) }
+    ensures fault { IfErr result (λ fault. fault ≢ StreamFault.Write) }
+{
+    let all = pass_octets(reader, octets)?;
+    if all { Ok(Body::Long) } else { Ok(Body::Cut) }
+}

@@ -1,0 +1,122 @@
+//! What a line of a stream asks for: commands of which each is answered before the next is read.
+ghost use Rattle.std.specs.Prelude.{◌≡◌};
+ghost use Rattle.std.specs.Option.{option_map};
+ghost use Rattle.itip_script.specs.Orders.{order_of};
+ghost use Rattle.itip_script.specs.Stream.{asks, wish_of, wish_at, wish_by, spelled_wish, following};
+
+use crate::command::{Command, Verb, rest_of, spelled_by, verb_of};
+use crate::line::content;
+use crate::word::{is_word, read_number, split_word};
+
+/// The most octets of a line, its break among them.
+pub const LINE_OCTETS: usize = 65_536;
+
+/// The most octets of a message that is taken.
+pub const MESSAGE_OCTETS: usize = 1_048_576;
+
+/// The most octets of a delta that arrives.
+pub const DELTA_OCTETS: usize = 67_108_864;
+
+/// What a line of a stream asks for. Desks and ticks are numbers as written, whether or not there is such a desk.
+#[derive(Clone, Copy, Debug)]
+pub enum StreamLine<'a> {
+    /// `!take d n`: the desk takes the message that the `n` octets behind the line are.
+    Take { desk: u64, octets: u64 },
+    /// `!arrive d n`: the delta that the `n` octets behind the line are reaches the desk.
+    Arrive { desk: u64, octets: u64 },
+    /// `!post d t`: what changed at the desk after tick `t`.
+    Post { desk: u64, since: u64 },
+    /// `!save d file`: the desk is written to a file, whose name is the rest of the line.
+    Save { desk: u64, file: &'a [u8] },
+    /// What is asked of a desk in a script too, and leaves it as it is.
+    Question(Command<'a>),
+    /// Any other line, to which so many of the octets behind it belong.
+    Malformed { octets: u64 },
+    /// A line that says nothing.
+    Empty,
+}
+
+impl<'a> StreamLine<'a> {
+    /// What a line asks for, with or without its break.
+    pub fn of_line(line: &'a [u8]) -> StreamLine<'a>
+        ensures { wish_of result ≡ wish_at line.now }
+    {
+        let said = content(line);
+        if said.is_empty() {
+            return StreamLine::Empty;
+        }
+        match spelled(said) {
+            Some(asked) => asked,
+            None => StreamLine::Malformed {
+                octets: following(said),
+            },
+        }
+    }
+
+    /// What it is called.
+    pub fn word(&self) -> &'static str {
+        match self {
+            StreamLine::Take { .. } => "take",
+            StreamLine::Arrive { .. } => "arrive",
+            StreamLine::Post { .. } => "post",
+            StreamLine::Save { .. } => "save",
+            StreamLine::Question(command) => command.word(),
+            StreamLine::Malformed { .. } | StreamLine::Empty => "command",
+        }
+    }
+}
+
+fn spelled(said: &[u8]) -> Option<StreamLine<'_>>
+    ensures { option_map wish_of result ≡ spelled_wish said.now }
+{
+    let (word, arguments) = split_word(said);
+    if is_word(word, b"!save") {
+        let (first, second) = split_word(arguments);
+        let desk = read_number(first)?;
+        let file = rest_of(second)?;
+        return Some(StreamLine::Save { desk, file });
+    }
+    spelled_with(verb_of(word)?, arguments)
+}
+
+fn spelled_with(verb: Verb, arguments: &[u8]) -> Option<StreamLine<'_>>
+    ensures { option_map wish_of result ≡ wish_by verb arguments.now }
+{
+    let (first, second) = split_word(arguments);
+    match verb {
+        Verb::Take => {
+            let desk = read_number(first)?;
+            let octets = read_number(second)?;
+            Some(StreamLine::Take { desk, octets })
+        }
+        Verb::Arrive => {
+            let desk = read_number(first)?;
+            let octets = read_number(second)?;
+            Some(StreamLine::Arrive { desk, octets })
+        }
+        Verb::Post => {
+            let desk = read_number(first)?;
+            let since = read_number(second)?;
+            Some(StreamLine::Post { desk, since })
+        }
+        _ => question(spelled_by(verb, arguments, &[])),
+    }
+}
+
+fn question(asked: Option<Command<'_>>) -> Option<StreamLine<'_>>
+    ensures { option_map wish_of result ≡ option_map asks (option_map order_of asked.entry) }
+{
+    Some(StreamLine::Question(asked?))
+}
+
+/// How many octets behind a line belong to it that spells no command: those that a `!take` or an `!arrive` names.
+fn following(said: &[u8]) -> u64
+    ensures { result ≡ following said.now }
+{
+    let (word, arguments) = split_word(said);
+    if is_word(word, b"!take") || is_word(word, b"!arrive") {
+        let (_, second) = split_word(arguments);
+        return read_number(second).unwrap_or(0);
+    }
+    0
+}

@@ -1,0 +1,140 @@
+-- Commands as they are built, and what `clap` reads by them.
+use Rattle.std.proofs.Common.{◌≡◌, ℕ, Bool, Bor, List, [], ◌∷◌, ◌++◌, ◌||◌, ◌&&◌, not, true, false, length, refl, sym, ap, ap₂, ◌∙◌}
+use Rattle.std.proofs.Math.Dec.{eqb-suc-zero}
+use Rattle.clap.specs.Built.{AddsArg, AddsSubcommand}
+use Rattle.clap.specs.Simple.{App, HasMatchesOf, Shape, app_of, app_of_fields, is_simple, subcommand_of, subcommand_rows_of}
+use Rattle.clap.specs.Simple.{with_rule, with_subcommand}
+use Rattle.clap.specs.Adds.{AddsConflicts, AddsRequirements}
+use Rattle.clap.specs.Walk.{Rule, is_empty, rule_of}
+use Rattle.clap.specs.declared.builder.arg.Arg.{Arg}
+use Rattle.clap.specs.declared.builder.arg.ArgPredicate.{ArgPredicate}
+use Rattle.clap.specs.declared.builder.command.Command.{Command}
+use Rattle.clap.specs.declared.builder.command.Command.TheOpen.{Command-F}
+use Rattle.clap.specs.declared.builder.command.Command.TheViews.{out-Command as fields_of}
+use Rattle.clap.specs.declared.parser.matches.ArgMatches.{ArgMatches}
+use Rattle.itip_words.specs.Program.{IsRule, IsWord, AddsRules, program, with_rules}
+
+-- ---- options
+
+pub adds_none : (command : Command) → AddsRules [] command command
+adds_none command = record { app_is = refl; local = λ none. none }
+
+fold_one : (rules : List Rule) (rule : Rule) (app : App) → with_rules (rules ++ rule ∷ []) app ≡ with_rule (with_rules rules app) rule
+fold_one [] rule app = refl
+fold_one (first ∷ rules) rule app = fold_one rules rule (with_rule app first)
+
+module _ (mid new : Command) (arg : Arg) (rule : Rule) (adds : AddsArg mid arg new) (is : IsRule rule arg) where
+  stays_local : (fields_of mid).has_globals ≡ false → (fields_of new).has_globals ≡ false
+  stays_local none = adds.globals ∙ ap₂ (λ a b. a || b) none is.local
+
+  with_one : app_of new ≡ with_rule (app_of mid) rule
+  with_one = adds.shape is.local ∙ ap (with_rule (app_of mid)) is.rule_is
+
+  -- one option more
+  pub adds_one : (old : Command) (rules : List Rule) → AddsRules rules old mid → AddsRules (rules ++ rule ∷ []) old new
+  adds_one old rules before = record {
+    app_is = with_one ∙ ap (λ (a : App). with_rule a rule) before.app_is ∙ sym (fold_one rules rule (app_of old));
+    local = λ none. stays_local (before.local none);
+  }
+
+  pub word_one : (app : App) → IsWord app mid → IsWord (with_rule app rule) new
+  word_one app word = record {
+    app_is = with_one ∙ ap (λ (a : App). with_rule a rule) word.app_is;
+    local = stays_local word.local;
+  }
+
+-- some options more
+pub word_more : (app : App) (rules : List Rule) (old new : Command) → IsWord app old → AddsRules rules old new →
+    IsWord (with_rules rules app) new
+word_more app rules old new word adds =
+    record { app_is = adds.app_is ∙ ap (with_rules rules) word.app_is; local = adds.local word.local }
+
+-- a setting of an argument
+pub rule_set : (rule : Rule) (change : Rule → Rule) (old new set : Arg) → IsRule rule old → new ≡ set → rule_of set ≡ change (rule_of old) →
+    set.global ≡ old.global → IsRule (change rule) new
+rule_set rule change old new set is are same local = record {
+  rule_is = ap rule_of are ∙ same ∙ ap change is.rule_is;
+  local = ap (λ (a : Arg). a.global) are ∙ local ∙ is.local;
+}
+
+-- ---- options that ask for another, or stand beside none
+
+last_some : {A : Type 0} (xs : List A) (x : A) → is_empty (xs ++ x ∷ []) ≡ false
+last_some [] x = refl
+last_some (first ∷ xs) x = eqb-suc-zero (length (xs ++ x ∷ []))
+
+second_false : (a c : Bool) → (a && (false && c)) ≡ false
+second_false true c = refl
+second_false false c = refl
+
+third_false : (a b c : Bool) → (a && (b && (false && c))) ≡ false
+third_false true b c = second_false b c
+third_false false b c = refl
+
+abbrev bound : Rule → Bool → Rule
+bound rule free = record rule { is_free = free }
+
+pub rule_needs : (rule : Rule) (old new : Arg) (x : ArgPredicate × Bor (List ℕ)) → IsRule rule old → AddsRequirements old new (x ∷ []) →
+    IsRule (record rule { is_free = false }) new
+rule_needs rule old new x is adds = record {
+  rule_is = ap rule_of adds.0 ∙
+      ap (bound (rule_of old))
+      (ap (λ b. not old.exclusive && (is_empty old.conflicts.items && (b && (is_empty old.r_ifs.items && (is_empty old.r_ifs_all.items
+      && (is_empty old.r_unless.items && is_empty old.r_unless_all.items)))))) (ap is_empty adds.1 ∙ last_some old.needs.items x) ∙
+      third_false (not old.exclusive) (is_empty old.conflicts.items) (is_empty old.r_ifs.items && (is_empty old.r_ifs_all.items
+      && (is_empty old.r_unless.items && is_empty old.r_unless_all.items)))) ∙
+      ap (λ (r : Rule). bound r false) is.rule_is;
+  local = ap (λ (a : Arg). a.global) adds.0 ∙ is.local;
+}
+
+pub rule_conflicts : (rule : Rule) (old new : Arg) (x : Bor (List ℕ)) → IsRule rule old → AddsConflicts old new (x ∷ []) →
+    IsRule (record rule { is_free = false }) new
+rule_conflicts rule old new x is adds = record {
+  rule_is = ap rule_of adds.0 ∙
+      ap (bound (rule_of old))
+      (ap (λ b. not old.exclusive && (b && (is_empty old.needs.items && (is_empty old.r_ifs.items && (is_empty old.r_ifs_all.items
+      && (is_empty old.r_unless.items && is_empty old.r_unless_all.items)))))) (ap is_empty adds.1 ∙ last_some old.conflicts.items x) ∙
+      second_false (not old.exclusive) (is_empty old.needs.items && (is_empty old.r_ifs.items && (is_empty old.r_ifs_all.items
+      && (is_empty old.r_unless.items && is_empty old.r_unless_all.items))))) ∙
+      ap (λ (r : Rule). bound r false) is.rule_is;
+  local = ap (λ (a : Arg). a.global) adds.0 ∙ is.local;
+}
+
+-- ---- words
+
+-- a setting of a word that changes what is read
+pub word_set : (app : App) (change : App → App) (old new : Command) (fields : Command-F Command) → IsWord app old → fields_of new ≡ fields →
+    app_of_fields fields ≡ change (app_of old) → fields.has_globals ≡ (fields_of old).has_globals → IsWord (change app) new
+word_set app change old new fields word are same local = record {
+  app_is = ap app_of_fields are ∙ same ∙ ap change word.app_is;
+  local = ap (λ (f : Command-F Command). f.has_globals) are ∙ local ∙ word.local;
+}
+
+-- texts and settings that are no option leave the word as it is
+pub word_kept : (app : App) (old new : Command) (fields : Command-F Command) → IsWord app old → fields_of new ≡ fields →
+    app_of_fields fields ≡ app_of old → fields.has_globals ≡ (fields_of old).has_globals → IsWord app new
+word_kept app old new fields word are same local = record {
+  app_is = ap app_of_fields are ∙ same ∙ word.app_is;
+  local = ap (λ (f : Command-F Command). f.has_globals) are ∙ local ∙ word.local;
+}
+
+-- a word more
+pub word_added : (app word : App) (old sub new : Command) → IsWord app old → IsWord word sub → AddsSubcommand old sub new →
+    IsWord (with_subcommand app word.top) new
+word_added app word old sub new is sub_is adds = record {
+  app_is = adds.shape sub_is.local ∙
+      ap₂ (λ (a : App) (s : Shape). with_subcommand a s) is.app_is (ap (λ (a : App). a.top) sub_is.app_is);
+  local = adds.globals ∙ ap₂ (λ a b. a || b) is.local sub_is.local;
+}
+
+-- ---- what is read
+
+program_is_simple : is_simple program ≡ true
+unfolding program
+program_is_simple = refl
+
+-- the words and what is read by them
+pub words_read : (command : Command) (words : List (List ℕ)) (matches : ArgMatches) → IsWord program command →
+    HasMatchesOf (app_of command) words matches → subcommand_rows_of matches ≡ subcommand_of program words
+words_read command words matches is has =
+    (has (ap is_simple is.app_is ∙ program_is_simple)).1 ∙ ap (λ (a : App). subcommand_of a words) is.app_is

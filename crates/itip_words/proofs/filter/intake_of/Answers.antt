@@ -1,0 +1,11 @@
+use Rattle.std.proofs.Common.{ℕ, List, Option, subst}
+use Rattle.itip_words.specs.Asking.{IsRead, AreThreadsOf}
+use Rattle.itip_words.proofs.filter.intake_of.Goals as goal
+
+pub returns-clause-asked : goal.returns-clause-asked
+returns-clause-asked c = record {
+  sources = c.in_ok-sources.ensures;
+  threads = subst (λ (o : Option (List ℕ)). IsRead AreThreadsOf o c.in-Some.threads) c.value_of-text.ensures c.in-Some.ensures.asked;
+  progress = c.is_set-progress.ensures;
+  why = c.is_set-why.ensures;
+}

@@ -1,0 +1,16 @@
+pub mod Errors
+pub use Rattle.itip_message.specs.Message
+pub use Rattle.itip_message.specs.Building
+pub use Rattle.itip_state.specs.Kept
+pub use Rattle.itip_state.specs.Order
+pub use Rattle.itip_desk.specs.Heard
+pub use Rattle.itip_desk.specs.Desk
+pub use Rattle.itip_desk.specs.Delta
+pub use Rattle.itip_desk.specs.DeskFile
+pub use Rattle.itip_view.specs.Window
+pub use Rattle.itip_view.specs.Rows
+pub use Rattle.itip_view.specs.Showing
+pub use Rattle.itip_view.specs.ByUid
+pub use Rattle.itip_view.specs.ListText
+pub use Rattle.itip_running.specs.Ends
+pub use Rattle.itip_running.specs.Deltas
