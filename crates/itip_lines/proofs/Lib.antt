@@ -8,6 +8,7 @@ pub mod Utf8Parts
 pub mod ValueLists
 pub mod ParamLists
 pub mod Lines
+pub mod Feeds
 pub mod Scans
 pub mod Cuttings
 pub mod Written

@@ -5,6 +5,7 @@ ghost use Rattle.itip_lines.specs.Stretches.{StripsCr, LacksBlank, BeginsWithBla
 ghost use Rattle.itip_lines.specs.Stretches.{stretches_of, stretches_behind, length_behind, texts_onto, texts_behind};
 ghost use Rattle.itip_lines.specs.ScanSteps.{texts_by, left_behind, left_by, last_number, last_behind, last_by, number_limit};
 
+use memchr::memchr;
 use std::alloc::{AllocError, Global};
 
 /// What is left of a text, and the number of its first physical line, from 1.
@@ -28,7 +29,7 @@ fn cut_lf(text: &[u8]) -> Option<(&[u8], &[u8])>
     ensures { MatchOption result (HasNoLf text.now)
         (λ p. HasNoLf p.0.now × (text.now ≡ p.0.now ++ 10 ∷ p.1.now)) }
 {
-    let at = text.iter().position(|b| *b == b'\n')?;
+    let at = memchr(b'\n', text)?;
     Some((&text[..at], &text[at + 1..]))
 }
 
