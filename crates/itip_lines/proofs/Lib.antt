@@ -11,6 +11,7 @@ pub mod Lines
 pub mod Feeds
 pub mod Scans
 pub mod Cuttings
+pub mod Utf8Lines
 pub mod Written
 pub mod Rooms
 pub mod Cases
