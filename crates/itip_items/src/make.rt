@@ -34,6 +34,35 @@ pub fn make_items(alloc: Global, method: Method, all: Vec<Todo>) -> Result<Vec<I
     ensures found { IfOk result (λ items. GivesItems (drafts method (map parts_of all.items)) items.items) }
     ensures large { IfErr result (λ e. IfTooLarge e (FirstOver 1 (drafts_each method (map parts_of all.items) (map parts_of all.items)))) }
 {
+    if all.len() > 1 {
+        return make_several(alloc, method, all);
+    }
+    let mut all = all;
+    match all.pop() {
+        Some(todo) => make_alone(alloc, method, todo),
+        None => Ok(Vec::new(alloc)),
+    }
+}
+
+/// The items of a message's only to-do, whose effective sequence no other raises.
+fn make_alone(alloc: Global, method: Method, todo: Todo) -> Result<Vec<Item>, FormError>
+    requires { Suits method (parts_of todo) }
+    ensures found { IfOk result (λ items. GivesItems (drafts method (parts_of todo ∷ [])) items.items) }
+    ensures large { IfErr result (λ e. IfTooLarge e (FirstOver 1 (drafts_each method (parts_of todo ∷ []) (parts_of todo ∷ [])))) }
+{
+    let mut items = Vec::new(alloc);
+    match add_items(alloc, method, 0, todo, &mut items) {
+        Ok(()) => Ok(items),
+        Err(error) => Err(error.of_todo(1)),
+    }
+}
+
+/// The items of several to-dos, as [`make_items`] gives them.
+fn make_several(alloc: Global, method: Method, all: Vec<Todo>) -> Result<Vec<Item>, FormError>
+    requires { AllByRecursion (Suits method) (map parts_of all.items) }
+    ensures found { IfOk result (λ items. GivesItems (drafts method (map parts_of all.items)) items.items) }
+    ensures large { IfErr result (λ e. IfTooLarge e (FirstOver 1 (drafts_each method (map parts_of all.items) (map parts_of all.items)))) }
+{
     let greatest = series_sequences(alloc, method, &all)?;
     let mut items = Vec::new(alloc);
     let count = all.len();
