@@ -19,22 +19,22 @@ only all (first ∷ front) todo e few = absurd (omega (arith, few, ap length e, 
 none_given : (m : Method) (all : List Todo) (items : List Item) → all ≡ [] → items ≡ [] → GivesItems (drafts m (map parts_of all)) items
 none_given m all items none e = rw (none, e) (record { within = tt; items_are = tt })
 
-alone : (c : goal.After-pop-in-Some) → c.args.all.items ≡ c.in-Some.todo ∷ []
-alone c = only c.args.all.items c.pop.new.self.items c.in-Some.todo c.in-Some.ensures.items (omega (arith, c.args.all.ok.0))
-
 pub make_alone-requires : goal.make_alone-requires
 make_alone-requires c =
-    (subst (λ (ts : List Todo). AllByRecursion (Suits c.args.method) (map parts_of ts)) (alone c) c.requires).0
+    let alone = only _ c.pop.new.self.items _ c.in-Some.ensures.items (omega (arith, c.args.all.ok.0)) in
+    (subst (λ (ts : List Todo). AllByRecursion (Suits c.args.method) (map parts_of ts)) alone c.requires).0
 
 pub returns-in-Some-clause-found : goal.returns-in-Some-clause-found
 returns-in-Some-clause-found c =
+    let alone = only _ c.pop.new.self.items _ c.in-Some.ensures.items (omega (arith, c.args.all.ok.0)) in
     subst (λ (ts : List Todo). IfOk c.make_alone.result (λ items. GivesItems (drafts c.args.method (map parts_of ts)) items.items))
-    (sym (alone c)) c.make_alone.ensures.found
+    (sym alone) c.make_alone.ensures.found
 
 pub returns-in-Some-clause-large : goal.returns-in-Some-clause-large
 returns-in-Some-clause-large c =
+    let alone = only _ c.pop.new.self.items _ c.in-Some.ensures.items (omega (arith, c.args.all.ok.0)) in
     subst (λ (ts : List Todo). IfErr c.make_alone.result (λ e. IfTooLarge e
-    (FirstOver 1 (drafts_each c.args.method (map parts_of ts) (map parts_of ts))))) (sym (alone c)) c.make_alone.ensures.large
+    (FirstOver 1 (drafts_each c.args.method (map parts_of ts) (map parts_of ts))))) (sym alone) c.make_alone.ensures.large
 
 pub returns-in-None-clause-found : goal.returns-in-None-clause-found
 returns-in-None-clause-found c =
