@@ -35,11 +35,11 @@ over_alone : (m : Method) (parts : Parts) → IsOver (given m (raised parts 0) p
 over_alone m parts over = inl (refl, subst (λ (ds : List ItemDraft). IsOver ds) (sym (given_alone m parts)) over)
 
 pub add_items-requires : goal.add_items-requires
-add_items-requires c = (c.requires, omega arith)
+add_items-requires c = (c.requires.suits, omega arith)
 
 pub returns-in-Ok-clause-found : goal.returns-in-Ok-clause-found
 returns-in-Ok-clause-found c =
-    adds_all _ _ (adds_alone c.args.method (parts_of c.args.todo) _ _ c.new-items.ensures.items c.in-Ok.ensures.found)
+    adds_all _ _ (adds_alone c.args.method (parts_of c.args.todo) _ _ c.requires.empty c.in-Ok.ensures.found)
 
 pub returns-in-Err-clause-large : goal.returns-in-Err-clause-large
 returns-in-Err-clause-large c =

@@ -38,5 +38,5 @@ returns-in-Some-clause-large c =
 
 pub returns-in-None-clause-found : goal.returns-in-None-clause-found
 returns-in-None-clause-found c =
-    none_given c.args.method c.args.all.items c.new.result.items
-    (nil_from_length c.args.all.items (omega (arith, c.args.all.ok.0, c.in-None.ensures.cases.0))) c.new.ensures.items
+    none_given c.args.method c.args.all.items c.in_ok-items.items.items
+    (nil_from_length c.args.all.items (omega (arith, c.args.all.ok.0, c.in-None.ensures.cases.0))) c.in_ok-items.ensures.items
