@@ -8,7 +8,7 @@ use Rattle.itip_lines.proofs.read.read_lines.Goals as goal
 
 pub loop-rest-init : goal.loop-rest-init
 loop-rest-init c = (
-  record { done = []; all = refl; are = tt },
+  rw c.in_ok-lines.ensures.items (record { done = []; all = refl; are = tt }),
   omega arith,
   λ whole. utf8_lines c.args.text.now (c.is_utf8-utf8.ensures.0 whole),
 )

@@ -14,35 +14,42 @@ past (b ∷ front) rest none =
     (ne_eqb b 10 (All-head (λ x. x ≢ 10) b front none))
     ∙ ap suc (past front rest (All-tail (λ x. x ≢ 10) b front none)) ∙ omega arith
 
--- up to the first LF, and on where a blank stands behind it
+-- the line ends behind the first LF, or goes on there
 past_lf : (text front after : List ℕ) (blank : Bool) → HasNoLf front → text ≡ front ++ 10 ∷ after → begins_blank after ≡ blank →
-    (line_length text ≡ length front + cond (not blank) 1 (suc (line_length after))) × (length text ≡ length front + length after + 1)
-past_lf text front after blank none whole is = (
-  ap line_length whole ∙ past front (10 ∷ after) none
-      ∙ ap (λ (t : Bool). length front + cond (not t) 1 (suc (line_length after))) is,
-  ap length whole ∙ length-append front (10 ∷ after) ∙ omega arith,
-)
+    (line_length text + length after ≡ length text + cond blank (line_length after) 0) × (length after < length text)
+past_lf text front after blank none whole is =
+    let long : length text ≡ length front + (length after + 1) = ap length whole ∙ length-append front (10 ∷ after) ∙ omega arith in
+    let to_lf : line_length text ≡ length front + cond (not blank) 1 (suc (line_length after)) =
+    ap line_length whole ∙ past front (10 ∷ after) none ∙ ap (λ (t : Bool). length front + cond (not t) 1 (suc (line_length after))) is in
+    (elim blank as (λ t. line_length text ≡ length front + cond (not t) 1 (suc (line_length after)) →
+    line_length text + length after ≡ length text + cond t (line_length after) 0)
+    [ true ↦ λ e. omega (arith, e, long) | false ↦ λ e. omega (arith, e, long) ] to_lf, omega (arith, long))
 
 all_of : (text : List ℕ) → HasNoLf text → line_length text ≡ length text
 all_of text none = ap line_length (sym (append-nil text)) ∙ past text [] none ∙ omega arith
 
 pub returns-then-not-begins_blank-clause-exact : goal.returns-then-not-begins_blank-clause-exact
 returns-then-not-begins_blank-clause-exact c =
-    let found = c.in-Some.ensures in
-    let ends = past_lf _ _ _ false found.0 found.1 (sym c.begins_blank.ensures ∙ c.if-not-begins_blank.true) in
-    omega (arith, c.loop-after.invariant.exact, c.loop-after.invariant.within, ends.0, ends.1)
+    let rest : List ℕ = c.loop-after.rest.now in
+    let after : List ℕ = c.in-Some.after.now in
+    let ends : line_length rest + length after ≡ length rest + 0 =
+    (past_lf rest _ after false c.in-Some.ensures.0 c.in-Some.ensures.1 (sym c.begins_blank.ensures ∙ c.if-not-begins_blank.true)).0 in
+    omega (arith, c.loop-after.invariant.exact, c.loop-after.invariant.within, ends)
 
 pub loop-after-preserved : goal.loop-after-preserved
 loop-after-preserved c =
-    let found = c.in-Some.ensures in
-    let goes = past_lf _ _ _ true found.0 found.1 (sym c.begins_blank.ensures ∙ c.if-not-begins_blank.false) in
+    let rest : List ℕ = c.loop-after.rest.now in
+    let after : List ℕ = c.in-Some.after.now in
+    let goes_on : (line_length rest + length after ≡ length rest + line_length after) × (length after < length rest) =
+    past_lf rest _ after true c.in-Some.ensures.0 c.in-Some.ensures.1 (sym c.begins_blank.ensures ∙ c.if-not-begins_blank.false) in
     let was = c.loop-after.invariant in
-    record { exact = omega (arith, was.exact, goes.0, goes.1); within = omega (arith, was.within, goes.1) }
+    record { exact = omega (arith, was.exact, goes_on.0); within = omega (arith, was.within, goes_on.1) }
 
 pub loop-after-smaller : goal.loop-after-smaller
 loop-after-smaller c =
-    let found = c.in-Some.ensures in
-    omega (arith, (past_lf _ _ _ _ found.0 found.1 refl).1)
+    (past_lf c.loop-after.rest.now _ c.in-Some.after.now _ c.in-Some.ensures.0 c.in-Some.ensures.1 refl).1
 
 pub returns-clause-exact : goal.returns-clause-exact
-returns-clause-exact c = omega (arith, c.loop-after.invariant.exact, c.loop-after.invariant.within, all_of _ c.in_default.ensures)
+returns-clause-exact c =
+    let all : line_length c.loop-after.rest.now ≡ length c.loop-after.rest.now = all_of c.loop-after.rest.now c.in_default.ensures in
+    omega (arith, c.loop-after.invariant.exact, c.loop-after.invariant.within, all)
