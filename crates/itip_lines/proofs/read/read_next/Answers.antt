@@ -7,8 +7,8 @@ use Rattle.itip_lines.specs.ScanSteps.{AreUtf8, texts_by}
 use Rattle.itip_lines.proofs.Scans.{next_refusal}
 use Rattle.itip_lines.proofs.read.read_next.Goals as goal
 
-pub push_line-requires-in-Line : goal.push_line-requires-in-Line
-push_line-requires-in-Line c =
+pub push_line-requires : goal.push_line-requires
+push_line-requires c =
     let first = c.cut_stretch.ensures.lines c.args.left.number [] ∙
     ap (texts_by c.args.left.number c.cut_stretch.result.0.now) c.in-Line.is in
     λ whole. (subst (λ (ts : List NumberedText). AreUtf8 ts) first (c.requires.utf8 whole)).0
