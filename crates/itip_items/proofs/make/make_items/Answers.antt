@@ -19,8 +19,8 @@ only all (first ∷ front) todo e few = absurd (omega (arith, few, ap length e, 
 none_given : (m : Method) (all : List Todo) (items : List Item) → all ≡ [] → items ≡ [] → GivesItems (drafts m (map parts_of all)) items
 none_given m all items none e = rw (none, e) (record { within = tt; items_are = tt })
 
-pub make_alone-requires : goal.make_alone-requires
-make_alone-requires c =
+pub make_alone-requires-clause-suits : goal.make_alone-requires-clause-suits
+make_alone-requires-clause-suits c =
     let alone = only _ c.pop.new.self.items _ c.in-Some.ensures.items (omega (arith, c.args.all.ok.0)) in
     (subst (λ (ts : List Todo). AllByRecursion (Suits c.args.method) (map parts_of ts)) alone c.requires).0
 
@@ -36,7 +36,7 @@ returns-in-Some-clause-large c =
     subst (λ (ts : List Todo). IfErr c.make_alone.result (λ e. IfTooLarge e
     (FirstOver 1 (drafts_each c.args.method (map parts_of ts) (map parts_of ts))))) (sym alone) c.make_alone.ensures.large
 
-pub returns-in-None-clause-found : goal.returns-in-None-clause-found
-returns-in-None-clause-found c =
+pub returns-clause-found : goal.returns-clause-found
+returns-clause-found c =
     none_given c.args.method c.args.all.items c.in_ok-items.items.items
     (nil_from_length c.args.all.items (omega (arith, c.args.all.ok.0, c.in-None.ensures.cases.0))) c.in_ok-items.ensures.items
