@@ -8,7 +8,7 @@ use Rattle.itip_message.specs.Scanned.{begins_blank, line_length}
 use Rattle.itip_message.proofs.cutting.line_length.Goals as goal
 
 past : (front rest : List ℕ) → HasNoLf front → line_length (front ++ rest) ≡ length front + line_length rest
-past [] rest none = refl
+past [] rest none = omega arith
 past (b ∷ front) rest none =
     ap (λ (t : Bool). cond (t && not (begins_blank (front ++ rest))) 1 (suc (line_length (front ++ rest))))
     (ne_eqb b 10 (All-head (λ x. x ≢ 10) b front none))
@@ -20,10 +20,12 @@ past_lf : (text front after : List ℕ) (blank : Bool) → HasNoLf front → tex
 past_lf text front after blank none whole is =
     let long : length text ≡ length front + (length after + 1) = ap length whole ∙ length-append front (10 ∷ after) ∙ omega arith in
     let to_lf : line_length text ≡ length front + cond (not blank) 1 (suc (line_length after)) =
-    ap line_length whole ∙ past front (10 ∷ after) none ∙ ap (λ (t : Bool). length front + cond (not t) 1 (suc (line_length after))) is in
-    (elim blank as (λ t. line_length text ≡ length front + cond (not t) 1 (suc (line_length after)) →
-    line_length text + length after ≡ length text + cond t (line_length after) 0)
-    [ true ↦ λ e. omega (arith, e, long) | false ↦ λ e. omega (arith, e, long) ] to_lf, omega (arith, long))
+    ap line_length whole ∙ past front (10 ∷ after) none ∙ ap (λ (t : Bool). length front + cond (not t) 1 (suc (line_length after))) is in (
+      elim blank as (λ t. line_length text ≡ length front + cond (not t) 1 (suc (line_length after)) →
+          line_length text + length after ≡ length text + cond t (line_length after) 0)
+          [ true ↦ λ e. omega (arith, e, long) | false ↦ λ e. omega (arith, e, long) ] to_lf,
+      omega (arith, long),
+    )
 
 all_of : (text : List ℕ) → HasNoLf text → line_length text ≡ length text
 all_of text none = ap line_length (sym (append-nil text)) ∙ past text [] none ∙ omega arith
