@@ -1,4 +1,4 @@
-use Rattle.std.proofs.Common.{◌≡◌, ◌∙◌, sym, ap, ◌≤◌, List, [], ◌∷◌, ◌++◌, map, length, length-append, subst, arith}
+use Rattle.std.proofs.Common.{◌≡◌, sym, ap, ◌≤◌, List, [], ◌∷◌, ◌++◌, map, length, length-append, subst, arith}
 use Rattle.std.specs.Prelude.{IfOk, IfErr}
 use Rattle.std.specs.List.{AllByRecursion}
 use Rattle.std.proofs.lemmas.List.{nil_from_length}
