@@ -58,7 +58,6 @@ fn run_command<'a>(alloc: Global) -> Result<Command<'a>, AllocError>
         .long("load")
         .value_name("D=FILE")
         .action(ArgAction::Append)
-        .requires_arg("stream")?
         .help(
             "Desk D begins with what a `!save` wrote to this file; it may be given several times",
         );
@@ -229,8 +228,6 @@ fn cancel_command<'a>(alloc: Global) -> Result<Command<'a>, AllocError>
     let onward = Arg::new(alloc, "onward")
         .long("onward")
         .action(ArgAction::SetTrue)
-        .requires_arg("id")?
-        .conflicts_with("attendee")?
         .help("Cancels the instance and all after it");
     let attendee = Arg::new(alloc, "attendee")
         .long("attendee")
