@@ -1,19 +1,22 @@
 -- What words don't ask for.
-use Rattle.std.proofs.Common.{◌≡◌, ◌≢◌, ℕ, List, [], Bool, true, false, Option, Some, None, map, refl, sym, ap, ap₂, subst, ◌∙◌, codes}
-use Rattle.std.specs.Prelude.{ℤ, ◌+◌, nat_le, bytes_eq, if◌then◌else◌, is_some, string_bytes, unwrap_or, IfNone, IsSomeAnd, MatchBool, MatchOption}
-use Rattle.std.specs.Option.{option_map, option_map_or}
-use Rattle.std.proofs.lemmas.Option.{none-some, same_Some}
+use Rattle.std.proofs.Common.{◌≡◌, ◌≢◌, ◌⊎◌, ℕ, List, [], Bool, true, false, Option, Some, None, inl, inr, refl, sym, ap, ap₂, subst, ◌∙◌}
+use Rattle.std.proofs.Common.{codes}
+use Rattle.std.specs.Prelude.{ℤ, ◌+◌, nat_le, bytes_eq, if◌then◌else◌, is_some, unwrap_or, MatchBool, MatchOption}
+use Rattle.std.specs.Option.{option_map_or}
+use Rattle.std.proofs.lemmas.Option.{none-some}
 use Rattle.itip_moment.specs.Spelling.{IsDateText}
 use Rattle.itip_moment.specs.declared.day.Day.{Day}
 use Rattle.itip_moment.specs.declared.stamp.Stamp.{Stamp}
 use Rattle.itip_moment.proofs.ValueLaws.{date_text-one}
+use Rattle.itip_report.specs.Named.{IsOfRows}
+use Rattle.itip_report.specs.declared.report_name.ReportName.{ReportName}
 use Rattle.itip_words.specs.Asked.{inputs_of_draft}
-use Rattle.itip_words.specs.Asking.{IsRead, IsToday, IsDueDay, IsFormatNamed, IsFormatGiven, IsReportNamed, AsksIntake, AsksListing, AsksReport}
-use Rattle.itip_words.specs.Asking.{AsksMessage, AsksWritten, AsksFilter, NoMessage, AreThreadsOf, sources_of}
-use Rattle.itip_words.specs.Calls.{IsFilterOf, CanFilter, inputs_before, reads_input_once}
+use Rattle.itip_words.specs.Asking.{IsRead, IsToday, IsDueDay, IsFormatNamed, IsFormatGiven, AsksListing, AsksReport}
+use Rattle.itip_words.specs.Asking.{AsksMessage, AsksWritten, AsksFilter, NoMessage, names_days, sources_of}
+use Rattle.itip_words.specs.Calls.{IsFilterOf, inputs_before, reads_input_once}
 use Rattle.itip_view.specs.declared.window.Window.{Window}
 use Rattle.itip_words.specs.Days.{numbered, is_today, IsAskedWindow}
-use Rattle.itip_words.specs.Finding.{Never, Finds}
+use Rattle.itip_words.specs.Finding.{Never}
 use Rattle.itip_words.specs.Options.{Options, value_of, values_of}
 use Rattle.itip_words.specs.Values.{inputs, is_input}
 use Rattle.itip_words.specs.declared.asked.Asked.{Asked}
@@ -93,6 +96,13 @@ module _ (options : Options) (clock : Option Stamp) (today : Option ℤ)
   report_no_window never = λ reported is.
       never reported.window (subst (λ (day : Option ℤ). IsWindowBy day false reported.window)
       (today_one (value_of (codes "today") options) clock is.today today is.today_is today_is) is.window)
+
+-- a report that isn't of rows takes no days
+pub never_days : (options : Options) (name other : ReportName) → name ≡ other → (is : Bool) → (IsOfRows name → is ≡ true) → is ≡ false →
+    names_days options ≡ true → IsOfRows other ⊎ (names_days options ≡ false) → ⊥
+never_days options name other same is rows not_rows days (inl of_rows) =
+    let bad : true ≡ false = sym (rows (subst (λ (n : ReportName). IsOfRows n) (sym same) of_rows)) ∙ not_rows in absurd cc
+never_days options name other same is rows not_rows days (inr none) = let bad : true ≡ false = sym days ∙ none in absurd cc
 
 -- ---- what is written
 
