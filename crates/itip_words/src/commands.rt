@@ -14,6 +14,9 @@ use clap::{Arg, ArgAction, Command};
 use itip_writing::VERSION;
 use std::alloc::{AllocError, Global};
 
+// No option has a rule on another, since `clap` says which words it refuses only of a command without such rules: what `--load` and
+// `--onward` need beside them is told in words.rt and asked.rt.
+
 /// The program, with its words.
 pub(crate) fn command<'a>(alloc: Global) -> Result<Command<'a>, AllocError>
     ensures { IfOk result (IsWord program) }
