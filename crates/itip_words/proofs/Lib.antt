@@ -11,3 +11,4 @@ pub mod Nothing
 pub mod Calling
 pub mod NoCalls
 pub mod Streaming
+pub mod Today

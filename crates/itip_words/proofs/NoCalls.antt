@@ -17,13 +17,13 @@ use Rattle.itip_words.specs.declared.no_call.NoCall.{NoCall}
 use Rattle.itip_words.specs.declared.no_call.NoCall.TheVariants as no_call
 use Rattle.itip_words.proofs.Programs.{program_is_free}
 
--- of a cause that follows
-pub cause_more : (A B C D : Type 0) (why : NoCall) → (A → C) → (B → D) → IsCause A B why → IsCause C D why
-cause_more A B C D (no_call.Help error) bad late is = is
-cause_more A B C D (no_call.Refused error) bad late is = is
-cause_more A B C D (no_call.BadValue text) bad late is = bad is
-cause_more A B C D no_call.NoClock bad late is = late is
-cause_more A B C D no_call.NoMemory bad late is = tt
+-- of what follows
+pub cause_more : (A B : Type 0) (clock : Option Stamp) (why : NoCall) → (A → B) → IsCause A clock why → IsCause B clock why
+cause_more A B clock (no_call.Help error) more is = is
+cause_more A B clock (no_call.Refused error) more is = is
+cause_more A B clock (no_call.BadValue text) more is = more is
+cause_more A B clock no_call.NoClock more is = (is.0, more is.1)
+cause_more A B clock no_call.NoMemory more is = tt
 
 -- ---- what `clap` refuses
 
@@ -63,9 +63,9 @@ module _ (command : Command) (words : List (List ℕ)) (is : IsWord program comm
 
 -- why there is no call of words that are taken
 pub cause_of : (words : List (List ℕ)) (clock : Option Stamp) (why : NoCall) → fault_of program words ≡ [] →
-    IsCause (Never (IsCallBy (subcommand_of program words) clock)) (clock ≡ None) why → IsNoCall words clock why
+    IsCause (Never (IsCallBy (subcommand_of program words) clock)) clock why → IsNoCall words clock why
 cause_of words clock (no_call.Help error) none is = absurd is
 cause_of words clock (no_call.Refused error) none is = absurd is
 cause_of words clock (no_call.BadValue text) none is = record { faultless = none; nothing = is }
-cause_of words clock no_call.NoClock none is = (none, is)
+cause_of words clock no_call.NoClock none is = (is.0, record { faultless = none; nothing = is.1 })
 cause_of words clock no_call.NoMemory none is = tt

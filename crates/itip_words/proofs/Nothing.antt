@@ -42,11 +42,15 @@ today_one (Some text) clock None b p q = absurd p
 today_one (Some text) clock (Some a) None p q = absurd q
 today_one (Some text) clock (Some a) (Some b) p q = ap (λ (day : ℤ). Some day) (date_text-one text a b p q)
 
--- where no day is taken for today there is no clock
+-- where no day is taken for today there is no clock, and no word for it
 pub no_clock : (o : Option (List ℕ)) (clock : Option Stamp) → IsToday o clock None → clock ≡ None
 no_clock None None is = refl
 no_clock None (Some now) is = absurd (none-some now.day is)
 no_clock (Some text) clock is = absurd is
+
+pub not_named_day : (o : Option (List ℕ)) (clock : Option Stamp) → IsToday o clock None → o ≡ None
+not_named_day None clock is = refl
+not_named_day (Some text) clock is = absurd is
 
 pub never_due : (today found : Option Day) (text : List ℕ) → found ≡ None →
     MatchBool (is_today text) (found ≡ today) (MatchOption found (Never (IsDateText text)) (λ day. IsDateText text day.number)) →

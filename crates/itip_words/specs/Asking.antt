@@ -1,5 +1,5 @@
 -- What the options of a call ask for, by docs/USING.md (our own rule).
-use Rattle.std.specs.Prelude.{◌≡◌, ◌⊎◌, ℕ, nat_eq, ℤ, Bool, true, false, ◌||◌, if◌then◌else◌, List, [], ◌∷◌, map, codes, string_bytes}
+use Rattle.std.specs.Prelude.{◌≡◌, ◌⊎◌, ℕ, nat_eq, ℤ, Bool, true, false, not, ◌||◌, if◌then◌else◌, List, [], ◌∷◌, map, codes, string_bytes}
 use Rattle.std.specs.Prelude.{Option, Some, None, is_some, option_map, unwrap_or, IsSomeAnd, MatchBool}
 use Rattle.std.specs.Option.{option_map_or}
 use Rattle.std.specs.Cmp.Lexicographic.{pointwise}
@@ -106,6 +106,26 @@ IsFormatNamed today text (format.Html day) = (text ≡ codes "html") × (today �
 -- the form of `--format`
 abbrev pub IsFormatGiven : Options → Option ℤ → Format → Type 0
 IsFormatGiven options today form = IsSomeAnd (value_of (codes "format") options) (λ text. IsFormatNamed today text form)
+
+-- an end of the window is given
+abbrev pub names_window : Options → Bool
+names_window options = is_some (value_of (codes "from") options) || is_some (value_of (codes "to") options)
+
+abbrev pub is_due_today : Options → Bool
+is_due_today options = option_map_or is_today (value_of (codes "due-before") options) false
+
+abbrev pub is_of_page : Options → Bool
+is_of_page options = option_map_or is_page (value_of (codes "format") options) false
+
+-- rows go by the day that is taken for today
+abbrev pub needs_today : Options → Bool
+needs_today options = not (names_window options) || is_due_today options || is_of_page options
+
+-- no day is taken for today, and something goes by it
+pub record LacksToday (options : Options) (clock : Option Stamp) (needs : Bool) : Type 0 where
+  pub late : clock ≡ None
+  pub unnamed : value_of (codes "today") options ≡ None
+  pub needed : needs ≡ true
 
 -- The rows of the window of `--from` and `--to`, of which only those that `--attendee`, `--open` and `--due-before` leave.
 pub record AsksListing (options : Options) (clock : Option Stamp) (listing : Listing) : Type 0 where

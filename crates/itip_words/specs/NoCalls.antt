@@ -1,9 +1,10 @@
 -- Why nothing is run (our own form).
-use Rattle.std.specs.Prelude.{◌≡◌, ◌≢◌, ◌⊎◌}
+use Rattle.std.specs.Prelude.{◌≡◌, ◌≢◌, ◌⊎◌, Option, None}
 use Rattle.clap.specs.Values.{kind_of}
 use Rattle.clap.specs.declared.error.Error.{Error}
 use Rattle.clap.specs.declared.error.kind.ErrorKind.{ErrorKind}
 use Rattle.clap.specs.declared.error.kind.ErrorKind.TheVariants.{DisplayHelp, DisplayVersion, OutOfMemory}
+use Rattle.itip_moment.specs.declared.stamp.Stamp.{Stamp}
 use Rattle.itip_words.specs.declared.no_call.NoCall.{NoCall}
 use Rattle.itip_words.specs.declared.no_call.NoCall.TheVariants as no_call
 
@@ -19,10 +20,10 @@ IsToldOf error (no_call.BadValue text) = ⊥
 IsToldOf error no_call.NoClock = ⊥
 IsToldOf error no_call.NoMemory = ⊥
 
--- Why there is no call of words that `clap` takes: `Bad` where a value is bad, and `Late` where the clock doesn't tell the time.
-abbrev pub IsCause : Type 0 → Type 0 → NoCall → Type 0
-IsCause Bad Late (no_call.Help error) = ⊥
-IsCause Bad Late (no_call.Refused error) = ⊥
-IsCause Bad Late (no_call.BadValue text) = Bad
-IsCause Bad Late no_call.NoClock = Late
-IsCause Bad Late no_call.NoMemory = Unit {0}
+-- Why there is no call of words that `clap` takes: a value is bad, or there is no clock, and Nothing holds, or memory was refused.
+abbrev pub IsCause : Type 0 → Option Stamp → NoCall → Type 0
+IsCause Nothing clock (no_call.Help error) = ⊥
+IsCause Nothing clock (no_call.Refused error) = ⊥
+IsCause Nothing clock (no_call.BadValue text) = Nothing
+IsCause Nothing clock no_call.NoClock = (clock ≡ None) × Nothing
+IsCause Nothing clock no_call.NoMemory = Unit {0}

@@ -166,7 +166,7 @@ abbrev pub IsNoCall : List (List ℕ) → Option Stamp → NoCall → Type 0
 IsNoCall words clock (no_call.Help error) = IsHelp (kind_of error) × IsAmong (kind_of error) (fault_of program words)
 IsNoCall words clock (no_call.Refused error) = AreRefused words
 IsNoCall words clock (no_call.BadValue text) = AreBad words clock
-IsNoCall words clock no_call.NoClock = (fault_of program words ≡ []) × (clock ≡ None)
+IsNoCall words clock no_call.NoClock = (clock ≡ None) × AreBad words clock
 IsNoCall words clock no_call.NoMemory = Unit {0}
 
 -- ---- what is built

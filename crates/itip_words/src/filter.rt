@@ -1,5 +1,5 @@
 //! The words that read messages: `list`, `compact`, `report`, `news`, `explain`, and those that write a message.
-ghost use Rattle.std.specs.Prelude.{◌≡◌, Option, None, IfOk, IfErr, IfSome, IfNone, IsTrue, codes, map, false};
+ghost use Rattle.std.specs.Prelude.{◌≡◌, Option, IfOk, IfErr, IfSome, IfNone, IsTrue, codes, map, false};
 ghost use Rattle.std.specs.Option.{option_copied, option_map, option_map_or};
 ghost use Rattle.std.specs.String.{string_bytes};
 ghost use Rattle.itip_moment.specs.declared.stamp.Stamp.{Stamp};
@@ -12,7 +12,7 @@ ghost use Rattle.itip_words.specs.NoCalls.{IsCause};
 ghost use Rattle.itip_words.specs.Options.{options_of, value_of, values_of};
 ghost use Rattle.itip_words.specs.Asking.{IsRead, AreThreadsOf, AsksIntake, AsksListing, IsReportNamed, AsksReport, AsksWritten, NoMessage};
 ghost use Rattle.itip_words.specs.Asking.{IsToday, IsDueDay, IsFormatNamed, IsFormatGiven, IsWritingTime, is_page, names_days, file_named};
-ghost use Rattle.itip_words.specs.Asking.{sources_of};
+ghost use Rattle.itip_words.specs.Asking.{LacksToday, needs_today, names_window, is_due_today, is_of_page, sources_of};
 
 use crate::asked::{Asked, asked_attendee, asked_of, asked_uid};
 use crate::days::{asked_window, due_day, is_today, today_of};
@@ -167,7 +167,7 @@ pub(crate) fn filter_of(
     clock: Option<Stamp>,
 ) -> Result<Option<Filter>, NoCall>
     ensures found { IfOk result (Finds (IsFilterOf word.now (options_of words.now) clock)) }
-    ensures fault { IfErr result (IsCause (Never (IsFilterOf word.now (options_of words.now) clock)) (clock ≡ None)) }
+    ensures fault { IfErr result (IsCause (Never (IsFilterOf word.now (options_of words.now) clock)) clock) }
 {
     let Some(intake) = intake_of(alloc, words)? else {
         return Ok(None);
@@ -182,7 +182,7 @@ pub(crate) fn filter_of(
 fn if_input_once(alloc: Global, filter: Filter) -> Result<Filter, NoCall>
     ensures same { IfOk result (λ same. same ≡ filter) }
     ensures once { IfOk result (λ same. IsTrue (reads_input_once same)) }
-    ensures twice { IfErr result (IsCause (reads_input_once filter ≡ false) ⊥) }
+    ensures twice { (clock : Option Stamp) → IfErr result (IsCause (reads_input_once filter ≡ false) clock) }
 {
     if filter.reads_input_once() {
         return Ok(filter);
@@ -199,7 +199,7 @@ fn written_of(
     clock: Option<Stamp>,
 ) -> Result<Option<Written>, NoCall>
     ensures found { IfOk result (Finds (AsksWritten word.now (options_of words.now) clock)) }
-    ensures fault { IfErr result (IsCause ⊥ (clock ≡ None)) }
+    ensures fault { IfErr result (IsCause (Never (AsksWritten word.now (options_of words.now) clock)) clock) }
 {
     if word == "compact" {
         return Ok(compaction_of(alloc, words)?);
@@ -246,9 +246,10 @@ fn list_of(
     clock: Option<Stamp>,
 ) -> Result<Option<Written>, NoCall>
     ensures found { IfOk result (Finds (AsksWritten (codes "list") (options_of words.now) clock)) }
-    ensures fault { IfErr result (IsCause ⊥ (clock ≡ None)) }
+    ensures fault { IfErr result (IsCause (Never (AsksWritten (codes "list") (options_of words.now) clock)) clock) }
 {
-    let Some(today) = asked_today(words, clock)? else {
+    let needs = needs_today(words);
+    let Some(today) = asked_today(words, clock, needs)? else {
         return Ok(None);
     };
     match listing_of(alloc, words, clock, today)? {
@@ -292,9 +293,10 @@ fn listing_of(
 
 fn report_of(words: &ArgMatches<'_>, clock: Option<Stamp>) -> Result<Option<Written>, NoCall>
     ensures found { IfOk result (Finds (AsksWritten (codes "report") (options_of words.now) clock)) }
-    ensures fault { IfErr result (IsCause ⊥ (clock ≡ None)) }
+    ensures fault { IfErr result (IsCause (Never (AsksWritten (codes "report") (options_of words.now) clock)) clock) }
 {
-    let Some(today) = asked_today(words, clock)? else {
+    let needs = !names_window(words);
+    let Some(today) = asked_today(words, clock, needs)? else {
         return Ok(None);
     };
     match reported_of(words, clock, today) {
@@ -362,7 +364,7 @@ fn message_of(
 ) -> Result<Option<Written>, NoCall>
     ensures found { IfOk result (λ found. IfSome found (AsksWritten word.now (options_of words.now) clock)) }
     ensures none { IfOk result (λ found. IfNone found (NoMessage word.now (options_of words.now) clock)) }
-    ensures fault { IfErr result (IsCause ⊥ (clock ≡ None)) }
+    ensures fault { IfErr result (IsCause (NoMessage word.now (options_of words.now) clock) clock) }
 {
     let at = value_of(words, "at");
     let Some(at) = writing_time(at, clock)? else {
@@ -379,7 +381,7 @@ fn message_of(
 /// [`NoCall::NoClock`] where neither is there.
 fn writing_time(word: Option<&str>, clock: Option<Stamp>) -> Result<Option<Stamp>, NoCall>
     ensures found { IfOk result (Finds (IsWritingTime (option_copied word.entry) clock)) }
-    ensures fault { IfErr result (IsCause ⊥ (clock ≡ None)) }
+    ensures fault { IfErr result (IsCause (Never (IsWritingTime (option_copied word.entry) clock)) clock) }
 {
     match (word, clock) {
         (Some(text), _) => Ok(read_stamp(text)),
@@ -390,28 +392,60 @@ fn writing_time(word: Option<&str>, clock: Option<Stamp>) -> Result<Option<Stamp
 
 /// The day that is taken for today: that of `--today`, else that of the clock. `None` where the word is no date.
 ///
-/// [`NoCall::NoClock`] where neither is there, and something depends on it.
-fn asked_today(words: &ArgMatches<'_>, clock: Option<Stamp>) -> Result<Option<Option<Day>>, NoCall>
+/// [`NoCall::NoClock`] where neither is there, and something goes by it.
+fn asked_today(
+    words: &ArgMatches<'_>,
+    clock: Option<Stamp>,
+    needs: bool,
+) -> Result<Option<Option<Day>>, NoCall>
     ensures found { IfOk result (λ found. IfSome found (λ today.
         IsToday (value_of (codes "today") (options_of words.now)) clock (numbered today))) }
     ensures none { IfOk result (λ found. IfNone found (Never (IsToday (value_of (codes "today") (options_of words.now)) clock))) }
-    ensures fault { IfErr result (IsCause ⊥ (clock ≡ None)) }
+    ensures fault { IfErr result (IsCause (LacksToday (options_of words.now) clock needs) clock) }
 {
     let day = value_of(words, "today");
     let Some(today) = today_of(day, clock) else {
         return Ok(None);
     };
-    if today.is_none() && needs_today(words) {
-        return Err(NoCall::NoClock);
+    if !needs {
+        return Ok(Some(today));
     }
-    Ok(Some(today))
+    match today {
+        Some(day) => Ok(Some(Some(day))),
+        None => Err(NoCall::NoClock),
+    }
 }
 
-fn needs_today(words: &ArgMatches<'_>) -> bool {
-    let is_named = is_given(words, "from") || is_given(words, "to");
-    !is_named
-        || value_of(words, "due-before").is_some_and(is_today)
-        || value_of(words, "format").is_some_and(is_page)
+/// Whether rows go by the day that is taken for today.
+fn needs_today(words: &ArgMatches<'_>) -> bool
+    ensures { result ≡ needs_today (options_of words.now) }
+{
+    !names_window(words) || is_due_today(words) || is_of_page(words)
+}
+
+/// Whether words name an end of the window.
+fn names_window(words: &ArgMatches<'_>) -> bool
+    ensures { result ≡ names_window (options_of words.now) }
+{
+    is_given(words, "from") || is_given(words, "to")
+}
+
+fn is_due_today(words: &ArgMatches<'_>) -> bool
+    ensures { result ≡ is_due_today (options_of words.now) }
+{
+    match value_of(words, "due-before") {
+        Some(day) => is_today(day),
+        None => false,
+    }
+}
+
+fn is_of_page(words: &ArgMatches<'_>) -> bool
+    ensures { result ≡ is_of_page (options_of words.now) }
+{
+    match value_of(words, "format") {
+        Some(name) => is_page(name),
+        None => false,
+    }
 }
 
 fn window_in(words: &ArgMatches<'_>, today: Option<Day>, is_due: bool) -> Option<Window>

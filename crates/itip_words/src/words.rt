@@ -1,5 +1,5 @@
 //! What a call of the program asks for.
-ghost use Rattle.std.specs.Prelude.{◌≡◌, ℕ, Option, None, IfOk, IfErr, IfSome, IfNone, codes, map};
+ghost use Rattle.std.specs.Prelude.{◌≡◌, ℕ, Option, IfOk, IfErr, IfSome, IfNone, codes, map};
 ghost use Rattle.std.specs.String.{string_bytes};
 ghost use Rattle.clap.specs.Simple.{subcommand_rows_of};
 ghost use Rattle.itip_moment.specs.declared.stamp.Stamp.{Stamp};
@@ -82,7 +82,7 @@ fn call_of(
     clock: Option<Stamp>,
 ) -> Result<Option<Call>, NoCall>
     ensures found { IfOk result (Finds (IsCallBy (subcommand_rows_of matches.now) clock)) }
-    ensures fault { IfErr result (IsCause (Never (IsCallBy (subcommand_rows_of matches.now) clock)) (clock ≡ None)) }
+    ensures fault { IfErr result (IsCause (Never (IsCallBy (subcommand_rows_of matches.now) clock)) clock) }
 {
     match word_of(matches) {
         Some((word, words)) => named_call(alloc, word, words, clock),
@@ -98,7 +98,7 @@ fn named_call(
     clock: Option<Stamp>,
 ) -> Result<Option<Call>, NoCall>
     ensures found { IfOk result (Finds (IsCallOf word.now (options_of words.now) clock)) }
-    ensures fault { IfErr result (IsCause (Never (IsCallOf word.now (options_of words.now) clock)) (clock ≡ None)) }
+    ensures fault { IfErr result (IsCause (Never (IsCallOf word.now (options_of words.now) clock)) clock) }
 {
     if word == "check" {
         let why = is_set(words, "why");

@@ -2,6 +2,7 @@ use Rattle.std.proofs.Common.{sym, subst}
 use Rattle.std.proofs.lemmas.Result.{err_from_is_err_and}
 use Rattle.std.specs.Prelude.{IfSome}
 use Rattle.itip_words.specs.Asking.{AsksIntake, AsksWritten, AsksFilter}
+use Rattle.itip_words.specs.Calls.{IsFilterOf}
 use Rattle.itip_words.specs.Finding.{Never}
 use Rattle.itip_words.specs.Options.{options_of}
 use Rattle.itip_words.specs.Words.{AreThreads}
@@ -18,7 +19,9 @@ returns-in_default-clause-found c =
 pub returns-in_err-written-clause-fault : goal.returns-in_err-written-clause-fault
 returns-in_err-written-clause-fault c =
     let p = err_from_is_err_and c.from_residual-in_err-written.result c.from_residual-in_err-written.ensures.1 in
-    rw (p.1, p.2) (cause_more _ _ _ _ c.in_err-written.field-0 (λ bad. absurd bad) (λ late. late) c.in_err-written.ensures.fault)
+    rw (p.1, p.2) (cause_more (Never (AsksWritten c.args.word.now (options_of c.args.words.now) c.args.clock))
+    (Never (IsFilterOf c.args.word.now (options_of c.args.words.now) c.args.clock)) c.args.clock c.in_err-written.field-0
+    (λ never filter is. never filter.written is.asked.1) c.in_err-written.ensures.fault)
 
 pub returns-in_default-2-clause-found : goal.returns-in_default-2-clause-found
 returns-in_default-2-clause-found c =
@@ -34,9 +37,8 @@ returns-in_err-if_input_once-clause-fault c =
       rw c.in-Some-2.is at c.in_ok-written.ensures.found,
     ) in
     let p = err_from_is_err_and c.from_residual-in_err-if_input_once.result c.from_residual-in_err-if_input_once.ensures.1 in
-    rw (p.1, p.2) (cause_more _ _ _ _ c.in_err-if_input_once.field-0
-    (never_once c.args.word.now (options_of c.args.words.now) c.args.clock filter asks) (λ late. absurd late)
-    c.in_err-if_input_once.ensures.twice)
+    rw (p.1, p.2) (cause_more _ _ c.args.clock c.in_err-if_input_once.field-0
+    (never_once c.args.word.now (options_of c.args.words.now) c.args.clock filter asks) (c.in_err-if_input_once.ensures.twice c.args.clock))
 
 pub returns-clause-found : goal.returns-clause-found
 returns-clause-found c =

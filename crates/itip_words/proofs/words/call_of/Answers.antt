@@ -1,4 +1,4 @@
-use Rattle.std.proofs.Common.{◌≡◌, Option, None, List, ℕ, subst}
+use Rattle.std.proofs.Common.{Option, List, ℕ, subst}
 use Rattle.std.specs.Prelude.{IfOk, IfErr}
 use Rattle.itip_words.specs.Calls.{IsCallBy}
 use Rattle.itip_words.specs.Finding.{Never, Finds}
@@ -14,7 +14,7 @@ returns-in-Some-clause-found c =
 pub returns-in-Some-clause-fault : goal.returns-in-Some-clause-fault
 returns-in-Some-clause-fault c =
     subst (λ (given : Option (List ℕ × Options)). IfErr c.named_call.result
-    (IsCause (Never (IsCallBy given c.args.clock)) (c.args.clock ≡ None))) c.in-Some.ensures c.named_call.ensures.fault
+    (IsCause (Never (IsCallBy given c.args.clock)) c.args.clock)) c.in-Some.ensures c.named_call.ensures.fault
 
 pub returns-in-None-clause-found : goal.returns-in-None-clause-found
 returns-in-None-clause-found c =

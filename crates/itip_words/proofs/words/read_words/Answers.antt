@@ -24,8 +24,8 @@ returns-in_err-call-clause-no_call c =
     c.in-Ok.ensures.matches in
     rw (p.1, p.2) (cause_of (map string_bytes c.args.words.now) c.args.clock c.in_err-call.field-0
     (faultless c.in_ok-command.field-0 (map string_bytes c.args.words.now) c.in_ok-command.ensures c.in-Ok.ensures.kinds)
-    (cause_more _ _ _ _ c.in_err-call.field-0
-    (subst (λ (given : Option (List ℕ × Options)). Never (IsCallBy given c.args.clock)) read) (λ late. late) c.in_err-call.ensures.fault))
+    (cause_more _ _ c.args.clock c.in_err-call.field-0
+    (subst (λ (given : Option (List ℕ × Options)). Never (IsCallBy given c.args.clock)) read) c.in_err-call.ensures.fault))
 
 pub returns-in-Some-clause-run : goal.returns-in-Some-clause-run
 returns-in-Some-clause-run c =
