@@ -7,7 +7,7 @@ ghost use Rattle.itip_todo.specs.declared.attendee.PartStat.{PartStat};
 ghost use Rattle.itip_words.specs.AskedValues.{IsMomentName, answer_named};
 ghost use Rattle.itip_words.specs.Finding.{Never, Finds};
 ghost use Rattle.itip_words.specs.Values.{address_of};
-ghost use Rattle.itip_words.specs.Options.{options_of, value_of};
+ghost use Rattle.itip_words.specs.Options.{options_of, value_of, is_set};
 ghost use Rattle.itip_words.specs.Asking.{IsRead, IsPercent, AsksAbout, AsksMessage};
 
 use crate::asked_values::{answer_named, named_moment, percent_of};
