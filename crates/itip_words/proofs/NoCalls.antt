@@ -27,6 +27,10 @@ cause_more A B clock no_call.NoMemory more is = tt
 
 -- ---- what `clap` refuses
 
+pub no_help : (kind : ErrorKind) → kind ≢ DisplayHelp → kind ≢ DisplayVersion → IsHelp kind → ⊥
+no_help kind help version (inl e) = help e
+no_help kind help version (inr e) = version e
+
 help_apart : (kind : ErrorKind) → IsHelp kind → kind ≢ OutOfMemory
 help_apart kind (inl help) = λ memory. let bad : DisplayHelp ≡ OutOfMemory = sym help ∙ memory in absurd cc
 help_apart kind (inr version) = λ memory. let bad : DisplayVersion ≡ OutOfMemory = sym version ∙ memory in absurd cc

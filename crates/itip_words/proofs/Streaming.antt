@@ -90,9 +90,9 @@ module _ (texts : List (Bor (List ℕ))) (names : List (ℕ × List ℕ)) (all :
 -- where a word names no load beside those that were read before it, no stream is asked for
 pub no_stream : (options : Options) (scripted : Scripted) → AsksScript options scripted → (texts : List (Bor (List ℕ))) →
     map text_of texts ≡ unwrap_or (values_of (codes "load") options) [] → (i : ℕ) (d : Bor (List ℕ)) → i < length texts →
-    (loads : List Load) → AreRead (take i texts) loads → Never (IsNextLoad (get_or texts i d).now scripted.desks loads) →
-    Never (IsStreamOf options)
-no_stream options scripted script texts given i d inside loads read never = λ streamed is.
+    (loads before : List Load) → before ≡ loads → AreRead (take i texts) loads →
+    Never (IsNextLoad (get_or texts i d).now scripted.desks before) → Never (IsStreamOf options)
+no_stream options scripted script texts given i d inside loads before same read never = λ streamed is.
     let names : List (ℕ × List ℕ) = names_of streamed.loads.items in
     let all : map load_of (map text_of texts) ≡ map Some names = ap (map load_of) given ∙ is.asked.loads in
     let names_inside : i < length names = subst (λ n. i < n) (sym (as_many texts names all)) inside in
@@ -102,5 +102,6 @@ no_stream options scripted script texts given i d inside loads read never = λ s
       named = named_here texts names all i d inside;
       there = subst (λ n. (get_or names i (0, [])).0 < n) desks_are
           (All-get_or (λ (name : ℕ × List ℕ). name.0 < streamed.scripted.desks) names i (0, []) names_inside is.possible.loads.there);
-      once = others_before texts names all i loads inside read is.possible.loads.once;
+      once = subst (λ (ls : List Load). All (λ (load : Load). load.desk ≢ (get_or names i (0, [])).0) ls) (sym same)
+          (others_before texts names all i loads inside read is.possible.loads.once);
     })

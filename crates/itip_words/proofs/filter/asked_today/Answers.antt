@@ -23,9 +23,11 @@ pub returns-in-None-clause-fault : goal.returns-in-None-clause-fault
 returns-in-None-clause-fault c =
     let none : IsToday (value_of (codes "today") (options_of c.args.words.now)) c.args.clock None =
     rw c.in-None.is at
-    (subst (λ (o : Option (List ℕ)). IsToday o c.args.clock (numbered c.in-Some.today)) c.value_of-day.ensures c.in-Some.ensures.found) in
-    (no_clock (value_of (codes "today") (options_of c.args.words.now)) c.args.clock none, record {
-      late = no_clock (value_of (codes "today") (options_of c.args.words.now)) c.args.clock none;
-      unnamed = not_named_day (value_of (codes "today") (options_of c.args.words.now)) c.args.clock none;
-      needed = c.if-not-needs.false;
-    })
+    (subst (λ (o : Option (List ℕ)). IsToday o c.args.clock (numbered c.in-Some.today)) c.value_of-day.ensures c.in-Some.ensures.found) in (
+      no_clock (value_of (codes "today") (options_of c.args.words.now)) c.args.clock none,
+      record {
+        late = no_clock (value_of (codes "today") (options_of c.args.words.now)) c.args.clock none;
+        unnamed = not_named_day (value_of (codes "today") (options_of c.args.words.now)) c.args.clock none;
+        needed = c.if-not-needs.false;
+      },
+    )

@@ -20,7 +20,7 @@ pub returns-in_err-written-clause-fault : goal.returns-in_err-written-clause-fau
 returns-in_err-written-clause-fault c =
     let p = err_from_is_err_and c.from_residual-in_err-written.result c.from_residual-in_err-written.ensures.1 in
     rw (p.1, p.2) (cause_more (Never (AsksWritten c.args.word.now (options_of c.args.words.now) c.args.clock))
-    (Never (IsFilterOf c.args.word.now (options_of c.args.words.now) c.args.clock)) c.args.clock c.in_err-written.field-0
+    (Never (IsFilterOf c.args.word.now (options_of c.args.words.now) c.args.clock)) c.args.clock c.in_err-written.field-0.0
     (λ never filter is. never filter.written is.asked.1) c.in_err-written.ensures.fault)
 
 pub returns-in_default-2-clause-found : goal.returns-in_default-2-clause-found
@@ -37,7 +37,7 @@ returns-in_err-if_input_once-clause-fault c =
       rw c.in-Some-2.is at c.in_ok-written.ensures.found,
     ) in
     let p = err_from_is_err_and c.from_residual-in_err-if_input_once.result c.from_residual-in_err-if_input_once.ensures.1 in
-    rw (p.1, p.2) (cause_more _ _ c.args.clock c.in_err-if_input_once.field-0
+    rw (p.1, p.2) (cause_more _ _ c.args.clock c.in_err-if_input_once.field-0.0
     (never_once c.args.word.now (options_of c.args.words.now) c.args.clock filter asks) (c.in_err-if_input_once.ensures.twice c.args.clock))
 
 pub returns-clause-found : goal.returns-clause-found

@@ -11,7 +11,7 @@ pub returns-in_err-at-clause-fault : goal.returns-in_err-at-clause-fault
 returns-in_err-at-clause-fault c =
     let p = err_from_is_err_and c.from_residual.result c.from_residual.ensures.1 in
     rw (p.1, p.2) (cause_more (Never (IsWritingTime (option_copied c.value_of-at.result) c.args.clock))
-    (NoMessage c.args.word.now (options_of c.args.words.now) c.args.clock) c.args.clock c.in_err-at.field-0
+    (NoMessage c.args.word.now (options_of c.args.words.now) c.args.clock) c.args.clock c.in_err-at.field-0.0
     (λ never message at is. never at (subst (λ (o : Option (List ℕ)). IsWritingTime o c.args.clock at) (sym c.value_of-at.ensures) is.1))
     c.in_err-at.ensures.fault)
 

@@ -11,7 +11,7 @@ use Rattle.itip_words.proofs.filter.report_of.Goals as goal
 pub returns-in_err-today-clause-fault : goal.returns-in_err-today-clause-fault
 returns-in_err-today-clause-fault c =
     let p = err_from_is_err_and c.from_residual.result c.from_residual.ensures.1 in
-    rw (p.1, p.2) (cause_more _ _ c.args.clock c.in_err-today.field-0
+    rw (p.1, p.2) (cause_more _ _ c.args.clock c.in_err-today.field-0.0
     (λ lacks. never_report (options_of c.args.words.now) c.args.clock
     (report_late (options_of c.args.words.now) c.args.clock c.names_window.result c.names_window.ensures lacks)) c.in_err-today.ensures.fault)
 

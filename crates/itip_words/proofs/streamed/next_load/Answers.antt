@@ -9,7 +9,7 @@ pub returns-in_err-desk-clause-none : goal.returns-in_err-desk-clause-none
 returns-in_err-desk-clause-none c =
     none_is c.from_residual.result (λ load is. none-some load (c.in_err-desk.ensures ∙ is.named))
 
-pub returns-then-desk-desks-clause-none : goal.returns-then-desk-ge-desks-clause-none
+pub returns-then-desk-desks-clause-none : goal.returns-then-desk-desks-clause-none
 returns-then-desk-desks-clause-none c =
     never_past c.args.text.now c.args.desks c.args.before.now (c.in_ok-desk.desk, c.in_ok-desk.file.now) c.in_ok-desk.ensures
     c.if-desk-desks.true

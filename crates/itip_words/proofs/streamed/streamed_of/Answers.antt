@@ -1,9 +1,7 @@
 use Rattle.std.proofs.Common.{◌≢◌, ◌∙◌, ℕ, List, Some, ap, sym, subst}
 use Rattle.std.specs.List.{All}
 use Rattle.itip_words.specs.declared.streamed.Load.{Load}
-use Rattle.itip_words.specs.Finding.{Never}
 use Rattle.itip_words.specs.Options.{options_of}
-use Rattle.itip_words.specs.Streams.{IsNextLoad}
 use Rattle.itip_words.proofs.Loading.{no_load, one_load, none_read, one_read, all_read}
 use Rattle.itip_words.proofs.Streaming.{no_stream}
 use Rattle.itip_words.proofs.streamed.streamed_of.Goals as goal
@@ -33,9 +31,8 @@ returns-in_default c = λ streamed is. c.in_default.ensures.none streamed.script
 pub returns-in_default-next_load : goal.returns-in_default-next_load
 returns-in_default-next_load c =
     no_stream (options_of c.args.words.now) c.in-Some.scripted c.in-Some.ensures.asked c.loads_named-text-items.result.now
-    c.loads_named-text-items.ensures c.loop-text.text-index _ c.loop-text-test.true c.loop-text.loads.items c.loop-text.invariant.read
-    (subst (λ (loads : List Load). Never (IsNextLoad _ c.in-Some.scripted.desks loads)) c.as_slice.ensures.value
-    c.in_default-next_load.ensures.none)
+    c.loads_named-text-items.ensures c.loop-text.text-index _ c.loop-text-test.true c.loop-text.loads.items c.as_slice.result.now
+    c.as_slice.ensures.value c.loop-text.invariant.read c.in_default-next_load.ensures.none
 
 pub returns : goal.returns
 returns c = record {

@@ -41,7 +41,7 @@ returns-in-None-clause-found c =
 pub returns-in_err-filter-clause-fault : goal.returns-in_err-filter-clause-fault
 returns-in_err-filter-clause-fault c =
     let p = err_from_is_err_and c.from_residual-in_err-filter.result c.from_residual-in_err-filter.ensures.1 in
-    rw (p.1, p.2) (cause_more _ _ c.args.clock c.in_err-filter.field-0
+    rw (p.1, p.2) (cause_more _ _ c.args.clock c.in_err-filter.field-0.0
     (never_called (options_of c.args.words.now) c.args.clock c.args.word.now
     (not_named c.args.word.now (codes "check") c.eq.result c.eq.ensures c.if-eq.false)
     (not_named c.args.word.now (codes "run") c.eq-2.result c.eq-2.ensures c.if-eq-2.false)

@@ -15,16 +15,16 @@ use Rattle.itip_words.proofs.words.read_words.Goals as goal
 pub returns-in-Err-clause-no_call : goal.returns-in-Err-clause-no_call
 returns-in-Err-clause-no_call c =
     told_of c.in_ok-command.field-0 (map string_bytes c.args.words.now) c.in_ok-command.ensures c.args.clock c.in-Err.error
-    c.in_ok-no_call.field-0 c.in-Err.ensures.kinds c.in_ok-no_call.ensures
+    c.in_ok-no_call-in-Err.field-0 c.in-Err.ensures.kinds c.in_ok-no_call-in-Err.ensures
 
 pub returns-in_err-call-clause-no_call : goal.returns-in_err-call-clause-no_call
 returns-in_err-call-clause-no_call c =
     let p = err_from_is_err_and c.from_residual-in_err-call.result c.from_residual-in_err-call.ensures.1 in
     let read = words_read c.in_ok-command.field-0 (map string_bytes c.args.words.now) c.in-Ok.matches c.in_ok-command.ensures
     c.in-Ok.ensures.matches in
-    rw (p.1, p.2) (cause_of (map string_bytes c.args.words.now) c.args.clock c.in_err-call.field-0
+    rw (p.1, p.2) (cause_of (map string_bytes c.args.words.now) c.args.clock c.in_err-call.field-0.0
     (faultless c.in_ok-command.field-0 (map string_bytes c.args.words.now) c.in_ok-command.ensures c.in-Ok.ensures.kinds)
-    (cause_more _ _ c.args.clock c.in_err-call.field-0
+    (cause_more _ _ c.args.clock c.in_err-call.field-0.0
     (subst (λ (given : Option (List ℕ × Options)). Never (IsCallBy given c.args.clock)) read) c.in_err-call.ensures.fault))
 
 pub returns-in-Some-clause-run : goal.returns-in-Some-clause-run
@@ -56,8 +56,8 @@ returns-in-Some-clause-asked c = record {
       (asked_by (subcommand_rows_of c.in-Ok.matches) c.args.clock c.in-Some.call (rw c.in-Some.is at c.in_ok-call.ensures.found));
 }
 
-pub returns-in-None-clause-no_call : goal.returns-in-None-clause-no_call
-returns-in-None-clause-no_call c = record {
+pub returns-in_ok-what_is_wrong-in-None-clause-no_call : goal.returns-in_ok-what_is_wrong-in-None-clause-no_call
+returns-in_ok-what_is_wrong-in-None-clause-no_call c = record {
   faultless = faultless c.in_ok-command.field-0 (map string_bytes c.args.words.now) c.in_ok-command.ensures c.in-Ok.ensures.kinds;
   nothing = subst (λ (given : Option (List ℕ × Options)). Never (IsCallBy given c.args.clock))
       (words_read c.in_ok-command.field-0 (map string_bytes c.args.words.now) c.in-Ok.matches c.in_ok-command.ensures
