@@ -1,3 +1,4 @@
+use Rattle.std.proofs.Common.{ap, not}
 use Rattle.std.specs.Prelude.{codes}
 use Rattle.std.proofs.lemmas.Result.{err_from_is_err_and}
 use Rattle.itip_words.specs.Asking.{IsToday}
@@ -13,7 +14,7 @@ returns-in_err-today-clause-fault c =
     let p = err_from_is_err_and c.from_residual.result c.from_residual.ensures.1 in
     rw (p.1, p.2) (cause_more _ _ c.args.clock c.in_err-today.field-0.0
     (λ lacks. never_report (options_of c.args.words.now) c.args.clock
-    (report_late (options_of c.args.words.now) c.args.clock c.names_window.result c.names_window.ensures lacks)) c.in_err-today.ensures.fault)
+    (report_late (options_of c.args.words.now) c.args.clock _ (ap not c.names_window-needs.ensures) lacks)) c.in_err-today.ensures.fault)
 
 pub returns-in_default-clause-found : goal.returns-in_default-clause-found
 returns-in_default-clause-found c =

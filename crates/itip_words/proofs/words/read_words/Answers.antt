@@ -56,8 +56,8 @@ returns-in-Some-clause-asked c = record {
       (asked_by (subcommand_rows_of c.in-Ok.matches) c.args.clock c.in-Some.call (rw c.in-Some.is at c.in_ok-call.ensures.found));
 }
 
-pub returns-in_ok-what_is_wrong-in-None-clause-no_call : goal.returns-in_ok-what_is_wrong-in-None-clause-no_call
-returns-in_ok-what_is_wrong-in-None-clause-no_call c = record {
+pub returns-clause-no_call : goal.returns-clause-no_call
+returns-clause-no_call c = record {
   faultless = faultless c.in_ok-command.field-0 (map string_bytes c.args.words.now) c.in_ok-command.ensures c.in-Ok.ensures.kinds;
   nothing = subst (λ (given : Option (List ℕ × Options)). Never (IsCallBy given c.args.clock))
       (words_read c.in_ok-command.field-0 (map string_bytes c.args.words.now) c.in-Ok.matches c.in_ok-command.ensures
