@@ -1,6 +1,6 @@
 -- What options ask for, from what their values are read as.
 use Rattle.std.proofs.Common.{◌≡◌, ℕ, List, Bool, true, false, Option, Some, None, Result, Ok, Err, refl, sym, ap, subst, ◌∙◌}
-use Rattle.std.specs.Prelude.{IfOk, IfSome, IfNone, IsSomeAnd, MatchBool, codes, is_some, nat_eq}
+use Rattle.std.specs.Prelude.{IfOk, IfSome, IfNone, MatchBool, codes, is_some, nat_eq}
 use Rattle.std.specs.Borrow.{Bor}
 use Rattle.std.specs.Option.{option_copied, option_map}
 use Rattle.std.specs.Cmp.Lexicographic.{pointwise}

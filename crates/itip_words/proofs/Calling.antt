@@ -1,19 +1,17 @@
 -- Calls that words ask for, and that there can be.
-use Rattle.std.proofs.Common.{◌≡◌, ◌≢◌, ℕ, List, [], Bool, true, false, Option, Some, None, Result, Ok, Err, map, refl, sym, ap, subst, ◌∙◌}
+use Rattle.std.proofs.Common.{◌≡◌, ◌≢◌, ℕ, List, true, false, Option, Some, None, refl, sym, subst, ◌∙◌}
 use Rattle.std.proofs.Common.{codes}
-use Rattle.std.specs.Prelude.{bytes_eq, IfSome, IfOk, IsSomeAnd, MatchOption}
+use Rattle.std.specs.Prelude.{bytes_eq, IfSome, IsSomeAnd, MatchOption}
 use Rattle.std.proofs.lemmas.Option.{none-some}
 use Rattle.itip_moment.specs.declared.stamp.Stamp.{Stamp}
-use Rattle.itip_words.specs.Asking.{AsksScript, AsksRun, AsksWritten, Asks, IsAsked}
+use Rattle.itip_words.specs.Asking.{AsksScript, AsksRun, AsksWritten, IsAsked}
 use Rattle.itip_words.specs.Calls.{IfRun, IfStream, IfOffice, IfFilter, AreStreamed, AreOffice, CanFilter, CanBe}
 use Rattle.itip_words.specs.Calls.{IsStreamOf, IsFilterOf, IsCallOf, IsCallBy}
 use Rattle.itip_words.specs.Finding.{Never, Finds}
 use Rattle.itip_words.specs.Options.{Options, value_of, is_set}
 use Rattle.itip_words.specs.Words.{AreDesks, workers_of}
-use Rattle.itip_words.specs.declared.filter.Filter.{Filter}
 use Rattle.itip_words.specs.declared.filter.Written.{Written}
 use Rattle.itip_words.specs.declared.filter.Written.TheVariants as written
-use Rattle.itip_words.specs.declared.streamed.Streamed.{Streamed}
 use Rattle.itip_words.specs.declared.words.Call.{Call}
 use Rattle.itip_words.specs.declared.words.Call.TheVariants as call
 use Rattle.itip_words.specs.declared.words.Scripted.{Scripted}

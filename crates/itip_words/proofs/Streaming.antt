@@ -1,5 +1,5 @@
 -- Desks that can't begin with the files that words name.
-use Rattle.std.proofs.Common.{◌≡◌, ◌≢◌, ◌∙◌, refl, sym, ap, subst, ℕ, ◌<◌, ◌≤◌, ◌==◌, Bool, true, false, Option, Some, None}
+use Rattle.std.proofs.Common.{◌≡◌, ◌≢◌, ◌∙◌, refl, sym, ap, subst, ℕ, ◌<◌, ◌≤◌, ◌==◌, true, Option, Some, None}
 use Rattle.std.proofs.Common.{List, [], ◌∷◌, map, take, length, get_or, codes, unwrap_or, eqb-true, arith}
 use Rattle.std.proofs.Common.{length-take-le}
 use Rattle.std.specs.Borrow.{Bor}
@@ -15,7 +15,6 @@ use Rattle.itip_words.specs.Options.{Options, value_of, values_of}
 use Rattle.itip_words.specs.Streams.{IsNextLoad, load_of, names_of}
 use Rattle.itip_words.specs.Words.{desks_of}
 use Rattle.itip_words.specs.declared.streamed.Load.{Load}
-use Rattle.itip_words.specs.declared.streamed.Streamed.{Streamed}
 use Rattle.itip_words.specs.declared.words.Scripted.{Scripted}
 use Rattle.itip_words.proofs.Finding.{one_given}
 use Rattle.itip_words.proofs.Loading.{AreRead, name_of}

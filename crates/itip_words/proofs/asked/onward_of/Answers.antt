@@ -1,4 +1,4 @@
-use Rattle.std.proofs.Common.{◌∙◌, ℕ, List, Option, refl, sym, subst}
+use Rattle.std.proofs.Common.{◌∙◌, Option, refl, sym, subst}
 use Rattle.std.specs.Prelude.{codes}
 use Rattle.itip_moment.specs.declared.moment.Moment.{Moment}
 use Rattle.itip_words.specs.Asking.{IsRead, AsksAbout}

@@ -1,4 +1,4 @@
-use Rattle.std.proofs.Common.{◌≡◌, ◌∙◌, inl, inr, refl, sym}
+use Rattle.std.proofs.Common.{◌∙◌, inl, inr, refl, sym}
 use Rattle.clap.specs.Values.{kind_of}
 use Rattle.itip_words.proofs.NoCalls.{no_help}
 use Rattle.itip_words.proofs.no_call.no_call.Goals as goal

@@ -1,12 +1,11 @@
 use Rattle.std.proofs.Common.{Option, List, ℕ, map, subst}
 use Rattle.std.specs.String.{string_bytes}
 use Rattle.std.proofs.lemmas.Result.{err_from_is_err_and}
-use Rattle.clap.specs.Simple.{subcommand_rows_of, subcommand_of}
+use Rattle.clap.specs.Simple.{subcommand_rows_of}
 use Rattle.itip_words.specs.Asking.{IsAsked}
 use Rattle.itip_words.specs.Calls.{IsCallBy}
-use Rattle.itip_words.specs.Finding.{Never, Finds}
+use Rattle.itip_words.specs.Finding.{Never}
 use Rattle.itip_words.specs.Options.{Options}
-use Rattle.itip_words.specs.Program.{program}
 use Rattle.itip_words.proofs.Calling.{asked_by, can_be, can_run, can_stream, can_office, can_filter}
 use Rattle.itip_words.proofs.NoCalls.{faultless, told_of, cause_more, cause_of}
 use Rattle.itip_words.proofs.Programs.{words_read}
