@@ -16,7 +16,7 @@ pub enum NoCall {
     Help(Error),
     /// The words are none of the program's; the error prints what is wrong with them.
     Refused(Error),
-    /// A value is none that its word takes; this says which, in lines of its own.
+    /// A value is none that its word takes, or an option can't stand beside the others; this says which, in lines of its own.
     BadValue(String),
     /// What is asked for depends on the time, which the clock doesn't tell.
     NoClock,
