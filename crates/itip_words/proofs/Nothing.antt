@@ -32,7 +32,8 @@ use Rattle.itip_words.proofs.Messages.{never_message}
 -- ---- days
 
 -- no day is taken for today where the word for it is no date
-pub never_today : (text : List ℕ) (clock : Option Stamp) → Never (IsDateText text) → (today : Option ℤ) → IsToday (Some text) clock today → ⊥
+pub never_today : (text : List ℕ) (clock : Option Stamp) → Never (IsDateText text) → (today : Option ℤ) →
+    IsToday (Some text) clock today → ⊥
 never_today text clock never None is = is
 never_today text clock never (Some day) is = never day is
 

@@ -13,7 +13,8 @@ returns-in_err-today-clause-fault c =
     let p = err_from_is_err_and c.from_residual.result c.from_residual.ensures.1 in
     rw (p.1, p.2) (cause_more _ _ c.args.clock c.in_err-today.field-0.0
     (λ lacks. never_list (options_of c.args.words.now) c.args.clock
-    (list_late (options_of c.args.words.now) c.args.clock c.needs_today-needs.result c.needs_today-needs.ensures lacks)) c.in_err-today.ensures.fault)
+    (list_late (options_of c.args.words.now) c.args.clock c.needs_today-needs.result c.needs_today-needs.ensures lacks))
+    c.in_err-today.ensures.fault)
 
 pub returns-in_default-clause-found : goal.returns-in_default-clause-found
 returns-in_default-clause-found c =

@@ -49,12 +49,14 @@ returns-clause-found c =
 
 pub returns-then-eq-2-clause-fault : goal.returns-then-eq-2-clause-fault
 returns-then-eq-2-clause-fault c =
-    subst (λ (w : List ℕ). IfErr c.list_of.result (IsCause (Never (AsksWritten w (options_of c.args.words.now) c.args.clock)) c.args.clock))
+    subst (λ (w : List ℕ). IfErr c.list_of.result
+    (IsCause (Never (AsksWritten w (options_of c.args.words.now) c.args.clock)) c.args.clock))
     (sym (named c.args.word.now (codes "list") c.eq-2.result c.eq-2.ensures c.if-eq-2.true)) c.list_of.ensures.fault
 
 pub returns-then-eq-3-clause-fault : goal.returns-then-eq-3-clause-fault
 returns-then-eq-3-clause-fault c =
-    subst (λ (w : List ℕ). IfErr c.report_of.result (IsCause (Never (AsksWritten w (options_of c.args.words.now) c.args.clock)) c.args.clock))
+    subst (λ (w : List ℕ). IfErr c.report_of.result
+    (IsCause (Never (AsksWritten w (options_of c.args.words.now) c.args.clock)) c.args.clock))
     (sym (named c.args.word.now (codes "report") c.eq-3.result c.eq-3.ensures c.if-eq-3.true)) c.report_of.ensures.fault
 
 pub returns-clause-fault : goal.returns-clause-fault
