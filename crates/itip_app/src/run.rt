@@ -8,6 +8,7 @@ ghost use Rattle.itip_office.specs.declared.error.OfficeError.{OfficeError};
 ghost use Rattle.itip_words.specs.Calls.{IfRun, IfOffice, AreOffice};
 ghost use Rattle.itip_words.specs.Words.{AreDesks, AreWorkers};
 ghost use Rattle.itip_app.specs.Status.{status_shown, IsStatusOfNoCall};
+ghost use Rattle.itip_app.specs.Ended.{EndsRun, EndsOffice, EndsShowing};
 
 use crate::filters::{filtered, refused_status};
 use crate::stream::stream;
@@ -77,10 +78,10 @@ fn done<
     ensures { IfErr call (λ why. IsStatusOfNoCall why result) }
 {
     match call {
-        Ok(Call::Run(scripted)) => ended(rt, run(rt, scripted)),
+        Ok(Call::Run(scripted)) => run(rt, scripted),
         Ok(Call::Stream(streamed)) => stream(rt, &streamed),
-        Ok(Call::Office { scripted, workers }) => ended(rt, office(rt, scripted, workers)),
-        Ok(Call::Check { why }) => ended(rt, show(rt, why)),
+        Ok(Call::Office { scripted, workers }) => office(rt, scripted, workers),
+        Ok(Call::Check { why }) => show(rt, why),
         Ok(Call::Filter(filter)) => filtered(rt, &filter, terminals),
         Err(why) => not_run(rt, why),
     }
@@ -108,16 +109,28 @@ fn not_run<R: Print + Eprint>(rt: &R, why: NoCall) -> u8
     }
 }
 
-fn run<R: AllocGlobal + Input + Print + Eprint>(
-    rt: &R,
-    asked: Scripted,
-) -> Result<bool, StreamFault>
+/// Runs the script of standard input and gives the status.
+fn run<R: AllocGlobal + Input + Print + Eprint>(rt: &R, asked: Scripted) -> u8
     requires { AreDesks asked.desks }
 {
     let mut reader = rt.reader();
     let mut writer = io::writer(rt);
     let mut watch = Explainer::new(rt, asked.why);
-    run_on(rt.alloc(), &mut reader, &mut writer, asked, &mut watch)
+    run_status(rt, &mut reader, &mut writer, asked, &mut watch)
+}
+
+/// Runs a script of a reader, says what failed, and gives the status.
+fn run_status<R: AllocGlobal + Eprint, I: io::Read, W: io::Write, S: itip_world::Watch>(
+    rt: &R,
+    reader: &mut I,
+    writer: &mut W,
+    asked: Scripted,
+    watch: &mut S,
+) -> u8
+    requires { AreDesks asked.desks }
+    ensures { EndsRun asked (I.remaining reader.old) (W.contents writer.old) (W.contents writer.new) result }
+{
+    ended(rt, run_on(rt.alloc(), reader, writer, asked, watch))
 }
 
 /// Runs a script of a reader, with as many desks and in the window that is asked for.
@@ -139,18 +152,40 @@ fn run_on<I: io::Read, W: io::Write, S: itip_world::Watch>(
     run_script_watched(alloc, reader, writer, desks, asked.window, watch)
 }
 
+/// Does the jobs of the script of standard input and gives the status.
 fn office<R: AllocGlobal + Input + Print + Eprint + Threads + Wait + Copy + Send + Sync + 'static>(
     rt: &R,
     asked: Scripted,
     workers: u64,
-) -> Result<bool, ScriptError>
+) -> u8
     requires desks { AreDesks asked.desks }
     requires workers { AreWorkers workers }
 {
     let mut reader = rt.reader();
     let mut writer = io::writer(rt);
     let mut watch = Explainer::new(rt, asked.why);
-    office_on(rt, &mut reader, &mut writer, asked, workers, &mut watch)
+    office_status(rt, &mut reader, &mut writer, asked, workers, &mut watch)
+}
+
+/// Does the jobs of a script of a reader, says what failed, and gives the status.
+fn office_status<
+    R: AllocGlobal + Eprint + Threads + Wait + Copy + Send + Sync + 'static,
+    I: io::Read,
+    W: io::Write,
+    S: itip_office::Watch,
+>(
+    rt: &R,
+    reader: &mut I,
+    writer: &mut W,
+    asked: Scripted,
+    workers: u64,
+    watch: &mut S,
+) -> u8
+    requires desks { AreDesks asked.desks }
+    requires workers { AreWorkers workers }
+    ensures { EndsOffice asked (I.remaining reader.old) (W.contents writer.old) (W.contents writer.new) result }
+{
+    ended(rt, office_on(rt, reader, writer, asked, workers, watch))
 }
 
 /// Does the jobs of a script of a reader, at as many desks and in the window that is asked for.
@@ -182,11 +217,24 @@ fn office_on<
     run_jobs(rt, reader, writer, desks, workers, asked.window, watch)
 }
 
-fn show<R: AllocGlobal + Input + Print + Eprint>(rt: &R, why: bool) -> Result<bool, StreamFault> {
+/// Shows the message of standard input and gives the status.
+fn show<R: AllocGlobal + Input + Print + Eprint>(rt: &R, why: bool) -> u8 {
     let mut reader = rt.reader();
     let mut writer = io::writer(rt);
     let mut watch = Explainer::new(rt, why);
-    check(rt.alloc(), &mut reader, &mut writer, &mut watch)
+    show_status(rt, &mut reader, &mut writer, &mut watch)
+}
+
+/// Shows the message of a reader, says what failed, and gives the status.
+fn show_status<R: AllocGlobal + Eprint, I: io::Read, W: io::Write, S: itip_inbox::Watch>(
+    rt: &R,
+    reader: &mut I,
+    writer: &mut W,
+    watch: &mut S,
+) -> u8
+    ensures { EndsShowing (I.remaining reader.old) (W.contents writer.old) (W.contents writer.new) result }
+{
+    ended(rt, check(rt.alloc(), reader, writer, watch))
 }
 
 /// The status of what was done: 1 where a refusal was written.

@@ -6,6 +6,7 @@ ghost use Rattle.itip_desk.specs.declared.refusal.FileRefusal.{FileRefusal};
 ghost use Rattle.itip_words.specs.Streams.{names_of};
 ghost use Rattle.itip_app.specs.Status.{status_unloaded, status_served};
 ghost use Rattle.itip_app.specs.Streamed.{Begins, AreBegun, IsUnbegun, ServesStream, IsUnserved};
+ghost use Rattle.itip_app.specs.Ended.{EndsServing};
 
 use crate::filters::refused_status;
 use crate::run::FAULT;
@@ -79,7 +80,7 @@ enum Unserved<'a> {
     Stream(StreamFault),
 }
 
-/// Serves a stream and gives the status.
+/// Serves the stream of standard input and gives the status.
 pub(crate) fn stream<R: AllocGlobal + Input + Print + Eprint + Files>(
     rt: &R,
     asked: &Streamed,
@@ -89,17 +90,37 @@ pub(crate) fn stream<R: AllocGlobal + Input + Print + Eprint + Files>(
     };
     let mut writer = io::writer(rt);
     let mut files = DeskFiles { rt };
-    let why = asked.scripted.why;
-    let mut watch = Explainer::new(rt, why);
-    let done = stream_on(
-        rt.alloc(),
+    let mut watch = Explainer::new(rt, asked.scripted.why);
+    stream_status(
+        rt,
         &mut files,
         &mut reader,
         &mut writer,
         asked,
         &mut watch,
-    );
-    served(rt, done, why)
+    )
+}
+
+/// Serves a stream of a reader, says why it was not served to its end, and gives the status.
+fn stream_status<
+    R: AllocGlobal + Eprint,
+    F: Folder + Shelf,
+    I: io::Read,
+    W: io::Write,
+    S: itip_world::Watch,
+>(
+    rt: &R,
+    folder: &mut F,
+    reader: &mut I,
+    writer: &mut W,
+    asked: &Streamed,
+    watch: &mut S,
+) -> u8
+    ensures { EndsServing (F.holds folder.old) asked.now (I.remaining reader.old) (I.remaining reader.new)
+        (W.contents writer.old) (W.contents writer.new) result }
+{
+    let done = stream_on(rt.alloc(), folder, reader, writer, asked, watch);
+    served(rt, done, asked.scripted.why)
 }
 
 /// Serves a stream of a reader over desks that begin as it is asked for, in the window that is asked for.
