@@ -15,6 +15,8 @@ use Rattle.itip_office.specs.declared.error.ScriptError.{ScriptError}
 use Rattle.itip_office.specs.declared.error.ScriptError.TheVariants as script
 use Rattle.itip_words.specs.declared.filter.Written.{Written}
 use Rattle.itip_words.specs.declared.streamed.Streamed.{Streamed}
+use Rattle.itip_words.specs.declared.words.Call.{Call}
+use Rattle.itip_words.specs.declared.words.Call.TheVariants as call
 use Rattle.itip_words.specs.declared.words.Scripted.{Scripted}
 use Rattle.itip_app.specs.Filtered.{Filters, FiltersFront, Writes}
 use Rattle.itip_app.specs.Status.{status_shown, status_filtered, status_served}
@@ -116,3 +118,14 @@ pub record EndsServing (holds : List ℕ → List ℕ → Type 0) (streamed : St
     pub done : Result Bool Unserved
     pub comes : ServingComesTo holds streamed input left old new done
     pub status_is : status ≡ status_served done
+
+-- ---- all of them
+
+-- The status is that of what was asked for. Of a filter, which has its own sources and output, nothing is said here.
+abbrev pub EndsCall : (List ℕ → List ℕ → Type 0) → Call → Option (List ℕ) → Option (List ℕ) → Option (List ℕ) → Option (List ℕ) → ℕ →
+    Type 0
+EndsCall holds (call.Run scripted) input left old new status = EndsRun scripted input old new status
+EndsCall holds (call.Stream streamed) input left old new status = EndsServing holds streamed input left old new status
+EndsCall holds (call.Office scripted workers) input left old new status = EndsOffice scripted input old new status
+EndsCall holds (call.Check why) input left old new status = EndsShowing input old new status
+EndsCall holds (call.Filter filter) input left old new status = Unit {0}

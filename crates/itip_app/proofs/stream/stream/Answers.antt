@@ -1,4 +1,4 @@
-use Rattle.itip_app.proofs.stream.stream_status.Goals as goal
+use Rattle.itip_app.proofs.stream.stream.Goals as goal
 
 pub returns : goal.returns
 returns g c = record {

@@ -1,4 +1,4 @@
-use Rattle.itip_app.proofs.run.show_status.Goals as goal
+use Rattle.itip_app.proofs.run.show.Goals as goal
 
 pub returns : goal.returns
 returns g c = record {

@@ -1,4 +1,4 @@
-use Rattle.itip_app.proofs.run.office_status.Goals as goal
+use Rattle.itip_app.proofs.run.office.Goals as goal
 
 pub returns : goal.returns
 returns g c = record {
