@@ -242,10 +242,7 @@ fn replace<R: AllocGlobal + Input + Eprint + Files + Threads + Copy + Sync>(
 }
 
 /// Replaces a file with what is kept of sources, says what came of it and gives the status.
-fn replace_status<
-    R: AllocGlobal + Eprint + Files + Threads + Copy + Sync,
-    I: io::Read + Drop,
->(
+fn replace_status<R: AllocGlobal + Eprint + Files + Threads + Copy + Sync, I: io::Read + Drop>(
     rt: &R,
     sources: Vec<I>,
     filter: &Filter,
@@ -261,11 +258,7 @@ fn replace_status<
 }
 
 /// Writes what is kept of sources in the place of a file.
-fn write_replacement<
-    R: AllocGlobal + Files + Threads + Copy + Sync,
-    I: io::Read + Drop,
-    S: Watch,
->(
+fn write_replacement<R: AllocGlobal + Files + Threads + Copy + Sync, I: io::Read + Drop, S: Watch>(
     rt: &R,
     sources: Vec<I>,
     name: &str,
