@@ -105,14 +105,7 @@ fn call_on<
     F: Folder + Shelf,
     I: io::Read,
     W: io::Write,
->(
-    rt: &R,
-    folder: &mut F,
-    reader: &mut I,
-    writer: &mut W,
-    call: Call,
-    terminals: Terminals,
-) -> u8
+>(rt: &R, folder: &mut F, reader: &mut I, writer: &mut W, call: Call, terminals: Terminals) -> u8
     requires run { IfRun (λ scripted. AreDesks scripted.desks) call }
     requires office { IfOffice AreOffice call }
     ensures { EndsCall (F.holds folder.old) call (I.remaining reader.old) (I.remaining reader.new)
@@ -187,19 +180,16 @@ fn office<
     R: AllocGlobal + Eprint + Threads + Wait + Copy + Send + Sync + 'static,
     I: io::Read,
     W: io::Write,
->(
-    rt: &R,
-    reader: &mut I,
-    writer: &mut W,
-    asked: Scripted,
-    workers: u64,
-) -> u8
+>(rt: &R, reader: &mut I, writer: &mut W, asked: Scripted, workers: u64) -> u8
     requires desks { AreDesks asked.desks }
     requires workers { AreWorkers workers }
     ensures { EndsOffice asked (I.remaining reader.old) (W.contents writer.old) (W.contents writer.new) result }
 {
     let mut watch = Explainer::new(rt, asked.why);
-    ended(rt, office_on(rt, reader, writer, asked, workers, &mut watch))
+    ended(
+        rt,
+        office_on(rt, reader, writer, asked, workers, &mut watch),
+    )
 }
 
 /// Does the jobs of a script of a reader, at as many desks and in the window that is asked for.
