@@ -1,6 +1,5 @@
-use Rattle.std.proofs.Common.{ℕ, List, Option, Some, None, refl, sym, subst}
+use Rattle.std.proofs.Common.{List, Option, None, refl, sym, subst}
 use Rattle.std.proofs.KnownBytes.{Appends-nil}
-use Rattle.itip_inbox.specs.Inbox.{AreInputs}
 use Rattle.itip_inbox.specs.declared.sent.Sent.{Sent}
 use Rattle.itip_message.specs.declared.error.MessageRefusal.{MessageRefusal}
 use Rattle.itip_todo.specs.declared.todo.Todo.{Todo}

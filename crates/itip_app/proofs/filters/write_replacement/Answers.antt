@@ -1,5 +1,4 @@
-use Rattle.std.proofs.Common.{◌≡◌, ℕ, List, Result, Bool, Ok, None, subst}
-use Rattle.std.specs.Prelude.{IfOk}
+use Rattle.std.proofs.Common.{None}
 use Rattle.itip_inbox.specs.Compaction.{IsCompaction}
 use Rattle.itip_app.proofs.Filtering.{unknown_written, written}
 use Rattle.itip_app.proofs.filters.write_replacement.Goals as goal
