@@ -6,6 +6,7 @@ ghost use Rattle.itip_desk.specs.declared.refusal.FileRefusal.{FileRefusal};
 ghost use Rattle.itip_words.specs.Streams.{names_of};
 ghost use Rattle.itip_app.specs.Status.{status_unloaded, status_served};
 ghost use Rattle.itip_app.specs.Streamed.{Begins, AreBegun, IsUnbegun, ServesStream, IsUnserved};
+ghost use Rattle.itip_app.specs.Ended.{EndsServing};
 
 use crate::filters::refused_status;
 use crate::run::FAULT;
@@ -15,7 +16,6 @@ use itip_streams::{Replacement, StreamFault, read_within, visible_text};
 use itip_words::{Load, Streamed};
 use itip_world::{Shelf, run_stream};
 use std::alloc::Global;
-use std::io::BufReader;
 use std::rt::Files;
 use std::{fs, io};
 
@@ -24,7 +24,7 @@ const NOT_READ: u8 = 4;
 
 /// Files by their names. What they hold is a relation of which a function over all folders knows nothing. So one that ensures it
 /// has read the file.
-trait Folder {
+pub(crate) trait Folder {
     /// What the file of a name may hold.
     ghost holds: { Self → List ℕ → List ℕ → Type 0 };
 
@@ -35,8 +35,14 @@ trait Folder {
 
 /// Files of desks.
 #[derive(Drop)]
-struct DeskFiles<'a, R> {
+pub(crate) struct DeskFiles<'a, R> {
     rt: &'a R,
+}
+
+impl<'a, R> DeskFiles<'a, R> {
+    pub(crate) fn of(rt: &'a R) -> DeskFiles<'a, R> {
+        DeskFiles { rt }
+    }
 }
 
 impl<'a, R: Files + AllocGlobal> Folder for DeskFiles<'a, R> {
@@ -79,26 +85,20 @@ enum Unserved<'a> {
     Stream(StreamFault),
 }
 
-/// Serves a stream and gives the status.
-pub(crate) fn stream<R: AllocGlobal + Input + Print + Eprint + Files>(
+/// Serves a stream of a reader, says why it was not served to its end, and gives the status.
+pub(crate) fn stream<R: AllocGlobal + Eprint, F: Folder + Shelf, I: io::Read, W: io::Write>(
     rt: &R,
+    folder: &mut F,
+    reader: &mut I,
+    writer: &mut W,
     asked: &Streamed,
-) -> u8 {
-    let Ok(mut reader) = BufReader::new(rt.alloc(), rt.reader()) else {
-        return complain(rt, &"no memory", FAULT);
-    };
-    let mut writer = io::writer(rt);
-    let mut files = DeskFiles { rt };
+) -> u8
+    ensures { EndsServing (F.holds folder.old) asked.now (I.remaining reader.old) (I.remaining reader.new)
+        (W.contents writer.old) (W.contents writer.new) result }
+{
     let why = asked.scripted.why;
     let mut watch = Explainer::new(rt, why);
-    let done = stream_on(
-        rt.alloc(),
-        &mut files,
-        &mut reader,
-        &mut writer,
-        asked,
-        &mut watch,
-    );
+    let done = stream_on(rt.alloc(), folder, reader, writer, asked, &mut watch);
     served(rt, done, why)
 }
 
