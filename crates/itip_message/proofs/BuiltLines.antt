@@ -174,12 +174,12 @@ stamp_reads stamp = record {
 pub stamp_taken : (stamp : Stamp) (number : ℕ) (refusal : MessageRefusal) →
     RefusesText (codes "DTSTAMP:" ++ stamp_text stamp) number refusal → ⊥
 unfolding stamp_line
-stamp_taken stamp number refusal (bad_line of refuses) =
+stamp_taken stamp number _ (bad_line of refuses) =
     reading_apart (codes "DTSTAMP:" ++ stamp_text stamp) (line_at 1 (stamp_line stamp) ∷ []) of (stamp_reads stamp) refuses
-stamp_taken stamp number refusal (not_one found reads several) =
+stamp_taken stamp number _ (not_one found reads several) =
     several (ap length (one_reading (codes "DTSTAMP:" ++ stamp_text stamp) found (line_at 1 (stamp_line stamp) ∷ []) reads
     (stamp_reads stamp)))
-stamp_taken stamp number refusal (of_component at line reads other) =
+stamp_taken stamp number _ (of_component at line reads other) =
     let same : line_at at line ∷ [] ≡ line_at 1 (stamp_line stamp) ∷ [] = one_reading (codes "DTSTAMP:" ++ stamp_text stamp)
     (line_at at line ∷ []) (line_at 1 (stamp_line stamp) ∷ []) reads (stamp_reads stamp) in
     let property : is_property (stamp_line stamp) ≡ true = refl in
