@@ -49,17 +49,28 @@ grew_more desk old mid new answers answer batch grew one shows = record {
   pair = shows.pair ∙ grew.pair;
 }
 
--- a batch that is submitted and published is a group by itself, where all before was shown
-pub shown_alone : (old mid new : Keeper) (batch : List Item) → publishes mid ≡ publishes old → calls mid ≡ calls old →
-    fresh mid ≡ fresh old ++ batch ∷ [] → IsShownCall (publishes mid) (calls mid) (fresh mid) (publishes new) (calls new) (fresh new) →
-    HasShownAll old → publishes new ≡ publishes old ++ (batch ∷ []) ∷ []
-shown_alone old mid new batch groups called more call shown =
-    call.groups_are ∙ ap (λ (l : List Group). l ++ fresh mid ∷ []) (called ∙ shown.shown)
-    ∙ ap (λ (group : Group). publishes old ++ group ∷ []) (more ∙ ap (λ (l : Group). l ++ batch ∷ []) shown.none_fresh)
+-- what a keeper has once a batch is submitted
+pub record Submitted (old mid : Keeper) (batch : List Item) : Type 0 where
+  pub published_are : published mid ≡ published old
+  pub pending_are : pending mid ≡ pending old ++ batch ∷ []
+  pub calls_are : calls mid ≡ calls old
+  pub fresh_are : fresh mid ≡ fresh old ++ batch ∷ []
+  pub pair : keeper_pair mid ≡ keeper_pair old
 
-pub shown_all : (mid new : Keeper) →
-    IsShownCall (publishes mid) (calls mid) (fresh mid) (publishes new) (calls new) (fresh new) → HasShownAll new
-shown_all mid new call = record { shown = call.calls_are; none_fresh = call.none_fresh }
+-- a batch that is submitted and published is shown; and by itself, where all before was shown
+pub shows_batch : (old mid new : Keeper) (batch : List Item) → pending old ≡ [] → Submitted old mid batch →
+    published new ≡ published mid ++ pending mid → pending new ≡ [] →
+    IsShownCall (publishes mid) (calls mid) (fresh mid) (publishes new) (calls new) (fresh new) → keeper_pair new ≡ keeper_pair mid →
+    ShowsBatch old new batch
+shows_batch old mid new batch idle is whole none_pending call pair = record {
+  whole = whole ∙ ap (λ (l : List (List Item)). l ++ pending mid) is.published_are
+      ∙ ap (λ (l : List (List Item)). published old ++ l) (is.pending_are ∙ ap (λ (l : List (List Item)). l ++ batch ∷ []) idle);
+  none_pending = none_pending;
+  group = λ shown. call.groups_are ∙ ap (λ (l : List Group). l ++ fresh mid ∷ []) (is.calls_are ∙ shown.shown)
+      ∙ ap (λ (group : Group). publishes old ++ group ∷ []) (is.fresh_are ∙ ap (λ (l : Group). l ++ batch ∷ []) shown.none_fresh);
+  all = record { shown = call.calls_are; none_fresh = call.none_fresh };
+  pair = pair ∙ is.pair;
+}
 
 pub grew_shown_none : (desk : ℕ) (shown : Option Keeper) → GrewShown desk shown shown []
 grew_shown_none desk None = tt
