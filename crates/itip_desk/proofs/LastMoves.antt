@@ -171,7 +171,7 @@ pub nought_reached : (tick : ℕ) (moves : Carried) → tick ≡ 0 → ReachTick
 nought_reached tick moves none some = absurd (omega (arith, none, some))
 
 pub move_reaches : (tick : ℕ) (moves : Carried) (b : Bool) → b ≡ some_at tick moves → b ≡ true → ReachTick tick moves
-move_reaches tick moves b is yes some = at_some tick moves (sym is ∙ yes)
+move_reaches tick moves b is moved some = at_some tick moves (sym is ∙ moved)
 
 pub reached_moves : (tick : ℕ) (moves : Carried) (b : Bool) → b ≡ some_at tick moves → (tick ≡ 0 → ⊥) → ReachTick tick moves → b ≡ true
 reached_moves tick moves b is not reach = let found = reach (omega (arith, not)) in is ∙ some_there tick moves found.0 found.1

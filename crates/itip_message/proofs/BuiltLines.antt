@@ -171,6 +171,13 @@ stamp_reads stamp = record {
   );
 }
 
+first_same : (n m : ℕ) (l k : Line) → line_at n l ∷ [] ≡ line_at m k ∷ [] → l ≡ k
+first_same n m l k e = ap (λ (ls : List NumberedLine). (first_of ls).line) e
+  where
+    first_of : List NumberedLine → NumberedLine
+    first_of [] = line_at n l
+    first_of (x ∷ xs) = x
+
 pub stamp_taken : (stamp : Stamp) (number : ℕ) (refusal : MessageRefusal) →
     RefusesText (codes "DTSTAMP:" ++ stamp_text stamp) number refusal → ⊥
 unfolding stamp_line
@@ -183,8 +190,8 @@ stamp_taken stamp number _ (of_component at line reads other) =
     let same : line_at at line ∷ [] ≡ line_at 1 (stamp_line stamp) ∷ [] = one_reading (codes "DTSTAMP:" ++ stamp_text stamp)
     (line_at at line ∷ []) (line_at 1 (stamp_line stamp) ∷ []) reads (stamp_reads stamp) in
     let property : is_property (stamp_line stamp) ≡ true = refl in
-    let differ : true ≡ false = sym property ∙ sym (ap is_property (first line same)) ∙ other in
-    cc
+    let differ : true ≡ false = sym property ∙ sym (ap is_property (first_same at 1 line (stamp_line stamp) same)) ∙ other in
+    apart differ
   where
-    first : (l : Line) → line_at at l ∷ [] ≡ line_at 1 (stamp_line stamp) ∷ [] → l ≡ stamp_line stamp
-    first l e = cc
+    apart : true ≡ false → ⊥
+    apart e = cc

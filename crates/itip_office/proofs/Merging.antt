@@ -2,7 +2,7 @@
 use Rattle.std.proofs.Common.{◌≡◌, ℕ, List, [], ◌∷◌, ◌++◌, map, refl, sym, ap, ◌∙◌, append_assoc, Option, Some, None}
 use Rattle.std.proofs.lemmas.List.{append-nil}
 use Rattle.itip_items.specs.declared.item.Item.{Item}
-use Rattle.itip_running.specs.Ends.{publishes, published, pending, calls, fresh, keeper_pair, IsShownCall}
+use Rattle.itip_running.specs.Ends.{publishes, published}
 use Rattle.itip_running.specs.History.{Group}
 use Rattle.itip_running.specs.declared.keeper.Keeper.{Keeper}
 use Rattle.itip_office.specs.Answers.{Answer, AnswersMerged}
@@ -47,29 +47,6 @@ grew_more desk old mid new answers answer batch grew one shows = record {
       ∙ ap (λ (l : List Group). publishes old ++ l) (sym (alone_more grew.batches batch));
   all = λ shown. shows.all;
   pair = shows.pair ∙ grew.pair;
-}
-
--- what a keeper has once a batch is submitted
-pub record Submitted (old mid : Keeper) (batch : List Item) : Type 0 where
-  pub published_are : published mid ≡ published old
-  pub pending_are : pending mid ≡ pending old ++ batch ∷ []
-  pub calls_are : calls mid ≡ calls old
-  pub fresh_are : fresh mid ≡ fresh old ++ batch ∷ []
-  pub pair : keeper_pair mid ≡ keeper_pair old
-
--- a batch that is submitted and published is shown; and by itself, where all before was shown
-pub shows_batch : (old mid new : Keeper) (batch : List Item) → pending old ≡ [] → Submitted old mid batch →
-    published new ≡ published mid ++ pending mid → pending new ≡ [] →
-    IsShownCall (publishes mid) (calls mid) (fresh mid) (publishes new) (calls new) (fresh new) → keeper_pair new ≡ keeper_pair mid →
-    ShowsBatch old new batch
-shows_batch old mid new batch idle is whole none_pending call pair = record {
-  whole = whole ∙ ap (λ (l : List (List Item)). l ++ pending mid) is.published_are
-      ∙ ap (λ (l : List (List Item)). published old ++ l) (is.pending_are ∙ ap (λ (l : List (List Item)). l ++ batch ∷ []) idle);
-  none_pending = none_pending;
-  group = λ shown. call.groups_are ∙ ap (λ (l : List Group). l ++ fresh mid ∷ []) (is.calls_are ∙ shown.shown)
-      ∙ ap (λ (group : Group). publishes old ++ group ∷ []) (is.fresh_are ∙ ap (λ (l : Group). l ++ batch ∷ []) shown.none_fresh);
-  all = record { shown = call.calls_are; none_fresh = call.none_fresh };
-  pair = pair ∙ is.pair;
 }
 
 pub grew_shown_none : (desk : ℕ) (shown : Option Keeper) → GrewShown desk shown shown []
