@@ -337,8 +337,7 @@ reaches octets parts reads desk tells some =
     let are = parts_told octets desk tells parts.tick parts.items.items parts.moves.items reads.all in
     let there : Contains tells.file.items found.0 = (tells.file.items_are.same found.0).1 found.1 in
     let moved : moved_at desk.changed found.0 ≡ parts.tick =
-    ap (λ (u : List ℕ). unwrap_or (tick_at desk.changed u) 0) found.2 ∙ ap (λ (o : Option ℕ). unwrap_or o 0) at.1 ∙ sym tick in
-    (
+    ap (λ (u : List ℕ). unwrap_or (tick_at desk.changed u) 0) found.2 ∙ ap (λ (o : Option ℕ). unwrap_or o 0) at.1 ∙ sym tick in (
       uid_of found.0.key,
       subst (λ (ms : Carried). Contains ms (uid_of found.0.key, parts.tick)) (sym are.1)
           (subst (λ (t : ℕ). Contains (file_moves desk.changed tells.file.items) (uid_of found.0.key, t)) moved

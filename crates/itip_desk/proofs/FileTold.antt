@@ -203,9 +203,11 @@ module _ (old new : Shown) (step : List Item) (told : IsTold old) (kept : AreKep
       by_step (inr same) =
           let tick = same.1 in
           let before = told.reached (omega (arith, tick, some)) in
-          let carries : CarriesAfter old.changed (old.tick - 1) before.0 = (old.tick, before.1, omega (arith, tick, some)) in
-          (before.0, at_tick (old.tick - 1) before.0 (omega (arith, tick, some))
-          ((carried.others (old.tick - 1) before.0 (same.0 before.0)).1 carries))
+          let carries : CarriesAfter old.changed (old.tick - 1) before.0 = (old.tick, before.1, omega (arith, tick, some)) in (
+            before.0,
+            at_tick (old.tick - 1) before.0 (omega (arith, tick, some))
+                ((carried.others (old.tick - 1) before.0 (same.0 before.0)).1 carries),
+          )
 
   pub told_on : IsTold new
   told_on = record {

@@ -1,6 +1,6 @@
 -- What the lines of a to-do that a program makes give.
 use Rattle.std.proofs.Common.{◌≡◌, ◌∙◌, refl, sym, ap, subst, ℕ, suc, ◌+◌, ◌<◌, List, [], ◌∷◌, ◌++◌, length, map, take, get_or, IsTrue, true, arith}
-use Rattle.std.proofs.Common.{inl, inr, Result, Ok, Err}
+use Rattle.std.proofs.Common.{Result, Ok, Err}
 use Rattle.std.specs.Prelude.{codes}
 use Rattle.std.specs.Result.{OnOk, IfErr}
 use Rattle.std.proofs.lemmas.List.{length-append, flat_map_more, take_more}
@@ -27,7 +27,7 @@ use Rattle.itip_items.specs.declared.error.FormError.TheVariants as form_error
 use Rattle.itip_items.specs.declared.item.Item.{Item}
 use Rattle.itip_items.specs.declared.kind.Method.TheVariants as method
 use Rattle.itip_message.specs.Building.{Adds, IsOneProperty, RefusesText, RefusesMade, RefusesItem, GivesItem, next_number, bad_line, not_one, of_component, no_todo, too_large}
-use Rattle.itip_message.specs.Building.{RefusesValue, RefusesBeginning, broken_value, no_line, RefusesMoment, bad_zone, no_moment}
+use Rattle.itip_message.specs.Building.{RefusesValue, RefusesBeginning, broken_value, no_line, RefusesMoment, no_moment}
 use Rattle.itip_message.specs.Building.{AddsMoment, has_lawful_zone, moment_line_text}
 use Rattle.itip_message.specs.Message.{ReadsComponent}
 use Rattle.itip_message.specs.Refusals.{IfRefused, todo_gives, form_gives}

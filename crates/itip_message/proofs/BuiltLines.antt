@@ -1,16 +1,16 @@
 -- What is read of the lines of moments and of a DTSTAMP that a program gives: one line each, with the zone as it is.
-use Rattle.std.proofs.Common.{◌≡◌, ◌≢◌, ◌∙◌, refl, sym, ap, subst, ℕ, ◌<◌, ◌≤◌, Bool, true, false, cond, not, List, [], ◌∷◌, ◌++◌, length}
+use Rattle.std.proofs.Common.{◌≡◌, ◌≢◌, ◌∙◌, refl, sym, ap, subst, ℕ, ◌<◌, true, false, cond, List, [], ◌∷◌, ◌++◌, length}
 use Rattle.std.proofs.Common.{arith, append_assoc, append-nil, length-append, eq-eqb, inl, inr}
-use Rattle.std.specs.Prelude.{codes, ◌==◌, ◌&&◌}
+use Rattle.std.specs.Prelude.{codes}
 use Rattle.std.specs.List.{list_all, list_any}
-use Rattle.std.proofs.lemmas.Bool.{and_parts, and_from}
+use Rattle.std.proofs.lemmas.Bool.{and_parts}
 use Rattle.std.proofs.lemmas.Bool.Decides.{nat_tests}
 use Rattle.std.proofs.lemmas.List.Elements.{All-cons, All-nil}
 use Rattle.std.proofs.lemmas.List.Folds.{list_all-append}
 use Rattle.itip_lines.specs.Cutting.{IsCutting, NumberedText, HasNoLf, numbered_lines_of}
 use Rattle.itip_lines.specs.Lawful.{value_text, params_text, IsName}
-use Rattle.itip_lines.specs.Octets.{is_value_octet, is_quotable_octet, is_plain_octet, is_separator}
-use Rattle.itip_lines.specs.Reading.{text_limit, IsGood, line_at, AreLines, Reads}
+use Rattle.itip_lines.specs.Octets.{is_value_octet, is_quotable_octet, is_separator}
+use Rattle.itip_lines.specs.Reading.{IsGood, line_at, AreLines, Reads}
 use Rattle.itip_lines.specs.Spelling.{ValueThen, IsTail, Spells}
 use Rattle.itip_lines.specs.Writing.{unfolded_text}
 use Rattle.itip_lines.specs.declared.line.Line.{Line}

@@ -6,7 +6,7 @@ use Rattle.itip_running.specs.Ends.{publishes, published}
 use Rattle.itip_running.specs.History.{Group}
 use Rattle.itip_running.specs.declared.keeper.Keeper.{Keeper}
 use Rattle.itip_office.specs.Answers.{Answer, AnswersMerged}
-use Rattle.itip_office.specs.Merged.{AreMerged, HasShownAll, ShowsBatch, GrewBy, IsIdle, ShowsOne, GrewShown}
+use Rattle.itip_office.specs.Merged.{AreMerged, ShowsBatch, GrewBy, IsIdle, ShowsOne, GrewShown}
 
 pub merged_more : (desk : ℕ) (answers : List Answer) (batches : List (List Item)) (answer : Answer) (batch : List Item) →
     AreMerged desk answers batches

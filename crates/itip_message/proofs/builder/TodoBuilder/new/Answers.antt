@@ -1,8 +1,7 @@
-use Rattle.std.proofs.Common.{◌≡◌, ◌∙◌, ◌++◌, [], ℕ, List, ap, subst, sym, length}
+use Rattle.std.proofs.Common.{◌∙◌, ◌++◌, List, subst}
 use Rattle.std.specs.Prelude.{codes}
 use Rattle.std.proofs.lemmas.Result.{err_from_is_err_and}
 use Rattle.itip_lines.specs.declared.line.NumberedLine.{NumberedLine}
-use Rattle.itip_moment.specs.Written.{stamp_text}
 use Rattle.itip_message.specs.Building.{Adds, RefusesText, RefusesValue, next_number}
 use Rattle.itip_message.specs.Refusals.{IfRefused}
 use Rattle.itip_message.proofs.Building.{stamp_refused}
