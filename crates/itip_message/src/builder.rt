@@ -291,7 +291,9 @@ fn has_lawful_zone(moment: &Moment) -> bool
 fn is_quotable(text: &str) -> bool
     ensures { result ≡ list_all is_quotable_octet text.now }
 {
-    text.as_bytes().iter().all(|octet| is_quotable_octet(*octet))
+    text.as_bytes()
+        .iter()
+        .all(|octet| is_quotable_octet(*octet))
 }
 
 fn is_quotable_octet(octet: u8) -> bool
