@@ -1,4 +1,4 @@
-use Rattle.std.proofs.Common.{◌∙◌, ◌++◌, List, subst}
+use Rattle.std.proofs.Common.{◌∙◌, ◌++◌, ℕ, List, subst}
 use Rattle.std.specs.Prelude.{codes}
 use Rattle.std.proofs.lemmas.Result.{err_from_is_err_and}
 use Rattle.itip_lines.specs.declared.line.NumberedLine.{NumberedLine}
