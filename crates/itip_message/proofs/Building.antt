@@ -1,6 +1,6 @@
 -- What the lines of a to-do that a program makes give.
-use Rattle.std.proofs.Common.{◌≡◌, ◌∙◌, refl, sym, ap, subst, ℕ, suc, ◌+◌, ◌<◌, List, [], ◌∷◌, ◌++◌, length, map, take, get_or, IsTrue, true, arith}
-use Rattle.std.proofs.Common.{Result, Ok, Err}
+use Rattle.std.proofs.Common.{◌≡◌, ◌∙◌, refl, sym, ap, subst, ℕ, suc, ◌+◌, ◌<◌, List, [], ◌∷◌, ◌++◌, length, map, take, get_or, IsTrue, arith}
+use Rattle.std.proofs.Common.{true, Result, Ok, Err}
 use Rattle.std.specs.Prelude.{codes}
 use Rattle.std.specs.Result.{OnOk, IfErr}
 use Rattle.std.proofs.lemmas.List.{length-append, flat_map_more, take_more}

@@ -61,7 +61,8 @@ grew_shown_more desk None None (Some n) answers answer batch grew one shows = ab
 grew_shown_more desk None (Some m) new answers answer batch grew one shows = absurd grew
 grew_shown_more desk (Some o) None new answers answer batch grew one shows = absurd grew
 grew_shown_more desk (Some o) (Some m) None answers answer batch grew one shows = absurd shows
-grew_shown_more desk (Some o) (Some m) (Some n) answers answer batch grew one shows = grew_more desk o m n answers answer batch grew one shows
+grew_shown_more desk (Some o) (Some m) (Some n) answers answer batch grew one shows =
+    grew_more desk o m n answers answer batch grew one shows
 
 pub idle_after : (mid new : Option Keeper) (batch : List Item) → ShowsOne mid new batch → IsIdle new
 idle_after None None batch shows = tt
