@@ -1,5 +1,5 @@
 //! The walk over the days of a rule.
-ghost use Rattle.std.specs.Prelude.{◌≡◌, ◌≢◌, ◌↔◌, ◌+◌, ◌%◌, ◌<◌, ◌^◌, ℤ, pos, ◌≤ℤ◌, ◌<ℤ◌, ◌⊎◌, MatchOption};
+ghost use Rattle.std.specs.Prelude.{◌≡◌, ◌≢◌, ◌↔◌, ◌+◌, ◌%◌, ◌<◌, ◌^◌, ℤ, pos, ◌≤ℤ◌, ◌<ℤ◌, ◌⊎◌, IsTrue, MatchOption};
 ghost use Rattle.itip_moment.specs.Years.{IsDayNumber};
 ghost use Rattle.itip_recur.specs.Calendar.{IsDayOrEnd, year_number};
 ghost use Rattle.itip_recur.specs.Pattern.{unit_number, InPattern, IsSelected, IsWeekDay, IsYearDay};
@@ -58,6 +58,9 @@ impl<'a> Walk<'a> {
         if from >= end {
             return None;
         }
+        if has_each_unit(self.rule) {
+            return first_from(self, from, end);
+        }
         let mut unit = self.next_unit(from);
         while unit.day < end {
             let next = first_day(self.rule, unit.number + 1);
@@ -112,6 +115,14 @@ impl<'a> Walk<'a> {
     }
 }
 
+// Whether all units are the rule's own, so that a day only has to be selected. The start's day in each year is
+// quicker found by the year.
+fn has_each_unit(rule: &Rule) -> bool
+    ensures { IsTrue result → rule.now.interval ≡ 1 }
+{
+    rule.interval == 1 && !matches!(&rule.frequency, Frequency::Yearly(YearDays::OfStart))
+}
+
 fn earlier(day: i32, other: i32) -> i32
     ensures bound { result ≤ℤ day }
     ensures other_bound { result ≤ℤ other }
@@ -131,14 +142,28 @@ fn first_selected(walk: &Walk<'_>, unit: UnitFrom, stop: i32) -> Option<i32>
         (IsFirst (IsSelected walk.now.rule.now.frequency walk.now.start.number) unit.day stop) }
 {
     match &walk.rule.frequency {
-        Frequency::Daily => Some(unit.day),
-        Frequency::Weekly(days) => {
-            first_week_day(days, walk.sets.days, walk.start.number, unit.day, stop)
-        }
         Frequency::Yearly(YearDays::OfStart) => {
             first_anniversary(&walk.start, unit.number, unit.day, stop)
         }
-        frequency => first_date(frequency, &walk.sets, &walk.start, unit.day, stop),
+        _ => first_from(walk, unit.day, stop),
+    }
+}
+
+// The first day from `from` on and before `stop` that the rule selects.
+fn first_from(walk: &Walk<'_>, from: i32, stop: i32) -> Option<i32>
+    requires from_in { IsDayNumber from }
+    requires stop_in { IsDayOrEnd stop }
+    requires before { from <ℤ stop }
+    ensures { MatchOption result
+        (IsNone (IsSelected walk.now.rule.now.frequency walk.now.start.number) from stop)
+        (IsFirst (IsSelected walk.now.rule.now.frequency walk.now.start.number) from stop) }
+{
+    match &walk.rule.frequency {
+        Frequency::Daily => Some(from),
+        Frequency::Weekly(days) => {
+            first_week_day(days, walk.sets.days, walk.start.number, from, stop)
+        }
+        frequency => first_date(frequency, &walk.sets, &walk.start, from, stop),
     }
 }
 
