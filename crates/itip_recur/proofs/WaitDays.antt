@@ -10,7 +10,7 @@ use Rattle.jiff_core.specs.declared.civil.weekday.Weekday.{Weekday}
 use Rattle.itip_recur.specs.declared.rule.Place.{Place}
 use Rattle.itip_recur.specs.declared.rule.Place.TheVariants.{FromLast}
 use Rattle.itip_recur.specs.declared.rule.MonthWeekday.TheVariants.{Nth}
-use Rattle.itip_recur.specs.Pattern.{IsInSeven, IsMonthWeekday, IsOnWeekday}
+use Rattle.itip_recur.specs.Pattern.{IsAtPlace, IsInSeven, IsMonthWeekday, IsOnWeekday}
 use Rattle.itip_recur.proofs.InMonth.{IsInMonth, in_month, pos-days_from_zero-low}
 
 -- a day that isn't P
@@ -92,3 +92,13 @@ pub in_last_seven : (n : ℕ) (x : ℤ) (days : ℕ) → month_length x ≡ days
 in_last_seven n x days same is =
     let low = (date_of-IsPlain x).day_low in
     (omega (arith, same, is.after, is.within, low), omega (arith, same, is.after, is.within))
+
+-- none of the days behind this one, in its month and before the one that is wanted, is at the place
+pub no_place : (place : Place) (day : ℤ) (wanted k : ℕ) → IsDayNumber day → day_of_month day + k ≤ month_length day + 1 →
+    ((x : ℤ) → month_length x ≡ month_length day → day_of_month x ≤ month_length day → IsAtPlace place x → day_of_month x ≡ wanted) →
+    ((m : ℕ) → day_of_month day < m → m < day_of_month day + k → m ≤ month_length day → m ≡ wanted → ⊥) →
+    IsNone (IsAtPlace place) (day +ℤ pos 1) (day +ℤ pos k)
+no_place place day wanted k day_in within at_place none x low high is =
+    let at = in_month day x day_in (omega (arith, signed_arith)) (omega (arith, signed_arith, within)) in
+    let short : day_of_month x ≤ month_length day = at.within in
+    none (day_of_month x) (omega (arith, signed_arith, at.at)) (omega (arith, signed_arith, at.at)) short (at_place x at.long short is)

@@ -4,7 +4,7 @@ ghost use Rattle.itip_moment.specs.Years.{IsDayNumber};
 ghost use Rattle.itip_recur.specs.Calendar.{day_of_month, month_length};
 ghost use Rattle.itip_recur.specs.declared.rule.Frequency.TheVariants.{Yearly};
 ghost use Rattle.itip_recur.specs.declared.rule.MonthWeekday.TheVariants.{Nth};
-ghost use Rattle.itip_recur.specs.Pattern.{IsSelected, IsMonthDay, IsMonthWeekday, IsInSeven, IsOnWeekday, IsYearDay};
+ghost use Rattle.itip_recur.specs.Pattern.{IsSelected, IsMonthDay, IsAtPlace, IsMonthWeekday, IsInSeven, IsOnWeekday, IsYearDay};
 ghost use Rattle.itip_recur.specs.Sets.{IsSet, names_day, AreSetsOf};
 ghost use Rattle.itip_recur.specs.Waits.{IsNone, IsWait};
 
@@ -58,7 +58,7 @@ fn wait_in_month(days: &MonthDays, set: u128, start: &CalendarDay, day: &Calenda
     }
 }
 
-// From a day that isn't selected on: to the weekday where one alone is named, else to the next day.
+// From a day that isn't selected on: to the weekday or the place where one alone is named, else to the next day.
 fn wait_behind(days: &MonthDays, day: &CalendarDay) -> i32
     ensures low { pos 1 ≤ℤ result }
     ensures high { result ≤ℤ pos 37 }
@@ -66,14 +66,43 @@ fn wait_behind(days: &MonthDays, day: &CalendarDay) -> i32
 {
     match days {
         MonthDays::Weekdays(weekdays) => match weekdays.as_slice() {
-            [one] => wait_for_one(*one, day),
+            [one] => wait_for_month_weekday(*one, day),
             _ => 1,
         },
-        MonthDays::OfStart | MonthDays::Listed(_) => 1,
+        MonthDays::Listed(places) => match places.as_slice() {
+            [one] => wait_for_place(*one, day),
+            _ => 1,
+        },
+        MonthDays::OfStart => 1,
     }
 }
 
-fn wait_for_one(one: MonthWeekday, day: &CalendarDay) -> i32
+// To that day of the month, or to the next month where it comes no more.
+fn wait_for_place(place: Place, day: &CalendarDay) -> i32
+    ensures low { pos 1 ≤ℤ result }
+    ensures high { result ≤ℤ pos 31 }
+    ensures none { IsNone (IsAtPlace place) (day.now.number +ℤ pos 1) (day.now.number +ℤ result) }
+{
+    let wanted = day_at_place(place, day.days_in_month);
+    if day.day < wanted && wanted <= day.days_in_month {
+        (wanted - day.day) as i32
+    } else {
+        rest_of_month(day)
+    }
+}
+
+// The day of the month at a place, where a month has so many days.
+fn day_at_place(place: Place, days: u8) -> u8
+    requires { days ≤ 31 }
+    ensures { (x : ℤ) → month_length x ≡ days → day_of_month x ≤ days → IsAtPlace place x → day_of_month x ≡ result }
+{
+    match place {
+        Place::FromFirst(n) => n,
+        Place::FromLast(n) => (days + 1).saturating_sub(n),
+    }
+}
+
+fn wait_for_month_weekday(one: MonthWeekday, day: &CalendarDay) -> i32
     ensures low { pos 1 ≤ℤ result }
     ensures high { result ≤ℤ pos 37 }
     ensures none { IsNone (IsMonthWeekday one) (day.now.number +ℤ pos 1) (day.now.number +ℤ result) }
