@@ -96,7 +96,7 @@ pub record EndsFilter {I : Type 0} (remaining : I → Option (List ℕ)) (writte
     pub comes : FilterComesTo remaining written draft names than sources old new done
     pub status_is : status ≡ status_filtered done
 
--- A file was replaced, of which nothing is known: whether a message was refused is what the compaction of the sources says.
+-- A file was replaced, or not after a fault; nothing is known of it: whether a message was refused is what the compaction of the sources says.
 pub record EndsReplacing {I : Type 0} (remaining : I → Option (List ℕ)) (sources : List I) (status : ℕ) : Type 0 where
   pub done : Result Outcome StreamFault
   pub output : IfOk done (λ outcome. (inputs : List (List ℕ)) → AreInputs remaining sources inputs →
@@ -106,14 +106,14 @@ pub record EndsReplacing {I : Type 0} (remaining : I → Option (List ℕ)) (sou
 -- ---- a stream of commands
 
 -- What serving a stream comes to: it was served to its end; or a desk doesn't begin, or there was a fault.
-pub record ServingComesTo (holds : List ℕ → List ℕ → Type 0) (streamed : Streamed) (input left old new : Option (List ℕ))
+pub record ServingComesTo (holds : List ℕ → Option (List ℕ) → Type 0) (streamed : Streamed) (input left old new : Option (List ℕ))
     (done : Result Bool Unserved) : Type 0
   where
     pub served : IfOk done (ServesStream holds streamed input left old new)
     pub unserved : IfErr done (IsUnserved holds streamed input left old new)
 
 -- The status is that of what the serving came to.
-pub record EndsServing (holds : List ℕ → List ℕ → Type 0) (streamed : Streamed) (input left old new : Option (List ℕ)) (status : ℕ) : Type 0
+pub record EndsServing (holds : List ℕ → Option (List ℕ) → Type 0) (streamed : Streamed) (input left old new : Option (List ℕ)) (status : ℕ) : Type 0
   where
     pub done : Result Bool Unserved
     pub comes : ServingComesTo holds streamed input left old new done
@@ -122,8 +122,8 @@ pub record EndsServing (holds : List ℕ → List ℕ → Type 0) (streamed : St
 -- ---- all of them
 
 -- The status is that of what was asked for. Of a filter, which has its own sources and output, nothing is said here.
-abbrev pub EndsCall : (List ℕ → List ℕ → Type 0) → Call → Option (List ℕ) → Option (List ℕ) → Option (List ℕ) → Option (List ℕ) → ℕ →
-    Type 0
+abbrev pub EndsCall : (List ℕ → Option (List ℕ) → Type 0) → Call → Option (List ℕ) → Option (List ℕ) →
+    Option (List ℕ) → Option (List ℕ) → ℕ → Type 0
 EndsCall holds (call.Run scripted) input left old new status = EndsRun scripted input old new status
 EndsCall holds (call.Stream streamed) input left old new status = EndsServing holds streamed input left old new status
 EndsCall holds (call.Office scripted workers) input left old new status = EndsOffice scripted input old new status

@@ -67,7 +67,7 @@ pub record IsFileOf (desk : Shown) (octets : List ℕ) : Type 0 where
   pub few : length items < 2 ^ 64
   pub octets_are : octets ≡ messages_text desk.changed (head_of desk.tick items) items
 
--- A desk that its file tells whole: what it keeps is all that counts of it, each UID of which something is kept moved last at a tick of
+-- A desk that its file tells whole: nothing that it keeps is dead or older, each UID of which something is kept moved last at a tick of
 -- the desk, and no other did; above tick 0 one of them moved at the tick of the desk. Every desk that began with nothing at tick 0 is one.
 pub record IsTold (desk : Shown) : Type 0 where
   pub settled : AreKept desk.kept desk.kept
@@ -129,7 +129,7 @@ pub record NamesForm (octets : List ℕ) (form : ℕ) : Type 0 where
 abbrev pub NamesOtherForm : List ℕ → Type 0
 NamesOtherForm octets = (form : ℕ) × NamesForm octets form × (form ≢ 1)
 
--- Octets that are the file of no desk: they name another form, or the first message does not.
+-- They name another form; or they don't, and are the file of no desk.
 abbrev pub RefusesFile : List ℕ → FileRefusal → Type 0
 RefusesFile octets OtherForm = NamesOtherForm octets
 RefusesFile octets (Broken message) = (¬ NamesOtherForm octets) × ((desk : Shown) → TellsDesk octets desk → ⊥)

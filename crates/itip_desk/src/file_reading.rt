@@ -33,7 +33,7 @@ struct FileParts {
 /// refused.
 ///
 /// Refused where another form is named (70), or where they are the file of no desk (71), with the number of the first message that
-/// is none of such a file, where there is one; or when out of memory.
+/// can't be read as one of such a file, or tells no move, where there is one; or when out of memory.
 pub fn read_desk(alloc: Global, octets: &[u8]) -> Result<Desk, FileError>
     ensures found { IfOk result (TellsDesk octets.now) }
     ensures fault { IfErr result (λ e. IfFileRefused e (RefusesFile octets.now)) }

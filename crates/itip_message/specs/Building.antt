@@ -67,7 +67,7 @@ pub record BeginsWith (uid stamp : List ℕ) (given : List NumberedLine) : Type 
   pub uid_is : Adds (codes "UID:" ++ uid) [] before
   pub stamp_is : Adds (codes "DTSTAMP:" ++ stamp) before given
 
--- nothing begins with a UID: it gives no first line; a DTSTAMP always gives a second
+-- a UID begins no to-do: it gives no first line; a DTSTAMP always gives a second
 abbrev pub RefusesBeginning : List ℕ → MessageRefusal → Type 0
 RefusesBeginning uid refusal = RefusesValue (codes "UID:") uid 1 refusal
 

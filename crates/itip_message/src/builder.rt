@@ -110,7 +110,8 @@ impl TodoBuilder {
 
     /// Adds DTSTART, with the zone of the moment where it has one.
     ///
-    /// Refused where the zone has an octet that no value of a parameter has, as a line break or a quote (2), or gives no line (14).
+    /// Refused where the zone has an octet that no value of a parameter has, as a line break or a quote (2), or the line
+    /// is longer than a text (1) or a line (14) may be.
     pub fn start(&mut self, moment: &Moment) -> Result<(), ReadError>
         ensures added { OnOk result (AddsMoment (codes "DTSTART") moment.now self.old self.new) }
         ensures refused { IfErr result (λ e. IfRefused e (RefusesMoment (codes "DTSTART") moment.now (next_number self.old))) }

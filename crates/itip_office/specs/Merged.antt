@@ -18,7 +18,7 @@ AreMerged desk [] (batch ∷ batches) = ⊥
 AreMerged desk (answer ∷ answers) [] = ⊥
 AreMerged desk (answer ∷ answers) (batch ∷ batches) = AnswersMerged desk batch answer.0.work answer.1 × AreMerged desk answers batches
 
--- no call of its `publish` was refused, and nothing was submitted since the last of them
+-- no refused call of its `publish` is left to be shown, and nothing was submitted since the last of them
 pub record HasShownAll (keeper : Keeper) : Type 0 where
   pub shown : calls keeper ≡ publishes keeper
   pub none_fresh : fresh keeper ≡ []
