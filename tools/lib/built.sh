@@ -1,6 +1,7 @@
 # shellcheck shell=sh disable=SC2154
-# What the other scripts share of programs that are proved and built: where they are kept, whether one is of these
-# sources, and how it is made. Expects the repository's top in $top.
+# What the other scripts share of programs that are built: where they are kept, whether one is of these sources, and how it is
+# made. A program that was proved is kept by its name, and a quick build of it, of which nothing is proved, as NAME.quick. Expects
+# the repository's top in $top.
 built=$top/.built
 
 # The names, sizes and times of all that programs are built from, and of the toolchain's command.
@@ -21,7 +22,7 @@ is_fresh() {
     [ -x "$built/$1" ] && [ -f "$built/$1.sum" ] || return
     now=$(listing)
     [ "$now" != "$(cat "$built/$1.files" 2>/dev/null)" ] || return 0
-    [ "$(cat "$built/$1.sum")" = "$(sum_of "$1")" ] || return
+    [ "$(cat "$built/$1.sum")" = "$(sum_of "${1%.quick}")" ] || return
     { echo "$now" >"$built/$1.files.$$" && mv "$built/$1.files.$$" "$built/$1.files"; } 2>/dev/null || true
 }
 
@@ -40,17 +41,26 @@ keep() {
     (flock 9 && put "$@") 9>"$built/$1.lock"
 }
 
-# Proves and builds a program, its crates side by side, and keeps it; says on standard error which crate it is at. It
-# waits where another run is at it.
-prove() {
+# Has a command make a program, whose words are its name and a file, and keeps it. It waits where another run is at it.
+make_by() {
     mkdir -p "$built"
-    exec 9>"$built/$1.lock"
+    exec 9>"$built/$2.lock"
     flock 9
-    if ! is_fresh "$1"; then
-        sum=$(sum_of "$1")
-        "$top/bin/prove" "$1" "$built/$1.made" >&2 && put "$1" "$built/$1.made" "$sum"
-        rm -f "$built/$1.made"
+    if ! is_fresh "$2"; then
+        sum=$(sum_of "${2%.quick}")
+        python3 "$1" "${2%.quick}" "$built/$2.made" >&2 && put "$2" "$built/$2.made" "$sum"
+        rm -f "$built/$2.made"
     fi
     exec 9>&-
-    is_fresh "$1"
+    is_fresh "$2"
+}
+
+# Proves and builds a program, its crates side by side; says on standard error which crate it is at.
+prove() {
+    make_by "$top/bin/prove" "$1"
+}
+
+# Builds a program without a proof; says on standard error each ten seconds that it does.
+build_quick() {
+    make_by "$top/tools/lib/quick.py" "$1.quick"
 }

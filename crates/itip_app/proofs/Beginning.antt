@@ -1,6 +1,6 @@
 -- The desks with which a stream begins.
-use Rattle.std.proofs.Common.{◌≡◌, ℕ, ◌+◌, ◌<◌, List, [], ◌∷◌, ◌++◌, length, map, take, get_or, inl, inr, refl, sym, ap, subst, ◌∙◌, arith}
-use Rattle.std.proofs.Common.{Option, Result, Err}
+use Rattle.std.proofs.Common.{◌≡◌, ℕ, ◌+◌, ◌<◌, List, [], ◌∷◌, ◌++◌, length, take, get_or, inl, inr, refl, sym, ap, subst, ◌∙◌, arith}
+use Rattle.std.proofs.Common.{Option, Some, None, Result, Err}
 use Rattle.std.specs.String.{string_bytes}
 use Rattle.std.specs.List.{Contains}
 use Rattle.std.proofs.lemmas.List.{take_more, map-append, get_or-map, length-map}
@@ -11,14 +11,14 @@ use Rattle.itip_words.specs.declared.streamed.Load.{Load}
 use Rattle.itip_desk.specs.DeskFile.{RefusesFile}
 use Rattle.itip_desk.specs.declared.refusal.FileRefusal.{FileRefusal}
 use Rattle.itip_words.specs.declared.streamed.Streamed.{Streamed}
-use Rattle.itip_app.specs.Streamed.{Begins, AreBegun, IsLoadFault, IsUnbegun, IsUnserved}
+use Rattle.itip_app.specs.Streamed.{Begins, AreBegun, IsLoadFault, BeginsUpTo, IsUnserved}
 use Rattle.itip_app.specs.declared.stream.LoadFault.{LoadFault}
 use Rattle.itip_app.specs.declared.stream.LoadFault.TheVariants as cause
 use Rattle.itip_app.specs.declared.stream.Unserved.{Unserved}
 use Rattle.itip_app.specs.declared.stream.Unserved.TheVariants as unserved
 
 -- one desk more
-pub begun_more : (holds : List ℕ → List ℕ → Type 0) (loads : List (ℕ × List ℕ)) (number : ℕ) (desks : List Shown) (desk : Shown) →
+pub begun_more : (holds : List ℕ → Option (List ℕ) → Type 0) (loads : List (ℕ × List ℕ)) (number : ℕ) (desks : List Shown) (desk : Shown) →
     AreBegun holds loads number desks → Begins holds loads (number + length desks) desk → AreBegun holds loads number (desks ++ desk ∷ [])
 begun_more holds loads number [] desk are begins =
     let e : number + 0 ≡ number = omega arith in
@@ -55,15 +55,16 @@ named_at loads i load number file within is desk file_is =
     (Contains-get_or (names_of loads) i (f load) (omega (arith, within, count)))
 
 -- why a file begins no desk, where it is known of a refusal
-pub load_fault : {T : Type 0} (holds : List ℕ → List ℕ → Type 0) (file : List ℕ) (r : Result T LoadFault) (fault : LoadFault) → r ≡ Err fault →
-    ((refusal : FileRefusal) → r ≡ Err (cause.Refused refusal) → (octets : List ℕ) × holds file octets × RefusesFile octets refusal)
+pub load_fault : {T : Type 0} (holds : List ℕ → Option (List ℕ) → Type 0) (file : List ℕ) (r : Result T LoadFault) (fault : LoadFault) → r ≡ Err fault →
+    (r ≡ Err cause.Read → holds file None)
+    → ((refusal : FileRefusal) → r ≡ Err (cause.Refused refusal) → (octets : List ℕ) × holds file (Some octets) × RefusesFile octets refusal)
     → IsLoadFault holds file fault
-load_fault holds file r cause.Read is known = tt
-load_fault holds file r (cause.Refused refusal) is known = known refusal is
-load_fault holds file r cause.NoMemory is known = tt
+load_fault holds file r cause.Read is unread known = unread is
+load_fault holds file r (cause.Refused refusal) is unread known = known refusal is
+load_fault holds file r cause.NoMemory is unread known = tt
 
 -- where a desk doesn't begin nothing is read or written
-pub unserved_of : (holds : List ℕ → List ℕ → Type 0) (streamed : Streamed) (input output : Option (List ℕ)) (why : Unserved) →
-    IsUnbegun holds (names_of streamed.loads.items) why → IsUnserved holds streamed input input output output why
-unserved_of holds streamed input output (unserved.Load file fault) unbegun = ((refl, refl), unbegun)
-unserved_of holds streamed input output (unserved.Stream fault) unbegun = inl ((refl, refl), unbegun)
+pub unserved_of : (holds : List ℕ → Option (List ℕ) → Type 0) (streamed : Streamed) (input output : Option (List ℕ)) (why : Unserved) →
+    BeginsUpTo holds streamed why → IsUnserved holds streamed input input output output why
+unserved_of holds streamed input output (unserved.Load file fault) up_to = ((refl, refl), up_to)
+unserved_of holds streamed input output (unserved.Stream fault) up_to = inl ((refl, refl), up_to.next)

@@ -4,7 +4,7 @@ use Rattle.std.specs.Option.{option_copied}
 use Rattle.std.specs.Io.KnownBytes.{Appends}
 use Rattle.itip_message.specs.declared.error.MessageRefusal.{MessageRefusal}
 use Rattle.itip_moment.specs.declared.stamp.Stamp.{Stamp}
-use Rattle.itip_streams.specs.Written.{WritesOutput}
+use Rattle.itip_streams.specs.Written.{AppendsFront, WritesOutput}
 use Rattle.itip_streams.specs.declared.source_name.SourceName.{SourceName}
 use Rattle.itip_todo.specs.declared.todo.Todo.{Todo}
 use Rattle.itip_view.specs.ListText.{list_text}
@@ -16,11 +16,12 @@ use Rattle.itip_page.specs.Page.{page_markup}
 use Rattle.itip_writing.specs.declared.errand.Errand.{Errand}
 use Rattle.itip_inbox.specs.Compaction.{IsCompaction}
 use Rattle.itip_inbox.specs.Csv.{csv_text}
-use Rattle.itip_inbox.specs.Explaining.{Explains}
+use Rattle.itip_inbox.specs.Explaining.{Explains, IsExplained}
 use Rattle.itip_inbox.specs.Json.{json_text}
 use Rattle.itip_inbox.specs.News.{IsNews}
+use Rattle.itip_inbox.specs.OfInbox.{WritesFront}
 use Rattle.itip_inbox.specs.Reports.{IsReport}
-use Rattle.itip_inbox.specs.Sending.{Sends}
+use Rattle.itip_inbox.specs.Sending.{IsMessage, Sends}
 use Rattle.itip_inbox.specs.TaskList.{IsTaskList}
 use Rattle.itip_inbox.specs.declared.explained.Explained.{Explained}
 use Rattle.itip_inbox.specs.declared.explained.Explained.TheVariants as explained
@@ -42,6 +43,10 @@ pub record Writes (Is : List ℕ → Bool → Type 0) (old new : Option (List �
   pub output : WritesOutput Is old new outcome.is_refused
   pub whole : outcome.lacking.items ≡ []
   pub is_done : outcome.undone ≡ None
+
+-- After a fault: of each output of which this holds a front was written.
+abbrev pub WritesFrontOf : (List ℕ → Bool → Type 0) → Option (List ℕ) → Option (List ℕ) → Type 0
+WritesFrontOf Is old new = (output : List ℕ) (said : Bool) → Is output said → AppendsFront old new output
 
 -- ---- the list
 
@@ -65,6 +70,14 @@ pub record WritesList (octets : Window → List Row → List ℕ) (listing : Lis
     pub wanted : Wanted
     pub are_wanted : AreWantedBy listing wanted
     pub writes : Writes (IsTaskList octets (Wants wanted) inputs listing.window) old new outcome
+
+-- After a fault a front of it was written.
+pub record WritesListFront (octets : Window → List Row → List ℕ) (listing : Listing) (inputs : List (List ℕ)) (old new : Option (List ℕ))
+    : Type 0
+  where
+    pub wanted : Wanted
+    pub are_wanted : AreWantedBy listing wanted
+    pub front : WritesFrontOf (IsTaskList octets (Wants wanted) inputs listing.window) old new
 
 -- ---- an explanation
 
@@ -104,6 +117,19 @@ WritesMessage None asked todos at inputs old new outcome = WritesErrand asked to
 WritesMessage (Some refusal) asked todos at inputs old new outcome =
     Appends old new [] × (outcome.undone ≡ Some (undone.Draft refusal))
 
+-- After a fault nothing was written, or a front of the message.
+pub record WritesErrandFront (asked : Asked) (todos : List Todo) (at : Stamp) (inputs : List (List ℕ)) (old new : Option (List ℕ)) : Type 0
+  where
+    pub errand : Errand
+    pub is_errand : IsErrandOf asked todos errand
+    pub front : WritesFront (IsMessage errand at inputs) old new
+
+-- The same; and nothing where the draft can't be read as a request.
+abbrev pub WritesMessageFront : Option MessageRefusal → Asked → List Todo → Stamp → List (List ℕ) → Option (List ℕ) → Option (List ℕ) →
+    Type 0
+WritesMessageFront None asked todos at inputs old new = WritesErrandFront asked todos at inputs old new
+WritesMessageFront (Some refusal) asked todos at inputs old new = Appends old new []
+
 -- ---- all of them
 
 -- What is asked for is written of these inputs, whose sources have these names, beside those that they are compared with.
@@ -118,3 +144,14 @@ Filters (written.News than) draft names known inputs old new outcome = Writes (I
 Filters (written.Explanation uid) draft names known inputs old new outcome = WritesExplanation uid names inputs old new outcome
 Filters (written.Message asked at) draft names known inputs old new outcome =
     WritesMessage draft.refusal asked draft.todos.items at inputs old new outcome
+
+-- After a fault a front of it was written, or nothing.
+abbrev pub FiltersFront : Written → Draft → List SourceName → List (List ℕ) → List (List ℕ) → Option (List ℕ) → Option (List ℕ) → Type 0
+FiltersFront (written.Compaction output) draft names known inputs old new = WritesFrontOf (IsCompaction inputs) old new
+FiltersFront (written.List listing) draft names known inputs old new = WritesListFront (octets_in listing.format) listing inputs old new
+FiltersFront (written.Report reported) draft names known inputs old new =
+    WritesFrontOf (IsReport reported.name inputs reported.window) old new
+FiltersFront (written.News than) draft names known inputs old new = WritesFrontOf (IsNews known inputs) old new
+FiltersFront (written.Explanation uid) draft names known inputs old new = WritesFront (IsExplained uid names inputs) old new
+FiltersFront (written.Message asked at) draft names known inputs old new =
+    WritesMessageFront draft.refusal asked draft.todos.items at inputs old new

@@ -1,3 +1,4 @@
 pub mod Status
 pub mod Filtered
 pub mod Streamed
+pub mod Ended

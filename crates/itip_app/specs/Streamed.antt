@@ -1,8 +1,8 @@
 -- What `run --stream` does (docs/USING.md; our own rule).
-use Rattle.std.specs.Prelude.{◌≡◌, ◌⊎◌, ℕ, ◌+◌, Bool, List, [], ◌∷◌, length, Option}
+use Rattle.std.specs.Prelude.{◌≡◌, ◌⊎◌, ◌<◌, ℕ, ◌+◌, Bool, List, [], ◌∷◌, length, Option, Some, None}
 use Rattle.std.specs.List.{Contains}
 use Rattle.itip_desk.specs.Desk.{Shown, IsDeskOf}
-use Rattle.itip_desk.specs.DeskFile.{TellsDesk, RefusesFile}
+use Rattle.itip_desk.specs.DeskFile.{IsTold, TellsDesk, RefusesFile}
 use Rattle.itip_streams.specs.declared.fault.StreamFault.TheVariants.{Memory}
 use Rattle.itip_words.specs.Streams.{names_of}
 use Rattle.itip_words.specs.declared.streamed.Streamed.{Streamed}
@@ -12,42 +12,53 @@ use Rattle.itip_app.specs.declared.stream.LoadFault.TheVariants as load
 use Rattle.itip_app.specs.declared.stream.Unserved.{Unserved}
 use Rattle.itip_app.specs.declared.stream.Unserved.TheVariants as unserved
 
+-- `holds` relates a file's name with the octets that reading it may give, or with None where it can't be read.
+
 -- The desk of a number begins as the file tells it that is named for it; where none is named it has heard nothing, and its tick is 0.
-pub data Begins (holds : List ℕ → List ℕ → Type 0) (loads : List (ℕ × List ℕ)) (number : ℕ) (desk : Shown) : Type 0 where
-  of_file : (file octets : List ℕ) → Contains loads (number, file) → holds file octets → TellsDesk octets desk
+-- Either way a file tells it whole.
+pub data Begins (holds : List ℕ → Option (List ℕ) → Type 0) (loads : List (ℕ × List ℕ)) (number : ℕ) (desk : Shown) : Type 0 where
+  of_file : (file octets : List ℕ) → Contains loads (number, file) → holds file (Some octets) → TellsDesk octets desk
       → Begins holds loads number desk
-  of_nothing : ((file : List ℕ) → Contains loads (number, file) → ⊥) → IsDeskOf [] 0 desk → Begins holds loads number desk
+  of_nothing : ((file : List ℕ) → Contains loads (number, file) → ⊥) → IsDeskOf [] 0 desk → IsTold desk
+      → Begins holds loads number desk
 
 -- These desks, which are numbered from this number on, begin so.
-abbrev pub AreBegun : (List ℕ → List ℕ → Type 0) → List (ℕ × List ℕ) → ℕ → List Shown → Type 0
+abbrev pub AreBegun : (List ℕ → Option (List ℕ) → Type 0) → List (ℕ × List ℕ) → ℕ → List Shown → Type 0
 AreBegun holds loads number [] = Unit {0}
 AreBegun holds loads number (desk ∷ desks) = Begins holds loads number desk × AreBegun holds loads (number + 1) desks
 
 -- why a file begins no desk
-abbrev pub IsLoadFault : (List ℕ → List ℕ → Type 0) → List ℕ → LoadFault → Type 0
-IsLoadFault holds file load.Read = Unit {0}
-IsLoadFault holds file (load.Refused refusal) = (octets : List ℕ) × holds file octets × RefusesFile octets refusal
+abbrev pub IsLoadFault : (List ℕ → Option (List ℕ) → Type 0) → List ℕ → LoadFault → Type 0
+IsLoadFault holds file load.Read = holds file None
+IsLoadFault holds file (load.Refused refusal) = (octets : List ℕ) × holds file (Some octets) × RefusesFile octets refusal
 IsLoadFault holds file load.NoMemory = Unit {0}
 
--- A desk doesn't begin, since its file begins none; or an allocation failed.
-abbrev pub IsUnbegun : (List ℕ → List ℕ → Type 0) → List (ℕ × List ℕ) → Unserved → Type 0
-IsUnbegun holds loads (unserved.Load file fault) = ((desk : ℕ) × Contains loads (desk, file.now)) × IsLoadFault holds file.now fault
-IsUnbegun holds loads (unserved.Stream fault) = fault ≡ Memory
+-- The desk of a number doesn't begin, since its file begins none; or an allocation failed.
+abbrev pub IsUnbegun : (List ℕ → Option (List ℕ) → Type 0) → List (ℕ × List ℕ) → ℕ → Unserved → Type 0
+IsUnbegun holds loads number (unserved.Load file fault) = Contains loads (number, file.now) × IsLoadFault holds file.now fault
+IsUnbegun holds loads number (unserved.Stream fault) = fault ≡ Memory
+
+-- All desks before one begin, and that one doesn't: of several that don't it is the first.
+pub record BeginsUpTo (holds : List ℕ → Option (List ℕ) → Type 0) (streamed : Streamed) (why : Unserved) : Type 0 where
+  pub desks : List Shown
+  pub few : length desks < streamed.scripted.desks
+  pub are : AreBegun holds (names_of streamed.loads.items) 0 desks
+  pub next : IsUnbegun holds (names_of streamed.loads.items) (length desks) why
 
 -- As many desks begin as are asked for.
-pub record BeginsAll (holds : List ℕ → List ℕ → Type 0) (streamed : Streamed) (desks : List Shown) : Type 0 where
+pub record BeginsAll (holds : List ℕ → Option (List ℕ) → Type 0) (streamed : Streamed) (desks : List Shown) : Type 0 where
   pub count : length desks ≡ streamed.scripted.desks
   pub are : AreBegun holds (names_of streamed.loads.items) 0 desks
 
 -- They serve a stream to its end, in the window that is asked for.
-pub record ServesStream (holds : List ℕ → List ℕ → Type 0) (streamed : Streamed) (input left output written : Option (List ℕ))
+pub record ServesStream (holds : List ℕ → Option (List ℕ) → Type 0) (streamed : Streamed) (input left output written : Option (List ℕ))
     (refusal : Bool) : Type 0 where
   pub desks : List Shown
   pub begun : BeginsAll holds streamed desks
   pub served : IsStream streamed.scripted.window desks input left output written refusal
 
 -- They serve a stream up to a fault.
-pub record ServesStreamFront (holds : List ℕ → List ℕ → Type 0) (streamed : Streamed) (input left output written : Option (List ℕ)) : Type 0
+pub record ServesStreamFront (holds : List ℕ → Option (List ℕ) → Type 0) (streamed : Streamed) (input left output written : Option (List ℕ)) : Type 0
   where
     pub desks : List Shown
     pub begun : BeginsAll holds streamed desks
@@ -58,9 +69,9 @@ abbrev pub AreUntouched : Option (List ℕ) → Option (List ℕ) → Option (Li
 AreUntouched input left output written = (left ≡ input) × (written ≡ output)
 
 -- A desk doesn't begin, and then nothing was read or written; or there was a fault.
-abbrev pub IsUnserved : (List ℕ → List ℕ → Type 0) → Streamed → Option (List ℕ) → Option (List ℕ) → Option (List ℕ) → Option (List ℕ) →
-    Unserved → Type 0
+abbrev pub IsUnserved : (List ℕ → Option (List ℕ) → Type 0) → Streamed → Option (List ℕ) → Option (List ℕ) →
+    Option (List ℕ) → Option (List ℕ) → Unserved → Type 0
 IsUnserved holds streamed input left output written (unserved.Load file fault) =
-    AreUntouched input left output written × IsUnbegun holds (names_of streamed.loads.items) (unserved.Load file fault)
+    AreUntouched input left output written × BeginsUpTo holds streamed (unserved.Load file fault)
 IsUnserved holds streamed input left output written (unserved.Stream fault) =
     (AreUntouched input left output written × (fault ≡ Memory)) ⊎ ServesStreamFront holds streamed input left output written

@@ -1,11 +1,16 @@
 //! The words that read messages: their sources, and what comes of them.
-ghost use Rattle.std.specs.Prelude.{◌≡◌, ℕ, List, [], Some, None, IfOk, IfSome};
+ghost use Rattle.std.specs.Prelude.{◌≡◌, ℕ, List, [], Some, None, IfOk, OnErr, IfSome, IsErrOf};
+ghost use Rattle.std.specs.Io.KnownBytes.{Keeps};
 ghost use Rattle.itip_inbox.specs.Inbox.{AreInputs};
 ghost use Rattle.itip_inbox.specs.Compaction.{IsCompaction};
+ghost use Rattle.itip_inbox.specs.Explaining.{IsExplained};
 ghost use Rattle.itip_inbox.specs.News.{IsNews};
+ghost use Rattle.itip_inbox.specs.OfInbox.{WritesFront};
 ghost use Rattle.itip_inbox.specs.Reports.{IsReport};
 ghost use Rattle.itip_app.specs.Status.{status_refused, status_done, status_filtered};
 ghost use Rattle.itip_app.specs.Filtered.{octets_in, Writes, WritesList, WritesExplanation, WritesMessage, Filters};
+ghost use Rattle.itip_app.specs.Filtered.{WritesFrontOf, WritesListFront, WritesMessageFront, FiltersFront};
+ghost use Rattle.itip_app.specs.Ended.{EndsFilter, EndsReplacing};
 
 use crate::draft::{Draft, draft_of};
 use crate::run::{FAULT, Terminals};
@@ -91,9 +96,7 @@ pub(crate) fn filtered<R: AllocGlobal + Input + Print + Eprint + Files + Threads
         Err(fault) => return complain(rt, &fault, FAULT),
     };
     let mut teller = Teller::new(rt, &named, filter, terminals.errors);
-    let done = filter_sources(rt, &named, filter, &draft, terminals.output, &mut teller);
-    teller.show_progress();
-    status_of(rt, filter, done, named.at(teller.opened()))
+    filter_sources(rt, &named, filter, &draft, terminals.output, &mut teller)
 }
 
 /// Says what came of a filter, and gives the status. `last` is the source that was opened last.
@@ -155,39 +158,61 @@ fn draft_name<R: AllocGlobal>(rt: &R, written: &Written) -> Result<Vec<SourceNam
     Ok(names)
 }
 
-/// Filters the messages of sources, to a file, a terminal or whatever standard output is.
-fn filter_sources<R: AllocGlobal + Input + Print + Files + Threads + Copy + Sync, S: Watch>(
+/// Filters the messages of the sources that are named, to a file, a terminal or whatever standard output is, and gives the status.
+fn filter_sources<R: AllocGlobal + Input + Print + Eprint + Files + Threads + Copy + Sync>(
     rt: &R,
     named: &Named,
     filter: &Filter,
     draft: &Draft,
     is_terminal: bool,
-    watch: &mut S,
-) -> Result<Outcome, StreamFault> {
+    teller: &mut Teller<'_, R>,
+) -> u8 {
     if let Written::Compaction { output: Some(name) } = &filter.written {
-        return replace(rt, named, filter, name.as_str(), watch);
+        return replace(rt, named, filter, name.as_str(), teller);
     }
     if is_terminal {
         let mut writer = TerminalWriter::new(rt.alloc(), io::writer(rt));
-        return filter_to(rt, named, filter, draft, &mut writer, watch);
+        return filter_to(rt, named, filter, draft, &mut writer, teller);
     }
     let mut writer = io::writer(rt);
-    filter_to(rt, named, filter, draft, &mut writer, watch)
+    filter_to(rt, named, filter, draft, &mut writer, teller)
 }
 
-fn filter_to<R: AllocGlobal + Input + Files + Threads + Sync, W: io::Write, S: Watch>(
+/// Filters the messages of the sources that are named, and gives the status.
+fn filter_to<R: AllocGlobal + Input + Eprint + Files + Threads + Sync, W: io::Write>(
     rt: &R,
     named: &Named,
     filter: &Filter,
     draft: &Draft,
     writer: &mut W,
-    watch: &mut S,
-) -> Result<Outcome, StreamFault> {
-    let threads = threads(rt, filter.intake.threads);
+    teller: &mut Teller<'_, R>,
+) -> u8 {
     let names = named.heard.as_slice();
-    let than = sources_of(rt, named.than.as_slice())?;
-    let sources = sources_of(rt, names)?;
-    write_filtered(
+    let Ok(than) = sources_of(rt, named.than.as_slice()) else {
+        return complain(rt, &"no memory", FAULT);
+    };
+    let Ok(sources) = sources_of(rt, names) else {
+        return complain(rt, &"no memory", FAULT);
+    };
+    filter_status(rt, than, sources, names, filter, draft, writer, teller)
+}
+
+/// Writes what is asked for of sources, as [`write_filtered`] does, says what came of it and gives the status.
+fn filter_status<R: AllocGlobal + Eprint + Threads + Sync, I: io::Read + Drop, W: io::Write>(
+    rt: &R,
+    than: Vec<I>,
+    sources: Vec<I>,
+    names: &[SourceName],
+    filter: &Filter,
+    draft: &Draft,
+    writer: &mut W,
+    teller: &mut Teller<'_, R>,
+) -> u8
+    ensures { EndsFilter I.remaining filter.now.written draft.now names.now than.items sources.items
+        (W.contents writer.old) (W.contents writer.new) result }
+{
+    let threads = threads(rt, filter.intake.threads);
+    let done = write_filtered(
         rt,
         than,
         sources,
@@ -196,23 +221,57 @@ fn filter_to<R: AllocGlobal + Input + Files + Threads + Sync, W: io::Write, S: W
         draft,
         writer,
         threads,
-        watch,
-    )
+        teller,
+    );
+    teller.show_progress();
+    status_of(rt, filter, done, teller.last_opened())
 }
 
-/// Replaces a file with what is kept.
-fn replace<R: AllocGlobal + Input + Files + Threads + Copy + Sync, S: Watch>(
+/// Replaces a file with what is kept of the sources that are named, and gives the status.
+fn replace<R: AllocGlobal + Input + Eprint + Files + Threads + Copy + Sync>(
     rt: &R,
     named: &Named,
     filter: &Filter,
     name: &str,
-    watch: &mut S,
-) -> Result<Outcome, StreamFault> {
-    let sources = sources_of(rt, named.heard.as_slice())?;
-    let mut writer = Replacement::of(rt, name)?;
+    teller: &mut Teller<'_, R>,
+) -> u8 {
+    let Ok(sources) = sources_of(rt, named.heard.as_slice()) else {
+        return complain(rt, &"no memory", FAULT);
+    };
+    replace_status(rt, sources, filter, name, teller)
+}
+
+/// Replaces a file with what is kept of sources, says what came of it and gives the status.
+fn replace_status<R: AllocGlobal + Eprint + Files + Threads + Copy + Sync, I: io::Read + Drop>(
+    rt: &R,
+    sources: Vec<I>,
+    filter: &Filter,
+    name: &str,
+    teller: &mut Teller<'_, R>,
+) -> u8
+    ensures { EndsReplacing I.remaining sources.items result }
+{
     let threads = threads(rt, filter.intake.threads);
+    let replaced = write_replacement(rt, sources, name, threads, teller);
+    teller.show_progress();
+    status_of(rt, filter, replaced, teller.last_opened())
+}
+
+/// Writes what is kept of sources in the place of a file.
+fn write_replacement<R: AllocGlobal + Files + Threads + Copy + Sync, I: io::Read + Drop, S: Watch>(
+    rt: &R,
+    sources: Vec<I>,
+    name: &str,
+    threads: usize,
+    watch: &mut S,
+) -> Result<Outcome, StreamFault>
+    ensures { IfOk result (λ outcome. (inputs : List (List ℕ)) → AreInputs I.remaining sources.items inputs →
+        Writes (IsCompaction inputs) None None outcome) }
+{
+    let mut writer = Replacement::of(rt, name)?;
     let done = compact(rt, rt.alloc(), sources, &mut writer, threads, watch);
-    done_with(rt, writer.end(done)?)
+    let is_refused = writer.end(done)?;
+    Ok(done_with(rt, is_refused))
 }
 
 /// Writes what is asked for of sources, which have these names, beside those that they are compared with.
@@ -227,9 +286,13 @@ fn write_filtered<R: AllocGlobal + Threads + Sync, I: io::Read + Drop, W: io::Wr
     threads: usize,
     watch: &mut S,
 ) -> Result<Outcome, StreamFault>
-    ensures { IfOk result (λ outcome. (known inputs : List (List ℕ)) →
+    ensures output { IfOk result (λ outcome. (known inputs : List (List ℕ)) →
         AreInputs I.remaining than.items known → AreInputs I.remaining sources.items inputs →
         Filters written.now draft.now names.now known inputs (W.contents writer.old) (W.contents writer.new) outcome) }
+    ensures front { OnErr result ((known inputs : List (List ℕ)) →
+        AreInputs I.remaining than.items known → AreInputs I.remaining sources.items inputs →
+        FiltersFront written.now draft.now names.now known inputs (W.contents writer.old) (W.contents writer.new)) }
+    ensures unread { IsErrOf result StreamFault.Read → Keeps (W.contents writer.old) (W.contents writer.new) }
 {
     match written {
         Written::Compaction { .. } => write_compaction(rt, sources, writer, threads, watch),
@@ -252,11 +315,14 @@ fn write_compaction<R: AllocGlobal + Threads + Sync, I: io::Read + Drop, W: io::
     threads: usize,
     watch: &mut S,
 ) -> Result<Outcome, StreamFault>
-    ensures { IfOk result (λ outcome. (inputs : List (List ℕ)) → AreInputs I.remaining sources.items inputs →
+    ensures output { IfOk result (λ outcome. (inputs : List (List ℕ)) → AreInputs I.remaining sources.items inputs →
         Writes (IsCompaction inputs) (W.contents writer.old) (W.contents writer.new) outcome) }
+    ensures front { OnErr result ((inputs : List (List ℕ)) → AreInputs I.remaining sources.items inputs →
+        WritesFrontOf (IsCompaction inputs) (W.contents writer.old) (W.contents writer.new)) }
+    ensures unread { IsErrOf result StreamFault.Read → Keeps (W.contents writer.old) (W.contents writer.new) }
 {
     let done = compact(rt, rt.alloc(), sources, writer, threads, watch)?;
-    done_with(rt, done)
+    Ok(done_with(rt, done))
 }
 
 fn write_news<R: AllocGlobal + Threads + Sync, I: io::Read + Drop, W: io::Write, S: Watch>(
@@ -267,12 +333,16 @@ fn write_news<R: AllocGlobal + Threads + Sync, I: io::Read + Drop, W: io::Write,
     threads: usize,
     watch: &mut S,
 ) -> Result<Outcome, StreamFault>
-    ensures { IfOk result (λ outcome. (known inputs : List (List ℕ)) →
+    ensures output { IfOk result (λ outcome. (known inputs : List (List ℕ)) →
         AreInputs I.remaining than.items known → AreInputs I.remaining sources.items inputs →
         Writes (IsNews known inputs) (W.contents writer.old) (W.contents writer.new) outcome) }
+    ensures front { OnErr result ((known inputs : List (List ℕ)) →
+        AreInputs I.remaining than.items known → AreInputs I.remaining sources.items inputs →
+        WritesFrontOf (IsNews known inputs) (W.contents writer.old) (W.contents writer.new)) }
+    ensures unread { IsErrOf result StreamFault.Read → Keeps (W.contents writer.old) (W.contents writer.new) }
 {
     let done = news(rt, rt.alloc(), than, sources, writer, threads, watch)?;
-    done_with(rt, done)
+    Ok(done_with(rt, done))
 }
 
 fn write_list<R: AllocGlobal + Threads + Sync, I: io::Read + Drop, W: io::Write, S: Watch>(
@@ -283,8 +353,11 @@ fn write_list<R: AllocGlobal + Threads + Sync, I: io::Read + Drop, W: io::Write,
     threads: usize,
     watch: &mut S,
 ) -> Result<Outcome, StreamFault>
-    ensures { IfOk result (λ outcome. (inputs : List (List ℕ)) → AreInputs I.remaining sources.items inputs →
+    ensures output { IfOk result (λ outcome. (inputs : List (List ℕ)) → AreInputs I.remaining sources.items inputs →
         WritesList (octets_in asked.now.format) asked.now inputs (W.contents writer.old) (W.contents writer.new) outcome) }
+    ensures front { OnErr result ((inputs : List (List ℕ)) → AreInputs I.remaining sources.items inputs →
+        WritesListFront (octets_in asked.now.format) asked.now inputs (W.contents writer.old) (W.contents writer.new)) }
+    ensures unread { IsErrOf result StreamFault.Read → Keeps (W.contents writer.old) (W.contents writer.new) }
 {
     match asked.format {
         Format::Text => write_form(rt, sources, writer, asked, &TextList, threads, watch),
@@ -312,8 +385,11 @@ fn write_form<
     threads: usize,
     watch: &mut S,
 ) -> Result<Outcome, StreamFault>
-    ensures { IfOk result (λ outcome. (inputs : List (List ℕ)) → AreInputs I.remaining sources.items inputs →
+    ensures output { IfOk result (λ outcome. (inputs : List (List ℕ)) → AreInputs I.remaining sources.items inputs →
         WritesList (F.octets form.now) asked.now inputs (W.contents writer.old) (W.contents writer.new) outcome) }
+    ensures front { OnErr result ((inputs : List (List ℕ)) → AreInputs I.remaining sources.items inputs →
+        WritesListFront (F.octets form.now) asked.now inputs (W.contents writer.old) (W.contents writer.new)) }
+    ensures unread { IsErrOf result StreamFault.Read → Keeps (W.contents writer.old) (W.contents writer.new) }
 {
     let wanted = asked.wanted();
     let done = list(
@@ -327,7 +403,7 @@ fn write_form<
         threads,
         watch,
     )?;
-    done_with(rt, done)
+    Ok(done_with(rt, done))
 }
 
 fn write_report<R: AllocGlobal + Threads + Sync, I: io::Read + Drop, W: io::Write, S: Watch>(
@@ -338,8 +414,11 @@ fn write_report<R: AllocGlobal + Threads + Sync, I: io::Read + Drop, W: io::Writ
     threads: usize,
     watch: &mut S,
 ) -> Result<Outcome, StreamFault>
-    ensures { IfOk result (λ outcome. (inputs : List (List ℕ)) → AreInputs I.remaining sources.items inputs →
+    ensures output { IfOk result (λ outcome. (inputs : List (List ℕ)) → AreInputs I.remaining sources.items inputs →
         Writes (IsReport asked.now.name inputs asked.now.window) (W.contents writer.old) (W.contents writer.new) outcome) }
+    ensures front { OnErr result ((inputs : List (List ℕ)) → AreInputs I.remaining sources.items inputs →
+        WritesFrontOf (IsReport asked.now.name inputs asked.now.window) (W.contents writer.old) (W.contents writer.new)) }
+    ensures unread { IsErrOf result StreamFault.Read → Keeps (W.contents writer.old) (W.contents writer.new) }
 {
     let done = report(
         rt,
@@ -351,7 +430,7 @@ fn write_report<R: AllocGlobal + Threads + Sync, I: io::Read + Drop, W: io::Writ
         threads,
         watch,
     )?;
-    done_with(rt, done)
+    Ok(done_with(rt, done))
 }
 
 fn write_explanation<R: AllocGlobal + Threads + Sync, I: io::Read + Drop, W: io::Write, S: Watch>(
@@ -363,12 +442,15 @@ fn write_explanation<R: AllocGlobal + Threads + Sync, I: io::Read + Drop, W: io:
     threads: usize,
     watch: &mut S,
 ) -> Result<Outcome, StreamFault>
-    ensures { IfOk result (λ outcome. (inputs : List (List ℕ)) → AreInputs I.remaining sources.items inputs →
+    ensures output { IfOk result (λ outcome. (inputs : List (List ℕ)) → AreInputs I.remaining sources.items inputs →
         WritesExplanation uid.now names.now inputs (W.contents writer.old) (W.contents writer.new) outcome) }
+    ensures front { OnErr result ((inputs : List (List ℕ)) → AreInputs I.remaining sources.items inputs →
+        WritesFront (IsExplained uid.now names.now inputs) (W.contents writer.old) (W.contents writer.new)) }
+    ensures unread { IsErrOf result StreamFault.Read → Keeps (W.contents writer.old) (W.contents writer.new) }
 {
     match explain(rt, rt.alloc(), sources, names, uid, writer, threads, watch)? {
-        Explained::Told { is_refused } => done_with(rt, is_refused),
-        Explained::Unknown => nothing_done(rt, Undone::Unknown),
+        Explained::Told { is_refused } => Ok(done_with(rt, is_refused)),
+        Explained::Unknown => Ok(nothing_done(rt, Undone::Unknown)),
     }
 }
 
@@ -383,12 +465,15 @@ fn write_message<R: AllocGlobal + Threads + Sync, I: io::Read + Drop, W: io::Wri
     threads: usize,
     watch: &mut S,
 ) -> Result<Outcome, StreamFault>
-    ensures { IfOk result (λ outcome. (inputs : List (List ℕ)) → AreInputs I.remaining sources.items inputs →
+    ensures output { IfOk result (λ outcome. (inputs : List (List ℕ)) → AreInputs I.remaining sources.items inputs →
         WritesMessage draft.now.refusal asked.now draft.now.todos.items at inputs (W.contents writer.old) (W.contents writer.new) outcome) }
+    ensures front { OnErr result ((inputs : List (List ℕ)) → AreInputs I.remaining sources.items inputs →
+        WritesMessageFront draft.now.refusal asked.now draft.now.todos.items at inputs (W.contents writer.old) (W.contents writer.new)) }
+    ensures unread { IsErrOf result StreamFault.Read → Keeps (W.contents writer.old) (W.contents writer.new) }
 {
     if let Some(refusal) = draft.refusal {
         hear_only(rt, sources, threads, watch)?;
-        return nothing_done(rt, Undone::Draft(refusal));
+        return Ok(nothing_done(rt, Undone::Draft(refusal)));
     }
     let errand = asked.errand(draft.todos.as_slice());
     match send(rt, rt.alloc(), sources, &errand, at, writer, threads, watch)? {
@@ -400,7 +485,7 @@ fn write_message<R: AllocGlobal + Threads + Sync, I: io::Read + Drop, W: io::Wri
             lacking,
             undone: None,
         }),
-        Sent::Undone(error) => nothing_done(rt, Undone::Unwritten(error)),
+        Sent::Undone(error) => Ok(nothing_done(rt, Undone::Unwritten(error))),
     }
 }
 
@@ -418,26 +503,26 @@ fn hear_only<R: AllocGlobal + Threads + Sync, I: io::Read + Drop, S: Watch>(
     Ok(())
 }
 
-fn done_with<R: AllocGlobal>(rt: &R, is_refused: bool) -> Result<Outcome, StreamFault>
-    ensures refused { IfOk result (λ outcome. outcome.is_refused ≡ is_refused) }
-    ensures whole { IfOk result (λ outcome. outcome.lacking.items ≡ []) }
-    ensures is_done { IfOk result (λ outcome. outcome.undone ≡ None) }
+fn done_with<R: AllocGlobal>(rt: &R, is_refused: bool) -> Outcome
+    ensures refused { result.is_refused ≡ is_refused }
+    ensures whole { result.lacking.items ≡ [] }
+    ensures is_done { result.undone ≡ None }
 {
-    Ok(Outcome {
+    Outcome {
         is_refused,
         lacking: Vec::new(rt.alloc()),
         undone: None,
-    })
+    }
 }
 
-fn nothing_done<R: AllocGlobal>(rt: &R, why: Undone) -> Result<Outcome, StreamFault>
-    ensures { IfOk result (λ outcome. outcome.undone ≡ Some why) }
+fn nothing_done<R: AllocGlobal>(rt: &R, why: Undone) -> Outcome
+    ensures { result.undone ≡ Some why }
 {
-    Ok(Outcome {
+    Outcome {
         is_refused: false,
         lacking: Vec::new(rt.alloc()),
         undone: Some(why),
-    })
+    }
 }
 
 fn threads<R: Threads>(rt: &R, asked: Option<u64>) -> usize

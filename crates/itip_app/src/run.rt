@@ -8,17 +8,19 @@ ghost use Rattle.itip_office.specs.declared.error.OfficeError.{OfficeError};
 ghost use Rattle.itip_words.specs.Calls.{IfRun, IfOffice, AreOffice};
 ghost use Rattle.itip_words.specs.Words.{AreDesks, AreWorkers};
 ghost use Rattle.itip_app.specs.Status.{status_shown, IsStatusOfNoCall};
+ghost use Rattle.itip_app.specs.Ended.{EndsRun, EndsOffice, EndsShowing, EndsCall};
 
 use crate::filters::{filtered, refused_status};
-use crate::stream::stream;
+use crate::stream::{DeskFiles, Folder, stream};
 use crate::tell::{Explainer, complain};
 use itip_inbox::check;
 use itip_office::{ScriptError, run_jobs};
 use itip_streams::StreamFault;
 use itip_words::{Call, NoCall, Scripted, now, read_words};
-use itip_world::run_script_watched;
+use itip_world::{Shelf, run_script_watched};
 use std::alloc::Global;
 use std::fmt::Display;
+use std::io::BufReader;
 use std::rt::{Clock, Env, Files};
 use std::sync::Wait;
 use std::thread::Threads;
@@ -77,12 +79,44 @@ fn done<
     ensures { IfErr call (λ why. IsStatusOfNoCall why result) }
 {
     match call {
-        Ok(Call::Run(scripted)) => ended(rt, run(rt, scripted)),
-        Ok(Call::Stream(streamed)) => stream(rt, &streamed),
-        Ok(Call::Office { scripted, workers }) => ended(rt, office(rt, scripted, workers)),
-        Ok(Call::Check { why }) => ended(rt, show(rt, why)),
-        Ok(Call::Filter(filter)) => filtered(rt, &filter, terminals),
+        Ok(call) => called(rt, call, terminals),
         Err(why) => not_run(rt, why),
+    }
+}
+
+/// Does what is asked for, of standard input and to standard output, and gives the status.
+fn called<
+    R: AllocGlobal + Input + Print + Eprint + Files + Threads + Wait + Copy + Send + Sync + 'static,
+>(rt: &R, call: Call, terminals: Terminals) -> u8
+    requires run { IfRun (λ scripted. AreDesks scripted.desks) call }
+    requires office { IfOffice AreOffice call }
+{
+    let Ok(mut reader) = BufReader::new(rt.alloc(), rt.reader()) else {
+        return complain(rt, &"no memory", FAULT);
+    };
+    let mut writer = io::writer(rt);
+    let mut files = DeskFiles::of(rt);
+    call_on(rt, &mut files, &mut reader, &mut writer, call, terminals)
+}
+
+/// Does what is asked for, of a folder and a reader and to a writer, and gives the status. A filter has its own sources and output.
+fn call_on<
+    R: AllocGlobal + Input + Print + Eprint + Files + Threads + Wait + Copy + Send + Sync + 'static,
+    F: Folder + Shelf,
+    I: io::Read,
+    W: io::Write,
+>(rt: &R, folder: &mut F, reader: &mut I, writer: &mut W, call: Call, terminals: Terminals) -> u8
+    requires run { IfRun (λ scripted. AreDesks scripted.desks) call }
+    requires office { IfOffice AreOffice call }
+    ensures { EndsCall (F.holds folder.old) call (I.remaining reader.old) (I.remaining reader.new)
+        (W.contents writer.old) (W.contents writer.new) result }
+{
+    match call {
+        Call::Run(scripted) => run(rt, reader, writer, scripted),
+        Call::Stream(streamed) => stream(rt, folder, reader, writer, &streamed),
+        Call::Office { scripted, workers } => office(rt, reader, writer, scripted, workers),
+        Call::Check { why } => show(rt, reader, writer, why),
+        Call::Filter(filter) => filtered(rt, &filter, terminals),
     }
 }
 
@@ -108,16 +142,18 @@ fn not_run<R: Print + Eprint>(rt: &R, why: NoCall) -> u8
     }
 }
 
-fn run<R: AllocGlobal + Input + Print + Eprint>(
+/// Runs a script of a reader, says what failed, and gives the status.
+fn run<R: AllocGlobal + Eprint, I: io::Read, W: io::Write>(
     rt: &R,
+    reader: &mut I,
+    writer: &mut W,
     asked: Scripted,
-) -> Result<bool, StreamFault>
+) -> u8
     requires { AreDesks asked.desks }
+    ensures { EndsRun asked (I.remaining reader.old) (W.contents writer.old) (W.contents writer.new) result }
 {
-    let mut reader = rt.reader();
-    let mut writer = io::writer(rt);
     let mut watch = Explainer::new(rt, asked.why);
-    run_on(rt.alloc(), &mut reader, &mut writer, asked, &mut watch)
+    ended(rt, run_on(rt.alloc(), reader, writer, asked, &mut watch))
 }
 
 /// Runs a script of a reader, with as many desks and in the window that is asked for.
@@ -139,18 +175,21 @@ fn run_on<I: io::Read, W: io::Write, S: itip_world::Watch>(
     run_script_watched(alloc, reader, writer, desks, asked.window, watch)
 }
 
-fn office<R: AllocGlobal + Input + Print + Eprint + Threads + Wait + Copy + Send + Sync + 'static>(
-    rt: &R,
-    asked: Scripted,
-    workers: u64,
-) -> Result<bool, ScriptError>
+/// Does the jobs of a script of a reader, says what failed, and gives the status.
+fn office<
+    R: AllocGlobal + Eprint + Threads + Wait + Copy + Send + Sync + 'static,
+    I: io::Read,
+    W: io::Write,
+>(rt: &R, reader: &mut I, writer: &mut W, asked: Scripted, workers: u64) -> u8
     requires desks { AreDesks asked.desks }
     requires workers { AreWorkers workers }
+    ensures { EndsOffice asked (I.remaining reader.old) (W.contents writer.old) (W.contents writer.new) result }
 {
-    let mut reader = rt.reader();
-    let mut writer = io::writer(rt);
     let mut watch = Explainer::new(rt, asked.why);
-    office_on(rt, &mut reader, &mut writer, asked, workers, &mut watch)
+    ended(
+        rt,
+        office_on(rt, reader, writer, asked, workers, &mut watch),
+    )
 }
 
 /// Does the jobs of a script of a reader, at as many desks and in the window that is asked for.
@@ -182,11 +221,17 @@ fn office_on<
     run_jobs(rt, reader, writer, desks, workers, asked.window, watch)
 }
 
-fn show<R: AllocGlobal + Input + Print + Eprint>(rt: &R, why: bool) -> Result<bool, StreamFault> {
-    let mut reader = rt.reader();
-    let mut writer = io::writer(rt);
+/// Shows the message of a reader, says what failed, and gives the status.
+fn show<R: AllocGlobal + Eprint, I: io::Read, W: io::Write>(
+    rt: &R,
+    reader: &mut I,
+    writer: &mut W,
+    why: bool,
+) -> u8
+    ensures { EndsShowing (I.remaining reader.old) (W.contents writer.old) (W.contents writer.new) result }
+{
     let mut watch = Explainer::new(rt, why);
-    check(rt.alloc(), &mut reader, &mut writer, &mut watch)
+    ended(rt, check(rt.alloc(), reader, writer, &mut watch))
 }
 
 /// The status of what was done: 1 where a refusal was written.

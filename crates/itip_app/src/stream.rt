@@ -1,11 +1,12 @@
 //! A stream of commands: the files with which its desks begin, and those in which they are saved.
-ghost use Rattle.std.specs.Prelude.{◌≡◌, ℕ, List, [], length, IfOk, IfErr, IfSome, IfNone, IsErrOf};
+ghost use Rattle.std.specs.Prelude.{◌≡◌, ◌≢◌, ℕ, List, [], length, Option, Some, None, IfOk, IfErr, IfSome, IfNone, IsErrOf};
 ghost use Rattle.std.specs.List.{Contains};
 ghost use Rattle.itip_desk.specs.DeskFile.{TellsDesk, RefusesFile};
 ghost use Rattle.itip_desk.specs.declared.refusal.FileRefusal.{FileRefusal};
 ghost use Rattle.itip_words.specs.Streams.{names_of};
 ghost use Rattle.itip_app.specs.Status.{status_unloaded, status_served};
-ghost use Rattle.itip_app.specs.Streamed.{Begins, AreBegun, IsUnbegun, ServesStream, IsUnserved};
+ghost use Rattle.itip_app.specs.Streamed.{Begins, AreBegun, IsUnbegun, BeginsUpTo, ServesStream, IsUnserved};
+ghost use Rattle.itip_app.specs.Ended.{EndsServing};
 
 use crate::filters::refused_status;
 use crate::run::FAULT;
@@ -15,7 +16,6 @@ use itip_streams::{Replacement, StreamFault, read_within, visible_text};
 use itip_words::{Load, Streamed};
 use itip_world::{Shelf, run_stream};
 use std::alloc::Global;
-use std::io::BufReader;
 use std::rt::Files;
 use std::{fs, io};
 
@@ -24,19 +24,26 @@ const NOT_READ: u8 = 4;
 
 /// Files by their names. What they hold is a relation of which a function over all folders knows nothing. So one that ensures it
 /// has read the file.
-trait Folder {
-    /// What the file of a name may hold.
-    ghost holds: { Self → List ℕ → List ℕ → Type 0 };
+pub(crate) trait Folder {
+    /// What the file of a name may hold, or None where it can't be read.
+    ghost holds: { Self → List ℕ → Option (List ℕ) → Type 0 };
 
     /// The octets of a file.
     fn octets(&self, name: &str) -> Result<Vec<u8>, StreamFault>
-        ensures { IfOk result (λ octets. holds self.now name.now octets.items) };
+        ensures read { IfOk result (λ octets. holds self.now name.now (Some octets.items)) }
+        ensures unread { IfErr result (λ fault. fault ≢ StreamFault.Memory → holds self.now name.now None) };
 }
 
 /// Files of desks.
 #[derive(Drop)]
-struct DeskFiles<'a, R> {
+pub(crate) struct DeskFiles<'a, R> {
     rt: &'a R,
+}
+
+impl<'a, R> DeskFiles<'a, R> {
+    pub(crate) fn of(rt: &'a R) -> DeskFiles<'a, R> {
+        DeskFiles { rt }
+    }
 }
 
 impl<'a, R: Files + AllocGlobal> Folder for DeskFiles<'a, R> {
@@ -79,26 +86,20 @@ enum Unserved<'a> {
     Stream(StreamFault),
 }
 
-/// Serves a stream and gives the status.
-pub(crate) fn stream<R: AllocGlobal + Input + Print + Eprint + Files>(
+/// Serves a stream of a reader, says why it was not served to its end, and gives the status.
+pub(crate) fn stream<R: AllocGlobal + Eprint, F: Folder + Shelf, I: io::Read, W: io::Write>(
     rt: &R,
+    folder: &mut F,
+    reader: &mut I,
+    writer: &mut W,
     asked: &Streamed,
-) -> u8 {
-    let Ok(mut reader) = BufReader::new(rt.alloc(), rt.reader()) else {
-        return complain(rt, &"no memory", FAULT);
-    };
-    let mut writer = io::writer(rt);
-    let mut files = DeskFiles { rt };
+) -> u8
+    ensures { EndsServing (F.holds folder.old) asked.now (I.remaining reader.old) (I.remaining reader.new)
+        (W.contents writer.old) (W.contents writer.new) result }
+{
     let why = asked.scripted.why;
     let mut watch = Explainer::new(rt, why);
-    let done = stream_on(
-        rt.alloc(),
-        &mut files,
-        &mut reader,
-        &mut writer,
-        asked,
-        &mut watch,
-    );
+    let done = stream_on(rt.alloc(), folder, reader, writer, asked, &mut watch);
     served(rt, done, why)
 }
 
@@ -136,7 +137,7 @@ fn begun<'a, F: Folder>(
 ) -> Result<Vec<Desk>, Unserved<'a>>
     ensures count { IfOk result (λ desks. length desks.items ≡ asked.now.scripted.desks) }
     ensures begun { IfOk result (λ desks. AreBegun (F.holds folder.now) (names_of asked.now.loads.items) 0 desks.items) }
-    ensures unbegun { IfErr result (IsUnbegun (F.holds folder.now) (names_of asked.now.loads.items)) }
+    ensures unbegun { IfErr result (BeginsUpTo (F.holds folder.now) asked.now) }
 {
     let mut desks = Vec::new(alloc);
     for number in 0..asked.scripted.desks {
@@ -160,7 +161,7 @@ fn begin<'a, F: Folder>(
     number: u64,
 ) -> Result<Desk, Unserved<'a>>
     ensures begins { IfOk result (Begins (F.holds folder.now) (names_of loads.now) number) }
-    ensures unbegun { IfErr result (IsUnbegun (F.holds folder.now) (names_of loads.now)) }
+    ensures unbegun { IfErr result (IsUnbegun (F.holds folder.now) (names_of loads.now) number) }
 {
     match file_of(loads, number) {
         Some(file) => match loaded(alloc, folder, file) {
@@ -186,9 +187,10 @@ fn file_of<'a>(loads: &'a [Load], number: u64) -> Option<&'a str>
 
 /// The desk of a file.
 fn loaded<F: Folder>(alloc: Global, folder: &F, file: &str) -> Result<Desk, LoadFault>
-    ensures told { IfOk result (λ desk. (octets : List ℕ) × F.holds folder.now file.now octets × TellsDesk octets desk) }
+    ensures told { IfOk result (λ desk. (octets : List ℕ) × F.holds folder.now file.now (Some octets) × TellsDesk octets desk) }
+    ensures unread { IsErrOf result LoadFault.Read → F.holds folder.now file.now None }
     ensures refused { (refusal : FileRefusal) → IsErrOf result (LoadFault.Refused refusal) →
-        (octets : List ℕ) × F.holds folder.now file.now octets × RefusesFile octets refusal }
+        (octets : List ℕ) × F.holds folder.now file.now (Some octets) × RefusesFile octets refusal }
 {
     match folder.octets(file) {
         Ok(octets) => match read_desk(alloc, octets.as_slice()) {
@@ -217,13 +219,15 @@ fn complain_unloaded<R: AllocGlobal + Eprint>(rt: &R, file: &str, fault: LoadFau
     ensures { result ≡ status_unloaded fault }
 {
     let status = unloaded_status(fault);
-    let Ok(name) = visible_text(rt.alloc(), file) else {
-        return complain(rt, &"no memory", status);
+    let visible = visible_text(rt.alloc(), file);
+    let name = match &visible {
+        Ok(name) => name.as_str(),
+        Err(_) => "a file",
     };
     match fault {
-        LoadFault::Read => complain_of(rt, name.as_str(), "read failed", status),
+        LoadFault::Read => complain_of(rt, name, "read failed", status),
         LoadFault::NoMemory => complain(rt, &"no memory", status),
-        LoadFault::Refused(refusal) => complain_of_file(rt, name.as_str(), refusal, why, status),
+        LoadFault::Refused(refusal) => complain_of_file(rt, name, refusal, why, status),
     }
 }
 

@@ -62,9 +62,9 @@ impl<'a, R: AllocGlobal + Eprint> Teller<'a, R> {
         }
     }
 
-    /// The place of the source that was opened last, from 0.
-    pub(crate) fn opened(&self) -> usize {
-        self.opened
+    /// The source that was opened last.
+    pub(crate) fn last_opened(&self) -> Option<&SourceName> {
+        self.named.at(self.opened)
     }
 
     /// Shows how much was read, where that is asked for and more was read than was shown.

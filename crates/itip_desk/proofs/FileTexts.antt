@@ -21,7 +21,7 @@ use Rattle.itip_desk.specs.Heard.{Ticks}
 use Rattle.itip_desk.specs.DeskFile.{message_text, messages_text, moved_at, head_of, begins_text, HasNumber}
 use Rattle.itip_desk.specs.DeskFile.{NamesOtherForm, IsFileOf, IsTold, TellsDesk, AreAlike, RefusesFile, IfFileRefused}
 use Rattle.itip_desk.specs.FileReading.{IsHead, IsNoPart, moves_at, ReadsParts, TellsTick, TellsMove, FileSoFar, ReadsFile, IsDeskOfParts}
-use Rattle.itip_desk.specs.FileReading.{AddsPart, first_text}
+use Rattle.itip_desk.specs.FileReading.{AddsPart, ReachTick, first_text}
 use Rattle.itip_desk.specs.Moves.{tick_at, last_move, AreMovesTo}
 use Rattle.itip_desk.specs.Octets.{AscendOctets}
 use Rattle.itip_desk.specs.declared.error.FileError.{FileError}
@@ -327,6 +327,27 @@ item_there changed (first ∷ items) uid tick h =
           (found.0, cons_later first items found.0 found.1, found.2, found.3)
     ]
 
+-- where octets tell a desk, a UID moved at the tick that is read of them
+reaches : (octets : List ℕ) (parts : FileParts) → ReadsFile octets parts → (desk : Shown) → TellsDesk octets desk →
+    ReachTick parts.tick parts.moves.items
+reaches octets parts reads desk tells some =
+    let tick : parts.tick ≡ desk.tick = tick_told octets desk tells parts.tick reads.tick in
+    let at = tells.told.reached (subst (λ (t : ℕ). 0 < t) tick some) in
+    let found = tells.told.kept at.0 desk.tick at.1 in
+    let are = parts_told octets desk tells parts.tick parts.items.items parts.moves.items reads.all in
+    let there : Contains tells.file.items found.0 = (tells.file.items_are.same found.0).1 found.1 in
+    let moved : moved_at desk.changed found.0 ≡ parts.tick =
+    ap (λ (u : List ℕ). unwrap_or (tick_at desk.changed u) 0) found.2 ∙ ap (λ (o : Option ℕ). unwrap_or o 0) at.1 ∙ sym tick in (
+      uid_of found.0.key,
+      subst (λ (ms : Carried). Contains ms (uid_of found.0.key, parts.tick)) (sym are.1)
+          (subst (λ (t : ℕ). Contains (file_moves desk.changed tells.file.items) (uid_of found.0.key, t)) moved
+          (move_there desk.changed tells.file.items found.0 there)),
+    )
+
+pub not_reached : (octets : List ℕ) (parts : FileParts) → ReadsFile octets parts → (ReachTick parts.tick parts.moves.items → ⊥) →
+    (number : Option ℕ) → RefusesFile octets (Broken number)
+not_reached octets parts reads not number = (reads.tick.this_form, λ desk tells. not (reaches octets parts reads desk tells))
+
 -- the last move of a UID in a file
 last_is : (changed : Carried) (items : List Item) (item : Item) → Contains items item →
     last_move (file_moves changed items) (uid_of item.key) ≡ Some (moved_at changed item)
@@ -385,7 +406,7 @@ module _ (octets : List ℕ) (parts : FileParts) (desk : Shown) (reads : ReadsFi
   not_file not number = (reads.tick.this_form, λ other tells. not (same_file other tells))
 
   -- and where they are, it is told whole
-  module _ (file : IsFileOf desk octets) where
+  module _ (file : IsFileOf desk octets) (reach : ReachTick parts.tick parts.moves.items) where
     last_within : (uid : List ℕ) (tick : ℕ) → tick_at desk.changed uid ≡ Some tick → (0 < tick) × (tick ≤ parts.tick)
     last_within uid tick at =
         let found = last_in parts.moves.items uid tick (sym (made.changed uid) ∙ at) in
@@ -416,6 +437,17 @@ module _ (octets : List ℕ) (parts : FileParts) (desk : Shown) (reads : ReadsFi
         at (item ∷ items) is = absurd (none_in item (subst (λ (kept : List Item). Contains kept item) none
             ((file.items_are.same item).0 (subst (λ (its : List Item). Contains its item) (sym is) (cons_first item items)))))
 
+    moved_is : (item : Item) → Contains file.items item → tick_at desk.changed (uid_of item.key) ≡ Some (moved_at desk.changed item)
+    moved_is item there = made.changed (uid_of item.key) ∙ ap (λ (ms : Carried). last_move ms (uid_of item.key)) made_parts.1
+        ∙ last_is desk.changed file.items item there
+
+    reached : 0 < desk.tick → (uid : List ℕ) × (tick_at desk.changed uid ≡ Some desk.tick)
+    reached some =
+        let at = reach (subst (λ (t : ℕ). 0 < t) made.tick some) in
+        let from = item_there desk.changed file.items at.0 parts.tick
+        (subst (λ (ms : Carried). Contains ms (at.0, parts.tick)) made_parts.1 at.1) in
+        (uid_of from.0.key, moved_is from.0 from.1 ∙ ap Some (from.3 ∙ sym made.tick))
+
     pub told_file : TellsDesk octets desk
     told_file = record {
       told = record {
@@ -428,12 +460,9 @@ module _ (octets : List ℕ) (parts : FileParts) (desk : Shown) (reads : ReadsFi
             let from = item_there desk.changed file.items found.0 tick
             (subst (λ (ms : Carried). Contains ms (found.0, tick)) made_parts.1 found.1) in
             (from.0, (file.items_are.same from.0).0 from.1, from.2 ∙ found.2);
-        moved = λ item there. (
-          moved_at desk.changed item,
-          made.changed (uid_of item.key) ∙ ap (λ (ms : Carried). last_move ms (uid_of item.key)) made_parts.1
-              ∙ last_is desk.changed file.items item ((file.items_are.same item).1 there),
-        );
+        moved = λ item there. (moved_at desk.changed item, moved_is item ((file.items_are.same item).1 there));
         empty = empty_file;
+        reached = reached;
         fits = subst (λ (t : ℕ). t < 2 ^ 64) (sym made.tick) reads.tick.fits;
       };
       file = file;

@@ -1,5 +1,5 @@
 -- A desk that began with nothing is told whole by its file, and so is one that hears a batch more.
-use Rattle.std.proofs.Common.{◌≡◌, ◌∙◌, sym, ap, refl, subst, ℕ, ◌+◌, ◌<◌, ◌≤◌, ◌^◌, true, false, List, [], ◌∷◌, ◌++◌, arith}
+use Rattle.std.proofs.Common.{◌≡◌, ◌∙◌, sym, ap, refl, subst, ℕ, ◌+◌, ◌-◌, ◌<◌, ◌≤◌, ◌^◌, true, false, List, [], ◌∷◌, ◌++◌, arith}
 use Rattle.std.proofs.Common.{inl, inr, Option, Some, None}
 use Rattle.std.specs.Prelude.{◌⊎◌, nat_lt}
 use Rattle.std.specs.List.{Contains}
@@ -42,6 +42,7 @@ nothing_told desk none start unmoved =
       kept = λ uid tick at. absurd (no_tick uid tick at);
       moved = λ item h. absurd (no_item item h);
       empty = λ is. start;
+      reached = λ some. absurd (omega (arith, start, some));
       fits = omega (arith, start);
     }
 
@@ -184,6 +185,30 @@ module _ (old new : Shown) (step : List Item) (told : IsTold old) (kept : AreKep
       by_step (inl up) = absurd (up.0.1 (stays up.0.0 (no_item up.0.0)))
       by_step (inr same) = same.1 ∙ told.empty (nothing old.kept refl)
 
+  -- a UID that carries a later tick than the one before the desk's carries that
+  at_tick : (since : ℕ) (uid : List ℕ) → new.tick ≤ since + 1 → CarriesAfter new.changed since uid → tick_at new.changed uid ≡ Some new.tick
+  at_tick since uid next carries =
+      let within = within_tick uid carries.0 carries.1 in
+      let over = carries.2 in
+      let same : carries.0 ≡ new.tick = omega (arith, within, over, next) in
+      carries.1 ∙ ap Some same
+
+  reached : 0 < new.tick → (uid : List ℕ) × (tick_at new.changed uid ≡ Some new.tick)
+  reached some = by_step rises
+    where
+      by_step : TickStep old.kept step old.tick new.tick → (uid : List ℕ) × (tick_at new.changed uid ≡ Some new.tick)
+      by_step (inl up) =
+          let next = up.1 in
+          (up.0.0, at_tick old.tick up.0.0 (omega (arith, next)) ((carried.moved old.tick up.0.0 up.0.1).1 (omega (arith, next))))
+      by_step (inr same) =
+          let tick = same.1 in
+          let before = told.reached (omega (arith, tick, some)) in
+          let carries : CarriesAfter old.changed (old.tick - 1) before.0 = (old.tick, before.1, omega (arith, tick, some)) in (
+            before.0,
+            at_tick (old.tick - 1) before.0 (omega (arith, tick, some))
+                ((carried.others (old.tick - 1) before.0 (same.0 before.0)).1 carries),
+          )
+
   pub told_on : IsTold new
   told_on = record {
     settled = settled;
@@ -191,5 +216,6 @@ module _ (old new : Shown) (step : List Item) (told : IsTold old) (kept : AreKep
     kept = kept_of;
     moved = moved;
     empty = empty;
+    reached = reached;
     fits = fits;
   }

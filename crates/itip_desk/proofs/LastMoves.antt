@@ -1,15 +1,17 @@
 -- The last move of each UID, of moves in their order.
-use Rattle.std.proofs.Common.{◌≡◌, ◌∙◌, sym, ap, refl, subst, ℕ, ◌<◌, ◌≤◌, Bool, true, false, List, []}
-use Rattle.std.proofs.Common.{◌∷◌, ◌++◌, append_assoc, append-nil, Option, Some, None, inl, inr}
+use Rattle.std.proofs.Common.{◌≡◌, ◌∙◌, sym, ap, refl, subst, ℕ, ◌<◌, ◌≤◌, ◌==◌, ◌||◌, Bool, true, false, List, []}
+use Rattle.std.proofs.Common.{◌∷◌, ◌++◌, append_assoc, append-nil, Option, Some, None, inl, inr, arith}
 use Rattle.std.specs.Prelude.{cond, is_some}
-use Rattle.std.specs.List.{Contains, All}
+use Rattle.std.specs.List.{Contains, All, list_any}
 use Rattle.std.specs.Ordering.{is_eq}
 use Rattle.std.specs.BTreeSet.{BTreeSet, Updates}
+use Rattle.std.proofs.lemmas.Bool.{eq-eqb, eqb-true}
 use Rattle.std.proofs.lemmas.Cmp.{nat_list_cmp_total}
 use Rattle.std.proofs.lemmas.List.Elements.{All-contains}
 use Rattle.std.proofs.lemmas.Map.Lookups.{exact_bytes}
 use Rattle.itip_state.proofs.Lookups.{one_key, itself}
 use Rattle.itip_state.proofs.Members.{by_bool, none_in, cons_cases, cons_first, cons_later}
+use Rattle.itip_desk.specs.FileReading.{ReachTick}
 use Rattle.itip_desk.specs.Moves.{tick_at, move_cmp, has_move, AreInOrder, AreTicks, AreMovesTo, CarriesLast, last_move}
 use Rattle.itip_desk.proofs.Ticking.{Carried, uid_cmp, move_put}
 
@@ -137,3 +139,39 @@ pub all_put : (all left carried : Carried) → PutSoFar all left carried → lef
 all_put all left carried so_far none =
     subst (λ (ms : Carried). CarriesLast ms carried)
     (sym (so_far.whole ∙ ap (λ (ms : Carried). so_far.done ++ ms) none ∙ append-nil so_far.done)) so_far.carries
+
+-- ---- a move at a tick
+
+abbrev some_at : ℕ → Carried → Bool
+some_at tick moves = list_any (λ (move : List ℕ × ℕ). move.1 == tick) moves
+
+or_true : (b : Bool) → (b || true) ≡ true
+or_true true = refl
+or_true false = refl
+
+at_some : (tick : ℕ) (moves : Carried) → some_at tick moves ≡ true → (uid : List ℕ) × Contains moves (uid, tick)
+at_some tick [] e = let differ : false ≡ true = e in absurd cc
+at_some tick (move ∷ moves) e = by_bool (move.1 == tick) ((uid : List ℕ) × Contains (move ∷ moves) (uid, tick))
+    (λ same. (
+      move.0,
+      subst (λ (t : ℕ). Contains (move ∷ moves) (move.0, t)) (eqb-true move.1 tick same) (cons_first move moves),
+    ))
+    (λ other.
+    let found = at_some tick moves (sym (ap (λ (b : Bool). b || some_at tick moves) other) ∙ e) in
+    (found.0, cons_later move moves (found.0, tick) found.1))
+
+some_there : (tick : ℕ) (moves : Carried) (uid : List ℕ) → Contains moves (uid, tick) → some_at tick moves ≡ true
+some_there tick [] uid h = absurd (none_in (uid, tick) h)
+some_there tick (move ∷ moves) uid h = elim (cons_cases move moves (uid, tick) h) [
+  | inl same ↦ ap (λ (b : Bool). b || some_at tick moves) (eq-eqb move.1 tick (ap (λ (m : List ℕ × ℕ). m.1) same))
+  | inr later ↦ ap (λ (b : Bool). (move.1 == tick) || b) (some_there tick moves uid later) ∙ or_true (move.1 == tick)
+]
+
+pub nought_reached : (tick : ℕ) (moves : Carried) → tick ≡ 0 → ReachTick tick moves
+nought_reached tick moves none some = absurd (omega (arith, none, some))
+
+pub move_reaches : (tick : ℕ) (moves : Carried) (b : Bool) → b ≡ some_at tick moves → b ≡ true → ReachTick tick moves
+move_reaches tick moves b is moved some = at_some tick moves (sym is ∙ moved)
+
+pub reached_moves : (tick : ℕ) (moves : Carried) (b : Bool) → b ≡ some_at tick moves → (tick ≡ 0 → ⊥) → ReachTick tick moves → b ≡ true
+reached_moves tick moves b is not reach = let found = reach (omega (arith, not)) in is ∙ some_there tick moves found.0 found.1

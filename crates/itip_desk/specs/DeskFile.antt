@@ -67,8 +67,8 @@ pub record IsFileOf (desk : Shown) (octets : List ℕ) : Type 0 where
   pub few : length items < 2 ^ 64
   pub octets_are : octets ≡ messages_text desk.changed (head_of desk.tick items) items
 
--- A desk that its file tells whole: what it keeps is all that counts of it, each UID of which something is kept moved last at a tick of
--- the desk, and no other did. Every desk that began with nothing at tick 0 is one.
+-- A desk that its file tells whole: nothing that it keeps is dead or older, each UID of which something is kept moved last at a tick of
+-- the desk, and no other did; above tick 0 one of them moved at the tick of the desk. Every desk that began with nothing at tick 0 is one.
 pub record IsTold (desk : Shown) : Type 0 where
   pub settled : AreKept desk.kept desk.kept
   pub ticks : (uid : List ℕ) (tick : ℕ) → tick_at desk.changed uid ≡ Some tick → (0 < tick) × (tick ≤ desk.tick)
@@ -76,6 +76,7 @@ pub record IsTold (desk : Shown) : Type 0 where
       (item : Item) × Contains desk.kept item × (uid_of item.key ≡ uid)
   pub moved : (item : Item) → Contains desk.kept item → (tick : ℕ) × (tick_at desk.changed (uid_of item.key) ≡ Some tick)
   pub empty : desk.kept ≡ [] → desk.tick ≡ 0
+  pub reached : 0 < desk.tick → (uid : List ℕ) × (tick_at desk.changed uid ≡ Some desk.tick)
   pub fits : desk.tick < 2 ^ 64
 
 -- the octets are the file of a desk, which they tell whole
@@ -128,7 +129,7 @@ pub record NamesForm (octets : List ℕ) (form : ℕ) : Type 0 where
 abbrev pub NamesOtherForm : List ℕ → Type 0
 NamesOtherForm octets = (form : ℕ) × NamesForm octets form × (form ≢ 1)
 
--- Octets that are the file of no desk: they name another form, or the first message does not.
+-- They name another form; or they don't, and are the file of no desk.
 abbrev pub RefusesFile : List ℕ → FileRefusal → Type 0
 RefusesFile octets OtherForm = NamesOtherForm octets
 RefusesFile octets (Broken message) = (¬ NamesOtherForm octets) × ((desk : Shown) → TellsDesk octets desk → ⊥)

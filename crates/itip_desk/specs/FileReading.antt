@@ -94,6 +94,10 @@ pub record FileSoFar (octets rest : List ℕ) (tick : ℕ) (items : List Item) (
       ReadsParts tick (messages_of octets) (items ++ others) (moves ++ more)
   pub there : (text : List ℕ) → Contains (messages_of rest) text → Contains (messages_of octets) text
 
+-- one of these moves is at a tick, where that is above 0
+abbrev pub ReachTick : ℕ → List (List ℕ × ℕ) → Type 0
+ReachTick tick moves = 0 < tick → (uid : List ℕ) × Contains moves (uid, tick)
+
 -- what is read of the messages of a file
 pub record ReadsFile (octets : List ℕ) (parts : FileParts) : Type 0 where
   pub tick : TellsTick octets parts.tick

@@ -1,10 +1,11 @@
 //! A desk out of its file.
-ghost use Rattle.std.specs.Prelude.{◌≡◌, ◌++◌, ◌<◌, ◌^◌, ℕ, List, Some, codes, IfOk, IfErr, OnOk, IfSome, IfNone};
+ghost use Rattle.std.specs.Prelude.{◌≡◌, ◌↔◌, ◌==◌, ◌++◌, ◌<◌, ◌^◌, ℕ, List, Some, codes, IsTrue, IfOk, IfErr, OnOk, IfSome, IfNone};
+ghost use Rattle.std.specs.List.{list_any};
 ghost use Rattle.std.specs.Option.{option_copied};
 ghost use Rattle.itip_desk.specs.Moves.{AreMovesTo};
 ghost use Rattle.itip_desk.specs.DeskFile.{TellsDesk, RefusesFile, IfFileRefused, HasNumber, begins_text};
 ghost use Rattle.itip_desk.specs.FileReading.{ReadsFile, AddsPart, IsNoPart, IsDeskOfParts, TellsTick, TellsMove, FollowsProduct};
-ghost use Rattle.itip_desk.specs.FileReading.{first_text, moves_at};
+ghost use Rattle.itip_desk.specs.FileReading.{first_text, moves_at, ReachTick};
 
 use crate::batch::Batch;
 use crate::desk::Desk;
@@ -32,12 +33,12 @@ struct FileParts {
 /// refused.
 ///
 /// Refused where another form is named (70), or where they are the file of no desk (71), with the number of the first message that
-/// is none of such a file, where there is one; or when out of memory.
+/// can't be read as one of such a file, or tells no move, where there is one; or when out of memory.
 pub fn read_desk(alloc: Global, octets: &[u8]) -> Result<Desk, FileError>
     ensures found { IfOk result (TellsDesk octets.now) }
     ensures fault { IfErr result (λ e. IfFileRefused e (RefusesFile octets.now)) }
 {
-    let parts = read_parts(alloc, octets)?;
+    let parts = reached_parts(alloc, octets)?;
     let desk = desk_of(alloc, parts)?;
     if is_file_of(alloc, octets, &desk)? {
         return Ok(desk);
@@ -54,6 +55,36 @@ fn desk_of(alloc: Global, parts: FileParts) -> Result<Desk, FileError>
     let FileParts { tick, items, moves } = parts;
     let batch = Batch::of_items(items)?;
     Ok(Desk::of_parts(alloc, tick, &batch, moves)?)
+}
+
+/// The parts of all messages, of which one moved at the tick of the desk, where that is above 0.
+fn reached_parts(alloc: Global, octets: &[u8]) -> Result<FileParts, FileError>
+    ensures found { IfOk result (ReadsFile octets.now) }
+    ensures reached { IfOk result (λ parts. ReachTick parts.tick parts.moves.items) }
+    ensures fault { IfErr result (λ e. IfFileRefused e (RefusesFile octets.now)) }
+{
+    let parts = read_parts(alloc, octets)?;
+    if is_reached(&parts) {
+        return Ok(parts);
+    }
+    drop(parts);
+    Err(broken(None))
+}
+
+/// Whether a UID moved at the tick of the desk, where that is above 0.
+fn is_reached(parts: &FileParts) -> bool
+    ensures { IsTrue result ↔ ReachTick parts.now.tick parts.now.moves.items }
+{
+    if parts.tick == 0 {
+        return true;
+    }
+    some_moved_at(parts.tick, parts.moves.as_slice())
+}
+
+fn some_moved_at(tick: u64, moves: &[(Uid, u64)]) -> bool
+    ensures { result ≡ list_any (λ (move : List ℕ × ℕ). move.1 == tick) moves.now }
+{
+    moves.iter().any(|moved| moved.1 == tick)
 }
 
 /// The parts of all messages.

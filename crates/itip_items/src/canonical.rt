@@ -26,7 +26,7 @@ const OCTETS_LIMIT: usize = 262_144;
 /// The most lines of an item's canonical form (our own limit).
 const LINES_LIMIT: usize = 20_000;
 
-/// More octets than most items have.
+/// More octets than most items have. They are written in such room, and copied into memory of their own size.
 const USUAL: usize = 512;
 
 /// The lines around a to-do in canonical form.
@@ -214,8 +214,8 @@ fn write_canonical(alloc: Global, kind: Kind, todo: &Todo) -> Result<Vec<u8>, No
     write_opening(kind, &mut octets)?;
     write_todo_up_to(todo, OCTETS_LIMIT, &mut octets)?;
     write_end(&mut octets)?;
-    octets.shrink_to_fit();
-    Ok(octets)
+    let exact = Vec::from_slice(alloc, octets.as_slice())?;
+    Ok(exact)
 }
 
 /// The canonical octets of a to-do under the method of a kind, up to ORGANIZER.
@@ -225,8 +225,8 @@ pub(crate) fn write_front(alloc: Global, kind: Kind, todo: &Todo) -> Result<Fron
     let mut octets = Vec::with_capacity(alloc, USUAL)?;
     write_opening(kind, &mut octets)?;
     write_todo_front(todo, &mut octets)?;
-    octets.shrink_to_fit();
-    Front::new(alloc, octets)
+    let exact = Vec::from_slice(alloc, octets.as_slice())?;
+    Front::new(alloc, exact)
 }
 
 /// The canonical octets of a to-do behind its front, as far as there is room, as [`write_canonical`] gives them.
@@ -236,8 +236,8 @@ fn write_closing(alloc: Global, todo: &Todo, room: usize) -> Result<Vec<u8>, NoM
     let mut octets = Vec::with_capacity(alloc, USUAL)?;
     write_todo_rest(todo, room, &mut octets)?;
     write_end(&mut octets)?;
-    octets.shrink_to_fit();
-    Ok(octets)
+    let exact = Vec::from_slice(alloc, octets.as_slice())?;
+    Ok(exact)
 }
 
 /// Appends the lines before a to-do.

@@ -34,8 +34,48 @@ pub fn make_items(alloc: Global, method: Method, all: Vec<Todo>) -> Result<Vec<I
     ensures found { IfOk result (λ items. GivesItems (drafts method (map parts_of all.items)) items.items) }
     ensures large { IfErr result (λ e. IfTooLarge e (FirstOver 1 (drafts_each method (map parts_of all.items) (map parts_of all.items)))) }
 {
+    let items = Vec::with_capacity(alloc, all.len())?;
+    if all.len() > 1 {
+        return make_several(alloc, method, all, items);
+    }
+    let mut all = all;
+    match all.pop() {
+        Some(todo) => make_alone(alloc, method, todo, items),
+        None => Ok(items),
+    }
+}
+
+/// The items of a message's only to-do, whose effective sequence no other raises, in an empty vector.
+fn make_alone(
+    alloc: Global,
+    method: Method,
+    todo: Todo,
+    mut items: Vec<Item>,
+) -> Result<Vec<Item>, FormError>
+    requires suits { Suits method (parts_of todo) }
+    requires empty { items.items ≡ [] }
+    ensures found { IfOk result (λ items. GivesItems (drafts method (parts_of todo ∷ [])) items.items) }
+    ensures large { IfErr result (λ e. IfTooLarge e (FirstOver 1 (drafts_each method (parts_of todo ∷ []) (parts_of todo ∷ [])))) }
+{
+    match add_items(alloc, method, 0, todo, &mut items) {
+        Ok(()) => Ok(items),
+        Err(error) => Err(error.of_todo(1)),
+    }
+}
+
+/// The items of several to-dos, as [`make_items`] gives them, in an empty vector.
+fn make_several(
+    alloc: Global,
+    method: Method,
+    all: Vec<Todo>,
+    mut items: Vec<Item>,
+) -> Result<Vec<Item>, FormError>
+    requires suits { AllByRecursion (Suits method) (map parts_of all.items) }
+    requires empty { items.items ≡ [] }
+    ensures found { IfOk result (λ items. GivesItems (drafts method (map parts_of all.items)) items.items) }
+    ensures large { IfErr result (λ e. IfTooLarge e (FirstOver 1 (drafts_each method (map parts_of all.items) (map parts_of all.items)))) }
+{
     let greatest = series_sequences(alloc, method, &all)?;
-    let mut items = Vec::new(alloc);
     let count = all.len();
     let mut left = count;
     for todo in all {

@@ -8,8 +8,10 @@ pub mod Utf8Parts
 pub mod ValueLists
 pub mod ParamLists
 pub mod Lines
+pub mod Feeds
 pub mod Scans
 pub mod Cuttings
+pub mod Utf8Lines
 pub mod Written
 pub mod Rooms
 pub mod Cases

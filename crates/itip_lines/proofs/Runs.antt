@@ -1,5 +1,5 @@
 -- The longest front of a text that passes a test.
-use Rattle.std.proofs.Common.{◌≡◌, ◌∙◌, sym, ap, refl, suc, ℕ, ◌+◌, ◌≤◌, ◌<◌, Bool, true, false, cond, ◌&&◌, List, [], ◌∷◌, ◌++◌, length}
+use Rattle.std.proofs.Common.{◌≡◌, ◌∙◌, sym, ap, refl, suc, ℕ, ◌+◌, ◌<◌, Bool, true, false, cond, List, [], ◌∷◌, ◌++◌, length}
 use Rattle.std.proofs.Common.{take, drop, arith, subst}
 use Rattle.std.specs.List.{list_all, prefix_len}
 use Rattle.std.specs.Prelude.{◌==◌}
@@ -46,29 +46,6 @@ one_run test text a r b s h k = same a r b s (sym h.whole ∙ k.whole) h.passes 
         let rest : a ++ r ≡ b ++ s = cc in
         let i = same a r b s rest (and_parts _ _ p).1 q (and_parts _ _ u).1 w in
         (cons_same x y a b (first_same x y (a ++ r) (b ++ s) e) i.0, i.1)
-
--- whether the run is the whole text
-pub not_all_in_run : (test : ℕ → Bool) (text : List ℕ) (n : ℕ) → n ≡ prefix_len test text → n < length text → list_all test text ≡ false
-not_all_in_run test text n e h = some_fails text (subst (λ (k : ℕ). k < length text) e h)
-  where
-    some_fails : (bs : List ℕ) → prefix_len test bs < length bs → list_all test bs ≡ false
-    some_fails [] l = absurd (omega arith)
-    some_fails (b ∷ bs) l =
-        elim (test b) as (λ v. cond v (1 + prefix_len test bs) 0 < length bs + 1 → (v && list_all test bs) ≡ false) [
-          | true ↦ λ k. some_fails bs (omega arith)
-          | false ↦ λ k. refl
-        ] (omega arith)
-
-pub all_in_run : (test : ℕ → Bool) (text : List ℕ) (n : ℕ) → n ≡ prefix_len test text → length text ≤ n → list_all test text ≡ true
-all_in_run test text n e h = each text (subst (λ (k : ℕ). length text ≤ k) e h)
-  where
-    each : (bs : List ℕ) → length bs ≤ prefix_len test bs → list_all test bs ≡ true
-    each [] l = refl
-    each (b ∷ bs) l =
-        elim (test b) as (λ v. length bs + 1 ≤ cond v (1 + prefix_len test bs) 0 → (v && list_all test bs) ≡ true) [
-          | true ↦ λ k. each bs (omega arith)
-          | false ↦ λ k. absurd (omega arith)
-        ] (omega arith)
 
 pub empty_from_test : (text : List ℕ) → (length text == 0) ≡ true → length text ≡ 0
 empty_from_test text h = grind (arith, nat_tests)

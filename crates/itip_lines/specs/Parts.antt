@@ -3,17 +3,16 @@ use Rattle.std.specs.Prelude.{◌≡◌, ℕ, Bool, false, ◌==◌, ◌||◌, I
 use Rattle.std.specs.List.{list_all}
 use Rattle.std.specs.Str.{IsUtf8}
 use Rattle.itip_lines.specs.declared.line.Param.{Param}
-use Rattle.itip_lines.specs.Octets.{is_name_octet, is_value_octet, is_quotable_octet, is_plain_octet, is_separator}
+use Rattle.itip_lines.specs.Octets.{is_name_octet, is_quotable_octet, is_plain_octet, is_separator}
 use Rattle.itip_lines.specs.Lawful.{values_text, param_text}
 use Rattle.itip_lines.specs.Spelling.{ValueThen, ValuesThen, ParamThen, IsTail, Spells}
 use Rattle.itip_lines.specs.declared.grammar.Octets.{Octets}
-use Rattle.itip_lines.specs.declared.grammar.Octets.TheVariants.{Name, Plain, Quotable, Value}
+use Rattle.itip_lines.specs.declared.grammar.Octets.TheVariants.{Name, Plain, Quotable}
 
 abbrev pub is_of : Octets → ℕ → Bool
 is_of Name = is_name_octet
 is_of Plain = is_plain_octet
 is_of Quotable = is_quotable_octet
-is_of Value = is_value_octet
 
 -- the first octet, if there is one, passes the test
 abbrev pub begins : (ℕ → Bool) → List ℕ → Bool

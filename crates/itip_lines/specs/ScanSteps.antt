@@ -1,5 +1,7 @@
 -- What a scan has found where a stretch ends (our own form).
 use Rattle.std.specs.Prelude.{◌≡◌, ◌<◌, ◌≤◌, ◌⊎◌, ◌++◌, ℕ, ◌+◌, Option, Some, None, List, [], ◌∷◌, length}
+use Rattle.std.specs.List.{AllByRecursion}
+use Rattle.std.specs.Str.{IsUtf8}
 use Rattle.itip_lines.specs.Cutting.{NumberedText, text_at}
 use Rattle.itip_lines.specs.Stretches.{texts_onto, texts_behind}
 use Rattle.itip_lines.specs.declared.scan.End.{End}
@@ -38,6 +40,10 @@ last_by (ends.Line rest) = last_behind rest
 -- the numbers of the lines of a text within its limit
 abbrev pub number_limit : ℕ
 number_limit = 1048577
+
+-- each of the lines is UTF-8
+abbrev pub AreUtf8 : List NumberedText → Type 0
+AreUtf8 texts = AllByRecursion (λ t. IsUtf8 t.text) texts
 
 -- the line was read and appended, with its number, or it is empty and was left out
 abbrev pub PushesLine : List NumberedLine → NumberedText → List NumberedLine → Type 0

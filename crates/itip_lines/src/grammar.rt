@@ -1,7 +1,7 @@
 //! The grammar of one unfolded line.
 ghost use Rattle.std.specs.Prelude.{◌≡◌, ◌≢◌, ◌≤◌, ◌∷◌, ◌++◌, [], ℕ, List, IfOk, OnOk, length, map, MatchOption};
 ghost use Rattle.std.specs.Char.{to_ascii_uppercase};
-ghost use Rattle.std.specs.List.{prefix_len};
+ghost use Rattle.std.specs.List.{list_all, prefix_len};
 ghost use Rattle.std.specs.Str.{IsUtf8, str_to_ascii_uppercase};
 ghost use Rattle.itip_lines.specs.Octets.{is_name_octet, is_value_octet, is_separator};
 ghost use Rattle.itip_lines.specs.Lawful.{line_limit};
@@ -24,8 +24,6 @@ pub(crate) enum Octets {
     Plain,
     /// A parameter's value between quotes.
     Quotable,
-    /// A line's value.
-    Value,
 }
 
 fn is_name_octet(octet: u8) -> bool
@@ -40,7 +38,19 @@ fn is_name_octet(octet: u8) -> bool
 fn is_value_octet(octet: u8) -> bool
     ensures { result ≡ is_value_octet octet }
 {
-    !matches!(octet, 0..=8 | 10..=31 | 127)
+    (octet == b'\t') | ((octet >= b' ') & (octet != 127))
+}
+
+/// Whether a line's value may have all of these octets.
+fn are_value_octets(octets: &[u8]) -> bool
+    ensures { result ≡ list_all is_value_octet octets.now }
+{
+    // With no early exit several octets are tested at a time.
+    let mut all = true;
+    for octet in octets {
+        all &= is_value_octet(*octet);
+    }
+    all
 }
 
 /// Whether the octet is one for which a parameter's value needs quotes.
@@ -58,7 +68,6 @@ impl Octets {
             Octets::Name => is_name_octet(octet),
             Octets::Plain => is_value_octet(octet) && octet != b'"' && !is_separator(octet),
             Octets::Quotable => is_value_octet(octet) && octet != b'"',
-            Octets::Value => is_value_octet(octet),
         }
     }
 }
@@ -218,7 +227,7 @@ fn read_tail(alloc: Global, text: &[u8]) -> Result<Option<(Params, Text)>, Alloc
     let Some(value) = strip(rest, b':') else {
         return Ok(None);
     };
-    if run_len(value, Octets::Value) < value.len() {
+    if !are_value_octets(value) {
         return Ok(None);
     }
     let value = copy(alloc, value)?;

@@ -29,6 +29,7 @@ pub use list::ListOf;
 pub use lookup::param_value;
 pub use params::Params;
 pub use read::read_lines;
+pub use scan::cut_lf;
 pub use text::Text;
 pub use text_list::{TextList, Texts};
 pub use write::{write_line, write_param, write_parts, write_text};

@@ -1,14 +1,17 @@
 //! Reading a text of content lines.
-ghost use Rattle.std.specs.Prelude.{◌≡◌, ◌+◌, ◌<◌, ◌≤◌, OnOk, IfOk, IfErr, Some, length};
+ghost use Rattle.std.specs.Prelude.{◌≡◌, ◌+◌, ◌<◌, ◌≤◌, ◌↔◌, IsTrue, OnOk, IfOk, IfErr, Some, length};
+ghost use Rattle.std.specs.Str.{IsUtf8};
 ghost use Rattle.itip_lines.specs.Cutting.{text_at};
 ghost use Rattle.itip_lines.specs.Reading.{Reads, Refused, IfRefused, HasRefusal};
-ghost use Rattle.itip_lines.specs.ScanSteps.{PushesLine, ReadsNext, HasNextRefusal, last_number, number_limit};
+ghost use Rattle.itip_lines.specs.Stretches.{texts_behind};
+ghost use Rattle.itip_lines.specs.ScanSteps.{AreUtf8, PushesLine, ReadsNext, HasNextRefusal, last_number, number_limit};
 ghost use Rattle.itip_lines.specs.declared.error.LineError.TheVariants as error;
 
 use crate::error::{LineCause, LineError, LineRefusal};
 use crate::grammar::read_text;
 use crate::line::NumberedLine;
 use crate::scan::{End, Rest, cut_stretch, unfold};
+use simdutf8::is_utf8;
 use std::alloc::Global;
 
 /// The most octets of a text (our own limit).
@@ -37,33 +40,37 @@ pub fn read_lines(alloc: Global, text: &[u8]) -> Result<Vec<NumberedLine>, LineE
             line: None,
         }));
     }
+    let utf8 = is_utf8(text);
     let mut lines = Vec::with_capacity(alloc, USUAL)?;
     let mut rest = Some(Rest { number: 1, text });
     while let Some(left) = rest {
-        rest = read_next(alloc, left, &mut lines)?;
+        rest = read_next(alloc, left, utf8, &mut lines)?;
     }
     Ok(lines)
 }
 
-/// Reads the first unfolded line of what is left of a text, and returns what is left after it.
+/// Reads the first unfolded line of what is left of a text, and returns what is left after it. `utf8` says that the
+/// text as a whole is UTF-8.
 fn read_next<'a>(
     alloc: Global,
     left: Rest<'a>,
+    utf8: bool,
     lines: &mut Vec<NumberedLine>,
 ) -> Result<Option<Rest<'a>>, LineError>
-    requires { last_number left ≤ number_limit }
+    requires within { last_number left ≤ number_limit }
+    requires utf8 { IsTrue utf8 → AreUtf8 (texts_behind (Some left)) }
     ensures next { IfOk result (ReadsNext left.entry lines.old.items lines.new.items) }
     ensures refused { IfErr result (λ e. IfRefused e (HasNextRefusal left.entry lines.old.items)) }
 {
     let (stretch, end) = cut_stretch(left);
     match end {
         End::Line(after) => {
-            push_line(alloc, left.number, stretch, lines)?;
+            push_line(alloc, left.number, stretch, utf8, lines)?;
             Ok(after)
         }
         End::Fold(more) => {
             let (line, after) = unfold(alloc, stretch, more)?;
-            push_line(alloc, left.number, line.as_slice(), lines)?;
+            push_line(alloc, left.number, line.as_slice(), utf8, lines)?;
             Ok(after)
         }
     }
@@ -74,8 +81,10 @@ fn push_line(
     alloc: Global,
     number: usize,
     text: &[u8],
+    utf8: bool,
     lines: &mut Vec<NumberedLine>,
 ) -> Result<(), LineError>
+    requires { IsTrue utf8 → IsUtf8 text.now }
     ensures pushed { OnOk result (PushesLine lines.old.items (text_at number text.now) lines.new.items) }
     ensures refused { IfErr result (λ e. IfRefused e (λ refusal.
         (0 < length text.now) × HasRefusal (length lines.old.items + 1) (text_at number text.now) refusal)) }
@@ -86,14 +95,22 @@ fn push_line(
     if lines.len() >= COUNT_LIMIT || text.len() > LINE_LIMIT {
         return Err(refused(LineCause::TooMany, number));
     }
-    let Ok(_) = str::from_utf8(text) else {
+    if !is_line_utf8(text, utf8) {
         return Err(refused(LineCause::NotUtf8, number));
-    };
+    }
     let Some(line) = read_text(alloc, text)? else {
         return Err(refused(LineCause::BadLine, number));
     };
     lines.push(NumberedLine { number, line })?;
     Ok(())
+}
+
+/// Whether a line is UTF-8. An unfolded line may be where the text as a whole is not, but not the other way round.
+fn is_line_utf8(line: &[u8], whole: bool) -> bool
+    requires { IsTrue whole → IsUtf8 line.now }
+    ensures { IsTrue result ↔ IsUtf8 line.now }
+{
+    whole || is_utf8(line)
 }
 
 fn refused(cause: LineCause, number: usize) -> LineError

@@ -1,10 +1,12 @@
 //! From a text to its unfolded lines.
 ghost use Rattle.std.specs.Prelude.{◌≡◌, ◌+◌, ◌<◌, ◌≤◌, ◌++◌, ◌∷◌, IfOk, MatchOption, List, ℕ, length};
+ghost use Rattle.memchr.specs.Find.{IsFirstByte, is_byte};
 ghost use Rattle.itip_lines.specs.Cutting.{HasNoLf, text_at};
 ghost use Rattle.itip_lines.specs.Stretches.{StripsCr, LacksBlank, BeginsWithBlank};
 ghost use Rattle.itip_lines.specs.Stretches.{stretches_of, stretches_behind, length_behind, texts_onto, texts_behind};
 ghost use Rattle.itip_lines.specs.ScanSteps.{texts_by, left_behind, left_by, last_number, last_behind, last_by, number_limit};
 
+use memchr::memchr;
 use std::alloc::{AllocError, Global};
 
 /// What is left of a text, and the number of its first physical line, from 1.
@@ -24,12 +26,23 @@ pub(crate) enum End<'a> {
 }
 
 /// What stands before the first LF, and what stands behind it.
-fn cut_lf(text: &[u8]) -> Option<(&[u8], &[u8])>
+pub fn cut_lf(text: &[u8]) -> Option<(&[u8], &[u8])>
     ensures { MatchOption result (HasNoLf text.now)
         (λ p. HasNoLf p.0.now × (text.now ≡ p.0.now ++ 10 ∷ p.1.now)) }
 {
-    let at = text.iter().position(|b| *b == b'\n')?;
+    let at = find_lf(text)?;
     Some((&text[..at], &text[at + 1..]))
+}
+
+fn find_lf(text: &[u8]) -> Option<usize>
+    ensures { IsFirstByte (is_byte 10) text.now result }
+{
+    // A search costs more than these octets, and a text may be nothing but empty lines or folds.
+    match text {
+        [b'\n', ..] => Some(0),
+        [_, b'\n', ..] => Some(1),
+        _ => memchr(b'\n', text),
+    }
 }
 
 /// A stretch that LF ends, without a CR before that LF.

@@ -1,14 +1,19 @@
 -- What the lines of a to-do that a program makes give.
 use Rattle.std.proofs.Common.{◌≡◌, ◌∙◌, refl, sym, ap, subst, ℕ, suc, ◌+◌, ◌<◌, List, [], ◌∷◌, ◌++◌, length, map, take, get_or, IsTrue, arith}
-use Rattle.std.proofs.Common.{inl, inr, Result, Ok, Err}
+use Rattle.std.proofs.Common.{true, Result, Ok, Err}
 use Rattle.std.specs.Prelude.{codes}
 use Rattle.std.specs.Result.{OnOk, IfErr}
 use Rattle.std.proofs.lemmas.List.{length-append, flat_map_more, take_more}
 use Rattle.std.specs.List.{AllByRecursion, flat_map}
+use Rattle.itip_lines.specs.Cutting.{HasNoLf}
+use Rattle.itip_lines.specs.Lawful.{IsName}
 use Rattle.itip_lines.specs.Reading as lines
 use Rattle.itip_lines.specs.Reading.{line_at, plain_lines}
 use Rattle.itip_lines.specs.declared.line.Line.{Line}
 use Rattle.itip_lines.specs.declared.line.NumberedLine.{NumberedLine}
+use Rattle.itip_moment.specs.Written.{stamp_text}
+use Rattle.itip_moment.specs.declared.moment.Moment.{Moment}
+use Rattle.itip_moment.specs.declared.stamp.Stamp.{Stamp}
 use Rattle.itip_todo.specs.PartsOf.{parts_of}
 use Rattle.itip_todo.specs.Reading as todo_reading
 use Rattle.itip_todo.specs.declared.error.TodoError.{TodoError}
@@ -22,12 +27,14 @@ use Rattle.itip_items.specs.declared.error.FormError.TheVariants as form_error
 use Rattle.itip_items.specs.declared.item.Item.{Item}
 use Rattle.itip_items.specs.declared.kind.Method.TheVariants as method
 use Rattle.itip_message.specs.Building.{Adds, IsOneProperty, RefusesText, RefusesMade, RefusesItem, GivesItem, next_number, bad_line, not_one, of_component, no_todo, too_large}
-use Rattle.itip_message.specs.Building.{RefusesValue, RefusesBeginning, broken_value, no_line}
+use Rattle.itip_message.specs.Building.{RefusesValue, RefusesBeginning, broken_value, no_line, RefusesMoment, no_moment}
+use Rattle.itip_message.specs.Building.{AddsMoment, has_lawful_zone, moment_line_text}
 use Rattle.itip_message.specs.Message.{ReadsComponent}
 use Rattle.itip_message.specs.Refusals.{IfRefused, todo_gives, form_gives}
 use Rattle.itip_message.specs.declared.error.ReadError.{ReadError}
 use Rattle.itip_message.specs.declared.error.ReadError.TheVariants as error
 use Rattle.itip_message.specs.declared.sort.Component.{Component}
+use Rattle.itip_message.proofs.BuiltLines.{moment_line, stamp_taken}
 use Rattle.itip_message.proofs.Properties.{AreProperties, all_suit, properties_more}
 
 pub on_ok_always : {A E P : Type 0} (r : Result A E) → P → OnOk r P
@@ -35,26 +42,38 @@ on_ok_always (Ok a) p = p
 on_ok_always (Err e) p = tt
 
 -- what is no line gives no line behind its front
-refused_value : (e : ReadError) (front value : List ℕ) (number : ℕ) → IfRefused e (RefusesText (front ++ value) number) →
+refused_value : (e : ReadError) (front value : List ℕ) (number : ℕ) → HasNoLf value → IfRefused e (RefusesText (front ++ value) number) →
     IfRefused e (RefusesValue front value number)
-refused_value error.NoMemory front value number h = tt
-refused_value (error.Refused refusal) front value number h = no_line refusal h
+refused_value error.NoMemory front value number whole h = tt
+refused_value (error.Refused refusal) front value number whole h = no_line refusal whole h
 
-pub value_refused : {A : Type 0} (r : Result A ReadError) (front value : List ℕ) (number : ℕ) →
+pub value_refused : {A : Type 0} (r : Result A ReadError) (front value : List ℕ) (number : ℕ) → HasNoLf value →
     IfErr r (λ e. IfRefused e (RefusesText (front ++ value) number)) → IfErr r (λ e. IfRefused e (RefusesValue front value number))
-value_refused (Ok a) front value number h = tt
-value_refused (Err e) front value number h = refused_value e front value number h
+value_refused (Ok a) front value number whole h = tt
+value_refused (Err e) front value number whole h = refused_value e front value number whole h
 
--- a beginning is refused for its first line, or for its second
-pub first_refused : (e : ReadError) (uid stamp : List ℕ) → IfRefused e (RefusesValue (codes "UID:") uid 1) →
-    IfRefused e (RefusesBeginning uid stamp)
-first_refused error.NoMemory uid stamp h = tt
-first_refused (error.Refused refusal) uid stamp h = inl h
+refused_moment : (e : ReadError) (name : List ℕ) (moment : Moment) (number : ℕ) → has_lawful_zone moment ≡ true →
+    IfRefused e (RefusesText (moment_line_text name moment) number) → IfRefused e (RefusesMoment name moment number)
+refused_moment error.NoMemory name moment number lawful h = tt
+refused_moment (error.Refused refusal) name moment number lawful h = no_moment refusal lawful h
 
-pub second_refused : (e : ReadError) (uid stamp : List ℕ) → IfRefused e (RefusesText (codes "DTSTAMP:" ++ stamp) 2) →
-    IfRefused e (RefusesBeginning uid stamp)
-second_refused error.NoMemory uid stamp h = tt
-second_refused (error.Refused refusal) uid stamp h = inr h
+pub moment_refused : {A : Type 0} (r : Result A ReadError) (name : List ℕ) (moment : Moment) (number : ℕ) → has_lawful_zone moment ≡ true →
+    IfErr r (λ e. IfRefused e (RefusesText (moment_line_text name moment) number)) →
+    IfErr r (λ e. IfRefused e (RefusesMoment name moment number))
+moment_refused (Ok a) name moment number lawful h = tt
+moment_refused (Err e) name moment number lawful h = refused_moment e name moment number lawful h
+
+pub moment_added : {A E : Type 0} (r : Result A E) (name : List ℕ) (moment : Moment) (old new : List NumberedLine) → IsName name →
+    has_lawful_zone moment ≡ true → OnOk r (Adds (moment_line_text name moment) old new) → OnOk r (AddsMoment name moment old new)
+moment_added (Ok a) name moment old new named lawful adds =
+    moment_line name moment old new named lawful adds
+moment_added (Err e) name moment old new named lawful adds = tt
+
+-- a DTSTAMP is always taken
+pub stamp_refused : (e : ReadError) (uid : List ℕ) (stamp : Stamp) (number : ℕ) →
+    IfRefused e (RefusesText (codes "DTSTAMP:" ++ stamp_text stamp) number) → IfRefused e (RefusesBeginning uid)
+stamp_refused error.NoMemory uid stamp number h = tt
+stamp_refused (error.Refused refusal) uid stamp number h = absurd (stamp_taken stamp number refusal h)
 
 -- a value that is popped off one value is that one
 pub only_value : {T : Type 0} (old new : List T) (value : T) → old ≡ new ++ value ∷ [] → length old ≡ 1 → old ≡ value ∷ []

@@ -1,5 +1,6 @@
 pub mod BegunMessages
 pub mod Building
+pub mod BuiltLines
 pub mod Cuts
 pub mod Dating
 pub mod DraftItems

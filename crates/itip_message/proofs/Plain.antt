@@ -25,24 +25,27 @@ use Rattle.itip_items.proofs.Pieces.{from_exdates}
 
 -- ---- octets
 
-all_weaker : (p q : ℕ → Bool) → ((b : ℕ) → p b ≡ true → q b ≡ true) → (bs : List ℕ) → list_all p bs ≡ true → list_all q bs ≡ true
+pub all_weaker : (p q : ℕ → Bool) → ((b : ℕ) → p b ≡ true → q b ≡ true) → (bs : List ℕ) → list_all p bs ≡ true → list_all q bs ≡ true
 all_weaker p q h [] k = refl
 all_weaker p q h (b ∷ bs) k = let r = and_parts _ _ k in rw (h b r.0) (all_weaker p q h bs r.1)
 
-both : (a b : List ℕ) → list_all is_value_octet a ≡ true → list_all is_value_octet b ≡ true → list_all is_value_octet (a ++ b) ≡ true
+pub both : (a b : List ℕ) → list_all is_value_octet a ≡ true → list_all is_value_octet b ≡ true → list_all is_value_octet (a ++ b) ≡ true
 both a b h k = list_all-append is_value_octet a b ∙ rw h k
 
-clean_name : (name : List ℕ) → IsName name → list_all is_value_octet name ≡ true
+pub clean_name : (name : List ℕ) → IsName name → list_all is_value_octet name ≡ true
 clean_name name h = all_weaker is_name_octet is_value_octet name_value name
     (all_weaker is_upper_name_octet is_name_octet upper_is_name name h.upper)
 
-clean_value : (value : List ℕ) → IsParamValue value → list_all is_value_octet (value_text value) ≡ true
-clean_value value h =
-    let inside : list_all is_value_octet value ≡ true = all_weaker is_quotable_octet is_value_octet quotable_value value h.octets in
+pub clean_quotable : (value : List ℕ) → list_all is_quotable_octet value ≡ true → list_all is_value_octet (value_text value) ≡ true
+clean_quotable value octets =
+    let inside : list_all is_value_octet value ≡ true = all_weaker is_quotable_octet is_value_octet quotable_value value octets in
     elim (list_any is_separator value) as (λ v. list_all is_value_octet (cond v (34 ∷ (value ++ 34 ∷ [])) value) ≡ true) [
       | true ↦ both (34 ∷ []) (value ++ 34 ∷ []) refl (both value (34 ∷ []) inside refl)
       | false ↦ inside
     ]
+
+clean_value : (value : List ℕ) → IsParamValue value → list_all is_value_octet (value_text value) ≡ true
+clean_value value h = clean_quotable value h.octets
 
 clean_values : (vs : List (List ℕ)) → AllByRecursion IsParamValue vs → list_all is_value_octet (values_text vs) ≡ true
 clean_values [] h = refl

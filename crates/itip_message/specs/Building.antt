@@ -1,9 +1,10 @@
 -- A to-do that a program makes, of content lines as they stand in a message (RFC 5545 3.6.2), and the item that a REQUEST of it gives.
-use Rattle.std.specs.Prelude.{◌≡◌, ◌≢◌, ◌⊎◌, ℕ, ◌+◌, ◌==◌, false, IsTrue, List, [], ◌∷◌, ◌++◌, length, codes, Some}
+use Rattle.std.specs.Prelude.{◌≡◌, ◌≢◌, ℕ, ◌+◌, ◌==◌, Bool, true, false, IsTrue, List, [], ◌∷◌, ◌++◌, length, codes, Some}
 use Rattle.std.specs.Prelude.{if◌then◌else◌}
-use Rattle.std.specs.List.{flat_map}
+use Rattle.std.specs.List.{flat_map, list_all}
 use Rattle.itip_lines.specs.Cutting.{HasNoLf}
 use Rattle.itip_lines.specs.Lawful.{params_text}
+use Rattle.itip_lines.specs.Octets.{is_quotable_octet}
 use Rattle.itip_lines.specs.Reading as lines
 use Rattle.itip_lines.specs.Reading.{line_at, plain_lines}
 use Rattle.itip_lines.specs.declared.error.LineCause.TheVariants.{BadLine}
@@ -11,6 +12,7 @@ use Rattle.itip_lines.specs.declared.error.LineRefusal.{LineRefusal}
 use Rattle.itip_lines.specs.declared.line.Line.{Line}
 use Rattle.itip_lines.specs.declared.line.NumberedLine.{NumberedLine}
 use Rattle.itip_lines.specs.declared.line.Param.{Param}
+use Rattle.itip_moment.specs.Moment.{moment_zone}
 use Rattle.itip_moment.specs.Written.{moment_text}
 use Rattle.itip_moment.specs.declared.moment.Moment.{Moment}
 use Rattle.itip_moment.specs.declared.moment.Moment.TheVariants.{Date, Floating, Utc, Zoned}
@@ -41,10 +43,12 @@ pub data RefusesText (text : List ℕ) (number : ℕ) : MessageRefusal → Type 
   of_component : (at : ℕ) (line : Line) → lines.Reads text (line_at at line ∷ []) → is_property line ≡ false
       → RefusesText text number (at_line cause.Nesting (Some number))
 
--- A value gives no line behind a front: it has a line feed, which a folded line could pass over, or together they are none.
+-- A value gives no line behind a front: it has a line feed, which a folded line could pass over; or it has none, and together they are
+-- no line.
 pub data RefusesValue (front value : List ℕ) (number : ℕ) : MessageRefusal → Type 0 where
   broken_value : ¬ HasNoLf value → RefusesValue front value number (at_line (cause.Lines BadLine) (Some number))
-  no_line : (refusal : MessageRefusal) → RefusesText (front ++ value) number refusal → RefusesValue front value number refusal
+  no_line : (refusal : MessageRefusal) → HasNoLf value → RefusesText (front ++ value) number refusal
+      → RefusesValue front value number refusal
 
 -- the number of the next line
 abbrev pub next_number : List NumberedLine → ℕ
@@ -63,10 +67,9 @@ pub record BeginsWith (uid stamp : List ℕ) (given : List NumberedLine) : Type 
   pub uid_is : Adds (codes "UID:" ++ uid) [] before
   pub stamp_is : Adds (codes "DTSTAMP:" ++ stamp) before given
 
--- nothing begins with a UID and a DTSTAMP: the UID gives no first line, or the DTSTAMP no second
-abbrev pub RefusesBeginning : List ℕ → List ℕ → MessageRefusal → Type 0
-RefusesBeginning uid stamp refusal =
-    RefusesValue (codes "UID:") uid 1 refusal ⊎ RefusesText (codes "DTSTAMP:" ++ stamp) 2 refusal
+-- a UID begins no to-do: it gives no first line; a DTSTAMP always gives a second
+abbrev pub RefusesBeginning : List ℕ → MessageRefusal → Type 0
+RefusesBeginning uid refusal = RefusesValue (codes "UID:") uid 1 refusal
 
 -- the lines are no to-do, for this cause in the line of this number
 abbrev pub RefusesMade : List NumberedLine → MessageRefusal → Type 0
@@ -94,6 +97,27 @@ zone_params (Zoned zone at) = (record { name = codes "TZID"; values = zone.bytes
 -- the line of a name and a moment
 abbrev pub moment_line_text : List ℕ → Moment → List ℕ
 moment_line_text name moment = name ++ (params_text (zone_params moment) ++ 58 ∷ moment_text moment)
+
+-- whether the zone of a moment, where it has one, has but octets that a value of a parameter may have
+abbrev pub has_lawful_zone : Moment → Bool
+has_lawful_zone moment = list_all is_quotable_octet (moment_zone moment)
+
+-- A moment gives no line behind a name: its zone has an octet that no value of a parameter has, as a line feed, which a folded line could
+-- pass over, or a quote; or it has none, and the line is none.
+pub data RefusesMoment (name : List ℕ) (moment : Moment) (number : ℕ) : MessageRefusal → Type 0 where
+  bad_zone : has_lawful_zone moment ≡ false → RefusesMoment name moment number (at_line (cause.Lines BadLine) (Some number))
+  no_moment : (refusal : MessageRefusal) → has_lawful_zone moment ≡ true → RefusesText (moment_line_text name moment) number refusal
+      → RefusesMoment name moment number refusal
+
+-- The line of a name and a moment stands behind those that were given, with the next number: it has this name, the zone as it is, and the
+-- text of the moment.
+pub record AddsMoment (name : List ℕ) (moment : Moment) (old new : List NumberedLine) : Type 0 where
+  pub line : Line
+  pub is : IsOneProperty (moment_line_text name moment) line
+  pub name_is : line.name ≡ name
+  pub params_are : line.params ≡ zone_params moment
+  pub value_is : line.value ≡ moment_text moment
+  pub whole : new ≡ old ++ line_at (next_number old) line ∷ []
 
 -- An octet of a text as it stands in a value of the type TEXT (RFC 5545 3.3.11): a backslash (92), a semicolon (59) and a comma (44)
 -- behind a backslash, and a line feed (10) as `\n`.

@@ -4,12 +4,13 @@ ghost use Rattle.std.specs.Fmt.{decimal};
 ghost use Rattle.std.specs.List.{list_all};
 ghost use Rattle.itip_lines.specs.Cutting.{HasNoLf};
 ghost use Rattle.itip_lines.specs.Lawful.{params_text};
+ghost use Rattle.itip_lines.specs.Octets.{is_quotable_octet};
 ghost use Rattle.itip_lines.specs.Reading.{plain_lines};
 ghost use Rattle.itip_lines.specs.declared.line.Line.{Line};
 ghost use Rattle.itip_moment.specs.Written.{moment_text, stamp_text};
 ghost use Rattle.itip_todo.specs.Reading.{ReadsTodo};
 ghost use Rattle.itip_items.specs.Needs.{is_property};
-ghost use Rattle.itip_message.specs.Building.{IsOneProperty, RefusesText, octet_value, text_value, zone_params};
+ghost use Rattle.itip_message.specs.Building.{IsOneProperty, RefusesText, octet_value, text_value, zone_params, has_lawful_zone};
 ghost use Rattle.itip_message.specs.Refusals.{IfRefused, at_line};
 ghost use Rattle.itip_message.specs.declared.error.ReadError.TheVariants as error;
 
@@ -26,8 +27,9 @@ use std::marker::Model;
 ///
 /// Each line is read at once, as a content line of a message (RFC 5545 3.1): what isn't one is refused, and so is a line that begins
 /// or ends a component. [`todo`](TodoBuilder::todo) and [`item`](TodoBuilder::item) read the lines together, as those of a VTODO of
-/// a REQUEST, and refuse what a message would be refused for. A refusal has the number of the line, from 1 for that of UID and 2 for
-/// that of DTSTAMP. UIDs, addresses and rules have no line break (2), so that none is folded into another.
+/// a REQUEST, and refuse what a VTODO of a message would be refused for: the limits of a message as a whole don't count. A refusal has
+/// the number of the line, from 1 for that of UID and 2 for that of DTSTAMP. UIDs, addresses and rules have no line break (2), so that
+/// none is folded into another, and zones no octet that no value of a parameter has (2).
 #[derive(Debug, Drop)]
 pub struct TodoBuilder {
     lines: Vec<NumberedLine>,
@@ -55,16 +57,17 @@ impl Model for TodoBuilder {
 
 impl TodoBuilder {
     ghost use Rattle.itip_lines.specs.Cutting.{HasNoLf};
-    ghost use Rattle.itip_message.specs.Building.{Adds, BeginsWith, RefusesText, RefusesValue, RefusesBeginning};
+    ghost use Rattle.itip_lines.specs.Lawful.{IsName};
+    ghost use Rattle.itip_message.specs.Building.{Adds, AddsMoment, BeginsWith, RefusesText, RefusesValue, RefusesMoment, RefusesBeginning};
     ghost use Rattle.itip_message.specs.Building.{moment_line_text, next_number, RefusesMade, GivesItem, RefusesItem};
     ghost use Rattle.itip_message.specs.Message.{ReadsMessage};
 
     /// A to-do of a UID and a DTSTAMP.
     ///
-    /// Refused where the UID has a line break or gives no line (2, 3, 14).
+    /// Refused where the UID has a line break or gives no line (1, 2, 14).
     pub fn new(alloc: Global, uid: &str, stamp: Stamp) -> Result<TodoBuilder, ReadError>
         ensures begun { IfOk result (BeginsWith uid.now (stamp_text stamp)) }
-        ensures refused { IfErr result (λ e. IfRefused e (RefusesBeginning uid.now (stamp_text stamp))) }
+        ensures refused { IfErr result (λ e. IfRefused e (RefusesBeginning uid.now)) }
     {
         let mut builder = TodoBuilder {
             lines: Vec::new(alloc),
@@ -105,28 +108,31 @@ impl TodoBuilder {
         self.put_value("ATTENDEE:", address)
     }
 
-    /// Adds DTSTART.
+    /// Adds DTSTART, with the zone of the moment where it has one.
+    ///
+    /// Refused where the zone has an octet that no value of a parameter has, as a line break or a quote (2), or the line
+    /// is longer than a text (1) or a line (14) may be.
     pub fn start(&mut self, moment: &Moment) -> Result<(), ReadError>
-        ensures added { OnOk result (Adds (moment_line_text (codes "DTSTART") moment.now) self.old self.new) }
-        ensures refused { IfErr result (λ e. IfRefused e (RefusesText (moment_line_text (codes "DTSTART") moment.now) (next_number self.old))) }
+        ensures added { OnOk result (AddsMoment (codes "DTSTART") moment.now self.old self.new) }
+        ensures refused { IfErr result (λ e. IfRefused e (RefusesMoment (codes "DTSTART") moment.now (next_number self.old))) }
         ensures err { OnErr result (self.new ≡ self.old) }
     {
         self.moment("DTSTART", moment)
     }
 
-    /// Adds DUE.
+    /// Adds DUE. Refused as DTSTART is.
     pub fn due(&mut self, moment: &Moment) -> Result<(), ReadError>
-        ensures added { OnOk result (Adds (moment_line_text (codes "DUE") moment.now) self.old self.new) }
-        ensures refused { IfErr result (λ e. IfRefused e (RefusesText (moment_line_text (codes "DUE") moment.now) (next_number self.old))) }
+        ensures added { OnOk result (AddsMoment (codes "DUE") moment.now self.old self.new) }
+        ensures refused { IfErr result (λ e. IfRefused e (RefusesMoment (codes "DUE") moment.now (next_number self.old))) }
         ensures err { OnErr result (self.new ≡ self.old) }
     {
         self.moment("DUE", moment)
     }
 
-    /// Adds RECURRENCE-ID: the to-do is of this instance.
+    /// Adds RECURRENCE-ID: the to-do is of this instance. Refused as DTSTART is.
     pub fn instance(&mut self, moment: &Moment) -> Result<(), ReadError>
-        ensures added { OnOk result (Adds (moment_line_text (codes "RECURRENCE-ID") moment.now) self.old self.new) }
-        ensures refused { IfErr result (λ e. IfRefused e (RefusesText (moment_line_text (codes "RECURRENCE-ID") moment.now) (next_number self.old))) }
+        ensures added { OnOk result (AddsMoment (codes "RECURRENCE-ID") moment.now self.old self.new) }
+        ensures refused { IfErr result (λ e. IfRefused e (RefusesMoment (codes "RECURRENCE-ID") moment.now (next_number self.old))) }
         ensures err { OnErr result (self.new ≡ self.old) }
     {
         self.moment("RECURRENCE-ID", moment)
@@ -143,7 +149,7 @@ impl TodoBuilder {
     }
 
     /// Adds SUMMARY of a text, whose backslashes, semicolons, commas and line feeds are written as RFC 5545 3.3.11 has them. A carriage
-    /// return is refused (2), as every other control character but a tab.
+    /// return is refused (2), as every other control character of one byte (C0 or DEL) but a tab.
     pub fn summary(&mut self, words: &str) -> Result<(), ReadError>
         ensures added { OnOk result (Adds (codes "SUMMARY:" ++ text_value words.now) self.old self.new) }
         ensures refused { IfErr result (λ e. IfRefused e (RefusesText (codes "SUMMARY:" ++ text_value words.now) (next_number self.old))) }
@@ -156,7 +162,7 @@ impl TodoBuilder {
 
     /// Adds any other property, as its line stands in a message, with its parameters: `ATTENDEE;RSVP=TRUE:mailto:omar@example.com`.
     ///
-    /// Refused where the text is no content line or more than one (1, 2, 3, 14), or where it begins or ends a component (4).
+    /// Refused where the text is no content line or more than one (1, 2, 14), or where it begins or ends a component (4).
     pub fn line(&mut self, text: &str) -> Result<(), ReadError>
         ensures added { OnOk result (Adds text.now self.old self.new) }
         ensures refused { IfErr result (λ e. IfRefused e (RefusesText text.now (next_number self.old))) }
@@ -165,9 +171,9 @@ impl TodoBuilder {
         self.add(text.as_bytes())
     }
 
-    /// The to-do of the lines, as a draft of a request has it.
+    /// The to-do of the lines, with the SEQUENCE that was given.
     ///
-    /// Refused where they are none (9 to 12, 14, 15).
+    /// Refused where they are none (10 to 12, 14, 15).
     pub fn todo(&self) -> Result<Todo, ReadError>
         ensures found { IfOk result (ReadsTodo (plain_lines self.now)) }
         ensures fault { IfErr result (λ e. IfRefused e (RefusesMade self.now)) }
@@ -180,7 +186,7 @@ impl TodoBuilder {
 
     /// The item that a REQUEST of this to-do alone gives. Its octets are a message that gives the item again.
     ///
-    /// Refused where the lines are no to-do (9 to 12, 14, 15), or where the item is too large (14).
+    /// Refused where the lines are no to-do (10 to 12, 14, 15), or where the item is too large (14).
     pub fn item(&self) -> Result<Item, ReadError>
         ensures found { IfOk result (GivesItem self.now) }
         ensures read_again { IfOk result (λ item. ReadsMessage item.bytes (item ∷ [])) }
@@ -227,8 +233,22 @@ impl TodoBuilder {
         self.add(text.as_slice())
     }
 
-    /// Adds the line of a name and a moment, with TZID where it is in a zone.
+    /// Adds the line of a name and a moment, whose zone can be the value of a parameter.
     fn moment(&mut self, name: &str, moment: &Moment) -> Result<(), ReadError>
+        requires { IsName name.now }
+        ensures added { OnOk result (AddsMoment name.now moment.now self.old self.new) }
+        ensures refused { IfErr result (λ e. IfRefused e (RefusesMoment name.now moment.now (next_number self.old))) }
+        ensures err { OnErr result (self.new ≡ self.old) }
+    {
+        if has_lawful_zone(moment) {
+            return self.put_moment(name, moment);
+        }
+        let number = self.lines.len() + 1;
+        Err(refused(MessageCause::Lines(LineCause::BadLine), number))
+    }
+
+    /// Adds the line of a name and a moment, with TZID where it is in a zone.
+    fn put_moment(&mut self, name: &str, moment: &Moment) -> Result<(), ReadError>
         ensures added { OnOk result (Adds (moment_line_text name.now moment.now) self.old self.new) }
         ensures refused { IfErr result (λ e. IfRefused e (RefusesText (moment_line_text name.now moment.now) (next_number self.old))) }
         ensures err { OnErr result (self.new ≡ self.old) }
@@ -256,6 +276,31 @@ fn is_unbroken(text: &str) -> bool
     ensures { IsTrue result ↔ HasNoLf text.now }
 {
     text.as_bytes().iter().all(|octet| *octet != b'\n')
+}
+
+/// Whether the zone of a moment, where it has one, can be the value of a parameter.
+fn has_lawful_zone(moment: &Moment) -> bool
+    ensures { result ≡ has_lawful_zone moment.now }
+{
+    match moment {
+        Moment::Zoned(zone, _) => is_quotable(zone.as_str()),
+        _ => true,
+    }
+}
+
+/// Whether a text can be the value of a parameter, in quotes where it needs them.
+fn is_quotable(text: &str) -> bool
+    ensures { result ≡ list_all is_quotable_octet text.now }
+{
+    text.as_bytes()
+        .iter()
+        .all(|octet| is_quotable_octet(*octet))
+}
+
+fn is_quotable_octet(octet: u8) -> bool
+    ensures { result ≡ is_quotable_octet octet }
+{
+    !matches!(octet, 0..=8 | 10..=31 | 127) && octet != b'"'
 }
 
 /// The property that a text is, as the line of a number.

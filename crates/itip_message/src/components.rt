@@ -18,7 +18,7 @@ pub(crate) fn read_components(
     ensures found { IfOk result (λ all. AreComponents method components.now all.items) }
     ensures fault { IfErr result (λ e. IfRefused e (FirstRefused method 1 components.now)) }
 {
-    let mut all = Vec::new(alloc);
+    let mut all = Vec::with_capacity(alloc, components.len())?;
     for (at, component) in components.iter().enumerate() {
         all.push(read_component(alloc, method, at + 1, component)?)?;
     }

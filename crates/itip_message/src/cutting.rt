@@ -1,13 +1,14 @@
 //! Cutting a text of many messages, such as a delta, into messages. Nothing is copied: each is a slice of the text.
 ghost use Rattle.std.specs.Prelude.{◌≡◌, ◌<◌, ◌≤◌, ℕ, List, [], length, MatchOption, IfSome, IfNone, IfOk, IfErr, IsOk};
 ghost use Rattle.itip_message.specs.Begun.{IsBegun};
-ghost use Rattle.itip_message.specs.Scanned.{begins_blank, ends_line, line_length, is_return, says, said, is_empty, ends_calendar};
+ghost use Rattle.itip_message.specs.Scanned.{begins_blank, line_length, is_return, says, said, is_empty, ends_calendar};
 ghost use Rattle.itip_message.specs.Scanned.{messages_of, CutsMessage, StaysCut};
 ghost use Rattle.itip_message.specs.Passing.{IsFirstLine, StaysFirstLine, SaysFirst, is_left_out};
 ghost use Rattle.itip_message.specs.Parting.{ClosesLine};
 ghost use Rattle.itip_lines.specs.Cutting.{is_blank};
 
 use crate::begun::BegunMessage;
+use itip_lines::cut_lf;
 
 const CR: u8 = b'\r';
 
@@ -92,19 +93,13 @@ fn line_length(bytes: &[u8]) -> usize
     ensures within { result ≤ length bytes.now }
 {
     let mut rest = bytes;
-    while let [b, after @ ..] = rest {
-        if ends_line(*b, after) {
+    while let Some((_, after)) = cut_lf(rest) {
+        if !begins_blank(after) {
             return bytes.len() - after.len();
         }
         rest = after;
     }
     bytes.len()
-}
-
-fn ends_line(b: u8, after: &[u8]) -> bool
-    ensures { result ≡ ends_line b after.now }
-{
-    b == LF && !begins_blank(after)
 }
 
 fn begins_blank(bytes: &[u8]) -> bool

@@ -26,5 +26,5 @@ pub use read::{read_date, read_moment, read_moment_in, read_stamp};
 pub use shown::BadText;
 pub use stamp::Stamp;
 pub use std::alloc::AllocError as NoMemory;
-pub use write::{write_moment, write_stamp};
+pub use write::{stamp_bytes, write_moment, write_stamp};
 pub use zone_name::ZoneName;

@@ -44,7 +44,8 @@ fn write_local(stamp: &Stamp, out: &mut Vec<u8>) -> Result<(), NoMemory>
     out.extend_from_slice(&local_bytes(stamp))
 }
 
-pub(crate) fn stamp_bytes(stamp: &Stamp) -> [u8; 16]
+/// The text of a stamp, `YYYYMMDDTHHMMSSZ` (RFC 5545 3.3.5).
+pub fn stamp_bytes(stamp: &Stamp) -> [u8; 16]
     ensures { result ≡ stamp_text stamp.now }
 {
     let [y1, y2, y3, y4, m1, m2, d1, d2] = date_bytes(stamp.day);

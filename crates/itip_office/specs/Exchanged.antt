@@ -5,7 +5,7 @@ use Rattle.itip_desk.specs.Desk.{Shown, IsDeskOf, IsDeltaOf}
 use Rattle.itip_office.specs.declared.error.OfficeError.{OfficeError}
 use Rattle.itip_office.specs.declared.error.OfficeError.TheVariants.{GateClosed, ChannelClosed}
 
--- an error of no loop
+-- neither of the two errors that loops alone give
 abbrev pub AreNoLoops : OfficeError → Type 0
 AreNoLoops error = (error ≢ GateClosed) × (error ≢ ChannelClosed)
 

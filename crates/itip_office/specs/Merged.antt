@@ -1,9 +1,9 @@
 -- What a keeper has merged (our own form): into its desk of texts, and into the running desk where it has one.
-use Rattle.std.specs.Prelude.{◌≡◌, ℕ, List, [], ◌∷◌, ◌++◌, Option, Some, None, All}
+use Rattle.std.specs.Prelude.{◌≡◌, ℕ, List, [], ◌∷◌, ◌++◌, map, Option, Some, None, All}
 use Rattle.itip_items.specs.declared.item.Item.{Item}
 use Rattle.itip_desk.specs.Desk.{Shown, IsDeskOf}
 use Rattle.itip_desk.specs.Heard.{heard}
-use Rattle.itip_running.specs.Ends.{published, pending, keeper_pair}
+use Rattle.itip_running.specs.Ends.{publishes, published, pending, calls, fresh, keeper_pair}
 use Rattle.itip_running.specs.declared.keeper.Keeper.{Keeper}
 use Rattle.itip_office.specs.declared.job.Work.{Work}
 use Rattle.itip_office.specs.declared.job.Work.TheVariants.{Text, Carry, Look}
@@ -18,32 +18,46 @@ AreMerged desk [] (batch ∷ batches) = ⊥
 AreMerged desk (answer ∷ answers) [] = ⊥
 AreMerged desk (answer ∷ answers) (batch ∷ batches) = AnswersMerged desk batch answer.0.work answer.1 × AreMerged desk answers batches
 
--- The published batches grew by one for each of these jobs, in order.
-pub record GrewBy (desk : ℕ) (old new : List (List Item)) (answers : List Answer) : Type 0 where
-  pub batches : List (List Item)
-  pub merged : AreMerged desk answers batches
-  pub whole : new ≡ old ++ batches
+-- no refused call of its `publish` is left to be shown, and nothing was submitted since the last of them
+pub record HasShownAll (keeper : Keeper) : Type 0 where
+  pub shown : calls keeper ≡ publishes keeper
+  pub none_fresh : fresh keeper ≡ []
 
 -- the running desk of a keeper, where it has one, has nothing pending
 abbrev pub IsIdle : Option Keeper → Type 0
 IsIdle None = Unit {0}
 IsIdle (Some keeper) = pending keeper ≡ []
 
--- It published one more batch, by itself, and has nothing pending.
+-- One more batch is published by a keeper, and nothing is pending. Where it had shown all before, the batch is a group by itself.
+pub record ShowsBatch (old new : Keeper) (batch : List Item) : Type 0 where
+  pub whole : published new ≡ published old ++ batch ∷ []
+  pub none_pending : pending new ≡ []
+  pub group : HasShownAll old → publishes new ≡ publishes old ++ (batch ∷ []) ∷ []
+  pub all : HasShownAll new
+  pub pair : keeper_pair new ≡ keeper_pair old
+
+-- The running desk, where there is one, shows one more batch.
 abbrev pub ShowsOne : Option Keeper → Option Keeper → List Item → Type 0
 ShowsOne None None batch = Unit {0}
 ShowsOne None (Some new) batch = ⊥
 ShowsOne (Some old) None batch = ⊥
-ShowsOne (Some old) (Some new) batch =
-    (published new ≡ published old ++ batch ∷ []) × (pending new ≡ []) × (keeper_pair new ≡ keeper_pair old)
+ShowsOne (Some old) (Some new) batch = ShowsBatch old new batch
 
--- It published one batch for each of these jobs, in order.
+-- A keeper published one batch for each of these jobs, in order. Where it had shown all before, each is a group by itself.
+pub record GrewBy (desk : ℕ) (old new : Keeper) (answers : List Answer) : Type 0 where
+  pub batches : List (List Item)
+  pub merged : AreMerged desk answers batches
+  pub whole : published new ≡ published old ++ batches
+  pub groups : HasShownAll old → publishes new ≡ publishes old ++ map (λ batch. batch ∷ []) batches
+  pub all : HasShownAll old → HasShownAll new
+  pub pair : keeper_pair new ≡ keeper_pair old
+
+-- The running desk, where there is one, shows one more batch for each of these jobs, in order.
 abbrev pub GrewShown : ℕ → Option Keeper → Option Keeper → List Answer → Type 0
 GrewShown desk None None answers = Unit {0}
 GrewShown desk None (Some new) answers = ⊥
 GrewShown desk (Some old) None answers = ⊥
-GrewShown desk (Some old) (Some new) answers =
-    GrewBy desk (published old) (published new) answers × (keeper_pair new ≡ keeper_pair old)
+GrewShown desk (Some old) (Some new) answers = GrewBy desk old new answers
 
 -- The job was merged by some batch.
 abbrev pub IsMerged : ℕ → Answer → Type 0

@@ -18,7 +18,8 @@ use std::sync::Wait;
 
 /// Merges what comes until the channel is closed, and gives back what it was handed, with the jobs that it answered and their outcomes, in
 /// the order in which it merged them: the desk of texts takes the batches of texts alone, and the running desk, where there is one, all
-/// batches, each published before the next. The keeper is handed in with nothing pending, and nothing is pending then.
+/// batches, each published before the next, so that each is a group by itself where no call of `publish` was refused before. The keeper
+/// is handed in with nothing pending, and nothing is pending then.
 ///
 /// Ends early if an allocation failed (40), if the gate is closed (42), or for what a desk or a keeper refuses (21, 41); the keeper is
 /// spent then.

@@ -23,13 +23,13 @@ pub struct Office {
     pub replies: Vec<(u64, Outcome)>,
 }
 
-/// Runs jobs on threads: one for each worker, and one for the keeper of each desk. Desks are empty in the beginning. Once the jobs are done
-/// each desk takes what the others keep of texts. What carries brought meanwhile is seen by looks and by other carries; in the end it is
-/// nothing that a desk lacks.
+/// Runs jobs on threads: one for each worker, and one for each keeper. A desk has one keeper, or, where no job looks or carries, as many as
+/// there are workers for each desk. Desks are empty in the beginning. Once the jobs are done each desk takes what the others keep of texts.
+/// What carries brought meanwhile is seen by looks and by other carries; in the end it is nothing that a desk lacks.
 ///
 /// Ends early if an allocation failed (40), if a thread could not be made or a desk gave no place (41), if the gate said so (42), if two
-/// jobs have one number (44), if a desk refused an entry (45), or if a count is spent (21): with 41 before all if not all threads were made,
-/// else with the lowest number among what the threads answer, and after them with 44. All threads have returned by then.
+/// jobs have one number (44), if a desk refused an entry (45), or if a count is spent (21): with 40 or 41 before all if not all threads
+/// were made, else with the lowest number among what the threads answer, and after them with 44. All threads have returned by then.
 pub fn run_office<
     R: AllocGlobal + Threads + Wait + Copy + Send + Sync + 'static,
     G: Gate + Send + Sync + Drop + 'static,

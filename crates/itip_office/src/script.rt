@@ -24,7 +24,7 @@ use std::io::{Read, Write};
 use std::sync::Wait;
 use std::thread::Threads;
 
-/// Runs the jobs of a script on threads, as [`run_office`] does: one for each worker, and one for the keeper of each desk. Each job that is
+/// Runs the jobs of a script on threads, as [`run_office`] does: one for each worker, and one for each keeper. Each job that is
 /// refused is written as `job N refused C`, in the order of the jobs, and then the list of each desk. Says whether something written was a
 /// refusal. Beside the output `watch` is told what is refused, and nothing where the script could not be read or the jobs ended
 /// in an error.

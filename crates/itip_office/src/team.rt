@@ -83,8 +83,8 @@ struct Bench {
 
 /// Runs the jobs on threads, one for each worker and one for each keeper, and joins them all, whatever they answer.
 ///
-/// Where no job looks or carries, and there are more workers than desks, a desk has several keepers, among which its texts are divided by
-/// UID: one alone would be slower than those who read.
+/// Where no job looks or carries, a desk has as many keepers as there are workers for each desk, and at least one. Its texts are divided
+/// among them by UID: one alone would be slower than those who read.
 pub(crate) fn run_team<
     R: AllocGlobal + Threads + Wait + Copy + Send + Sync + 'static,
     G: Gate + Send + Sync + Drop + 'static,

@@ -26,4 +26,5 @@ pub mod Ascents
 pub mod PeriodWalks
 pub mod NamedDays
 pub mod MovedWalks
+pub mod WeekMasks
 pub mod MonthShapes

@@ -1,6 +1,7 @@
 -- A walk over the units of a rule: a day that a unit selects is in the pattern, and no other is.
 use Rattle.std.proofs.Common.{◌≡◌, ◌⊎◌, inl, inr, ℕ, ◌+◌, ◌%◌, ◌^◌, ◌<◌, sym, subst, ap, ◌∙◌, arith, ℤ, pos, ◌+ℤ◌, ◌-ℤ◌, ◌<ℤ◌, ◌≤ℤ◌}
-use Rattle.std.proofs.Common.{unsigned_abs}
+use Rattle.std.proofs.Common.{unsigned_abs, Option, None, Some}
+use Rattle.std.specs.Option.{MatchOption}
 use Rattle.std.proofs.lemmas.Int.{by_lt_z}
 use Rattle.std.proofs.lemmas.Bool.{cases_lt}
 use Rattle.std.proofs.Math.Nat.{add-mod_right}
@@ -160,4 +161,21 @@ unit_behind rule start here unit next first here_in number own short small next_
           omega (arith, below, near);
       small = omega (arith, small, short);
       congruent = add-mod_right unit rule.interval ∙ own;
+    }
+
+-- where each unit is the rule's own, a day that is selected is in the pattern
+each_congruent : (rule : Rule) (a b : ℕ) → rule.interval ≡ 1 → a % rule.interval ≡ b % rule.interval
+each_congruent rule a b one = rw one (omega arith)
+
+pub each_unit : (rule : Rule) (start from end : ℤ) (r : Option ℤ) → rule.interval ≡ 1 →
+    MatchOption r (IsNone (IsSelected rule.frequency start) from end) (IsFirst (IsSelected rule.frequency start) from end) →
+    MatchOption r (IsNoDay rule start from end) (IsNextDay rule start from end)
+each_unit rule start from end None one none = λ x low high p. none x low high p.selected
+each_unit rule start from end (Some day) one is =
+    let of = unit_number rule.frequency rule.week_start in
+    record {
+      not_before = is.not_before;
+      before_end = is.before_stop;
+      in_pattern = record { congruent = each_congruent rule (of day) (of start) one; selected = is.is };
+      first = λ x low high p. is.first x low high p.selected;
     }

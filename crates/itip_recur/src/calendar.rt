@@ -52,7 +52,7 @@ impl CalendarDay {
     /// The date so many days later. It is worked out anew only behind the first of the next month.
     pub(crate) fn later(&self, days: i32) -> CalendarDay
         requires positive { pos 0 <ℤ days }
-        requires high { days ≤ℤ pos 31 }
+        requires high { days ≤ℤ pos 37 }
         requires in_years { IsDayNumber (self.now.number +ℤ days) }
         ensures { result.number ≡ self.now.number +ℤ days }
     {

@@ -1,15 +1,15 @@
 //! The walk over the days of a rule.
-ghost use Rattle.std.specs.Prelude.{◌≡◌, ◌≢◌, ◌↔◌, ◌+◌, ◌%◌, ◌<◌, ◌^◌, ℤ, pos, ◌≤ℤ◌, ◌<ℤ◌, ◌⊎◌, MatchOption};
+ghost use Rattle.std.specs.Prelude.{◌≡◌, ◌≢◌, ◌↔◌, ◌+◌, ◌%◌, ◌<◌, ◌≤◌, ◌^◌, ℕ, ℤ, pos, ◌≤ℤ◌, ◌<ℤ◌, ◌⊎◌, IsTrue, MatchOption};
 ghost use Rattle.itip_moment.specs.Years.{IsDayNumber};
-ghost use Rattle.itip_recur.specs.Calendar.{IsDayOrEnd, year_number};
+ghost use Rattle.itip_recur.specs.Calendar.{IsDayOrEnd, weekday_number, year_number};
 ghost use Rattle.itip_recur.specs.Pattern.{unit_number, InPattern, IsSelected, IsWeekDay, IsYearDay};
-ghost use Rattle.itip_recur.specs.Sets.{IsSet, names_weekday, AreSetsOf};
+ghost use Rattle.itip_recur.specs.Sets.{has_number, IsSet, names_weekday, AreSetsOf};
 ghost use Rattle.itip_recur.specs.Walk.{IsNextDay, IsNoDay, IsUnitFrom, IsFirstDay, IsInUnit};
 ghost use Rattle.itip_recur.specs.Waits.{IsNone, IsFirst};
 ghost use Rattle.itip_recur.specs.declared.rule.YearDays.TheVariants.{OfStart};
 
-use crate::calendar::{CalendarDay, day_of_date};
-use crate::pattern::{first_day, is_week_day, next_congruent, unit_number};
+use crate::calendar::{CalendarDay, day_of_date, weekday_number};
+use crate::pattern::{first_day, next_congruent, unit_number};
 use crate::rule::{Frequency, Rule, WeekDays, YearDays};
 use crate::sets::DaySets;
 use crate::waits::wait;
@@ -57,6 +57,9 @@ impl<'a> Walk<'a> {
     {
         if from >= end {
             return None;
+        }
+        if has_each_unit(self.rule) {
+            return first_from(self, from, end);
         }
         let mut unit = self.next_unit(from);
         while unit.day < end {
@@ -112,6 +115,14 @@ impl<'a> Walk<'a> {
     }
 }
 
+// Whether all units are the rule's own, so that a day only has to be selected. The start's day in each year is
+// quicker found by the year.
+fn has_each_unit(rule: &Rule) -> bool
+    ensures { IsTrue result → rule.now.interval ≡ 1 }
+{
+    rule.interval == 1 && !matches!(&rule.frequency, Frequency::Yearly(YearDays::OfStart))
+}
+
 fn earlier(day: i32, other: i32) -> i32
     ensures bound { result ≤ℤ day }
     ensures other_bound { result ≤ℤ other }
@@ -131,14 +142,28 @@ fn first_selected(walk: &Walk<'_>, unit: UnitFrom, stop: i32) -> Option<i32>
         (IsFirst (IsSelected walk.now.rule.now.frequency walk.now.start.number) unit.day stop) }
 {
     match &walk.rule.frequency {
-        Frequency::Daily => Some(unit.day),
-        Frequency::Weekly(days) => {
-            first_week_day(days, walk.sets.days, walk.start.number, unit.day, stop)
-        }
         Frequency::Yearly(YearDays::OfStart) => {
             first_anniversary(&walk.start, unit.number, unit.day, stop)
         }
-        frequency => first_date(frequency, &walk.sets, &walk.start, unit.day, stop),
+        _ => first_from(walk, unit.day, stop),
+    }
+}
+
+// The first day from `from` on and before `stop` that the rule selects.
+fn first_from(walk: &Walk<'_>, from: i32, stop: i32) -> Option<i32>
+    requires from_in { IsDayNumber from }
+    requires stop_in { IsDayOrEnd stop }
+    requires before { from <ℤ stop }
+    ensures { MatchOption result
+        (IsNone (IsSelected walk.now.rule.now.frequency walk.now.start.number) from stop)
+        (IsFirst (IsSelected walk.now.rule.now.frequency walk.now.start.number) from stop) }
+{
+    match &walk.rule.frequency {
+        Frequency::Daily => Some(from),
+        Frequency::Weekly(days) => {
+            first_week_day(days, walk.sets.days, walk.start.number, from, stop)
+        }
+        frequency => first_date(frequency, &walk.sets, &walk.start, from, stop),
     }
 }
 
@@ -163,18 +188,43 @@ fn first_anniversary(start: &CalendarDay, year: u32, from: i32, stop: i32) -> Op
 fn first_week_day(days: &WeekDays, set: u128, start: i32, from: i32, stop: i32) -> Option<i32>
     requires set { IsSet (names_weekday days.now) set }
     requires start_in { IsDayNumber start }
-    requires from_in { IsDayOrEnd from }
+    requires from_in { IsDayNumber from }
     requires stop_in { IsDayOrEnd stop }
+    requires before { from <ℤ stop }
     ensures { MatchOption result (IsNone (IsWeekDay days.now start) from stop) (IsFirst (IsWeekDay days.now start) from stop) }
 {
-    let mut day = from;
-    while day < stop {
-        if is_week_day(days, set, start, day) {
-            return Some(day);
-        }
-        day += 1;
+    let wait = wait_in_week(week_of(days, set, start), weekday_number(from)) as i32;
+    if wait < 7 && wait < stop - from {
+        Some(from + wait)
+    } else {
+        None
     }
-    None
+}
+
+// The days of a week as seven bits, Monday's the lowest.
+fn week_of(days: &WeekDays, set: u128, start: i32) -> u8
+    requires set { IsSet (names_weekday days.now) set }
+    requires start_in { IsDayNumber start }
+    ensures bound { result < 128 }
+    ensures days { (x : ℤ) → IsTrue (has_number result (weekday_number x)) ↔ IsWeekDay days.now start x }
+{
+    match days {
+        WeekDays::OfStart => 1 << weekday_number(start),
+        WeekDays::Listed(_) => (set % 128) as u8,
+    }
+}
+
+// So many days from a weekday on, up to the first that the week has; 7 or more where it has none.
+fn wait_in_week(week: u8, weekday: u8) -> u32
+    requires week_in { week < 128 }
+    requires weekday_in { weekday < 7 }
+    ensures bound { result ≤ 16 }
+    ensures found { result < 7 → IsTrue (has_number week ((weekday + result) % 7)) }
+    ensures none { (k : ℕ) → k < 7 → k < result → IsTrue (has_number week ((weekday + k) % 7)) → ⊥ }
+{
+    // The week twice, one after the other.
+    let weeks = 129 * week as u16;
+    (weeks >> weekday).trailing_zeros()
 }
 
 fn first_date(

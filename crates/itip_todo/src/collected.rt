@@ -62,10 +62,13 @@ impl Collected {
         Ok(())
     }
 
-    /// The properties, which share their text. It has no spare room.
+    /// The properties, which share their text. It has no spare room. No property takes no memory.
     pub(crate) fn into_list(self, alloc: Global) -> Result<ListOf<Property>, NoMemory>
         ensures { IfOk result (λ list. list ≡ self) }
     {
+        if self.places.is_empty() {
+            return Ok(ListOf::new(alloc));
+        }
         let text = Vec::from_slice(alloc, self.text.as_slice())?;
         let text = Arc::new(alloc, Bytes::new(text))?;
         shared(alloc, &text, self.places.as_slice())

@@ -16,7 +16,8 @@ use crate::status::Status;
 use crate::todo::Todo;
 use crate::write_moment::{write_moments, write_optional_moment, write_rid};
 use itip_lines::{LineList, TextList, write_parts, write_text};
-use itip_moment::write_stamp;
+use itip_moment::stamp_bytes;
+use itoa::Buffer;
 use std::alloc::AllocError;
 
 /// More octets than most to-dos have.
@@ -83,10 +84,8 @@ pub fn write_todo_rest(todo: &Todo, limit: usize, out: &mut Vec<u8>) -> Result<(
 fn write_head(todo: &Todo, out: &mut Vec<u8>) -> Result<(), AllocError>
     ensures { OnOk result (out.new.items ≡ out.old.items ++ contents_octets (head_contents (parts_of todo.now))) }
 {
-    let mut stamp = Vec::new(*out.allocator());
-    write_stamp(&todo.stamp, &mut stamp)?;
     write_value("UID", todo.uid.as_str().as_bytes(), out)?;
-    write_value("DTSTAMP", stamp.as_slice(), out)?;
+    write_value("DTSTAMP", &stamp_bytes(&todo.stamp), out)?;
     write_number(PropertyName::Sequence, todo.seq, out)
 }
 
@@ -119,8 +118,8 @@ fn write_small(
 fn write_number(property: PropertyName, number: u32, out: &mut Vec<u8>) -> Result<(), AllocError>
     ensures { OnOk result (out.new.items ≡ out.old.items ++ contents_octets (plain property (decimal number) ∷ [])) }
 {
-    let digits = number.to_string(*out.allocator())?;
-    write_value(property.as_str(), digits.as_str().as_bytes(), out)
+    let mut digits = Buffer::new();
+    write_value(property.as_str(), digits.format(number).as_bytes(), out)
 }
 
 fn write_status(status: Option<Status>, out: &mut Vec<u8>) -> Result<(), AllocError>

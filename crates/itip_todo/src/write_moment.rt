@@ -12,6 +12,9 @@ use itip_lines::{write_param, write_parts};
 use itip_moment::{Moment, write_moment};
 use std::alloc::AllocError;
 
+/// More octets than most moments have with their parameters.
+const USUAL: usize = 64;
+
 pub(crate) fn write_optional_moment(
     property: PropertyName,
     moment: &Option<Moment>,
@@ -65,34 +68,36 @@ pub fn write_recurrence_id(
 ) -> Result<(), AllocError>
     ensures { OnOk result (out.new.items ≡ out.old.items ++ contents_octets (rid_line range moment.now ∷ [])) }
 {
-    let mut params = Vec::new(*out.allocator());
+    let mut params = Vec::with_capacity(*out.allocator(), USUAL)?;
     write_moment_params(moment, &mut params)?;
     write_range(range, &mut params)?;
-    write_beside(PropertyName::RecurrenceId, params.as_slice(), moment, out)
+    write_behind(PropertyName::RecurrenceId, params, moment, out)
 }
 
 /// Appends a moment: VALUE=DATE marks a date, and TZID a zone.
 fn write_one(property: PropertyName, moment: &Moment, out: &mut Vec<u8>) -> Result<(), AllocError>
     ensures { OnOk result (out.new.items ≡ out.old.items ++ contents_octets (moment_line property moment.now ∷ [])) }
 {
-    let mut params = Vec::new(*out.allocator());
+    let mut params = Vec::with_capacity(*out.allocator(), USUAL)?;
     write_moment_params(moment, &mut params)?;
-    write_beside(property, params.as_slice(), moment, out)
+    write_behind(property, params, moment, out)
 }
 
-/// Appends a moment with parameters of this text.
-fn write_beside(
+/// Appends a moment with parameters of this text, behind which its value is put together.
+fn write_behind(
     property: PropertyName,
-    params: &[u8],
+    params: Vec<u8>,
     moment: &Moment,
     out: &mut Vec<u8>,
 ) -> Result<(), AllocError>
     ensures { OnOk result (out.new.items
-        ≡ out.old.items ++ folded 0 (name_text property ++ (params.now ++ 58 ∷ moment_text moment.now))) }
+        ≡ out.old.items ++ folded 0 (name_text property ++ (params.items ++ 58 ∷ moment_text moment.now))) }
 {
-    let mut value = Vec::new(*out.allocator());
-    write_moment(moment, &mut value)?;
-    write_parts(property.as_str(), params, value.as_slice(), out)
+    let mut text = params;
+    let end = text.len();
+    write_moment(moment, &mut text)?;
+    let (params, value) = text.as_slice().split_at(end);
+    write_parts(property.as_str(), params, value, out)
 }
 
 /// Appends the text of a moment's parameters.

@@ -1,6 +1,6 @@
 -- What options ask for, from what their values are read as.
 use Rattle.std.proofs.Common.{◌≡◌, ℕ, List, Bool, true, false, Option, Some, None, Result, Ok, Err, refl, sym, ap, subst, ◌∙◌}
-use Rattle.std.specs.Prelude.{IfOk, IfSome, IfNone, IsSomeAnd, MatchBool, MatchOption, codes, is_some, nat_eq}
+use Rattle.std.specs.Prelude.{IfOk, IfSome, IfNone, MatchBool, codes, is_some, nat_eq}
 use Rattle.std.specs.Borrow.{Bor}
 use Rattle.std.specs.Option.{option_copied, option_map}
 use Rattle.std.specs.Cmp.Lexicographic.{pointwise}
@@ -10,17 +10,16 @@ use Rattle.itip_moment.specs.Spelling.{IsDateText}
 use Rattle.itip_moment.specs.declared.day.Day.{Day}
 use Rattle.itip_moment.specs.declared.stamp.Stamp.{Stamp}
 use Rattle.itip_view.specs.declared.window.Window.{Window}
-use Rattle.itip_words.specs.Asking.{IsDueDay, AsksScript, AsksWritten, AsksFilter, AsksMessage, AsksWho, Asks}
+use Rattle.itip_words.specs.Asking.{IsDueDay, AsksScript, AsksRun, AsksWritten, AsksMessage, AsksWho, NoMessage}
 use Rattle.itip_words.specs.Days.{numbered, is_today}
-use Rattle.itip_words.specs.Options.{Options, value_of, is_set}
+use Rattle.itip_words.specs.Finding.{Never, Finds}
+use Rattle.itip_words.specs.Options.{Options, value_of, values_of, is_set}
 use Rattle.itip_words.specs.Words.{IsScriptedOf}
 use Rattle.itip_words.specs.Values.{address_of}
 use Rattle.itip_words.specs.declared.asked.Asked.{Asked}
-use Rattle.itip_words.specs.declared.filter.Filter.{Filter}
 use Rattle.itip_words.specs.declared.filter.Written.{Written}
-use Rattle.itip_words.specs.declared.words.Call.{Call}
-use Rattle.itip_words.specs.declared.words.Call.TheVariants.{Run}
 use Rattle.itip_words.specs.declared.words.Scripted.{Scripted}
+use Rattle.itip_words.proofs.Finding.{found_some, found_none, finds_both}
 use Rattle.itip_words.proofs.Given.{given, of_given}
 
 -- what a test of a word tells
@@ -31,26 +30,19 @@ pub some_copied : {T : Type 0} (o : Option (Bor T)) → is_some o ≡ is_some (o
 some_copied None = refl
 some_copied (Some x) = refl
 
--- a value that is read of a text that is given
-pub read_by : {T : Type 0} (read : List ℕ → Option T) (o : Option (List ℕ)) (text : List ℕ) (r : Option T) → Some text ≡ o → r ≡ read text →
-    IfSome r (λ value. IsSomeAnd o (λ t. read t ≡ Some value))
-read_by read o text None e is = tt
-read_by read o text (Some value) e is = given o text (λ t. read t ≡ Some value) e (sym is)
+-- the two parts of what is found
+pub ok_some : {T E : Type 0} (P : T → Type 0) (r : Result (Option T) E) → IfOk r (Finds P) → IfOk r (λ found. IfSome found P)
+ok_some P (Ok found) h = found_some P found h
+ok_some P (Err e) h = tt
 
--- what is found has what follows from what it has
-pub found_weaker : {T E : Type 0} (P Q : T → Type 0) (r : Result (Option T) E) → ((x : T) → P x → Q x) →
-    IfOk r (λ found. IfSome found P) → IfOk r (λ found. IfSome found Q)
-found_weaker P Q (Ok None) more h = tt
-found_weaker P Q (Ok (Some x)) more h = more x h
-found_weaker P Q (Err e) more h = tt
+pub ok_none : {T E : Type 0} (P : T → Type 0) (r : Result (Option T) E) → IfOk r (Finds P) → IfOk r (λ found. IfNone found (Never P))
+ok_none P (Ok found) h = found_none P found h
+ok_none P (Err e) h = tt
 
--- what is made of a value has what follows from the value
-pub mapped : {T U : Type 0} (make : T → U) (P : U → Type 0) (r : Option T) (o : Option U) →
-    MatchOption r (o ≡ None) (λ x. IsSomeAnd o (λ y. y ≡ make x)) → IfSome r (λ x. P (make x)) → IfSome o P
-mapped make P None None is h = tt
-mapped make P None (Some y) is h = absurd (none-some y (sym is))
-mapped make P (Some x) None is h = tt
-mapped make P (Some x) (Some y) is h = subst P (sym is) h
+pub ok_both : {T E : Type 0} (P : T → Type 0) (r : Result (Option T) E) → IfOk r (λ found. IfSome found P) →
+    IfOk r (λ found. IfNone found (Never P)) → IfOk r (Finds P)
+ok_both P (Ok found) some none = finds_both P found some none
+ok_both P (Err e) some none = tt
 
 -- ---- scripts
 
@@ -75,16 +67,11 @@ module _ (options : Options) (desks from to : List ℕ) (desks_is : Some desks �
   })
   no_script (Some scripted) never = tt
 
--- a script that is asked for is run where no stream is
-pub run_asked : (options : Options) (r : Option Scripted) → is_set (codes "stream") options ≡ false → IfSome r (AsksScript options) →
-    IfSome r (λ scripted. (clock : Option Stamp) → Asks (codes "run") options clock (Run scripted))
-run_asked options None none asks = tt
-run_asked options (Some scripted) none asks = λ clock. (refl, none, asks)
-
--- what always holds
-pub some_said : {T : Type 0} (P : T → Type 0) (r : Option T) → ((x : T) → P x) → IfSome r P
-some_said P None said = tt
-some_said P (Some x) said = said x
+-- the same where no desk begins with a file
+pub script_run : (options : Options) (r : Option Scripted) → values_of (codes "load") options ≡ None → IfSome r (AsksScript options) →
+    IfNone r (Never (AsksScript options)) → Finds (AsksRun options) r
+script_run options None none asks never = λ scripted is. never scripted is.script
+script_run options (Some scripted) none asks never = record { script = asks; no_loads = none }
 
 -- ---- days
 
@@ -98,51 +85,40 @@ due_day_is today text day is =
       | false ↦ λ h. h
     ] is
 
--- ---- calls
+-- ---- what is written
 
 module _ (options : Options) (clock : Option Stamp) where
-  -- what is asked for by a word of this name
-  pub for_word : {E : Type 0} (name word : List ℕ) (r : Result (Option Written) E) → word ≡ name →
-      IfOk r (λ found. IfSome found (AsksWritten name options clock)) → IfOk r (λ found. IfSome found (AsksWritten word options clock))
-  for_word name word r e h = subst (λ (w : List ℕ). IfOk r (λ found. IfSome found (AsksWritten w options clock))) (sym e) h
+  -- what is found for a word of this name
+  pub written_by : (name word : List ℕ) (r : Option Written) → word ≡ name → Finds (AsksWritten name options clock) r →
+      Finds (AsksWritten word options clock) r
+  written_by name word r e h = subst (λ (w : List ℕ). Finds (AsksWritten w options clock) r) (sym e) h
 
-  -- the same of what doesn't depend on the clock
-  pub for_word_now : {E : Type 0} (name word : List ℕ) (r : Result (Option Written) E) → word ≡ name →
-      IfOk r (λ found. IfSome found (λ written. (now : Option Stamp) → AsksWritten name options now written)) →
-      IfOk r (λ found. IfSome found (AsksWritten word options clock))
-  for_word_now name word r e h =
-      for_word name word r e
-      (found_weaker (λ written. (now : Option Stamp) → AsksWritten name options now written) (AsksWritten name options clock) r
-      (λ written asks. asks clock) h)
+  pub ok_written_by : {E : Type 0} (name word : List ℕ) (r : Result (Option Written) E) → word ≡ name →
+      IfOk r (Finds (AsksWritten name options clock)) → IfOk r (Finds (AsksWritten word options clock))
+  ok_written_by name word r e h = subst (λ (w : List ℕ). IfOk r (Finds (AsksWritten w options clock))) (sym e) h
 
-  pub call_for_word : (name word : List ℕ) (r : Option Call) → word ≡ name →
-      IfSome r (λ call. (now : Option Stamp) → Asks name options now call) → IfSome r (Asks word options clock)
-  call_for_word name word None e h = tt
-  call_for_word name word (Some call) e h = subst (λ (w : List ℕ). Asks w options clock call) (sym e) (h clock)
-
-  pub calls_for_word : {E : Type 0} (name word : List ℕ) (r : Result (Option Call) E) → word ≡ name →
-      IfOk r (λ found. IfSome found (λ call. (now : Option Stamp) → Asks name options now call)) →
-      IfOk r (λ found. IfSome found (Asks word options clock))
-  calls_for_word name word r e h =
-      found_weaker (λ call. (now : Option Stamp) → Asks name options now call) (Asks word options clock) r
-      (λ call asks. subst (λ (w : List ℕ). Asks w options clock call) (sym e) (asks clock)) h
-
-  -- the filter that is asked for is given, or none
-  pub same_filter : {E : Type 0} (word : List ℕ) (filter : Filter) (r : Result (Option Filter) E) → AsksFilter word options clock filter →
-      IfOk r (λ found. IfSome found (λ same. same ≡ filter)) → IfOk r (λ found. IfSome found (AsksFilter word options clock))
-  same_filter word filter r asks same =
-      found_weaker (λ one. one ≡ filter) (AsksFilter word options clock) r
-      (λ one e. subst (λ (f : Filter). AsksFilter word options clock f) (sym e) asks) same
+  -- and what is found of messages, for a word of another name
+  pub ok_message : {E : Type 0} (word : List ℕ) (r : Result (Option Written) E) →
+      ((one : Written) → NoMessage word options clock → AsksWritten word options clock one → ⊥) →
+      IfOk r (λ found. IfSome found (AsksWritten word options clock)) → IfOk r (λ found. IfNone found (NoMessage word options clock)) →
+      IfOk r (Finds (AsksWritten word options clock))
+  ok_message word (Ok None) others some none = λ one is. others one none is
+  ok_message word (Ok (Some found)) others some none = some
+  ok_message word (Err e) others some none = tt
 
 -- ---- messages
 
 module _ (options : Options) where
   -- the message that is asked for by a word of this name
   pub message_for : {E : Type 0} (name word : List ℕ) (r : Result (Option Asked) E) → word ≡ name →
-      IfOk r (λ found. IfSome found (AsksMessage name options)) → IfOk r (λ found. IfSome found (AsksMessage word options))
-  message_for name word r e h = subst (λ (w : List ℕ). IfOk r (λ found. IfSome found (AsksMessage w options))) (sym e) h
+      IfOk r (Finds (AsksMessage name options)) → IfOk r (Finds (AsksMessage word options))
+  message_for name word r e h = subst (λ (w : List ℕ). IfOk r (Finds (AsksMessage w options))) (sym e) h
 
   -- the attendee whose address was read of a text
   pub who_asked : (text found : Option (List ℕ)) (one : List ℕ) → text ≡ value_of (codes "attendee") options →
       found ≡ option_map address_of text → found ≡ Some one → AsksWho options one
   who_asked text found one given is some = ap (option_map address_of) (sym given) ∙ sym is ∙ some
+
+  pub nobody_asked : (text found : Option (List ℕ)) → text ≡ value_of (codes "attendee") options → found ≡ option_map address_of text →
+      found ≡ None → (one : List ℕ) → AsksWho options one → ⊥
+  nobody_asked text found given is none one who = none-some one (sym none ∙ is ∙ ap (option_map address_of) given ∙ who)

@@ -5,3 +5,10 @@ pub mod Given
 pub mod Asking
 pub mod Programs
 pub mod Loading
+pub mod Finding
+pub mod Messages
+pub mod Nothing
+pub mod Calling
+pub mod NoCalls
+pub mod Streaming
+pub mod Today

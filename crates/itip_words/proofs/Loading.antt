@@ -19,7 +19,7 @@ no_load desks loads none = subst (λ (ls : List Load). AreLoads desks (names_of 
   once = λ i j d below inside. absurd (omega (arith, inside));
 })
 
-abbrev name_of : Load → ℕ × List ℕ
+abbrev pub name_of : Load → ℕ × List ℕ
 name_of load = (load.desk, string_bytes load.file)
 
 pub one_load : (desks : ℕ) (loads grown : List Load) (load : Load) → grown ≡ loads ++ load ∷ [] → load.desk < desks →

@@ -1,13 +1,11 @@
 -- Commands as they are built, and what `clap` reads by them.
-use Rattle.std.proofs.Common.{◌≡◌, ℕ, Bool, Bor, List, [], ◌∷◌, ◌++◌, ◌||◌, ◌&&◌, not, true, false, length, refl, sym, ap, ap₂, ◌∙◌}
-use Rattle.std.proofs.Math.Dec.{eqb-suc-zero}
+use Rattle.std.proofs.Common.{◌≡◌, ℕ, List, [], ◌∷◌, ◌++◌, ◌||◌, true, false, refl, sym, ap, ap₂, ◌∙◌}
 use Rattle.clap.specs.Built.{AddsArg, AddsSubcommand}
+use Rattle.clap.specs.Faults.{is_simple_and_free}
 use Rattle.clap.specs.Simple.{App, HasMatchesOf, Shape, app_of, app_of_fields, is_simple, subcommand_of, subcommand_rows_of}
 use Rattle.clap.specs.Simple.{with_rule, with_subcommand}
-use Rattle.clap.specs.Adds.{AddsConflicts, AddsRequirements}
-use Rattle.clap.specs.Walk.{Rule, is_empty, rule_of}
+use Rattle.clap.specs.Walk.{Rule, rule_of}
 use Rattle.clap.specs.declared.builder.arg.Arg.{Arg}
-use Rattle.clap.specs.declared.builder.arg.ArgPredicate.{ArgPredicate}
 use Rattle.clap.specs.declared.builder.command.Command.{Command}
 use Rattle.clap.specs.declared.builder.command.Command.TheOpen.{Command-F}
 use Rattle.clap.specs.declared.builder.command.Command.TheViews.{out-Command as fields_of}
@@ -57,49 +55,6 @@ rule_set rule change old new set is are same local = record {
   local = ap (λ (a : Arg). a.global) are ∙ local ∙ is.local;
 }
 
--- ---- options that ask for another, or stand beside none
-
-last_some : {A : Type 0} (xs : List A) (x : A) → is_empty (xs ++ x ∷ []) ≡ false
-last_some [] x = refl
-last_some (first ∷ xs) x = eqb-suc-zero (length (xs ++ x ∷ []))
-
-second_false : (a c : Bool) → (a && (false && c)) ≡ false
-second_false true c = refl
-second_false false c = refl
-
-third_false : (a b c : Bool) → (a && (b && (false && c))) ≡ false
-third_false true b c = second_false b c
-third_false false b c = refl
-
-abbrev bound : Rule → Bool → Rule
-bound rule free = record rule { is_free = free }
-
-pub rule_needs : (rule : Rule) (old new : Arg) (x : ArgPredicate × Bor (List ℕ)) → IsRule rule old → AddsRequirements old new (x ∷ []) →
-    IsRule (record rule { is_free = false }) new
-rule_needs rule old new x is adds = record {
-  rule_is = ap rule_of adds.0 ∙
-      ap (bound (rule_of old))
-      (ap (λ b. not old.exclusive && (is_empty old.conflicts.items && (b && (is_empty old.r_ifs.items && (is_empty old.r_ifs_all.items
-      && (is_empty old.r_unless.items && is_empty old.r_unless_all.items)))))) (ap is_empty adds.1 ∙ last_some old.needs.items x) ∙
-      third_false (not old.exclusive) (is_empty old.conflicts.items) (is_empty old.r_ifs.items && (is_empty old.r_ifs_all.items
-      && (is_empty old.r_unless.items && is_empty old.r_unless_all.items)))) ∙
-      ap (λ (r : Rule). bound r false) is.rule_is;
-  local = ap (λ (a : Arg). a.global) adds.0 ∙ is.local;
-}
-
-pub rule_conflicts : (rule : Rule) (old new : Arg) (x : Bor (List ℕ)) → IsRule rule old → AddsConflicts old new (x ∷ []) →
-    IsRule (record rule { is_free = false }) new
-rule_conflicts rule old new x is adds = record {
-  rule_is = ap rule_of adds.0 ∙
-      ap (bound (rule_of old))
-      (ap (λ b. not old.exclusive && (b && (is_empty old.needs.items && (is_empty old.r_ifs.items && (is_empty old.r_ifs_all.items
-      && (is_empty old.r_unless.items && is_empty old.r_unless_all.items)))))) (ap is_empty adds.1 ∙ last_some old.conflicts.items x) ∙
-      second_false (not old.exclusive) (is_empty old.needs.items && (is_empty old.r_ifs.items && (is_empty old.r_ifs_all.items
-      && (is_empty old.r_unless.items && is_empty old.r_unless_all.items))))) ∙
-      ap (λ (r : Rule). bound r false) is.rule_is;
-  local = ap (λ (a : Arg). a.global) adds.0 ∙ is.local;
-}
-
 -- ---- words
 
 -- a setting of a word that changes what is read
@@ -132,6 +87,10 @@ word_added app word old sub new is sub_is adds = record {
 program_is_simple : is_simple program ≡ true
 unfolding program
 program_is_simple = refl
+
+pub program_is_free : is_simple_and_free program ≡ true
+unfolding program
+program_is_free = refl
 
 -- the words and what is read by them
 pub words_read : (command : Command) (words : List (List ℕ)) (matches : ArgMatches) → IsWord program command →

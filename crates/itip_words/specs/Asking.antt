@@ -1,5 +1,5 @@
 -- What the options of a call ask for, by docs/USING.md (our own rule).
-use Rattle.std.specs.Prelude.{◌≡◌, ◌⊎◌, ℕ, nat_eq, ℤ, Bool, true, false, ◌||◌, if◌then◌else◌, List, [], ◌∷◌, map, codes, string_bytes}
+use Rattle.std.specs.Prelude.{◌≡◌, ◌⊎◌, ℕ, nat_eq, ℤ, Bool, true, false, not, ◌||◌, if◌then◌else◌, List, [], ◌∷◌, map, codes, string_bytes}
 use Rattle.std.specs.Prelude.{Option, Some, None, is_some, option_map, unwrap_or, IsSomeAnd, MatchBool}
 use Rattle.std.specs.Option.{option_map_or}
 use Rattle.std.specs.Cmp.Lexicographic.{pointwise}
@@ -7,6 +7,7 @@ use Rattle.itip_moment.specs.Spelling.{IsDateText, IsStampText}
 use Rattle.itip_moment.specs.declared.moment.Moment.{Moment}
 use Rattle.itip_moment.specs.declared.stamp.Stamp.{Stamp}
 use Rattle.itip_report.specs.Named.{IsOfRows}
+use Rattle.itip_report.specs.declared.report_name.ReportName.{ReportName}
 use Rattle.itip_script.specs.Orders.{report_of}
 use Rattle.itip_todo.specs.declared.attendee.PartStat.{PartStat}
 use Rattle.itip_words.specs.Options.{Options, value_of, values_of, is_set}
@@ -45,6 +46,11 @@ pub record AsksScript (options : Options) (scripted : Scripted) : Type 0 where
   pub first : IsSomeAnd (value_of (codes "from") options) (λ text. IsDateText text scripted.window.from)
   pub after : IsSomeAnd (value_of (codes "to") options) (λ text. IsDateText text scripted.window.to)
   pub why : scripted.why ≡ is_set (codes "why") options
+
+-- The same of a script that is no stream: no desk begins with a file.
+pub record AsksRun (options : Options) (scripted : Scripted) : Type 0 where
+  pub script : AsksScript options scripted
+  pub no_loads : values_of (codes "load") options ≡ None
 
 -- The same of a stream, of which the desks that `--load` names begin with its files.
 pub record AsksStream (options : Options) (streamed : Streamed) : Type 0 where
@@ -97,6 +103,30 @@ IsFormatNamed today text format.Csv = text ≡ codes "csv"
 IsFormatNamed today text format.Json = text ≡ codes "json"
 IsFormatNamed today text (format.Html day) = (text ≡ codes "html") × (today ≡ Some day.number)
 
+-- the form of `--format`
+abbrev pub IsFormatGiven : Options → Option ℤ → Format → Type 0
+IsFormatGiven options today form = IsSomeAnd (value_of (codes "format") options) (λ text. IsFormatNamed today text form)
+
+-- an end of the window is given
+abbrev pub names_window : Options → Bool
+names_window options = is_some (value_of (codes "from") options) || is_some (value_of (codes "to") options)
+
+abbrev pub is_due_today : Options → Bool
+is_due_today options = option_map_or is_today (value_of (codes "due-before") options) false
+
+abbrev pub is_of_page : Options → Bool
+is_of_page options = option_map_or is_page (value_of (codes "format") options) false
+
+-- rows go by the day that is taken for today
+abbrev pub needs_today : Options → Bool
+needs_today options = not (names_window options) || is_due_today options || is_of_page options
+
+-- no day is taken for today, and something goes by it
+pub record LacksToday (options : Options) (clock : Option Stamp) (needs : Bool) : Type 0 where
+  pub late : clock ≡ None
+  pub unnamed : value_of (codes "today") options ≡ None
+  pub needed : needs ≡ true
+
 -- The rows of the window of `--from` and `--to`, of which only those that `--attendee`, `--open` and `--due-before` leave.
 pub record AsksListing (options : Options) (clock : Option Stamp) (listing : Listing) : Type 0 where
   pub today : Option ℤ
@@ -106,12 +136,17 @@ pub record AsksListing (options : Options) (clock : Option Stamp) (listing : Lis
   pub attendee : option_map string_bytes listing.attendee ≡ option_map address_of (value_of (codes "attendee") options)
   pub is_open : listing.is_open ≡ is_set (codes "open") options
   pub due : IsRead (IsDueDay today) (value_of (codes "due-before") options) listing.due_before
-  pub form : IsSomeAnd (value_of (codes "format") options) (λ text. IsFormatNamed today text listing.format)
+  pub form : IsFormatGiven options today listing.format
 
 -- one of the words for days is given
 abbrev pub names_days : Options → Bool
 names_days options =
     is_some (value_of (codes "from") options) || is_some (value_of (codes "to") options) || is_some (value_of (codes "today") options)
+
+-- A report is named; only those of rows take days.
+pub record IsReportNamed (options : Options) (name : ReportName) : Type 0 where
+  pub named : IsSomeAnd (value_of (codes "name") options) (λ text. report_of text ≡ Some name)
+  pub days : IsOfRows name ⊎ (names_days options ≡ false)
 
 -- The report of this name; only those of rows take days.
 pub record AsksReport (options : Options) (clock : Option Stamp) (reported : Reported) : Type 0 where
@@ -167,6 +202,7 @@ AsksMessage word options (asked.CancelOnward uid id) =
 AsksMessage word options (asked.Remove uid id attendees) =
     (word ≡ codes "cancel") × AsksAbout options uid id
     × (option_map (map address_of) (values_of (codes "attendee") options) ≡ Some (map string_bytes attendees.items))
+    × (is_set (codes "onward") options ≡ false)
 
 -- ---- calls
 
@@ -187,13 +223,17 @@ AsksWritten word options clock (written.Explanation uid) = (word ≡ codes "expl
 AsksWritten word options clock (written.Message message at) =
     AsksMessage word options message × IsWritingTime (value_of (codes "at") options) clock at
 
+-- a word asks for no message
+abbrev pub NoMessage : List ℕ → Options → Option Stamp → Type 0
+NoMessage word options clock = (message : Asked) (at : Stamp) → AsksWritten word options clock (written.Message message at) → ⊥
+
 abbrev pub AsksFilter : List ℕ → Options → Option Stamp → Filter → Type 0
 AsksFilter word options clock filter = AsksIntake options filter.intake × AsksWritten word options clock filter.written
 
 -- The call that a word asks for with its options, at the moment of a clock.
 abbrev pub Asks : List ℕ → Options → Option Stamp → Call → Type 0
 Asks word options clock (call.Run scripted) =
-    (word ≡ codes "run") × (is_set (codes "stream") options ≡ false) × AsksScript options scripted
+    (word ≡ codes "run") × (is_set (codes "stream") options ≡ false) × AsksRun options scripted
 Asks word options clock (call.Stream streamed) =
     (word ≡ codes "run") × (is_set (codes "stream") options ≡ true) × AsksStream options streamed
 Asks word options clock (call.Office scripted workers) =

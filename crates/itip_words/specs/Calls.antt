@@ -1,5 +1,6 @@
 -- What a call of the program asks for (our own form).
-use Rattle.std.specs.Prelude.{ℕ, ◌+◌, nat_le, Bool, List, map, codes, string_bytes, IfSome, IsTrue}
+use Rattle.std.specs.Prelude.{ℕ, ◌+◌, nat_le, Bool, List, Option, map, codes, string_bytes, IfSome, IsSomeAnd, IsTrue}
+use Rattle.itip_moment.specs.declared.stamp.Stamp.{Stamp}
 use Rattle.itip_words.specs.declared.filter.Filter.{Filter}
 use Rattle.itip_words.specs.declared.filter.Written.{Written}
 use Rattle.itip_words.specs.declared.filter.Written.TheVariants as written
@@ -7,6 +8,8 @@ use Rattle.itip_words.specs.declared.words.Call.{Call}
 use Rattle.itip_words.specs.declared.words.Call.TheVariants as call
 use Rattle.itip_words.specs.declared.words.Scripted.{Scripted}
 use Rattle.itip_words.specs.declared.streamed.Streamed.{Streamed}
+use Rattle.itip_words.specs.Asking.{AsksStream, AsksFilter, Asks}
+use Rattle.itip_words.specs.Options.{Options}
 use Rattle.itip_words.specs.Streams.{AreLoads, names_of}
 use Rattle.itip_words.specs.Words.{AreDesks, AreWorkers, AreThreads}
 use Rattle.itip_words.specs.Values.{inputs}
@@ -79,3 +82,29 @@ reads_input_once asked = nat_le (inputs_before asked.written + inputs (map strin
 pub record CanFilter (asked : Filter) : Type 0 where
   pub few : IfSome asked.intake.threads AreThreads
   pub once : IsTrue (reads_input_once asked)
+
+-- there can be such a call
+abbrev pub CanBe : Call → Type 0
+CanBe (call.Run scripted) = AreDesks scripted.desks
+CanBe (call.Stream streamed) = AreStreamed streamed
+CanBe (call.Office scripted workers) = AreOffice scripted workers
+CanBe (call.Check why) = Unit {0}
+CanBe (call.Filter f) = CanFilter f
+
+-- ---- calls that can be, and are asked for
+
+pub record IsStreamOf (options : Options) (streamed : Streamed) : Type 0 where
+  pub asked : AsksStream options streamed
+  pub possible : AreStreamed streamed
+
+pub record IsFilterOf (word : List ℕ) (options : Options) (clock : Option Stamp) (filter : Filter) : Type 0 where
+  pub asked : AsksFilter word options clock filter
+  pub possible : CanFilter filter
+
+pub record IsCallOf (word : List ℕ) (options : Options) (clock : Option Stamp) (what : Call) : Type 0 where
+  pub asked : Asks word options clock what
+  pub possible : CanBe what
+
+-- the same of a word that is given with its options
+abbrev pub IsCallBy : Option (List ℕ × Options) → Option Stamp → Call → Type 0
+IsCallBy given clock what = IsSomeAnd given (λ words. IsCallOf words.0 words.1 clock what)

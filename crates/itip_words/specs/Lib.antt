@@ -1,3 +1,4 @@
+pub mod Finding
 pub mod Words
 pub mod Values
 pub mod Days
@@ -5,6 +6,7 @@ pub mod AskedValues
 pub mod Asked
 pub mod Options
 pub mod Asking
+pub mod NoCalls
 pub mod Program
 pub mod Calls
 pub mod Streams

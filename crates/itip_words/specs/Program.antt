@@ -1,13 +1,22 @@
 -- The words of the program with their options (docs/USING.md; our own rule), in the form in which `clap` says what it reads.
-use Rattle.std.specs.Prelude.{◌≡◌, ℕ, true, false, List, [], ◌∷◌, Option, Some, codes, fold}
+use Rattle.std.specs.Prelude.{◌≡◌, ℕ, true, false, List, [], ◌∷◌, Option, Some, None, codes, fold}
+use Rattle.clap.specs.Faults.{fault_of}
+use Rattle.clap.specs.Kinds.{IsAmong}
 use Rattle.clap.specs.Simple.{App, app_of, new_app, new_rule, subcommand_of, with_rule, with_subcommand}
+use Rattle.clap.specs.Values.{kind_of}
 use Rattle.clap.specs.Walk.{Rule, rule_of}
 use Rattle.clap.specs.declared.builder.action.ArgAction.TheVariants.{Append, SetTrue}
 use Rattle.clap.specs.declared.builder.arg.Arg.{Arg}
 use Rattle.clap.specs.declared.builder.command.Command.{Command}
 use Rattle.clap.specs.declared.builder.command.Command.TheViews.{out-Command as fields_of}
+use Rattle.clap.specs.declared.error.kind.ErrorKind.{ErrorKind}
 use Rattle.itip_moment.specs.declared.stamp.Stamp.{Stamp}
 use Rattle.itip_words.specs.Asking.{IsAsked}
+use Rattle.itip_words.specs.Calls.{IsCallBy}
+use Rattle.itip_words.specs.Finding.{Never}
+use Rattle.itip_words.specs.NoCalls.{IsHelp}
+use Rattle.itip_words.specs.declared.no_call.NoCall.{NoCall}
+use Rattle.itip_words.specs.declared.no_call.NoCall.TheVariants as no_call
 use Rattle.itip_words.specs.declared.words.Call.{Call}
 
 -- ---- options
@@ -54,14 +63,6 @@ abbrev pub intake_rules : List Rule
 intake_rules = record (repeated (positional (codes "source"))) { required = false } ∷ option (codes "threads") ∷ flag (codes "progress")
     ∷ flag (codes "why") ∷ []
 
--- `--onward`, which needs `--id` and stands beside no `--attendee`
-abbrev pub onward_rule : Rule
-onward_rule = record (flag (codes "onward")) { is_free = false }
-
--- `--load`, which needs `--stream`
-abbrev pub load_rule : Rule
-load_rule = record (repeated (option (codes "load"))) { is_free = false }
-
 -- ---- words
 
 abbrev pub with_rules : List Rule → App → App
@@ -73,7 +74,7 @@ word_with name rules = with_rules rules (new_app name)
 
 abbrev pub run_word : App
 run_word = with_rule (with_rule (with_rule (with_rules days_rules (with_rule (new_app (codes "run")) desks_rule))
-    (flag (codes "stream"))) load_rule) (flag (codes "why"))
+    (flag (codes "stream"))) (repeated (option (codes "load")))) (flag (codes "why"))
 
 abbrev pub office_word : App
 office_word =
@@ -118,7 +119,8 @@ refresh_word = with_rules intake_rules (word_with (codes "refresh")
 
 abbrev pub cancel_word : App
 cancel_word = with_rules intake_rules (word_with (codes "cancel")
-    (positional (codes "uid") ∷ option (codes "id") ∷ onward_rule ∷ repeated (option (codes "attendee")) ∷ option (codes "at") ∷ []))
+    (positional (codes "uid") ∷ option (codes "id") ∷ flag (codes "onward") ∷ repeated (option (codes "attendee")) ∷ option (codes "at")
+    ∷ []))
 
 -- ---- the program
 
@@ -143,9 +145,29 @@ unfoldable pub program : App
 program = with_words
     (run_word ∷ office_word ∷ check_word ∷ compact_word ∷ list_word ∷ report_word ∷ news_word ∷ explain_word ∷ message_words) no_word
 
--- These words of a call, the program's name before them, ask for it, at the moment of a clock.
-abbrev pub IsAskedBy : List (List ℕ) → Option Stamp → Call → Type 0
-IsAskedBy words clock call = IsAsked (subcommand_of program words) clock call
+-- `clap` finds no fault with these words, the program's name before them, and they ask for the call, at the moment of a clock.
+pub record IsAskedBy (words : List (List ℕ)) (clock : Option Stamp) (what : Call) : Type 0 where
+  pub faultless : fault_of program words ≡ []
+  pub asked : IsAsked (subcommand_of program words) clock what
+
+-- `clap` finds a fault with these words that isn't that help is asked for.
+pub record AreRefused (words : List (List ℕ)) : Type 0 where
+  pub kind : ErrorKind
+  pub among : IsAmong kind (fault_of program words)
+  pub no_help : IsHelp kind → ⊥
+
+-- `clap` finds no fault with these words, and they ask for no call that there can be, at the moment of a clock.
+pub record AreBad (words : List (List ℕ)) (clock : Option Stamp) : Type 0 where
+  pub faultless : fault_of program words ≡ []
+  pub nothing : Never (IsCallBy (subcommand_of program words) clock)
+
+-- Why nothing is run at these words, at the moment of a clock.
+abbrev pub IsNoCall : List (List ℕ) → Option Stamp → NoCall → Type 0
+IsNoCall words clock (no_call.Help error) = IsHelp (kind_of error) × IsAmong (kind_of error) (fault_of program words)
+IsNoCall words clock (no_call.Refused error) = AreRefused words
+IsNoCall words clock (no_call.BadValue text) = AreBad words clock
+IsNoCall words clock no_call.NoClock = (clock ≡ None) × AreBad words clock
+IsNoCall words clock no_call.NoMemory = Unit {0}
 
 -- ---- what is built
 

@@ -1,15 +1,17 @@
 //! The words that write a message.
-ghost use Rattle.std.specs.Prelude.{◌≡◌, Some, IfOk, IfSome, IsSomeAnd, codes};
+ghost use Rattle.std.specs.Prelude.{◌≡◌, ◌≢◌, Some, IfOk, IfSome, IfNone, IsSomeAnd, codes, true};
 ghost use Rattle.std.specs.Option.{option_copied, option_map};
 ghost use Rattle.std.specs.String.{string_bytes};
 ghost use Rattle.itip_words.specs.Asked.{asked_word, inputs_of_draft, IsErrandOf};
+ghost use Rattle.itip_todo.specs.declared.attendee.PartStat.{PartStat};
 ghost use Rattle.itip_words.specs.AskedValues.{IsMomentName, answer_named};
+ghost use Rattle.itip_words.specs.Finding.{Never, Finds};
 ghost use Rattle.itip_words.specs.Values.{address_of};
-ghost use Rattle.itip_words.specs.Options.{options_of, value_of};
+ghost use Rattle.itip_words.specs.Options.{options_of, value_of, is_set};
 ghost use Rattle.itip_words.specs.Asking.{IsRead, IsPercent, AsksAbout, AsksMessage};
 
 use crate::asked_values::{answer_named, named_moment, percent_of};
-use crate::options::{is_set, value_of, values_of};
+use crate::options::{has_values, is_set, value_of, values_of};
 use crate::values::{address_of, addresses_of, is_input};
 use clap::ArgMatches;
 use itip_moment::Moment;
@@ -134,7 +136,7 @@ pub(crate) fn asked_of(
     word: &str,
     words: &ArgMatches<'_>,
 ) -> Result<Option<Asked>, AllocError>
-    ensures { IfOk result (λ found. IfSome found (AsksMessage word.now (options_of words.now))) }
+    ensures { IfOk result (Finds (AsksMessage word.now (options_of words.now))) }
 {
     if word == "request" {
         return request_of(alloc, words);
@@ -153,7 +155,7 @@ pub(crate) fn asked_of(
 }
 
 fn request_of(alloc: Global, words: &ArgMatches<'_>) -> Result<Option<Asked>, AllocError>
-    ensures { IfOk result (λ found. IfSome found (AsksMessage (codes "request") (options_of words.now))) }
+    ensures { IfOk result (Finds (AsksMessage (codes "request") (options_of words.now))) }
 {
     let Some(name) = value_of(words, "draft") else {
         return Ok(None);
@@ -171,7 +173,9 @@ fn asked_about(
     id: Option<Moment>,
 ) -> Result<Option<Asked>, AllocError>
     requires { AsksAbout (options_of words.now) uid id }
-    ensures { IfOk result (λ found. IfSome found (AsksMessage word.now (options_of words.now))) }
+    ensures asked { IfOk result (λ found. IfSome found (AsksMessage word.now (options_of words.now))) }
+    ensures none { word.now ≢ codes "request" → word.now ≢ codes "resend" →
+        IfOk result (λ found. IfNone found (Never (AsksMessage word.now (options_of words.now)))) }
 {
     if word == "reply" {
         return reply_of(alloc, words, uid, id);
@@ -192,7 +196,7 @@ fn reply_of(
     id: Option<Moment>,
 ) -> Result<Option<Asked>, AllocError>
     requires { AsksAbout (options_of words.now) uid id }
-    ensures { IfOk result (λ found. IfSome found (AsksMessage (codes "reply") (options_of words.now))) }
+    ensures { IfOk result (Finds (AsksMessage (codes "reply") (options_of words.now))) }
 {
     let Some(status) = asked_answer(words) else {
         return Ok(None);
@@ -221,7 +225,7 @@ fn refresh_of(
     id: Option<Moment>,
 ) -> Result<Option<Asked>, AllocError>
     requires { AsksAbout (options_of words.now) uid id }
-    ensures { IfOk result (λ found. IfSome found (AsksMessage (codes "refresh") (options_of words.now))) }
+    ensures { IfOk result (Finds (AsksMessage (codes "refresh") (options_of words.now))) }
 {
     let address = value_of(words, "attendee");
     let Some(attendee) = asked_attendee(alloc, address)? else {
@@ -237,18 +241,30 @@ fn cancel_of(
     id: Option<Moment>,
 ) -> Result<Option<Asked>, AllocError>
     requires { AsksAbout (options_of words.now) uid id }
-    ensures { IfOk result (λ found. IfSome found (AsksMessage (codes "cancel") (options_of words.now))) }
+    ensures { IfOk result (Finds (AsksMessage (codes "cancel") (options_of words.now))) }
 {
-    if let Some(named) = values_of(words, "attendee") {
-        let attendees = addresses_of(alloc, named)?;
-        return Ok(Some(Asked::Remove { uid, id, attendees }));
+    if is_set(words, "onward") {
+        return Ok(onward_of(words, uid, id));
     }
-    if !is_set(words, "onward") {
+    let Some(named) = values_of(words, "attendee") else {
         return Ok(Some(Asked::Cancel { uid, id }));
+    };
+    let attendees = addresses_of(alloc, named)?;
+    Ok(Some(Asked::Remove { uid, id, attendees }))
+}
+
+/// The cancellation of an instance and all after it. `None` where attendees are named, or no instance.
+fn onward_of(words: &ArgMatches<'_>, uid: Uid, id: Option<Moment>) -> Option<Asked>
+    requires about { AsksAbout (options_of words.now) uid id }
+    requires onward { is_set (codes "onward") (options_of words.now) ≡ true }
+    ensures { Finds (AsksMessage (codes "cancel") (options_of words.now)) result }
+{
+    if has_values(words, "attendee") {
+        return None;
     }
     match id {
-        Some(id) => Ok(Some(Asked::CancelOnward { uid, id })),
-        None => Ok(None),
+        Some(id) => Some(Asked::CancelOnward { uid, id }),
+        None => None,
     }
 }
 
@@ -277,7 +293,7 @@ pub(crate) fn asked_attendee(
 
 /// The instance that a word names, where it is given. `None` where the word is no moment.
 fn asked_id(alloc: Global, word: Option<&str>) -> Result<Option<Option<Moment>>, AllocError>
-    ensures { IfOk result (λ found. IfSome found (IsRead IsMomentName (option_copied word.entry))) }
+    ensures { IfOk result (Finds (IsRead IsMomentName (option_copied word.entry))) }
 {
     let Some(text) = word else {
         return Ok(Some(None));
@@ -289,8 +305,8 @@ fn asked_id(alloc: Global, word: Option<&str>) -> Result<Option<Option<Moment>>,
 }
 
 fn asked_answer(words: &ArgMatches<'_>) -> Option<PartStat>
-    ensures { IfSome result (λ status.
-        IsSomeAnd (value_of (codes "status") (options_of words.now)) (λ text. answer_named text ≡ Some status)) }
+    ensures { Finds (λ (status : PartStat).
+        IsSomeAnd (value_of (codes "status") (options_of words.now)) (λ text. answer_named text ≡ Some status)) result }
 {
     let text = value_of(words, "status")?;
     answer_named(text)
@@ -298,7 +314,7 @@ fn asked_answer(words: &ArgMatches<'_>) -> Option<PartStat>
 
 /// The percentage of a word, where it is given. `None` where the word is none.
 fn asked_percent(word: Option<&str>) -> Option<Option<u8>>
-    ensures { IfSome result (IsRead IsPercent (option_copied word.entry)) }
+    ensures { Finds (IsRead IsPercent (option_copied word.entry)) result }
 {
     let Some(text) = word else {
         return Some(None);

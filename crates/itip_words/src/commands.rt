@@ -14,6 +14,9 @@ use clap::{Arg, ArgAction, Command};
 use itip_writing::VERSION;
 use std::alloc::{AllocError, Global};
 
+// No option has a rule on another, since `clap` says which words it refuses only of a command without such rules: what `--load` and
+// `--onward` need beside them is told in words.rt and asked.rt.
+
 /// The program, with its words.
 pub(crate) fn command<'a>(alloc: Global) -> Result<Command<'a>, AllocError>
     ensures { IfOk result (IsWord program) }
@@ -58,7 +61,6 @@ fn run_command<'a>(alloc: Global) -> Result<Command<'a>, AllocError>
         .long("load")
         .value_name("D=FILE")
         .action(ArgAction::Append)
-        .requires_arg("stream")?
         .help(
             "Desk D begins with what a `!save` wrote to this file; it may be given several times",
         );
@@ -229,8 +231,6 @@ fn cancel_command<'a>(alloc: Global) -> Result<Command<'a>, AllocError>
     let onward = Arg::new(alloc, "onward")
         .long("onward")
         .action(ArgAction::SetTrue)
-        .requires_arg("id")?
-        .conflicts_with("attendee")?
         .help("Cancels the instance and all after it");
     let attendee = Arg::new(alloc, "attendee")
         .long("attendee")

@@ -5,6 +5,7 @@ ghost use Rattle.itip_moment.specs.Spelling.{IsDateText};
 ghost use Rattle.itip_view.specs.declared.window.Window.{Window};
 ghost use Rattle.itip_moment.specs.declared.stamp.Stamp.{Stamp};
 ghost use Rattle.itip_words.specs.Asking.{IsToday};
+ghost use Rattle.itip_words.specs.Finding.{Never};
 ghost use Rattle.itip_words.specs.Days.{numbered, IsGiven, IsAskedWindow, first_day, day_after, days_back, days_long, is_today};
 
 use itip_moment::{Day, Stamp, read_date};
@@ -51,7 +52,8 @@ fn day_of(stamp: Stamp) -> Day
 
 /// The day that is taken for today: that of a word, where it is given, else that of the clock. `None` where the word is no date.
 pub(crate) fn today_of(word: Option<&str>, clock: Option<Stamp>) -> Option<Option<Day>>
-    ensures { IfSome result (λ today. IsToday (option_copied word.entry) clock (numbered today)) }
+    ensures found { IfSome result (λ today. IsToday (option_copied word.entry) clock (numbered today)) }
+    ensures none { IfNone result (Never (IsToday (option_copied word.entry) clock)) }
 {
     let Some(text) = word else {
         return Some(clock_day(clock));

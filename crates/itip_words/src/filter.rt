@@ -1,17 +1,18 @@
 //! The words that read messages: `list`, `compact`, `report`, `news`, `explain`, and those that write a message.
-ghost use Rattle.std.specs.Prelude.{◌≡◌, ◌⊎◌, Option, IfOk, IfSome, IsSomeAnd, codes, map, false};
+ghost use Rattle.std.specs.Prelude.{◌≡◌, Option, IfOk, IfErr, IfSome, IfNone, IsTrue, codes, map, false};
 ghost use Rattle.std.specs.Option.{option_copied, option_map, option_map_or};
 ghost use Rattle.std.specs.String.{string_bytes};
 ghost use Rattle.itip_moment.specs.declared.stamp.Stamp.{Stamp};
-ghost use Rattle.itip_report.specs.Named.{IsOfRows};
-ghost use Rattle.itip_script.specs.Orders.{report_of};
 ghost use Rattle.itip_words.specs.Words.{threads_of, AreThreads};
 ghost use Rattle.itip_words.specs.Days.{numbered, IsAskedWindow};
-ghost use Rattle.itip_words.specs.Calls.{CanFilter, word_of, inputs_before, reads_input_once};
+ghost use Rattle.itip_words.specs.Calls.{IsFilterOf, word_of, inputs_before, reads_input_once};
 ghost use Rattle.itip_words.specs.Values.{is_input};
+ghost use Rattle.itip_words.specs.Finding.{Never, Finds};
+ghost use Rattle.itip_words.specs.NoCalls.{IsCause};
 ghost use Rattle.itip_words.specs.Options.{options_of, value_of, values_of};
-ghost use Rattle.itip_words.specs.Asking.{IsRead, AreThreadsOf, AsksIntake, AsksListing, AsksReport, AsksWritten, AsksFilter};
-ghost use Rattle.itip_words.specs.Asking.{IsToday, IsDueDay, IsFormatNamed, IsWritingTime, is_page, names_days, file_named, sources_of};
+ghost use Rattle.itip_words.specs.Asking.{IsRead, AreThreadsOf, AsksIntake, AsksListing, IsReportNamed, AsksReport, AsksWritten, NoMessage};
+ghost use Rattle.itip_words.specs.Asking.{IsToday, IsDueDay, IsFormatNamed, IsFormatGiven, IsWritingTime, is_page, names_days, file_named};
+ghost use Rattle.itip_words.specs.Asking.{LacksToday, needs_today, names_window, is_due_today, is_of_page, sources_of};
 
 use crate::asked::{Asked, asked_attendee, asked_of, asked_uid};
 use crate::days::{asked_window, due_day, is_today, today_of};
@@ -165,8 +166,8 @@ pub(crate) fn filter_of(
     words: &ArgMatches<'_>,
     clock: Option<Stamp>,
 ) -> Result<Option<Filter>, NoCall>
-    ensures possible { IfOk result (λ found. IfSome found CanFilter) }
-    ensures asked { IfOk result (λ found. IfSome found (AsksFilter word.now (options_of words.now) clock)) }
+    ensures found { IfOk result (Finds (IsFilterOf word.now (options_of words.now) clock)) }
+    ensures fault { IfErr result (IsCause (Never (IsFilterOf word.now (options_of words.now) clock)) clock) }
 {
     let Some(intake) = intake_of(alloc, words)? else {
         return Ok(None);
@@ -174,17 +175,17 @@ pub(crate) fn filter_of(
     let Some(written) = written_of(alloc, word, words, clock)? else {
         return Ok(None);
     };
-    if_input_once(alloc, Filter { intake, written })
+    Ok(Some(if_input_once(alloc, Filter { intake, written })?))
 }
 
 /// A filter, where standard input is read once at most.
-fn if_input_once(alloc: Global, filter: Filter) -> Result<Option<Filter>, NoCall>
-    requires { IfSome filter.intake.threads AreThreads }
-    ensures possible { IfOk result (λ found. IfSome found CanFilter) }
-    ensures same { IfOk result (λ found. IfSome found (λ same. same ≡ filter)) }
+fn if_input_once(alloc: Global, filter: Filter) -> Result<Filter, NoCall>
+    ensures same { IfOk result (λ same. same ≡ filter) }
+    ensures once { IfOk result (λ same. IsTrue (reads_input_once same)) }
+    ensures twice { (clock : Option Stamp) → IfErr result (IsCause (reads_input_once filter ≡ false) clock) }
 {
     if filter.reads_input_once() {
-        return Ok(Some(filter));
+        return Ok(filter);
     }
     drop(filter);
     Err(NoCall::BadValue(input_read_twice(alloc)?))
@@ -197,10 +198,11 @@ fn written_of(
     words: &ArgMatches<'_>,
     clock: Option<Stamp>,
 ) -> Result<Option<Written>, NoCall>
-    ensures { IfOk result (λ found. IfSome found (AsksWritten word.now (options_of words.now) clock)) }
+    ensures found { IfOk result (Finds (AsksWritten word.now (options_of words.now) clock)) }
+    ensures fault { IfErr result (IsCause (Never (AsksWritten word.now (options_of words.now) clock)) clock) }
 {
     if word == "compact" {
-        return compaction_of(alloc, words);
+        return Ok(compaction_of(alloc, words)?);
     }
     if word == "list" {
         return list_of(alloc, words, clock);
@@ -209,17 +211,16 @@ fn written_of(
         return report_of(words, clock);
     }
     if word == "news" {
-        return news_of(alloc, words);
+        return Ok(news_of(alloc, words)?);
     }
     if word == "explain" {
-        return explanation_of(alloc, words);
+        return Ok(explanation_of(alloc, words)?);
     }
     message_of(alloc, word, words, clock)
 }
 
-fn compaction_of(alloc: Global, words: &ArgMatches<'_>) -> Result<Option<Written>, NoCall>
-    ensures { IfOk result (λ found. IfSome found (λ written. (clock : Option Stamp) →
-        AsksWritten (codes "compact") (options_of words.now) clock written)) }
+fn compaction_of(alloc: Global, words: &ArgMatches<'_>) -> Result<Option<Written>, AllocError>
+    ensures { (clock : Option Stamp) → IfOk result (Finds (AsksWritten (codes "compact") (options_of words.now) clock)) }
 {
     let name = value_of(words, "output");
     let output = file_named(alloc, name)?;
@@ -244,9 +245,11 @@ fn list_of(
     words: &ArgMatches<'_>,
     clock: Option<Stamp>,
 ) -> Result<Option<Written>, NoCall>
-    ensures { IfOk result (λ found. IfSome found (AsksWritten (codes "list") (options_of words.now) clock)) }
+    ensures found { IfOk result (Finds (AsksWritten (codes "list") (options_of words.now) clock)) }
+    ensures fault { IfErr result (IsCause (Never (AsksWritten (codes "list") (options_of words.now) clock)) clock) }
 {
-    let Some(today) = asked_today(words, clock)? else {
+    let needs = needs_today(words);
+    let Some(today) = asked_today(words, clock, needs)? else {
         return Ok(None);
     };
     match listing_of(alloc, words, clock, today)? {
@@ -263,7 +266,7 @@ fn listing_of(
     today: Option<Day>,
 ) -> Result<Option<Listing>, AllocError>
     requires { IsToday (value_of (codes "today") (options_of words.now)) clock (numbered today) }
-    ensures { IfOk result (λ found. IfSome found (AsksListing (options_of words.now) clock)) }
+    ensures { IfOk result (Finds (AsksListing (options_of words.now) clock)) }
 {
     let is_due = is_given(words, "due-before");
     let Some(window) = window_in(words, today, is_due) else {
@@ -289,9 +292,11 @@ fn listing_of(
 }
 
 fn report_of(words: &ArgMatches<'_>, clock: Option<Stamp>) -> Result<Option<Written>, NoCall>
-    ensures { IfOk result (λ found. IfSome found (AsksWritten (codes "report") (options_of words.now) clock)) }
+    ensures found { IfOk result (Finds (AsksWritten (codes "report") (options_of words.now) clock)) }
+    ensures fault { IfErr result (IsCause (Never (AsksWritten (codes "report") (options_of words.now) clock)) clock) }
 {
-    let Some(today) = asked_today(words, clock)? else {
+    let needs = !names_window(words);
+    let Some(today) = asked_today(words, clock, needs)? else {
         return Ok(None);
     };
     match reported_of(words, clock, today) {
@@ -303,7 +308,7 @@ fn report_of(words: &ArgMatches<'_>, clock: Option<Stamp>) -> Result<Option<Writ
 /// The report that is asked for, on the day that is taken for today.
 fn reported_of(words: &ArgMatches<'_>, clock: Option<Stamp>, today: Option<Day>) -> Option<Reported>
     requires { IsToday (value_of (codes "today") (options_of words.now)) clock (numbered today) }
-    ensures { IfSome result (AsksReport (options_of words.now) clock) }
+    ensures { Finds (AsksReport (options_of words.now) clock) result }
 {
     let name = asked_report(words)?;
     let window = window_in(words, today, false)?;
@@ -312,8 +317,7 @@ fn reported_of(words: &ArgMatches<'_>, clock: Option<Stamp>, today: Option<Day>)
 
 /// The report that is named, where the words for days are none that it doesn't take.
 fn asked_report(words: &ArgMatches<'_>) -> Option<ReportName>
-    ensures name { IfSome result (λ name. IsSomeAnd (value_of (codes "name") (options_of words.now)) (λ text. report_of text ≡ Some name)) }
-    ensures days { IfSome result (λ name. IsOfRows name ⊎ (names_days (options_of words.now) ≡ false)) }
+    ensures { Finds (IsReportNamed (options_of words.now)) result }
 {
     let text = value_of(words, "name")?;
     let name = read_report_name(text.as_bytes())?;
@@ -333,9 +337,8 @@ fn names_days(words: &ArgMatches<'_>) -> bool
     is_given(words, "from") || is_given(words, "to") || is_given(words, "today")
 }
 
-fn news_of(alloc: Global, words: &ArgMatches<'_>) -> Result<Option<Written>, NoCall>
-    ensures { IfOk result (λ found. IfSome found (λ written. (clock : Option Stamp) →
-        AsksWritten (codes "news") (options_of words.now) clock written)) }
+fn news_of(alloc: Global, words: &ArgMatches<'_>) -> Result<Option<Written>, AllocError>
+    ensures { (clock : Option Stamp) → IfOk result (Finds (AsksWritten (codes "news") (options_of words.now) clock)) }
 {
     let Some(named) = values_of(words, "than") else {
         return Ok(None);
@@ -344,9 +347,8 @@ fn news_of(alloc: Global, words: &ArgMatches<'_>) -> Result<Option<Written>, NoC
     Ok(Some(Written::News { than }))
 }
 
-fn explanation_of(alloc: Global, words: &ArgMatches<'_>) -> Result<Option<Written>, NoCall>
-    ensures { IfOk result (λ found. IfSome found (λ written. (clock : Option Stamp) →
-        AsksWritten (codes "explain") (options_of words.now) clock written)) }
+fn explanation_of(alloc: Global, words: &ArgMatches<'_>) -> Result<Option<Written>, AllocError>
+    ensures { (clock : Option Stamp) → IfOk result (Finds (AsksWritten (codes "explain") (options_of words.now) clock)) }
 {
     match asked_uid(alloc, words)? {
         Some(uid) => Ok(Some(Written::Explanation { uid })),
@@ -360,7 +362,9 @@ fn message_of(
     words: &ArgMatches<'_>,
     clock: Option<Stamp>,
 ) -> Result<Option<Written>, NoCall>
-    ensures { IfOk result (λ found. IfSome found (AsksWritten word.now (options_of words.now) clock)) }
+    ensures found { IfOk result (λ found. IfSome found (AsksWritten word.now (options_of words.now) clock)) }
+    ensures none { IfOk result (λ found. IfNone found (NoMessage word.now (options_of words.now) clock)) }
+    ensures fault { IfErr result (IsCause (NoMessage word.now (options_of words.now) clock) clock) }
 {
     let at = value_of(words, "at");
     let Some(at) = writing_time(at, clock)? else {
@@ -376,7 +380,8 @@ fn message_of(
 ///
 /// [`NoCall::NoClock`] where neither is there.
 fn writing_time(word: Option<&str>, clock: Option<Stamp>) -> Result<Option<Stamp>, NoCall>
-    ensures { IfOk result (λ found. IfSome found (IsWritingTime (option_copied word.entry) clock)) }
+    ensures found { IfOk result (Finds (IsWritingTime (option_copied word.entry) clock)) }
+    ensures fault { IfErr result (IsCause (Never (IsWritingTime (option_copied word.entry) clock)) clock) }
 {
     match (word, clock) {
         (Some(text), _) => Ok(read_stamp(text)),
@@ -387,31 +392,65 @@ fn writing_time(word: Option<&str>, clock: Option<Stamp>) -> Result<Option<Stamp
 
 /// The day that is taken for today: that of `--today`, else that of the clock. `None` where the word is no date.
 ///
-/// [`NoCall::NoClock`] where neither is there, and something depends on it.
-fn asked_today(words: &ArgMatches<'_>, clock: Option<Stamp>) -> Result<Option<Option<Day>>, NoCall>
-    ensures { IfOk result (λ found. IfSome found (λ today.
+/// [`NoCall::NoClock`] where neither is there, and something goes by it.
+fn asked_today(
+    words: &ArgMatches<'_>,
+    clock: Option<Stamp>,
+    needs: bool,
+) -> Result<Option<Option<Day>>, NoCall>
+    ensures found { IfOk result (λ found. IfSome found (λ today.
         IsToday (value_of (codes "today") (options_of words.now)) clock (numbered today))) }
+    ensures none { IfOk result (λ found. IfNone found (Never (IsToday (value_of (codes "today") (options_of words.now)) clock))) }
+    ensures fault { IfErr result (IsCause (LacksToday (options_of words.now) clock needs) clock) }
 {
     let day = value_of(words, "today");
     let Some(today) = today_of(day, clock) else {
         return Ok(None);
     };
-    if today.is_none() && needs_today(words) {
-        return Err(NoCall::NoClock);
+    if !needs {
+        return Ok(Some(today));
     }
-    Ok(Some(today))
+    match today {
+        Some(day) => Ok(Some(Some(day))),
+        None => Err(NoCall::NoClock),
+    }
 }
 
-fn needs_today(words: &ArgMatches<'_>) -> bool {
-    let is_named = is_given(words, "from") || is_given(words, "to");
-    !is_named
-        || value_of(words, "due-before").is_some_and(is_today)
-        || value_of(words, "format").is_some_and(is_page)
+/// Whether rows go by the day that is taken for today.
+fn needs_today(words: &ArgMatches<'_>) -> bool
+    ensures { result ≡ needs_today (options_of words.now) }
+{
+    !names_window(words) || is_due_today(words) || is_of_page(words)
+}
+
+/// Whether words name an end of the window.
+fn names_window(words: &ArgMatches<'_>) -> bool
+    ensures { result ≡ names_window (options_of words.now) }
+{
+    is_given(words, "from") || is_given(words, "to")
+}
+
+fn is_due_today(words: &ArgMatches<'_>) -> bool
+    ensures { result ≡ is_due_today (options_of words.now) }
+{
+    match value_of(words, "due-before") {
+        Some(day) => is_today(day),
+        None => false,
+    }
+}
+
+fn is_of_page(words: &ArgMatches<'_>) -> bool
+    ensures { result ≡ is_of_page (options_of words.now) }
+{
+    match value_of(words, "format") {
+        Some(name) => is_page(name),
+        None => false,
+    }
 }
 
 fn window_in(words: &ArgMatches<'_>, today: Option<Day>, is_due: bool) -> Option<Window>
-    ensures { IfSome result (IsAskedWindow (value_of (codes "from") (options_of words.now)) (value_of (codes "to") (options_of words.now))
-        (numbered today) is_due) }
+    ensures { Finds (IsAskedWindow (value_of (codes "from") (options_of words.now)) (value_of (codes "to") (options_of words.now))
+        (numbered today) is_due) result }
 {
     let from = value_of(words, "from");
     let to = value_of(words, "to");
@@ -420,7 +459,7 @@ fn window_in(words: &ArgMatches<'_>, today: Option<Day>, is_due: bool) -> Option
 
 /// The day that rows are due before, where it is named. `None` where the word is no day.
 fn asked_due(word: Option<&str>, today: Option<Day>) -> Option<Option<i32>>
-    ensures { IfSome result (IsRead (IsDueDay (numbered today)) (option_copied word.entry)) }
+    ensures { Finds (IsRead (IsDueDay (numbered today)) (option_copied word.entry)) result }
 {
     let Some(text) = word else {
         return Some(None);
@@ -430,8 +469,7 @@ fn asked_due(word: Option<&str>, today: Option<Day>) -> Option<Option<i32>>
 }
 
 fn asked_format(words: &ArgMatches<'_>, today: Option<Day>) -> Option<Format>
-    ensures { IfSome result (λ format. IsSomeAnd (value_of (codes "format") (options_of words.now))
-        (λ text. IsFormatNamed (numbered today) text format)) }
+    ensures { Finds (IsFormatGiven (options_of words.now) (numbered today)) result }
 {
     let text = value_of(words, "format")?;
     format_named(text, today)
@@ -439,20 +477,22 @@ fn asked_format(words: &ArgMatches<'_>, today: Option<Day>) -> Option<Format>
 
 /// The form of a name. `None` of any other text, and of a page where today isn't known.
 fn format_named(text: &str, today: Option<Day>) -> Option<Format>
-    ensures { IfSome result (IsFormatNamed (numbered today) text.now) }
+    ensures { Finds (IsFormatNamed (numbered today) text.now) result }
 {
     if text == "text" {
-        Some(Format::Text)
-    } else if text == "csv" {
-        Some(Format::Csv)
-    } else if text == "json" {
-        Some(Format::Json)
-    } else if is_page(text) {
-        let day = today?;
-        Some(Format::Html(day))
-    } else {
-        None
+        return Some(Format::Text);
     }
+    if text == "csv" {
+        return Some(Format::Csv);
+    }
+    if text == "json" {
+        return Some(Format::Json);
+    }
+    if !is_page(text) {
+        return None;
+    }
+    let day = today?;
+    Some(Format::Html(day))
 }
 
 /// Whether a word names a format.
@@ -469,7 +509,7 @@ fn is_page(word: &str) -> bool
 
 fn intake_of(alloc: Global, words: &ArgMatches<'_>) -> Result<Option<Intake>, AllocError>
     ensures few { IfOk result (λ found. IfSome found (λ intake. IfSome intake.threads AreThreads)) }
-    ensures asked { IfOk result (λ found. IfSome found (AsksIntake (options_of words.now))) }
+    ensures asked { IfOk result (Finds (AsksIntake (options_of words.now))) }
 {
     let text = value_of(words, "threads");
     let Some(threads) = asked_threads(text) else {
@@ -489,7 +529,7 @@ fn intake_of(alloc: Global, words: &ArgMatches<'_>) -> Result<Option<Intake>, Al
 /// The number of threads, where it is given. `None` where the word is none.
 fn asked_threads(word: Option<&str>) -> Option<Option<u64>>
     ensures few { IfSome result (λ threads. IfSome threads AreThreads) }
-    ensures asked { IfSome result (IsRead AreThreadsOf (option_copied word.entry)) }
+    ensures asked { Finds (IsRead AreThreadsOf (option_copied word.entry)) result }
 {
     let Some(text) = word else {
         return Some(None);

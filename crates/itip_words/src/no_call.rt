@@ -1,6 +1,7 @@
 //! Why nothing is run.
-ghost use Rattle.std.specs.Prelude.{◌≡◌};
+ghost use Rattle.std.specs.Prelude.{◌≡◌, IfOk};
 ghost use Rattle.itip_words.specs.declared.no_call.NoCall.TheVariants.{NoMemory};
+ghost use Rattle.itip_words.specs.NoCalls.{IsToldOf};
 
 use crate::commands::command;
 use clap::Error;
@@ -15,7 +16,7 @@ pub enum NoCall {
     Help(Error),
     /// The words are none of the program's; the error prints what is wrong with them.
     Refused(Error),
-    /// A value is none that its word takes; this says which, in lines of its own.
+    /// A value is none that its word takes, or an option can't stand beside the others; this says which, in lines of its own.
     BadValue(String),
     /// What is asked for depends on the time, which the clock doesn't tell.
     NoClock,
@@ -30,20 +31,27 @@ impl From<AllocError> for NoCall {
     }
 }
 
-/// Why there is no call of words that `clap` doesn't take. They are parsed once more with their control characters shown, so that
-/// no word can write a line of its own.
-pub(crate) fn no_call(alloc: Global, words: &[String], error: Error) -> Result<NoCall, AllocError> {
+/// Why there is no call of words that `clap` doesn't take: it gave this error.
+pub(crate) fn no_call(alloc: Global, words: &[String], error: Error) -> Result<NoCall, AllocError>
+    ensures { IfOk result (IsToldOf error) }
+{
     match error.kind() {
-        ErrorKind::DisplayHelp | ErrorKind::DisplayVersion => return Ok(NoCall::Help(error)),
-        ErrorKind::OutOfMemory => return Err(AllocError),
-        _ => {}
+        ErrorKind::DisplayHelp => Ok(NoCall::Help(error)),
+        ErrorKind::DisplayVersion => Ok(NoCall::Help(error)),
+        ErrorKind::OutOfMemory => Err(AllocError),
+        _ => Ok(NoCall::Refused(visible_error(alloc, words, error)?)),
     }
+}
+
+/// What is wrong with words that `clap` doesn't take. They are parsed once more with their control characters shown, so that no
+/// word can write a line of its own.
+fn visible_error(alloc: Global, words: &[String], error: Error) -> Result<Error, AllocError> {
     let mut shown = Vec::new(alloc);
     for word in words {
         shown.push(visible_text(alloc, word.as_str())?)?;
     }
     match command(alloc)?.try_get_matches_from(shown.as_slice()) {
-        Ok(_) => Ok(NoCall::Refused(error)),
-        Err(again) => Ok(NoCall::Refused(again)),
+        Ok(_) => Ok(error),
+        Err(again) => Ok(again),
     }
 }

@@ -34,6 +34,13 @@ pub(crate) fn is_given(words: &ArgMatches<'_>, name: &str) -> bool
     value_of(words, name).is_some()
 }
 
+/// Whether an option has values that may be several.
+pub(crate) fn has_values(words: &ArgMatches<'_>, name: &str) -> bool
+    ensures { result ≡ is_some (values_of name.now (options_of words.now)) }
+{
+    values_of(words, name).is_some()
+}
+
 /// Whether an option stands there that takes no value.
 pub(crate) fn is_set(words: &ArgMatches<'_>, name: &str) -> bool
     ensures { result ≡ is_set name.now (options_of words.now) }

@@ -1,11 +1,11 @@
 //! How a stream of commands is served.
-ghost use Rattle.std.specs.Prelude.{◌≡◌, ◌≢◌, ◌<◌, ◌==◌, [], Some, IfOk, IfSome, codes, map, unwrap_or};
+ghost use Rattle.std.specs.Prelude.{◌≡◌, ◌≢◌, ◌<◌, ◌==◌, [], Some, IfOk, IfSome, IfNone, codes, map, unwrap_or};
 ghost use Rattle.std.specs.List.{All, list_any};
 ghost use Rattle.std.specs.Option.{option_map};
-ghost use Rattle.itip_words.specs.Words.{AreDesks};
-ghost use Rattle.itip_words.specs.Asking.{AsksStream};
+ghost use Rattle.itip_words.specs.Calls.{IsStreamOf};
+ghost use Rattle.itip_words.specs.Finding.{Never, Finds};
 ghost use Rattle.itip_words.specs.Options.{options_of, values_of};
-ghost use Rattle.itip_words.specs.Streams.{AreLoads, load_of, names_of};
+ghost use Rattle.itip_words.specs.Streams.{IsNextLoad, load_of};
 
 use crate::options::values_of;
 use crate::words::{Scripted, scripted_of};
@@ -32,9 +32,7 @@ pub(crate) fn streamed_of(
     alloc: Global,
     words: &ArgMatches<'_>,
 ) -> Result<Option<Streamed>, AllocError>
-    ensures desks { IfOk result (λ found. IfSome found (λ streamed. AreDesks streamed.scripted.desks)) }
-    ensures asked { IfOk result (λ found. IfSome found (AsksStream (options_of words.now))) }
-    ensures loads { IfOk result (λ found. IfSome found (λ streamed. AreLoads streamed.scripted.desks (names_of streamed.loads.items))) }
+    ensures { IfOk result (Finds (IsStreamOf (options_of words.now))) }
 {
     let Some(scripted) = scripted_of(words) else {
         return Ok(None);
@@ -63,6 +61,7 @@ pub(crate) fn next_load<'a>(text: &'a str, desks: u64, before: &[Load]) -> Optio
     ensures named { IfSome result (λ load. load_of text.now ≡ Some (load.0, load.1.now)) }
     ensures there { IfSome result (λ load. load.0 < desks) }
     ensures once { IfSome result (λ load. All (λ l. l.desk ≢ load.0) before.now) }
+    ensures none { IfNone result (Never (IsNextLoad text.now desks before.now)) }
 {
     let (desk, file) = load_of(text)?;
     if desk >= desks {

@@ -1,27 +1,30 @@
 //! What a call of the program asks for.
-ghost use Rattle.std.specs.Prelude.{◌≡◌, ℕ, Option, IfOk, IfSome, IfNone, codes, map};
+ghost use Rattle.std.specs.Prelude.{◌≡◌, ℕ, Option, IfOk, IfErr, IfSome, IfNone, codes, map};
 ghost use Rattle.std.specs.String.{string_bytes};
 ghost use Rattle.clap.specs.Simple.{subcommand_rows_of};
 ghost use Rattle.itip_moment.specs.declared.stamp.Stamp.{Stamp};
 ghost use Rattle.itip_words.specs.Words.{AreDesks, desks_of, workers_of, IsWindowOf, IsScriptedOf};
 ghost use Rattle.itip_words.specs.Calls.{IfRun, IfStream, IfOffice, IfFilter, AreStreamed, AreOffice, CanFilter};
+ghost use Rattle.itip_words.specs.Calls.{IsCallBy, IsCallOf};
+ghost use Rattle.itip_words.specs.Finding.{Never, Finds};
 ghost use Rattle.itip_words.specs.Options.{options_of};
-ghost use Rattle.itip_words.specs.Asking.{AsksScript, Asks, IsAsked};
-ghost use Rattle.itip_words.specs.Program.{IsAskedBy};
+ghost use Rattle.itip_words.specs.Asking.{AsksScript, AsksRun};
+ghost use Rattle.itip_words.specs.NoCalls.{IsCause};
+ghost use Rattle.itip_words.specs.Program.{IsAskedBy, IsNoCall};
 ghost use Rattle.itip_view.specs.declared.window.Window.{Window};
 ghost use Rattle.itip_words.specs.declared.words.Scripted.{Scripted};
 
 use crate::commands::command;
 use crate::filter::{Filter, filter_of};
 use crate::no_call::{NoCall, no_call};
-use crate::options::{is_set, value_of, word_of};
+use crate::options::{has_values, is_set, value_of, word_of};
 use crate::streamed::{Streamed, streamed_of};
 use crate::wrong::what_is_wrong;
 use clap::ArgMatches;
 use itip_moment::{Stamp, read_date};
 use itip_script::read_number;
 use itip_view::Window;
-use std::alloc::Global;
+use std::alloc::{AllocError, Global};
 
 /// The most desks of a run.
 const MAX_DESKS: u64 = 16;
@@ -60,6 +63,7 @@ pub fn read_words(alloc: Global, words: &[String], clock: Option<Stamp>) -> Resu
     ensures office { IfOk result (IfOffice AreOffice) }
     ensures filter { IfOk result (IfFilter CanFilter) }
     ensures asked { IfOk result (IsAskedBy (map string_bytes words.now) clock) }
+    ensures no_call { IfErr result (IsNoCall (map string_bytes words.now) clock) }
 {
     let matches = match command(alloc)?.try_get_matches_from(words) {
         Ok(matches) => matches,
@@ -77,11 +81,8 @@ fn call_of(
     matches: &ArgMatches<'_>,
     clock: Option<Stamp>,
 ) -> Result<Option<Call>, NoCall>
-    ensures run { IfOk result (λ found. IfSome found (IfRun (λ scripted. AreDesks scripted.desks))) }
-    ensures stream { IfOk result (λ found. IfSome found (IfStream AreStreamed)) }
-    ensures office { IfOk result (λ found. IfSome found (IfOffice AreOffice)) }
-    ensures filter { IfOk result (λ found. IfSome found (IfFilter CanFilter)) }
-    ensures asked { IfOk result (λ found. IfSome found (IsAsked (subcommand_rows_of matches.now) clock)) }
+    ensures found { IfOk result (Finds (IsCallBy (subcommand_rows_of matches.now) clock)) }
+    ensures fault { IfErr result (IsCause (Never (IsCallBy (subcommand_rows_of matches.now) clock)) clock) }
 {
     match word_of(matches) {
         Some((word, words)) => named_call(alloc, word, words, clock),
@@ -96,18 +97,15 @@ fn named_call(
     words: &ArgMatches<'_>,
     clock: Option<Stamp>,
 ) -> Result<Option<Call>, NoCall>
-    ensures run { IfOk result (λ found. IfSome found (IfRun (λ scripted. AreDesks scripted.desks))) }
-    ensures stream { IfOk result (λ found. IfSome found (IfStream AreStreamed)) }
-    ensures office { IfOk result (λ found. IfSome found (IfOffice AreOffice)) }
-    ensures filter { IfOk result (λ found. IfSome found (IfFilter CanFilter)) }
-    ensures asked { IfOk result (λ found. IfSome found (Asks word.now (options_of words.now) clock)) }
+    ensures found { IfOk result (Finds (IsCallOf word.now (options_of words.now) clock)) }
+    ensures fault { IfErr result (IsCause (Never (IsCallOf word.now (options_of words.now) clock)) clock) }
 {
     if word == "check" {
         let why = is_set(words, "why");
         return Ok(Some(Call::Check { why }));
     }
     if word == "run" {
-        return run_of(alloc, words);
+        return Ok(run_of(alloc, words)?);
     }
     if word == "office" {
         return Ok(office_of(words));
@@ -118,16 +116,12 @@ fn named_call(
     }
 }
 
-fn run_of(alloc: Global, words: &ArgMatches<'_>) -> Result<Option<Call>, NoCall>
-    ensures run { IfOk result (λ found. IfSome found (IfRun (λ scripted. AreDesks scripted.desks))) }
-    ensures stream { IfOk result (λ found. IfSome found (IfStream AreStreamed)) }
-    ensures office { IfOk result (λ found. IfSome found (IfOffice AreOffice)) }
-    ensures filter { IfOk result (λ found. IfSome found (IfFilter CanFilter)) }
-    ensures asked { IfOk result (λ found. IfSome found (λ call. (clock : Option Stamp) →
-        Asks (codes "run") (options_of words.now) clock call)) }
+/// How the words have a script run, or a stream served.
+fn run_of(alloc: Global, words: &ArgMatches<'_>) -> Result<Option<Call>, AllocError>
+    ensures { (clock : Option Stamp) → IfOk result (Finds (IsCallOf (codes "run") (options_of words.now) clock)) }
 {
     if !is_set(words, "stream") {
-        return Ok(scripted_of(words).map(Call::Run));
+        return Ok(script_of(words).map(Call::Run));
     }
     match streamed_of(alloc, words)? {
         Some(streamed) => Ok(Some(Call::Stream(streamed))),
@@ -135,13 +129,20 @@ fn run_of(alloc: Global, words: &ArgMatches<'_>) -> Result<Option<Call>, NoCall>
     }
 }
 
-/// How the words have a script run.
+/// How a script is run that is no stream. `None` where a value is bad, or a desk is to begin with a file.
+fn script_of(words: &ArgMatches<'_>) -> Option<Scripted>
+    ensures found { Finds (AsksRun (options_of words.now)) result }
+    ensures desks { IfSome result (λ scripted. AreDesks scripted.desks) }
+{
+    if has_values(words, "load") {
+        return None;
+    }
+    scripted_of(words)
+}
+
+/// How the words have the jobs of a script run. `None` where a value is bad.
 pub(crate) fn office_of(words: &ArgMatches<'_>) -> Option<Call>
-    ensures run { IfSome result (IfRun (λ scripted. AreDesks scripted.desks)) }
-    ensures stream { IfSome result (IfStream AreStreamed) }
-    ensures office { IfSome result (IfOffice AreOffice) }
-    ensures filter { IfSome result (IfFilter CanFilter) }
-    ensures asked { IfSome result (λ call. (clock : Option Stamp) → Asks (codes "office") (options_of words.now) clock call) }
+    ensures { (clock : Option Stamp) → Finds (IsCallOf (codes "office") (options_of words.now) clock) result }
 {
     let scripted = scripted_of(words)?;
     let text = value_of(words, "workers")?;

@@ -1,7 +1,9 @@
-//! What is said of a value that its word doesn't take, and of standard input that is read twice, in the manner of `clap`.
+//! What is said of a value that its word doesn't take, of a word that can't stand beside others, and of standard input that is read
+//! twice, in the manner of `clap`.
 use crate::asked_values::{answer_named, named_moment, percent_of};
 use crate::days::is_today;
 use crate::filter::{names_format, threads_of};
+use crate::options::{has_values, is_given, is_set};
 use crate::streamed::{Load, loads_named, next_load};
 use crate::words::{desks_of, workers_of};
 use clap::ArgMatches;
@@ -27,11 +29,15 @@ const VALUES: [(&str, &str); 13] = [
     ("at", "--at <STAMP>"),
 ];
 
-/// What is wrong with words for which there is no call: the first bad value, with its control characters shown as their octets.
+/// What is wrong with words for which there is no call: the first that can't stand as it does beside the others, else the first bad
+/// value, with its control characters shown as their octets.
 pub(crate) fn what_is_wrong(alloc: Global, matches: &ArgMatches<'_>) -> Result<String, AllocError> {
     let Some((_, words)) = matches.subcommand() else {
         return Ok(String::new(alloc));
     };
+    if let Some(what) = misplaced(words) {
+        return told(alloc, what);
+    }
     for (id, usage) in VALUES.iter() {
         if let Some(value) = words.get_str(id) {
             if let Some(why) = fault_of(alloc, id, value)? {
@@ -44,6 +50,23 @@ pub(crate) fn what_is_wrong(alloc: Global, matches: &ArgMatches<'_>) -> Result<S
         return bad_value(alloc, value, "--load <D=FILE>", why);
     }
     wrong_days(alloc, words)
+}
+
+/// What is wrong where a word needs another that isn't there, or is there beside one that excludes it.
+fn misplaced(words: &ArgMatches<'_>) -> Option<&'static str> {
+    if has_values(words, "load") && !is_set(words, "stream") {
+        return Some("the argument '--load <D=FILE>' needs '--stream'");
+    }
+    if !is_set(words, "onward") {
+        return None;
+    }
+    if has_values(words, "attendee") {
+        return Some("the argument '--onward' cannot be used with '--attendee <ADDRESS>'");
+    }
+    if !is_given(words, "id") {
+        return Some("the argument '--onward' needs '--id <MOMENT>'");
+    }
+    None
 }
 
 /// The first desk that can't begin with its file, where the number of desks is good.

@@ -1,6 +1,6 @@
 -- What a command is answered that asks desks, as they are seen, and leaves them as they are; and what a desk hears (our own rule). A
 -- script and a stream have the same answers.
-use Rattle.std.specs.Prelude.{◌≡◌, ◌⊎◌, ◌≤◌, ℕ, List, ◌++◌, length, Option, Some, Result, Ok, Err, slice_get}
+use Rattle.std.specs.Prelude.{◌≡◌, ◌⊎◌, ◌<◌, ◌≤◌, ◌^◌, ℕ, List, ◌++◌, length, Option, Some, Result, Ok, Err, slice_get}
 use Rattle.std.specs.Option.{option_map}
 use Rattle.itip_view.specs.declared.window.Window.{Window}
 use Rattle.itip_view.specs.Rows.{AreTooMany}
@@ -114,6 +114,8 @@ pub record HearsNow (was : Shown) (step : List Item) (is : Shown) (heard : Heard
   pub carried : IsCarriedOn was is step
   pub tick_is : heard.tick ≡ is.tick
   pub changed_is : heard.changed ≡ length uids
+  -- a tick is below 2 ^ 64
+  pub fits : is.tick < 2 ^ 64
   -- a desk that its file tells whole is one still
   pub told : IsTold was → IsTold is
 

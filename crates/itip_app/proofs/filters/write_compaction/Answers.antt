@@ -1,10 +1,12 @@
 use Rattle.itip_inbox.specs.Compaction.{IsCompaction}
-use Rattle.itip_app.proofs.Filtering.{done_with, written}
+use Rattle.itip_app.proofs.Filtering.{on_err, written}
 use Rattle.itip_app.proofs.filters.write_compaction.Goals as goal
 
-pub returns : goal.returns
-returns g c =
-    done_with _ c.in_ok-done.done c.done_with.result c.done_with.ensures.refused c.done_with.ensures.whole c.done_with.ensures.is_done
-    (λ outcome refused whole done inputs are.
-    written (IsCompaction inputs) (g.W.Write.contents c.args.writer.now) (g.W.Write.contents c.compact.new.writer) c.in_ok-done.done outcome refused whole
-    done (c.in_ok-done.ensures.output inputs are))
+pub returns-in_err-done-clause-front : goal.returns-in_err-done-clause-front
+returns-in_err-done-clause-front g c = on_err c.from_residual.result c.in_err-done.ensures.front
+
+pub returns-clause-output : goal.returns-clause-output
+returns-clause-output g c = λ inputs are.
+    written (IsCompaction inputs) (g.W.Write.contents c.args.writer.now) (g.W.Write.contents c.compact.new.writer) c.in_ok-done.done
+    c.done_with.result c.done_with.ensures.refused c.done_with.ensures.whole c.done_with.ensures.is_done
+    (c.in_ok-done.ensures.output inputs are)

@@ -1,4 +1,4 @@
-use Rattle.std.proofs.Common.{ℕ, List, take_all, subst, sym, arith}
+use Rattle.std.proofs.Common.{List, take_all, subst, sym, arith}
 use Rattle.std.specs.List.{Contains}
 use Rattle.itip_words.specs.Streams.{names_of}
 use Rattle.itip_words.specs.declared.streamed.Load.{Load}

@@ -8,7 +8,7 @@ desk_of-requires c = moves_are c.args.octets.now c.in_ok-parts.parts c.in_ok-par
 pub returns-then-branch-clause-found : goal.returns-then-branch-clause-found
 returns-then-branch-clause-found c =
     told_file c.args.octets.now c.in_ok-parts.parts c.in_ok-desk.desk c.in_ok-parts.ensures.found c.in_ok-desk.ensures.made
-    (c.in_ok-is_file_of.ensures.0 c.if-branch.true)
+    (c.in_ok-is_file_of.ensures.0 c.if-branch.true) c.in_ok-parts.ensures.reached
 
 pub returns-clause-fault : goal.returns-clause-fault
 returns-clause-fault c =

@@ -10,4 +10,4 @@ returns c =
     canonical_up_to canonical_octets_limit c.args.kind (parts_of c.args.todo.now) c.write_opening.new.out.items
     c.write_todo_up_to.new.out.items _ (c.in_ok-write_opening.ensures ∙
     ap (λ (front : List ℕ). front ++ contents_octets (opening_contents c.args.kind)) c.in_ok-octets.ensures.items)
-    c.in_ok-write_todo_up_to.ensures (c.shrink_to_fit.ensures.items ∙ c.in_ok-write_end.ensures)
+    c.in_ok-write_todo_up_to.ensures (c.in_ok-exact.ensures.items ∙ c.as_slice.ensures.value ∙ c.in_ok-write_end.ensures)

@@ -8,7 +8,7 @@ use Rattle.itip_items.proofs.canonical.write_front.Goals as goal
 
 pub returns : goal.returns
 returns c =
-    subst (λ (octets : List ℕ). IfOk c.new.result (λ front. front ≡ octets)) (c.shrink_to_fit.ensures.items ∙
+    subst (λ (octets : List ℕ). IfOk c.new.result (λ front. front ≡ octets)) (c.in_ok-exact.ensures.items ∙ c.as_slice.ensures.value ∙
     front_is c.args.kind (parts_of c.args.todo.now) c.write_opening.new.out.items c.write_todo_front.new.out.items
     (c.in_ok-write_opening.ensures ∙
     ap (λ (front : List ℕ). front ++ contents_octets (opening_contents c.args.kind)) c.in_ok-octets.ensures.items)

@@ -1,8 +1,6 @@
-use Rattle.std.proofs.Common.{subst, arith}
+use Rattle.std.proofs.Common.{◌∙◌, sym, subst, arith}
 use Rattle.std.specs.Str.{IsUtf8}
-use Rattle.itip_lines.specs.Octets.{is_value_octet}
 use Rattle.itip_lines.specs.Spelling.{IsTail}
-use Rattle.itip_lines.proofs.Runs.{not_all_in_run, all_in_run}
 use Rattle.itip_lines.proofs.Utf8Parts.{utf8_behind}
 use Rattle.itip_lines.proofs.Lines.{lawful_tail}
 use Rattle.itip_lines.proofs.ParamLists.{wrote_no_params, wrote_more_params, lacks_next_param, lacks_colon, lacks_value, all_params}
@@ -26,10 +24,10 @@ loop-after-preserved c =
 pub returns-in_default-strip : goal.returns-in_default-strip
 returns-in_default-strip c = lacks_colon _ _ _ c.loop-after.invariant.has c.in_default.ensures c.in_default-strip.ensures
 
-pub returns-then-run_len-value : goal.returns-then-run_len-value
-returns-then-run_len-value c =
+pub returns-then-not-are_value_octets : goal.returns-then-not-are_value_octets
+returns-then-not-are_value_octets c =
     lacks_value _ _ _ _ c.loop-after.invariant.has c.in-Some-strip.ensures
-    (not_all_in_run is_value_octet _ _ c.run_len.ensures c.if-run_len-value.true)
+    (sym c.are_value_octets.ensures ∙ c.if-not-are_value_octets.true)
 
 pub copy-requires : goal.copy-requires
 copy-requires c = utf8_behind 58 _ (subst IsUtf8 c.in-Some-strip.ensures c.loop-after.invariant.has.utf8) (omega arith)
@@ -38,14 +36,14 @@ pub from_text-requires : goal.from_text-requires
 from_text-requires c =
     let is : IsTail c.args.text.now c.loop-after.invariant.done c.in-Some-strip.value.now =
     all_params _ _ _ _ c.loop-after.invariant.has c.in-Some-strip.ensures
-    (all_in_run is_value_octet _ _ c.run_len.ensures c.if-run_len-value.false) in
+    (sym c.are_value_octets.ensures ∙ c.if-not-are_value_octets.false) in
     is_params_text _ c.loop-after.invariant.done (lawful_tail _ _ _ c.requires is).0 c.loop-after.invariant.wrote
 
 pub returns : goal.returns
 returns c =
     let is : IsTail c.args.text.now c.loop-after.invariant.done c.in-Some-strip.value.now =
     all_params _ _ _ _ c.loop-after.invariant.has c.in-Some-strip.ensures
-    (all_in_run is_value_octet _ _ c.run_len.ensures c.if-run_len-value.false) in
+    (sym c.are_value_octets.ensures ∙ c.if-not-are_value_octets.false) in
     rw (
       c.from_text.ensures c.loop-after.invariant.done (lawful_tail _ _ _ c.requires is).0 c.loop-after.invariant.wrote,
       c.in_ok-value.ensures,

@@ -13,7 +13,7 @@ returns-clause-pushed c =
         refl,
         record {
           within = record { few = omega arith; short = omega arith };
-          utf8 = c.in-Ok.ensures.cases.1;
+          utf8 = c.is_line_utf8.ensures.0 c.if-not-is_line_utf8.false;
           spells = rw c.in-Some.is at c.in_ok-line.ensures;
         },
       ),

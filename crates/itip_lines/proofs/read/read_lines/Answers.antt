@@ -1,7 +1,20 @@
-use Rattle.std.proofs.Common.{arith}
+use Rattle.std.proofs.Common.{List, [], refl, subst, arith}
 use Rattle.std.proofs.lemmas.Result.{err_from_is_err_and}
+use Rattle.itip_lines.specs.Cutting.{NumberedText}
+use Rattle.itip_lines.specs.ScanSteps.{AreUtf8}
 use Rattle.itip_lines.proofs.Scans.{more_read, all_read, refused_line}
+use Rattle.itip_lines.proofs.Utf8Lines.{utf8_lines}
 use Rattle.itip_lines.proofs.read.read_lines.Goals as goal
+
+pub loop-rest-init : goal.loop-rest-init
+loop-rest-init c = (
+  rw c.in_ok-lines.ensures.items (record { done = []; all = refl; are = tt }),
+  omega arith,
+  λ whole. utf8_lines c.args.text.now (c.is_utf8-utf8.ensures.0 whole),
+)
+
+pub read_next-requires-clause-utf8 : goal.read_next-requires-clause-utf8
+read_next-requires-clause-utf8 c = (rw c.in-Some.is at c.loop-rest.invariant).2
 
 pub returns-in_err-rest-clause-refused : goal.returns-in_err-rest-clause-refused
 returns-in_err-rest-clause-refused c =
@@ -12,7 +25,11 @@ returns-in_err-rest-clause-refused c =
 pub loop-rest-preserved : goal.loop-rest-preserved
 loop-rest-preserved c =
     let so_far = rw c.in-Some.is at c.loop-rest.invariant in
-    (more_read _ _ _ c.in-Some.left _ so_far.0 c.in_ok-rest.ensures.next, omega (arith, so_far.1, c.in_ok-rest.ensures.next.within))
+    let next = c.in_ok-rest.ensures.next in (
+      more_read _ _ _ c.in-Some.left _ so_far.0 next,
+      omega (arith, so_far.1, next.within),
+      λ whole. (subst (λ (ts : List NumberedText). AreUtf8 ts) next.first (so_far.2 whole)).1,
+    )
 
 pub returns-clause-found : goal.returns-clause-found
 returns-clause-found c = all_read _ _ c.if-text-gt-TEXT_LIMIT.false (rw c.in_default.is at c.loop-rest.invariant).0

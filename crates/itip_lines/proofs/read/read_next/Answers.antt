@@ -1,9 +1,23 @@
-use Rattle.std.proofs.Common.{◌∙◌, [], ap}
+use Rattle.std.proofs.Common.{◌∙◌, List, [], sym, ap, subst}
+use Rattle.std.specs.Str.{IsUtf8}
 use Rattle.std.proofs.lemmas.Result.{err_from_is_err_and}
+use Rattle.itip_lines.specs.Cutting.{NumberedText}
 use Rattle.itip_lines.specs.Stretches.{texts_behind}
-use Rattle.itip_lines.specs.ScanSteps.{texts_by}
+use Rattle.itip_lines.specs.ScanSteps.{AreUtf8, texts_by}
 use Rattle.itip_lines.proofs.Scans.{next_refusal}
 use Rattle.itip_lines.proofs.read.read_next.Goals as goal
+
+pub push_line-requires : goal.push_line-requires
+push_line-requires c =
+    let first = c.cut_stretch.ensures.lines c.args.left.number [] ∙
+    ap (texts_by c.args.left.number c.cut_stretch.result.0.now) c.in-Line.is in
+    λ whole. (subst (λ (ts : List NumberedText). AreUtf8 ts) first (c.requires.utf8 whole)).0
+
+pub push_line-requires-in-Fold : goal.push_line-requires-in-Fold
+push_line-requires-in-Fold c =
+    let first = c.cut_stretch.ensures.lines c.args.left.number [] ∙
+    ap (texts_by c.args.left.number c.cut_stretch.result.0.now) c.in-Fold.is ∙ c.in_ok-line-in-Fold.ensures.lines c.args.left.number in
+    λ whole. subst IsUtf8 (sym c.as_slice.ensures.value) (subst (λ (ts : List NumberedText). AreUtf8 ts) first (c.requires.utf8 whole)).0
 
 pub returns-in_err-push_line-in-Line-clause-refused :
     goal.returns-in_err-push_line-in-Line-clause-refused

@@ -9,7 +9,7 @@ use Rattle.itip_message.proofs.components.read_components.Goals as goal
 
 pub returns-in_err-read_component-clause-fault : goal.returns-in_err-read_component-clause-fault
 returns-in_err-read_component-clause-fault c =
-    let p = err_from_is_err_and c.from_residual.result c.from_residual.ensures.1 in
+    let p = err_from_is_err_and c.from_residual-in_err-read_component.result c.from_residual-in_err-read_component.ensures.1 in
     let i = c.loop-at.at in
     let all = c.args.components.now in
     let at : drop i all ≡ c.index-components-at.result ∷ drop (i + 1) all = drop_more all i c.index-components-at.result (omega arith) ∙

@@ -12,7 +12,7 @@ returns-else-is_month_day c =
     let at : FitsSigned w32 day.number = omega (arith, signed_arith, day.in_years) in
     let wait : FitsSigned w32 c.wait_behind.result = omega (arith, signed_arith) in
     let none : (start : ℤ) → IsNone (IsMonthDay c.args.days.now start) (day.number +ℤ pos 1) (day.number +ℤ c.wait_behind.result) =
-    simp to_z-of_z at c.wait_behind.ensures.none in
+    c.wait_behind.ensures.none in
     simp to_z-of_z (record {
       low = omega (arith, signed_arith, c.wait_behind.ensures.low);
       high = c.wait_behind.ensures.high;

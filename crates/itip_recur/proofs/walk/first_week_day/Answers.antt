@@ -1,35 +1,49 @@
-use Rattle.std.proofs.Common.{◌≤ℤ◌, arith, FitsSigned, w32, to_z, to_z-of_z, pos, ◌+ℤ◌, IsTrue}
+use Rattle.std.proofs.Common.{◌≡◌, ◌↔◌, ◌<◌, arith, FitsSigned, w32, to_z, to_z-of_z, IsTrue, ℤ, pos, ◌+ℤ◌, ◌-ℤ◌, ◌<ℤ◌}
+use Rattle.std.proofs.lemmas.Int.{ints}
 use Rattle.jiff_core.proofs.SignedLemmas.{signed_arith}
+use Rattle.itip_recur.specs.Calendar.{weekday_number}
 use Rattle.itip_recur.specs.Pattern.{IsWeekDay}
-use Rattle.itip_recur.specs.Waits.{IsNone}
-use Rattle.itip_recur.proofs.UnitWalks.{more}
+use Rattle.itip_recur.specs.Sets.{has_number}
+use Rattle.itip_recur.proofs.WeekMasks.{none_in_week, first_in_week}
 use Rattle.itip_recur.proofs.walk.first_week_day.Goals as goal
+use Rattle.itip_recur.proofs.walk.first_week_day.Goals.{else-wait-lt7-via-then-wait-lt7+else-wait-stop, else-wait-lt7-via-else-wait-lt7}
 
-pub returns-then-is_week_day : goal.returns-then-is_week_day
-returns-then-is_week_day c =
+pub returns-then-wait-stop : goal.returns-then-wait-stop
+returns-then-wait-stop c =
     let P = IsWeekDay c.args.days.now c.args.start in
     let start : FitsSigned w32 c.args.start = c.ranges.start in
     let from : FitsSigned w32 c.args.from = c.ranges.from in
     let stop : FitsSigned w32 c.args.stop = c.ranges.stop in
-    let day = to_z w32 c.loop-day.day-bits in
-    let low : c.args.from ≤ℤ day = simp to_z-of_z at c.loop-day.invariant.not_before in
-    let none : IsNone P c.args.from day = simp to_z-of_z at c.loop-day.invariant.none in
-    let here : P day = simp to_z-of_z at (c.is_week_day.ensures.0 c.if-is_week_day.true) in
-    record { not_before = low; before_stop = omega (arith, signed_arith, c.loop-day-test.true); is = here; first = none }
+    let week = c.week_of.result in
+    let t = c.wait_in_week-wait.result in
+    let wait = c.wait_in_week-wait.ensures in
+    let unsigned : to_z w32 t ≡ pos t = omega (arith, ints, wait.bound) in
+    let here : c.weekday_number.result ≡ weekday_number c.args.from = simp to_z-of_z at c.weekday_number.ensures in
+    let days : (x : ℤ) → IsTrue (has_number week (weekday_number x)) ↔ P x = simp to_z-of_z at c.week_of.ensures.days in
+    let left : FitsSigned w32 (c.args.stop -ℤ c.args.from) = omega (arith, signed_arith, c.requires.from_in, c.requires.stop_in) in
+    let test = simp to_z-of_z at c.if-wait-stop.true in
+    let few : t < 7 = omega (arith, signed_arith, unsigned, c.if-wait-lt7.true) in
+    let before : (c.args.from +ℤ pos t) <ℤ c.args.stop = omega (arith, signed_arith, unsigned, test) in
+    let found : FitsSigned w32 (c.args.from +ℤ pos t) = omega (arith, signed_arith, before) in
+    rw unsigned (simp to_z-of_z (first_in_week P week c.weekday_number.result t c.args.from c.requires.from_in here days wait.none
+    c.args.stop before (wait.found few)))
 
-pub loop-day-preserved : goal.loop-day-preserved
-loop-day-preserved c =
+pub returns-else-wait-lt7 : goal.returns-else-wait-lt7
+returns-else-wait-lt7 c =
     let P = IsWeekDay c.args.days.now c.args.start in
     let start : FitsSigned w32 c.args.start = c.ranges.start in
     let from : FitsSigned w32 c.args.from = c.ranges.from in
     let stop : FitsSigned w32 c.args.stop = c.ranges.stop in
-    let day = to_z w32 c.loop-day.day-bits in
-    let next : FitsSigned w32 (to_z w32 c.loop-day.day-bits +ℤ pos 1) = omega (arith, signed_arith) in
-    let low : c.args.from ≤ℤ day = simp to_z-of_z at c.loop-day.invariant.not_before in
-    let none : IsNone P c.args.from day = simp to_z-of_z at c.loop-day.invariant.none in
-    let back : P day → IsTrue c.is_week_day.result = simp to_z-of_z at c.is_week_day.ensures.1 in
-    simp to_z-of_z (record {
-      in_years = (omega (arith, signed_arith), omega (arith, signed_arith));
-      not_before = omega (arith, signed_arith, low);
-      none = more P c.args.from day none (λ p. let is_true = back p in cc);
-    })
+    let week = c.week_of.result in
+    let t = c.wait_in_week-wait.result in
+    let wait = c.wait_in_week-wait.ensures in
+    let unsigned : to_z w32 t ≡ pos t = omega (arith, ints, wait.bound) in
+    let here : c.weekday_number.result ≡ weekday_number c.args.from = simp to_z-of_z at c.weekday_number.ensures in
+    let days : (x : ℤ) → IsTrue (has_number week (weekday_number x)) ↔ P x = simp to_z-of_z at c.week_of.ensures.days in
+    let left : FitsSigned w32 (c.args.stop -ℤ c.args.from) = omega (arith, signed_arith, c.requires.from_in, c.requires.stop_in) in
+    none_in_week P week c.weekday_number.result t c.args.from c.requires.from_in here days wait.none c.args.stop
+    (λ lt. elim c.else-wait-lt7.branch [
+      | else-wait-lt7-via-then-wait-lt7+else-wait-stop w ↦
+          let test = simp to_z-of_z at w.if-wait-stop.false in omega (arith, signed_arith, unsigned, test)
+      | else-wait-lt7-via-else-wait-lt7 w ↦ absurd (omega (arith, signed_arith, unsigned, w.if-wait-lt7.false, lt))
+    ])

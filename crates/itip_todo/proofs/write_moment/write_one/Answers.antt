@@ -1,4 +1,3 @@
-use Rattle.std.proofs.Common.{◌∙◌}
 use Rattle.itip_moment.specs.Written.{moment_text}
 use Rattle.itip_todo.specs.Table.{name_text}
 use Rattle.itip_todo.specs.Written.{moment_params}
@@ -7,8 +6,8 @@ use Rattle.itip_todo.proofs.write_moment.write_one.Goals as goal
 
 pub returns : goal.returns
 returns c =
-    line_beside c.write_beside.result c.args.out.now.items c.write_beside.new.out.items (name_text c.args.property) c.as_slice.result.now
-    (moment_text c.args.moment.now) (moment_params c.args.moment.now)
-    (c.as_slice.ensures.value ∙ first_text c.new-params.result.items c.write_moment_params.new.out.items (moment_params c.args.moment.now)
-    c.new-params.ensures.items c.in_ok-write_moment_params.ensures)
-    c.write_beside.ensures
+    line_beside c.write_behind.result c.args.out.now.items c.write_behind.new.out.items (name_text c.args.property)
+    c.write_moment_params.new.out.items (moment_text c.args.moment.now) (moment_params c.args.moment.now)
+    (first_text c.in_ok-params.params.items c.write_moment_params.new.out.items (moment_params c.args.moment.now)
+    c.in_ok-params.ensures.items c.in_ok-write_moment_params.ensures)
+    c.write_behind.ensures

@@ -1,4 +1,4 @@
-use Rattle.std.proofs.Common.{◌∙◌, ◌++◌}
+use Rattle.std.proofs.Common.{◌++◌}
 use Rattle.itip_moment.specs.Written.{moment_text}
 use Rattle.itip_todo.specs.Table.{name_text}
 use Rattle.itip_todo.specs.Written.{moment_params, range_params}
@@ -8,9 +8,9 @@ use Rattle.itip_todo.proofs.write_moment.write_recurrence_id.Goals as goal
 
 pub returns : goal.returns
 returns c =
-    line_beside c.write_beside.result c.args.out.now.items c.write_beside.new.out.items (name_text name.RecurrenceId) c.as_slice.result.now
-    (moment_text c.args.moment.now) (moment_params c.args.moment.now ++ range_params c.args.range)
-    (c.as_slice.ensures.value ∙ both_text c.new-params.result.items c.write_moment_params.new.out.items c.write_range.new.out.items
-    (moment_params c.args.moment.now) (range_params c.args.range) c.new-params.ensures.items c.in_ok-write_moment_params.ensures
+    line_beside c.write_behind.result c.args.out.now.items c.write_behind.new.out.items (name_text name.RecurrenceId)
+    c.write_range.new.out.items (moment_text c.args.moment.now) (moment_params c.args.moment.now ++ range_params c.args.range)
+    (both_text c.in_ok-params.params.items c.write_moment_params.new.out.items c.write_range.new.out.items
+    (moment_params c.args.moment.now) (range_params c.args.range) c.in_ok-params.ensures.items c.in_ok-write_moment_params.ensures
     c.in_ok-write_range.ensures)
-    c.write_beside.ensures
+    c.write_behind.ensures

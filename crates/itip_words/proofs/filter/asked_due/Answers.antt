@@ -1,11 +1,20 @@
-use Rattle.std.proofs.Common.{rules}
+use Rattle.std.proofs.Common.{None, ap, refl, rules}
+use Rattle.std.specs.Option.{option_copied}
 use Rattle.std.proofs.lemmas.Int.{to_z-of_z}
 use mir.Val.{SFits}
 use mir.Syntax.{w32}
 use Rattle.itip_words.specs.Asking.{IsDueDay}
 use Rattle.itip_words.specs.Days.{numbered}
 use Rattle.itip_words.proofs.Asking.{due_day_is}
+use Rattle.itip_words.proofs.Finding.{finds_none, none_read}
+use Rattle.itip_words.proofs.Nothing.{never_due}
 use Rattle.itip_words.proofs.filter.asked_due.Goals as goal
+
+pub returns-in_err-day : goal.returns-in_err-day
+returns-in_err-day c =
+    finds_none _ c.from_residual.result c.from_residual.ensures
+    (none_read (IsDueDay (numbered c.args.today)) (option_copied c.args.word) c.in-Some.text.now (ap option_copied c.in-Some.is)
+    (never_due c.args.today None c.in-Some.text.now refl c.in_err-day.ensures))
 
 pub returns : goal.returns
 returns c =

@@ -1,4 +1,4 @@
-use Rattle.std.proofs.Common.{◌≡◌, ℕ, length, ap, subst, ◌∙◌, arith, refl, Err}
+use Rattle.std.proofs.Common.{◌≡◌, ◌<◌, ◌^◌, ℕ, length, ap, subst, ◌∙◌, arith, refl, rules, Err}
 use Rattle.itip_state.specs.Kept.{HasEachOnce}
 use Rattle.itip_world.specs.declared.event.Outcome.TheVariants.{Heard}
 use Rattle.itip_world.proofs.hearing.hear_batch.Goals as goal
@@ -25,6 +25,7 @@ returns-in-Ok-clause-now c =
       carried = c.in-Ok.ensures.carried;
       tick_is = c.in-Ok.ensures.tick;
       changed_is = count;
+      fits = subst (λ (t : ℕ). t < 2 ^ 64) c.in-Ok.ensures.tick (search rules);
       told = c.in-Ok.ensures.told;
     }
 

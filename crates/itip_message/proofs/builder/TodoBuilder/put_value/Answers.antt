@@ -11,7 +11,8 @@ returns-then-is_unbroken-clause-whole c = on_ok_always c.put.result (c.is_unbrok
 
 pub returns-then-is_unbroken-clause-refused : goal.returns-then-is_unbroken-clause-refused
 returns-then-is_unbroken-clause-refused c =
-    value_refused c.put.result c.args.front.now c.args.value.now (next_number c.args.self.now) c.put.ensures.refused
+    value_refused c.put.result c.args.front.now c.args.value.now (next_number c.args.self.now)
+    (c.is_unbroken.ensures.0 c.if-is_unbroken.true) c.put.ensures.refused
 
 pub returns-clause-refused : goal.returns-clause-refused
 returns-clause-refused c =

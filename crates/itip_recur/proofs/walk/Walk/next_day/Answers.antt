@@ -6,8 +6,16 @@ use Rattle.itip_recur.specs.Waits.{IsNone, IsFirst}
 use Rattle.itip_recur.proofs.Units.{unit_number-small}
 use Rattle.itip_recur.proofs.Walks.{IsNoDay-up_to}
 use Rattle.itip_recur.proofs.UnitWalks.{passes, finds, in_unit, none_left, closer, starts_before, stop_in_years, goes_on, IsUnitFrom-day}
-use Rattle.itip_recur.proofs.UnitWalks.{IsUnitFrom-number}
+use Rattle.itip_recur.proofs.UnitWalks.{IsUnitFrom-number, each_unit}
 use Rattle.itip_recur.proofs.walk.Walk.next_day.Goals as goal
+
+pub returns-then-has_each_unit : goal.returns-then-has_each_unit
+returns-then-has_each_unit c =
+    let walk = c.args.self.now in
+    let from_fits : FitsSigned w32 c.args.from = c.ranges.from in
+    let end_fits : FitsSigned w32 c.args.end = c.ranges.end in
+    let one = c.has_each_unit.ensures c.if-has_each_unit.true in
+    each_unit walk.rule.now walk.start.number c.args.from c.args.end c.first_from.result one (simp to_z-of_z at c.first_from.ensures)
 
 pub first_selected-requires-clause-before : goal.first_selected-requires-clause-before
 first_selected-requires-clause-before c =

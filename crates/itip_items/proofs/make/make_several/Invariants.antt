@@ -6,7 +6,7 @@ use Rattle.itip_items.specs.Given.{Adds, FirstOver, drafts_each}
 use Rattle.itip_items.specs.Needs.{Suits}
 use Rattle.itip_items.specs.declared.item.Item.{Item}
 use Rattle.itip_items.proofs.Adding.{drafts_among}
-use Rattle.itip_items.proofs.make.make_items.Given as goal
+use Rattle.itip_items.proofs.make.make_several.Given as goal
 
 abbrev pub invariant-loop-todo : goal.invariant-loop-todo
 invariant-loop-todo l =

@@ -1,0 +1,8 @@
+use Rattle.itip_app.proofs.filters.replace_status.Goals as goal
+
+pub returns : goal.returns
+returns g c = record {
+  done = c.write_replacement-replaced.result;
+  output = c.write_replacement-replaced.ensures;
+  status_is = c.status_of.ensures;
+}
