@@ -14,6 +14,19 @@ calendar_with sorted rest = sorted.calendar.items ++ calendar_lines rest
 abbrev pub todos_with : Sorted → List Placed → List Component
 todos_with sorted rest = sorted.closed.items ++ todos_within sorted.open rest
 
+-- the lines that are placed so are sorted, whatever follows them
+pub record IsSortedSo (placed : List Placed) (sorted : Sorted) : Type 0 where
+  pub calendar : (rest : List Placed) → calendar_with sorted rest ≡ calendar_lines (placed ++ rest)
+  pub todos : (rest : List Placed) → todos_with sorted rest ≡ todos (placed ++ rest)
+
+-- lines are placed, and sorted into these
+pub record IsSorted (framing : Result (List Placed) MessageRefusal) (calendar : List NumberedLine) (components : List Component)
+    : Type 0 where
+  pub placed : List Placed
+  pub framed : framing ≡ Ok placed
+  pub calendar_are : calendar ≡ calendar_lines placed
+  pub components_are : components ≡ todos placed
+
 -- sorting one more line left the rest to be sorted so
 pub record Continues (old new : Sorted) (placed : Placed) (rest : List Placed) : Type 0 where
   pub calendar : calendar_with new rest ≡ calendar_with old (placed ∷ rest)

@@ -8,10 +8,12 @@ ghost use Rattle.itip_message.specs.Refusals.{IfRefused, at_line};
 ghost use Rattle.itip_message.specs.declared.error.MessageCause.TheVariants as causes;
 ghost use Rattle.itip_message.specs.declared.error.ReadError.TheVariants as error;
 ghost use Rattle.itip_message.specs.Frame.{frame, place, innermost_first, with_front, opening, property, component_name};
+ghost use Rattle.itip_message.specs.Sorting.{IsSorted};
 ghost use Rattle.itip_items.specs.Needs.{is_begin, is_end};
 ghost use Rattle.itip_todo.specs.Participation.{same_text};
 
 use crate::error::{MessageCause, MessageRefusal, ReadError};
+use crate::sort::{Component, Sorted};
 use itip_lines::{NoMemory, NumberedLine, SeenLine, Text};
 use std::alloc::Global;
 use std::vec::IntoIter;
@@ -34,9 +36,9 @@ pub enum Placed<'a> {
 pub(crate) fn frame<'a>(
     alloc: Global,
     lines: Vec<NumberedLine<'a>>,
-) -> Result<Vec<Placed<'a>>, ReadError>
-    ensures found { IfOk result (λ placed. frame lines.entry.items ≡ Ok placed.items) }
-    ensures fault { IfErr result (λ e. IfRefused e (λ f. frame lines.entry.items ≡ Err f)) }
+) -> Result<(Vec<NumberedLine<'a>>, Vec<Component<'a>>), ReadError>
+    ensures found { IfOk result (λ sorted. IsSorted (frame lines.items) sorted.0.items sorted.1.items) }
+    ensures fault { IfErr result (λ e. IfRefused e (λ f. frame lines.items ≡ Err f)) }
 {
     let mut lines = lines.into_iter();
     let Some(first) = lines.next() else {
@@ -66,22 +68,22 @@ fn place_lines<'a>(
     alloc: Global,
     name: Text,
     lines: IntoIter<NumberedLine<'a>>,
-) -> Result<Vec<Placed<'a>>, ReadError>
-    ensures found { IfOk result (λ placed. place (name ∷ []) (into_iter_items lines.entry) ≡ Ok placed.items) }
-    ensures fault { IfErr result (λ e. IfRefused e (λ f. place (name ∷ []) (into_iter_items lines.entry) ≡ Err f)) }
+) -> Result<(Vec<NumberedLine<'a>>, Vec<Component<'a>>), ReadError>
+    ensures found { IfOk result (λ sorted. IsSorted (place (name ∷ []) (into_iter_items lines)) sorted.0.items sorted.1.items) }
+    ensures fault { IfErr result (λ e. IfRefused e (λ f. place (name ∷ []) (into_iter_items lines) ≡ Err f)) }
 {
     let mut inside = Vec::new(alloc);
     inside.push(name)?;
-    let mut placed = Vec::with_capacity(alloc, lines.len())?;
+    let mut sorted = Sorted::new(alloc);
     for line in lines {
         if let Some(place) = place_line(alloc, &mut inside, line)? {
-            placed.push(place)?;
+            sorted.put(alloc, place)?;
         }
     }
     if !inside.is_empty() {
         return Err(nested(None));
     }
-    Ok(placed)
+    Ok(sorted.close()?)
 }
 
 /// Places one line, where these components are open, the innermost last.
@@ -91,10 +93,10 @@ fn place_line<'a>(
     line: NumberedLine<'a>,
 ) -> Result<Option<Placed<'a>>, ReadError>
     ensures placed { IfOk result (λ placed. (lines : List NumberedLine)
-        → place (innermost_first inside.old.items) (line.entry ∷ lines)
+        → place (innermost_first inside.old.items) (line ∷ lines)
         ≡ with_front (option_to_list placed) (place (innermost_first inside.new.items) lines)) }
     ensures fault { IfErr result (λ e. IfRefused e (λ f. (lines : List NumberedLine)
-        → place (innermost_first inside.old.items) (line.entry ∷ lines) ≡ Err f)) }
+        → place (innermost_first inside.old.items) (line ∷ lines) ≡ Err f)) }
 {
     if inside.is_empty() {
         let number = line.number;
@@ -204,7 +206,7 @@ fn end(inside: &mut Vec<Text>, name: &Text) -> bool
 
 /// What a property inside these components adds.
 fn property<'a>(inside: &[Text], line: NumberedLine<'a>) -> Option<Placed<'a>>
-    ensures { option_to_list result ≡ property (innermost_first inside.now) line.entry }
+    ensures { option_to_list result ≡ property (innermost_first inside.now) line }
 {
     if inside.len() == 1 {
         return Some(Placed::CalendarLine(line));

@@ -31,7 +31,7 @@ impl<'a> Component<'a> {
     }
 
     fn with_line(self, line: NumberedLine<'a>) -> Result<Component<'a>, NoMemory>
-        ensures { IfOk result (λ component. component ≡ with_line self.entry line.entry) }
+        ensures { IfOk result (λ component. component ≡ with_line self line) }
     {
         let mut lines = self.lines.into_vec();
         lines.push(line)?;
@@ -53,52 +53,53 @@ pub(crate) struct Sorted<'a> {
     pub open: Option<Component<'a>>,
 }
 
-/// Sorts lines as they are placed.
-pub(crate) fn sort<'a>(
-    alloc: Global,
-    placed: Vec<Placed<'a>>,
-) -> Result<(Vec<NumberedLine<'a>>, Vec<Component<'a>>), NoMemory>
-    ensures { IfOk result (λ sorted. (sorted.0.items ≡ calendar_lines placed.entry.items) × (sorted.1.items ≡ todos placed.entry.items)) }
-{
-    let mut sorted = Sorted {
-        calendar: Vec::new(alloc),
-        closed: Vec::new(alloc),
-        open: None,
-    };
-    for place in placed {
-        put(alloc, &mut sorted, place)?;
-    }
-    let Sorted {
-        calendar,
-        mut closed,
-        open,
-    } = sorted;
-    if let Some(component) = open {
-        closed.push(component)?;
-    }
-    Ok((calendar, closed))
-}
+impl<'a> Sorted<'a> {
+    ghost use Rattle.itip_message.specs.Sorting.{IsSortedSo, calendar_with, todos_with, Continues};
 
-/// Sorts one line more.
-fn put<'a>(
-    alloc: Global,
-    sorted: &mut Sorted<'a>,
-    placed: Placed<'a>,
-) -> Result<(), NoMemory>
-    ensures { OnOk result ((rest : List Placed) → Continues sorted.old sorted.new placed.entry rest) }
-{
-    match placed {
-        Placed::CalendarLine(line) => sorted.calendar.push(line)?,
-        Placed::TodoBegins(number) => {
-            if let Some(component) = sorted.open.replace(Component::begun(alloc, number)) {
-                sorted.closed.push(component)?;
-            }
-        }
-        Placed::TodoLine(line) => {
-            if let Some(component) = sorted.open.take() {
-                sorted.open = Some(component.with_line(line)?);
-            }
+    /// No line.
+    pub(crate) fn new(alloc: Global) -> Sorted<'a>
+        ensures { IsSortedSo [] result }
+    {
+        Sorted {
+            calendar: Vec::new(alloc),
+            closed: Vec::new(alloc),
+            open: None,
         }
     }
-    Ok(())
+
+    /// Sorts one line more.
+    pub(crate) fn put(&mut self, alloc: Global, placed: Placed<'a>) -> Result<(), NoMemory>
+        ensures { OnOk result ((rest : List Placed) → Continues self.old self.new placed rest) }
+    {
+        match placed {
+            Placed::CalendarLine(line) => self.calendar.push(line)?,
+            Placed::TodoBegins(number) => {
+                if let Some(component) = self.open.replace(Component::begun(alloc, number)) {
+                    self.closed.push(component)?;
+                }
+            }
+            Placed::TodoLine(line) => {
+                if let Some(component) = self.open.take() {
+                    self.open = Some(component.with_line(line)?);
+                }
+            }
+        }
+        Ok(())
+    }
+
+    /// The properties directly in the VCALENDAR, and each VTODO.
+    pub(crate) fn close(self) -> Result<(Vec<NumberedLine<'a>>, Vec<Component<'a>>), NoMemory>
+        ensures calendar { IfOk result (λ sorted. sorted.0.items ≡ calendar_with self []) }
+        ensures todos { IfOk result (λ sorted. sorted.1.items ≡ todos_with self []) }
+    {
+        let Sorted {
+            calendar,
+            mut closed,
+            open,
+        } = self;
+        if let Some(component) = open {
+            closed.push(component)?;
+        }
+        Ok((calendar, closed))
+    }
 }
