@@ -27,7 +27,7 @@ abbrev pub AreBegun : (List ℕ → Option (List ℕ) → Type 0) → List (ℕ 
 AreBegun holds loads number [] = Unit {0}
 AreBegun holds loads number (desk ∷ desks) = Begins holds loads number desk × AreBegun holds loads (number + 1) desks
 
--- why a file begins no desk
+-- Why a file begins no desk. Where an allocation failed nothing is known of it.
 abbrev pub IsLoadFault : (List ℕ → Option (List ℕ) → Type 0) → List ℕ → LoadFault → Type 0
 IsLoadFault holds file load.Read = holds file None
 IsLoadFault holds file (load.Refused refusal) = (octets : List ℕ) × holds file (Some octets) × RefusesFile octets refusal
