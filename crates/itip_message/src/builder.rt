@@ -36,15 +36,16 @@ pub struct TodoBuilder {
 }
 
 impl Model for TodoBuilder {
-    ghost use Rattle.std.specs.Prelude.{List, IsTrue};
+    ghost use Rattle.std.specs.Prelude.{List, [], IsTrue};
     ghost use Rattle.itip_lines.specs.declared.line.NumberedLine.{NumberedLine};
 
     ghost Value = { List NumberedLine };
 
     ghost use Rattle.std.specs.Coded.{coded_list};
+    ghost use mir.Syntax.{static};
     ghost use Rattle.itip_lines.specs.contracts.line.NumberedLine as numbered;
 
-    ghost coded = { coded_list numbered.the_row.coded };
+    ghost coded = { coded_list (numbered.the_row (record { mir = static; lft = [] })).coded };
 
     ghost use Rattle.std.specs.List.{list_all};
     ghost use Rattle.itip_lines.specs.Reading.{plain_lines};

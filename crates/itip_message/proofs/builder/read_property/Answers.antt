@@ -5,6 +5,7 @@ use Rattle.itip_lines.specs.declared.line.NumberedLine.{NumberedLine}
 use Rattle.itip_message.specs.Building.{RefusesText, bad_line, not_one, of_component}
 use Rattle.itip_message.specs.Refusals.{IfRefused}
 use Rattle.itip_message.specs.declared.error.ReadError.{ReadError}
+use Rattle.itip_message.proofs.Building.{owned_property}
 use Rattle.itip_message.proofs.builder.read_property.Goals as goal
 
 pub returns-in-Err-Refused-clause-refused : goal.returns-in-Err-Refused-clause-refused
@@ -25,3 +26,9 @@ returns-else-is_property-clause-refused c =
     (of_component c.in-Some.only.number c.in-Some.only.line
     (subst (λ (ls : List NumberedLine). lines.Reads c.args.text.now ls) c.in-Some.ensures c.in-Ok.ensures.found)
     (sym c.is_property.ensures ∙ c.if-is_property.false))
+
+pub returns-then-is_property-clause-found : goal.returns-then-is_property-clause-found
+returns-then-is_property-clause-found c =
+    owned_property c.args.text.now c.in-Some.only c.in_ok-into_own.field-0
+    (subst (λ (ls : List NumberedLine). lines.Reads c.args.text.now ls) c.in-Some.ensures c.in-Ok.ensures.found)
+    (sym c.is_property.ensures ∙ c.if-is_property.true) c.in_ok-into_own.ensures
