@@ -11,9 +11,9 @@ use Rattle.itip_message.proofs.builder.read_property.Goals as goal
 pub returns-in-Err-Refused-clause-refused : goal.returns-in-Err-Refused-clause-refused
 returns-in-Err-Refused-clause-refused c =
     subst (λ (e : ReadError). IfRefused e (RefusesText c.args.text.now c.args.number)) (sym c.refused.ensures)
-    (bad_line c.in-Err-Refused.refusal
+    (rw c.in-Err-Refused.field-0-is (bad_line c.in-Err-Refused.refusal
     (subst (λ (e : LineError). lines.IfRefused e (lines.Refused c.args.text.now)) c.in-Err-Refused.field-0-is
-    c.in-Err-Refused.ensures.refused))
+    c.in-Err-Refused.ensures.refused)))
 
 pub returns-in_default-clause-refused : goal.returns-in_default-clause-refused
 returns-in_default-clause-refused c =
@@ -27,8 +27,8 @@ returns-else-is_property-clause-refused c =
     (subst (λ (ls : List NumberedLine). lines.Reads c.args.text.now ls) c.in-Some.ensures c.in-Ok.ensures.found)
     (sym c.is_property.ensures ∙ c.if-is_property.false))
 
-pub returns-then-is_property-clause-found : goal.returns-then-is_property-clause-found
-returns-then-is_property-clause-found c =
+pub returns-in_ok-into_own-clause-found : goal.returns-in_ok-into_own-clause-found
+returns-in_ok-into_own-clause-found c =
     owned_property c.args.text.now c.in-Some.only c.in_ok-into_own.field-0
     (subst (λ (ls : List NumberedLine). lines.Reads c.args.text.now ls) c.in-Some.ensures c.in-Ok.ensures.found)
     (sym c.is_property.ensures ∙ c.if-is_property.true) c.in_ok-into_own.ensures
