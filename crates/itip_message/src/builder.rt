@@ -305,11 +305,7 @@ fn is_quotable_octet(octet: u8) -> bool
 }
 
 /// The property that a text is, as the line of a number.
-fn read_property(
-    alloc: Global,
-    text: &[u8],
-    number: usize,
-) -> Result<SeenLine<'static>, ReadError>
+fn read_property(alloc: Global, text: &[u8], number: usize) -> Result<SeenLine<'static>, ReadError>
     ensures found { IfOk result (IsOneProperty text.now) }
     ensures refused { IfErr result (λ e. IfRefused e (RefusesText text.now number)) }
 {

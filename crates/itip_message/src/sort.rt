@@ -80,11 +80,7 @@ pub(crate) fn sort<'a>(
 }
 
 /// Sorts one line more.
-fn put<'a>(
-    alloc: Global,
-    sorted: &mut Sorted<'a>,
-    placed: Placed<'a>,
-) -> Result<(), NoMemory>
+fn put<'a>(alloc: Global, sorted: &mut Sorted<'a>, placed: Placed<'a>) -> Result<(), NoMemory>
     ensures { OnOk result ((rest : List Placed) → Continues sorted.old sorted.new placed.entry rest) }
 {
     match placed {

@@ -16,7 +16,11 @@ use itip_lines::SeenLine;
 use std::alloc::Global;
 
 /// Takes one more line.
-pub(crate) fn add_line(alloc: Global, draft: &mut Draft, line: &SeenLine<'_>) -> Result<(), CauseError>
+pub(crate) fn add_line(
+    alloc: Global,
+    draft: &mut Draft,
+    line: &SeenLine<'_>,
+) -> Result<(), CauseError>
     ensures taken { OnOk result (Takes (property_of line.now) line.now draft.old draft.new) }
     ensures cause { IfErr result (λ e. IfCause e (Refuses (property_of line.now) line.now draft.old)) }
 {

@@ -22,7 +22,11 @@ use std::collections::BTreeSet;
 
 const ATTENDEE_LIMIT: usize = 2_000;
 
-pub(crate) fn add_attendee(alloc: Global, draft: &mut Draft, line: &SeenLine<'_>) -> Result<(), CauseError>
+pub(crate) fn add_attendee(
+    alloc: Global,
+    draft: &mut Draft,
+    line: &SeenLine<'_>,
+) -> Result<(), CauseError>
     ensures taken { OnOk result (Takes name.Attendee line.now draft.old draft.new) }
     ensures cause { IfErr result (λ e. IfCause e (Refuses name.Attendee line.now draft.old)) }
 {
@@ -48,14 +52,22 @@ pub(crate) fn add_rule(draft: &mut Draft, line: &SeenLine<'_>) -> Result<(), Cau
     Ok(())
 }
 
-pub(crate) fn add_rdate(alloc: Global, draft: &mut Draft, line: &SeenLine<'_>) -> Result<(), CauseError>
+pub(crate) fn add_rdate(
+    alloc: Global,
+    draft: &mut Draft,
+    line: &SeenLine<'_>,
+) -> Result<(), CauseError>
     ensures taken { OnOk result (Takes name.RDate line.now draft.old draft.new) }
     ensures cause { IfErr result (λ e. IfCause e (Refuses name.RDate line.now draft.old)) }
 {
     put_moments(alloc, PropertyName::RDate, line, &mut draft.rdates)
 }
 
-pub(crate) fn add_exdate(alloc: Global, draft: &mut Draft, line: &SeenLine<'_>) -> Result<(), CauseError>
+pub(crate) fn add_exdate(
+    alloc: Global,
+    draft: &mut Draft,
+    line: &SeenLine<'_>,
+) -> Result<(), CauseError>
     ensures taken { OnOk result (Takes name.ExDate line.now draft.old draft.new) }
     ensures cause { IfErr result (λ e. IfCause e (Refuses name.ExDate line.now draft.old)) }
 {

@@ -29,7 +29,11 @@ fn check_free<T>(field: &Option<T>, property: PropertyName) -> Result<(), CauseE
     Ok(())
 }
 
-pub(crate) fn add_uid(alloc: Global, draft: &mut Draft, line: &SeenLine<'_>) -> Result<(), CauseError>
+pub(crate) fn add_uid(
+    alloc: Global,
+    draft: &mut Draft,
+    line: &SeenLine<'_>,
+) -> Result<(), CauseError>
     ensures taken { OnOk result (Takes name.Uid line.now draft.old draft.new) }
     ensures cause { IfErr result (λ e. IfCause e (Refuses name.Uid line.now draft.old)) }
 {
@@ -65,7 +69,11 @@ pub(crate) fn add_base(draft: &mut Draft, line: &SeenLine<'_>) -> Result<(), Cau
     Ok(())
 }
 
-pub(crate) fn add_rid(alloc: Global, draft: &mut Draft, line: &SeenLine<'_>) -> Result<(), CauseError>
+pub(crate) fn add_rid(
+    alloc: Global,
+    draft: &mut Draft,
+    line: &SeenLine<'_>,
+) -> Result<(), CauseError>
     ensures taken { OnOk result (Takes name.RecurrenceId line.now draft.old draft.new) }
     ensures cause { IfErr result (λ e. IfCause e (Refuses name.RecurrenceId line.now draft.old)) }
 {
@@ -76,7 +84,11 @@ pub(crate) fn add_rid(alloc: Global, draft: &mut Draft, line: &SeenLine<'_>) -> 
     Ok(())
 }
 
-pub(crate) fn add_start(alloc: Global, draft: &mut Draft, line: &SeenLine<'_>) -> Result<(), CauseError>
+pub(crate) fn add_start(
+    alloc: Global,
+    draft: &mut Draft,
+    line: &SeenLine<'_>,
+) -> Result<(), CauseError>
     ensures taken { OnOk result (Takes name.DtStart line.now draft.old draft.new) }
     ensures cause { IfErr result (λ e. IfCause e (Refuses name.DtStart line.now draft.old)) }
 {
@@ -85,7 +97,11 @@ pub(crate) fn add_start(alloc: Global, draft: &mut Draft, line: &SeenLine<'_>) -
     Ok(())
 }
 
-pub(crate) fn add_due(alloc: Global, draft: &mut Draft, line: &SeenLine<'_>) -> Result<(), CauseError>
+pub(crate) fn add_due(
+    alloc: Global,
+    draft: &mut Draft,
+    line: &SeenLine<'_>,
+) -> Result<(), CauseError>
     ensures taken { OnOk result (Takes name.Due line.now draft.old draft.new) }
     ensures cause { IfErr result (λ e. IfCause e (Refuses name.Due line.now draft.old)) }
 {
@@ -123,7 +139,11 @@ pub(crate) fn add_priority(draft: &mut Draft, line: &SeenLine<'_>) -> Result<(),
     Ok(())
 }
 
-pub(crate) fn add_summary(alloc: Global, draft: &mut Draft, line: &SeenLine<'_>) -> Result<(), CauseError>
+pub(crate) fn add_summary(
+    alloc: Global,
+    draft: &mut Draft,
+    line: &SeenLine<'_>,
+) -> Result<(), CauseError>
     ensures taken { OnOk result (Takes name.Summary line.now draft.old draft.new) }
     ensures cause { IfErr result (λ e. IfCause e (Refuses name.Summary line.now draft.old)) }
 {
@@ -132,7 +152,11 @@ pub(crate) fn add_summary(alloc: Global, draft: &mut Draft, line: &SeenLine<'_>)
     Ok(())
 }
 
-pub(crate) fn add_organizer(alloc: Global, draft: &mut Draft, line: &SeenLine<'_>) -> Result<(), CauseError>
+pub(crate) fn add_organizer(
+    alloc: Global,
+    draft: &mut Draft,
+    line: &SeenLine<'_>,
+) -> Result<(), CauseError>
     ensures taken { OnOk result (Takes name.Organizer line.now draft.old draft.new) }
     ensures cause { IfErr result (λ e. IfCause e (Refuses name.Organizer line.now draft.old)) }
 {

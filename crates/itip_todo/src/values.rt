@@ -44,7 +44,11 @@ pub(crate) fn stamp_of(line: &SeenLine<'_>) -> Result<Stamp, CauseError>
     }
 }
 
-pub(crate) fn number_of(property: PropertyName, line: &SeenLine<'_>, limit: u32) -> Result<u32, CauseError>
+pub(crate) fn number_of(
+    property: PropertyName,
+    line: &SeenLine<'_>,
+    limit: u32,
+) -> Result<u32, CauseError>
     ensures value { IfOk result (IsNumberUpTo limit line.now.value) }
     ensures small { IfOk result (λ n. n ≤ limit) }
     ensures cause { IfErr result (λ e. IfCause e (λ c.
