@@ -1,0 +1,146 @@
+-- What an office has shown, from what its threads did.
+use Rattle.std.proofs.Common.{◌≡◌, ℕ, List, [], ◌∷◌, ◌++◌, All, inl, inr, sym, ap, subst, ◌∙◌, ◌⊎◌, Option, Some, None}
+use Rattle.std.specs.Prelude.{IsPermutation}
+use Rattle.std.specs.List.{Contains, AllZip, flat_map}
+use Rattle.std.proofs.lemmas.List.Elements.{All-nil, All-cons, All-head, All-tail, All-append, All-weaker, All-contains, All-contains_itself}
+use Rattle.std.proofs.lemmas.List.Elements.{Contains-append_left, Contains-append_right}
+use Rattle.std.proofs.lemmas.List.Sorted.{All-permutation, Contains-permutation}
+use Rattle.logbook.specs.Pages.{Book}
+use Rattle.itip_items.specs.declared.item.Item.{Item}
+use Rattle.itip_state.proofs.Members.{cons_first, cons_later}
+use Rattle.itip_desk.specs.Desk.{Shown}
+use Rattle.itip_running.specs.History.{Group, batches_of}
+use Rattle.itip_running.specs.Ends.{published}
+use Rattle.itip_running.specs.declared.keeper.Keeper.{Keeper}
+use Rattle.itip_office.specs.declared.job.Work.{Work}
+use Rattle.itip_office.specs.declared.job.Work.TheVariants.{Text, Carry, Look}
+use Rattle.itip_office.specs.declared.outcome.Outcome.{Outcome}
+use Rattle.itip_office.specs.Texts.{desk_of}
+use Rattle.itip_office.specs.Answers.{Answer, AnswersAlone, AnswersMerged}
+use Rattle.itip_office.specs.Seen.{Source, IsOneOf, LooksAt, IsAnswered, IsBrought}
+use Rattle.itip_office.specs.Merged.{AreMerged, IsMerged, GrewShown, GrewTexts}
+use Rattle.itip_office.specs.Published.{Publication, shown_of, IsBeginning, ArePublished, AreShown, IsPublication, IsAmong, HasShown}
+use Rattle.itip_office.specs.Pairs.{IsOfPair, IsUnpublished, IsFresh, HasKept}
+use Rattle.itip_office.proofs.Taking.{has_merged}
+use Rattle.itip_office.proofs.Reports.{IsFor}
+use Rattle.itip_office.proofs.Seeing.{looks_wider, published_wider}
+
+-- a keeper that had published nothing
+published_of : (desk : ℕ) (IsSeen : ℕ → List (List Item) → Type 0) (old new : Option Keeper) (answers : List Answer) → IsUnpublished old →
+    GrewShown desk IsSeen old new answers → ArePublished desk IsSeen answers (shown_of new)
+published_of desk IsSeen None None answers none grew = grew
+published_of desk IsSeen None (Some n) answers none grew = absurd grew
+published_of desk IsSeen (Some o) None answers none grew = absurd grew
+published_of desk IsSeen (Some o) (Some n) answers none grew =
+    let all : grew.batches ≡ published n = sym (grew.whole ∙ ap (λ (l : List Group). batches_of l ++ grew.batches) none) in (
+      subst (λ (l : List (List Item)). AreMerged desk answers l) all grew.merged,
+      subst (λ (l : List (List Item)). AllZip (λ (a : Answer) (b : List Item). IsBrought IsSeen a.0.work b) answers l) all grew.brought,
+    )
+
+of_pair : (pair : Option Book) (desk : ℕ) (IsSeen : ℕ → List (List Item) → Type 0) (old new : Option Keeper) (answers : List Answer) →
+    IsOfPair pair old → GrewShown desk IsSeen old new answers → IsOfPair pair new
+of_pair pair desk IsSeen None None answers is grew = tt
+of_pair pair desk IsSeen None (Some n) answers is grew = absurd grew
+of_pair pair desk IsSeen (Some o) None answers is grew = tt
+of_pair pair desk IsSeen (Some o) (Some n) answers is grew = grew.pair ∙ is
+
+pub has_kept : (pair : Option Book) (desk : ℕ) (IsSeen : ℕ → List (List Item) → Type 0) (texts ended : Shown) (old new : Option Keeper)
+    (answers : List Answer) → IsFresh pair texts old
+    → GrewTexts desk texts ended answers → GrewShown desk IsSeen old new answers → HasKept pair IsSeen desk answers ended new
+has_kept pair desk IsSeen texts ended old new answers fresh grew shown = record {
+  merged = has_merged desk texts ended answers fresh.empty grew;
+  published = published_of desk IsSeen old new answers fresh.unpublished shown;
+  of_pair = of_pair pair desk IsSeen old new answers fresh.of_pair shown;
+}
+
+-- what sources have was seen, where each is a beginning of what was published
+seen_in : (ps : List Publication) (sources : List Source) → All (λ (s : Source). IsBeginning ps s.0 s.1) sources → (desk : ℕ)
+    (seen : List (List Item)) → IsOneOf sources desk seen → IsBeginning ps desk seen
+seen_in ps sources all desk seen h = All-contains (λ (s : Source). IsBeginning ps s.0 s.1) sources (desk, seen) all h
+
+pub are_shown : (desks : ℕ) (alone : List Answer) (looked carried : List Source) (ps : List Publication) →
+    All (λ (s : Source). IsBeginning ps s.0 s.1) looked
+    → All (λ (s : Source). IsBeginning ps s.0 s.1) carried → All (IsAnswered desks (IsOneOf looked)) alone →
+    All (λ (p : Publication). ArePublished p.desk (IsOneOf carried) p.answers p.batches) ps
+    → AreShown desks alone ps
+are_shown desks alone looked carried ps all_looked all_carried answered each = record {
+  looks = All-weaker (IsAnswered desks (IsOneOf looked)) (λ (a : Answer). LooksAt desks (IsBeginning ps) a.0.work a.1)
+      (λ a is. looks_wider (IsOneOf looked) (IsBeginning ps) (seen_in ps looked all_looked) desks a.0.work a.1 is.looks) alone answered;
+  each = All-weaker (λ (p : Publication). ArePublished p.desk (IsOneOf carried) p.answers p.batches)
+      (λ (p : Publication). ArePublished p.desk (IsBeginning ps) p.answers p.batches)
+      (λ p are. published_wider (IsOneOf carried) (IsBeginning ps) (seen_in ps carried all_carried) p.desk p.answers p.batches are) ps each;
+}
+
+abbrev pub answers_of : Publication → List Answer
+answers_of p = p.answers
+
+merged_looks : (desks desk : ℕ) (IsSeen : ℕ → List (List Item) → Type 0) (batch : List Item) (work : Work) (outcome : Outcome) →
+    AnswersMerged desk batch work outcome → LooksAt desks IsSeen work outcome
+merged_looks desks desk IsSeen batch (Text at bytes) outcome merged = tt
+merged_looks desks desk IsSeen batch (Carry from to) outcome merged = tt
+merged_looks desks desk IsSeen batch (Look at window) outcome merged = absurd merged
+
+-- what keepers published, for so many desks
+module _ (desks : ℕ) (ps : List Publication) where
+  abbrev Looks : Answer → Type 0
+  Looks a = LooksAt desks (IsBeginning ps) a.0.work a.1
+
+  abbrev IsReported : Answer → Type 0
+  IsReported a = AnswersAlone desks a.0.work a.1 ⊎ IsAmong ps a
+
+  looks_of : (rest : List Publication) → All (λ (p : Publication). All (IsMerged p.desk) p.answers) rest →
+      All Looks (flat_map answers_of rest)
+  looks_of [] merged = All-nil Looks
+  looks_of (p ∷ rest) merged =
+      All-append Looks p.answers (flat_map answers_of rest)
+      (All-weaker (IsMerged p.desk) Looks (λ a m. merged_looks desks p.desk (IsBeginning ps) m.0 a.0.work a.1 m.1) p.answers
+      (All-head (λ (q : Publication). All (IsMerged q.desk) q.answers) p rest merged))
+      (looks_of rest (All-tail (λ (q : Publication). All (IsMerged q.desk) q.answers) p rest merged))
+
+  among_of : (rest : List Publication) → ((p : Publication) → Contains rest p → Contains ps p) → All IsReported (flat_map answers_of rest)
+  among_of [] within = All-nil IsReported
+  among_of (p ∷ rest) within =
+      All-append IsReported p.answers (flat_map answers_of rest)
+      (All-weaker (Contains p.answers) IsReported
+      (λ a h. inr (record { publication = p; among = within p (cons_first p rest); there = h })) p.answers (All-contains_itself p.answers))
+      (among_of rest (λ q h. within q (cons_later p rest q h)))
+
+  each_of : (all : List Answer) (rest : List Publication) → ((a : Answer) → Contains (flat_map answers_of rest) a → Contains all a) →
+      All (λ (p : Publication). ArePublished p.desk (IsBeginning ps) p.answers p.batches) rest
+      → All (λ (p : Publication). All (IsFor desks p.desk) p.answers) rest → All (IsPublication all ps) rest
+  each_of all [] within are own = All-nil (IsPublication all ps)
+  each_of all (p ∷ rest) within are own =
+      All-cons (IsPublication all ps) p rest
+      (record {
+        among = λ a h. within a (Contains-append_left p.answers (flat_map answers_of rest) a h);
+        for_desk = All-weaker (IsFor desks p.desk) (λ (a : Answer). desk_of a.0.work ≡ p.desk) (λ a is. is.0) p.answers
+            (All-head (λ (q : Publication). All (IsFor desks q.desk) q.answers) p rest own);
+        batches = All-head (λ (q : Publication). ArePublished q.desk (IsBeginning ps) q.answers q.batches) p rest are;
+      })
+      (each_of all rest (λ a h. within a (Contains-append_right p.answers (flat_map answers_of rest) a h))
+      (All-tail (λ (q : Publication). ArePublished q.desk (IsBeginning ps) q.answers q.batches) p rest are)
+      (All-tail (λ (q : Publication). All (IsFor desks q.desk) q.answers) p rest own))
+
+  pub has_shown : (alone : List Answer) → All (λ (a : Answer). AnswersAlone desks a.0.work a.1) alone → AreShown desks alone ps →
+      All (λ (p : Publication). All (IsFor desks p.desk) p.answers) ps
+      → All (λ (p : Publication). All (IsMerged p.desk) p.answers) ps → HasShown desks (alone ++ flat_map answers_of ps)
+  has_shown alone are shown own merged = record {
+    publications = ps;
+    each = each_of (alone ++ flat_map answers_of ps) ps (Contains-append_right alone (flat_map answers_of ps)) shown.each own;
+    merged = All-append IsReported alone (flat_map answers_of ps)
+        (All-weaker (λ (a : Answer). AnswersAlone desks a.0.work a.1) IsReported (λ a h. inl h) alone are) (among_of ps (λ p h. h));
+    looks = All-append Looks alone (flat_map answers_of ps) shown.looks (looks_of ps merged);
+  }
+
+pub shown_permuted : (desks : ℕ) (given answers : List Answer) → IsPermutation given answers → HasShown desks given → HasShown desks answers
+shown_permuted desks given answers order shown = record {
+  publications = shown.publications;
+  each = All-weaker (IsPublication given shown.publications) (IsPublication answers shown.publications) (λ p is. record {
+    among = λ a h. Contains-permutation given answers a order (is.among a h);
+    for_desk = is.for_desk;
+    batches = is.batches;
+  }) shown.publications shown.each;
+  merged = All-permutation (λ (a : Answer). AnswersAlone desks a.0.work a.1 ⊎ IsAmong shown.publications a) given answers order
+      shown.merged;
+  looks = All-permutation (λ (a : Answer). LooksAt desks (IsBeginning shown.publications) a.0.work a.1) given answers order shown.looks;
+}

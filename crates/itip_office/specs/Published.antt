@@ -1,0 +1,67 @@
+-- What the running desks of an office published, and that looks and carries have seen no else (our own rule).
+use Rattle.std.specs.Prelude.{◌≡◌, ◌⊎◌, ℕ, List, Option, Some, None, All}
+use Rattle.std.specs.List.{Contains, AllZip}
+use mathlib.Core.List.{IsPrefix}
+use Rattle.itip_items.specs.declared.item.Item.{Item}
+use Rattle.itip_running.specs.Ends.{published}
+use Rattle.itip_running.specs.declared.keeper.Keeper.{Keeper}
+use Rattle.itip_office.specs.Texts.{desk_of, IsText}
+use Rattle.itip_office.specs.Answers.{Answer, AnswersAlone}
+use Rattle.itip_office.specs.Seen.{LooksAt, IsBrought}
+use Rattle.itip_office.specs.Merged.{AreMerged}
+
+-- What one keeper did: the jobs that it merged, in order; and the batches that it published, each by itself, where it has a running desk.
+pub record Publication : Type 0 where
+  pub desk : ℕ
+  pub answers : List Answer
+  pub batches : Option (List (List Item))
+
+abbrev pub shown_of : Option Keeper → Option (List (List Item))
+shown_of None = None
+shown_of (Some keeper) = Some (published keeper)
+
+abbrev pub publication_of : ℕ → List Answer → Option Keeper → Publication
+publication_of desk answers shown = record { desk = desk; answers = answers; batches = shown_of shown }
+
+-- The batches are a beginning of what a running desk of this number published. So they are all up to the end of some publish, as what a
+-- pass had seen always is.
+pub record IsBeginning (publications : List Publication) (desk : ℕ) (seen : List (List Item)) : Type 0 where
+  pub publication : Publication
+  pub among : Contains publications publication
+  pub of_desk : publication.desk ≡ desk
+  pub batches : List (List Item)
+  pub are : publication.batches ≡ Some batches
+  pub begins : IsPrefix seen batches
+
+-- These are the batches of the jobs, one for each, in order, and those of carries are of what was seen. Where nothing is published the jobs
+-- are texts.
+abbrev pub ArePublished : ℕ → (ℕ → List (List Item) → Type 0) → List Answer → Option (List (List Item)) → Type 0
+ArePublished desk IsSeen answers None = All (λ (a : Answer). IsText a.0.work) answers
+ArePublished desk IsSeen answers (Some batches) =
+    AreMerged desk answers batches × AllZip (λ (a : Answer) (b : List Item). IsBrought IsSeen a.0.work b) answers batches
+
+-- Each look at a desk shows a beginning of what was published of it, and so does the batch of each carry that was published.
+pub record AreShown (desks : ℕ) (alone : List Answer) (publications : List Publication) : Type 0 where
+  pub looks : All (λ (a : Answer). LooksAt desks (IsBeginning publications) a.0.work a.1) alone
+  pub each : All (λ (p : Publication). ArePublished p.desk (IsBeginning publications) p.answers p.batches) publications
+
+-- The keeper merged some of these jobs, all for its desk, and published their batches.
+pub record IsPublication (answers : List Answer) (publications : List Publication) (p : Publication) : Type 0 where
+  pub among : (a : Answer) → Contains p.answers a → Contains answers a
+  pub for_desk : All (λ (a : Answer). desk_of a.0.work ≡ p.desk) p.answers
+  pub batches : ArePublished p.desk (IsBeginning publications) p.answers p.batches
+
+-- One of the keepers merged the job.
+pub record IsAmong (publications : List Publication) (a : Answer) : Type 0 where
+  pub publication : Publication
+  pub among : Contains publications publication
+  pub there : Contains publication.answers a
+
+-- Each job was answered alone or merged by a keeper. Each look shows a beginning of what a running desk of its number published; the batches
+-- there are those of the jobs that were merged, and the batch of each carry is all that is kept of a beginning of what a running desk published
+-- where it comes from.
+pub record HasShown (desks : ℕ) (answers : List Answer) : Type 0 where
+  pub publications : List Publication
+  pub each : All (IsPublication answers publications) publications
+  pub merged : All (λ (a : Answer). AnswersAlone desks a.0.work a.1 ⊎ IsAmong publications a) answers
+  pub looks : All (λ (a : Answer). LooksAt desks (IsBeginning publications) a.0.work a.1) answers
