@@ -1,7 +1,10 @@
 -- What an office has shown, from what its threads did.
-use Rattle.std.proofs.Common.{◌≡◌, ℕ, List, [], ◌∷◌, ◌++◌, All, inl, inr, sym, ap, subst, ◌∙◌, ◌⊎◌, Option, Some, None}
-use Rattle.std.specs.Prelude.{IsPermutation}
+use Rattle.std.proofs.Common.{◌≡◌, ℕ, ◌<◌, List, [], ◌∷◌, ◌++◌, length, map, get_or, All, inl, inr, refl, sym, ap, subst, ◌∙◌, ◌⊎◌, arith}
+use Rattle.std.proofs.Common.{Option, Some, None, Result, Ok, Err}
+use Rattle.std.specs.Prelude.{IsPermutation, IfOk, option_map}
 use Rattle.std.specs.List.{Contains, AllZip, flat_map}
+use mathlib.Core.List.{IsPrefix}
+use Rattle.std.proofs.lemmas.Option.{slice_get-map, slice_get_read}
 use Rattle.std.proofs.lemmas.List.Elements.{All-nil, All-cons, All-head, All-tail, All-append, All-weaker, All-contains, All-contains_itself}
 use Rattle.std.proofs.lemmas.List.Elements.{Contains-append_left, Contains-append_right}
 use Rattle.std.proofs.lemmas.List.Sorted.{All-permutation, Contains-permutation}
@@ -51,6 +54,19 @@ has_kept pair desk IsSeen texts ended old new answers fresh grew shown = record 
   merged = has_merged desk texts ended answers fresh.empty grew;
   published = published_of desk IsSeen old new answers fresh.unpublished shown;
   of_pair = of_pair pair desk IsSeen old new answers fresh.of_pair shown;
+}
+
+-- what the keeper at a place has published all of
+pub beginning_at : {X : Type 0} (f : X → Publication) (xs : List X) (desk : ℕ) (x : X) → desk < length xs → x ≡ get_or xs desk x →
+    (seen batches : List (List Item)) → (f x).desk ≡ desk
+    → (f x).batches ≡ Some batches → IsPrefix seen batches → IsBeginning (map f xs) desk seen
+beginning_at f xs desk x low at seen batches of_desk are begins = record {
+  publication = f x;
+  at = slice_get-map f xs desk ∙ ap (option_map f) (slice_get_read xs (length xs) desk x refl low at);
+  of_desk = of_desk;
+  batches = batches;
+  are = are;
+  begins = begins;
 }
 
 -- what sources have was seen, where each is a beginning of what was published

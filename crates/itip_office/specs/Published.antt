@@ -1,5 +1,5 @@
--- What the running desks of an office published, and that looks and carries have seen no else (our own rule).
-use Rattle.std.specs.Prelude.{◌≡◌, ◌⊎◌, ℕ, List, Option, Some, None, All}
+-- What the running desks of an office published, and what looks and carries have seen of it (our own rule).
+use Rattle.std.specs.Prelude.{◌≡◌, ◌⊎◌, ℕ, List, Option, Some, None, All, slice_get}
 use Rattle.std.specs.List.{Contains, AllZip}
 use mathlib.Core.List.{IsPrefix}
 use Rattle.itip_items.specs.declared.item.Item.{Item}
@@ -23,11 +23,11 @@ shown_of (Some keeper) = Some (published keeper)
 abbrev pub publication_of : ℕ → List Answer → Option Keeper → Publication
 publication_of desk answers shown = record { desk = desk; answers = answers; batches = shown_of shown }
 
--- The batches are a beginning of what a running desk of this number published. So they are all up to the end of some publish, as what a
--- pass had seen always is.
+-- The batches are a beginning of what the running desk of this number published, of several in the order of desks. So they are all up to the
+-- end of some publish, as what a pass had seen always is.
 pub record IsBeginning (publications : List Publication) (desk : ℕ) (seen : List (List Item)) : Type 0 where
   pub publication : Publication
-  pub among : Contains publications publication
+  pub at : slice_get publications desk ≡ Some publication
   pub of_desk : publication.desk ≡ desk
   pub batches : List (List Item)
   pub are : publication.batches ≡ Some batches
@@ -57,9 +57,9 @@ pub record IsAmong (publications : List Publication) (a : Answer) : Type 0 where
   pub among : Contains publications publication
   pub there : Contains publication.answers a
 
--- Each job was answered alone or merged by a keeper. Each look shows a beginning of what a running desk of its number published; the batches
--- there are those of the jobs that were merged, and the batch of each carry is all that is kept of a beginning of what a running desk published
--- where it comes from.
+-- Each job was answered alone or merged by a keeper. Each look shows a beginning of what its running desk published. What a running desk
+-- published are the batches of the jobs that were merged there, and the batch of each carry is all that is kept of a beginning of what the
+-- running desk published that it comes from.
 pub record HasShown (desks : ℕ) (answers : List Answer) : Type 0 where
   pub publications : List Publication
   pub each : All (IsPublication answers publications) publications
