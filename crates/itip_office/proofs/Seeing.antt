@@ -89,29 +89,26 @@ module _ (sources more : List Source) where
   pub one_of_right : (desk : ℕ) (seen : List (List Item)) → IsOneOf more desk seen → IsOneOf (sources ++ more) desk seen
   one_of_right desk seen h = Contains-append_right sources more (desk, seen) h
 
-  answered_left : (desks : ℕ) (a : Answer) → IsAnswered desks (IsOneOf sources) a → IsAnswered desks (IsOneOf (sources ++ more)) a
-  answered_left = answered_wider (IsOneOf sources) (IsOneOf (sources ++ more)) one_of_left
+-- what holds of each in two lists, by what was seen, holds of each in both by all that was seen
+module _ {X : Type 0} (Holds : (ℕ → List (List Item) → Type 0) → X → Type 0)
+    (wider : (P Q : ℕ → List (List Item) → Type 0) → ((desk : ℕ) (seen : List (List Item)) → P desk seen → Q desk seen)
+    → (x : X) → Holds P x → Holds Q x) where
+  pub all_together : (sources more all : List Source) (xs ys whole : List X) → all ≡ sources ++ more → whole ≡ xs ++ ys →
+      All (Holds (IsOneOf sources)) xs
+      → All (Holds (IsOneOf more)) ys → All (Holds (IsOneOf all)) whole
+  all_together sources more all xs ys whole all_are whole_are are others_are =
+      let P : ℕ → List (List Item) → Type 0 = IsOneOf (sources ++ more) in
+      subst (λ (l : List Source). All (Holds (IsOneOf l)) whole) (sym all_are)
+      (subst (λ (l : List X). All (Holds P) l) (sym whole_are)
+      (All-append (Holds P) xs ys
+      (All-weaker (Holds (IsOneOf sources)) (Holds P) (wider (IsOneOf sources) P (one_of_left sources more)) xs are)
+      (All-weaker (Holds (IsOneOf more)) (Holds P) (wider (IsOneOf more) P (one_of_right sources more)) ys others_are)))
 
-  answered_right : (desks : ℕ) (a : Answer) → IsAnswered desks (IsOneOf more) a → IsAnswered desks (IsOneOf (sources ++ more)) a
-  answered_right = answered_wider (IsOneOf more) (IsOneOf (sources ++ more)) one_of_right
-
-  -- the answers of two workers
-  pub answered_both : (desks : ℕ) (answers others : List Answer) → All (IsAnswered desks (IsOneOf sources)) answers →
-      All (IsAnswered desks (IsOneOf more)) others → All (IsAnswered desks (IsOneOf (sources ++ more))) (answers ++ others)
-  answered_both desks answers others are others_are =
-      let Q : Answer → Type 0 = IsAnswered desks (IsOneOf (sources ++ more)) in
-      All-append Q answers others (All-weaker (IsAnswered desks (IsOneOf sources)) Q (answered_left desks) answers are)
-      (All-weaker (IsAnswered desks (IsOneOf more)) Q (answered_right desks) others others_are)
-
--- the same where the lists are given by equations
 pub answered_together : (desks : ℕ) (sources more all : List Source) (answers others whole : List Answer) → all ≡ sources ++ more →
     whole ≡ answers ++ others
     → All (IsAnswered desks (IsOneOf sources)) answers → All (IsAnswered desks (IsOneOf more)) others →
     All (IsAnswered desks (IsOneOf all)) whole
-answered_together desks sources more all answers others whole all_are whole_are are others_are =
-    subst (λ (l : List Source). All (IsAnswered desks (IsOneOf l)) whole) (sym all_are)
-    (subst (λ (l : List Answer). All (IsAnswered desks (IsOneOf (sources ++ more))) l) (sym whole_are)
-    (answered_both sources more desks answers others are others_are))
+answered_together desks = all_together (IsAnswered desks) (λ P Q w a is. answered_wider P Q w desks a is)
 
 -- one more job that was merged, and what its carry had seen
 pub grew_shown_seen : (desk : ℕ) (sources more all : List Source) (old mid new : Option Keeper) (answers whole : List Answer) (answer : Answer)

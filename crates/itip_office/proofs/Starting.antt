@@ -7,8 +7,14 @@ use Rattle.itip_office.specs.Pairs.{pair_of, pair_at, AreNumbered}
 
 pub numbered_more : {X : Type 0} (number : X → ℕ) (n : ℕ) (xs : List X) (x : X) → AreNumbered number n xs → number x ≡ n + length xs →
     AreNumbered number n (xs ++ x ∷ [])
-numbered_more number n [] x are is = (let e : number x ≡ n = omega (arith, is) in e, tt)
+numbered_more number n [] x are is = (omega (arith, is), tt)
 numbered_more number n (y ∷ xs) x are is = (are.0, numbered_more number (n + 1) xs x are.1 (omega (arith, is)))
+
+one_more : (n k : ℕ) → n + 1 + k ≡ n + suc k
+one_more n k = omega arith
+
+from_none : (k : ℕ) → 0 + k ≡ k
+from_none k = omega arith
 
 -- the pair at the number of each is its own
 module _ {X : Type 0} (number : X → ℕ) (shown : X → Option Keeper) (Has : Option Book → X → Type 0) where
@@ -17,14 +23,15 @@ module _ {X : Type 0} (number : X → ℕ) (shown : X → Option Keeper) (Has : 
       → All (λ (x : X). Has (pair_of (shown x)) x) xs → All (λ (x : X). Has (pair (number x)) x) xs
   own_from pair n [] are same all = All-nil (λ (x : X). Has (pair (number x)) x)
   own_from pair n (x ∷ xs) are same all =
+      let at : number x ≡ n + 0 = omega (arith, are.0) in
       let first : pair_of (shown x) ≡ pair (number x) =
-      sym (ap pair (let e : number x ≡ n + 0 = are.0 ∙ omega arith in e) ∙ same 0) in
+      sym (ap pair at ∙ same 0) in
       All-cons (λ (y : X). Has (pair (number y)) y) x xs
       (subst (λ (p : Option Book). Has p x) first (All-head (λ (y : X). Has (pair_of (shown y)) y) x xs all))
-      (own_from pair (n + 1) xs are.1 (λ k. ap pair (let e : n + 1 + k ≡ n + suc k = omega arith in e) ∙ same (suc k))
+      (own_from pair (n + 1) xs are.1 (λ k. ap pair (one_more n k) ∙ same (suc k))
       (All-tail (λ (y : X). Has (pair_of (shown y)) y) x xs all))
 
   pub own_pairs : (xs : List X) → AreNumbered number 0 xs → All (λ (x : X). Has (pair_of (shown x)) x) xs →
       All (λ (x : X). Has (pair_at (map shown xs) (number x)) x) xs
   own_pairs xs are all =
-      own_from (pair_at (map shown xs)) 0 xs are (λ k. ap (pair_at (map shown xs)) (let e : 0 + k ≡ k = omega arith in e)) all
+      own_from (pair_at (map shown xs)) 0 xs are (λ k. ap (pair_at (map shown xs)) (from_none k)) all

@@ -68,8 +68,10 @@ pub(crate) fn push_some<N: Pairs>(
     ensures { OnOk result (all.new.items ≡ all.old.items ++ option_to_list one) }
 {
     match one {
-        Some(one) => all.push(one)?,
-        None => {}
+        Some(one) => {
+            all.push(one)?;
+            Ok(())
+        }
+        None => Ok(()),
     }
-    Ok(())
 }
