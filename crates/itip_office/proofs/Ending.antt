@@ -26,8 +26,8 @@ tells_permuted desks given answers set order tells = record {
 
 pub has_ended : (desks : ℕ) (jobs sorted : List Job) (given : List Answer) (replies : List (ℕ × Outcome)) (set : List Item)
     (ended : List Shown) → IsPermutation jobs sorted
-    → AreRepliesFrom given sorted replies → Tells desks given set → HasShown desks given → length ended ≡ desks → All (λ (d : Shown). AreKept d.kept set) ended →
-    HasEnded desks jobs replies ended
+    → AreRepliesFrom given sorted replies → Tells desks given set → HasShown desks given → length ended ≡ desks →
+    All (λ (d : Shown). AreKept d.kept set) ended → HasEnded desks jobs replies ended
 has_ended desks jobs sorted given replies set ended order are tells shown count kept = record {
   answers = are.answers;
   are_replies = record {

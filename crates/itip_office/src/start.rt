@@ -93,7 +93,8 @@ fn unread_desks<R: AllocGlobal + Wait + Copy>(
     desks: usize,
     shares: usize,
 ) -> Result<Vec<Started<R>>, AllocError>
-    ensures started { IfOk result (λ all. All (λ s. (pair : Option Book) → IsStarted pair s.held.texts s.held.shown s.passes.items) all.items) }
+    ensures started { IfOk result (λ all. All (λ s. (pair : Option Book) → IsStarted pair s.held.texts s.held.shown s.passes.items)
+        all.items) }
 {
     let mut all = Vec::new(rt.alloc());
     for _ in 0..shares {
