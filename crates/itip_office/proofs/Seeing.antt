@@ -5,13 +5,16 @@ use Rattle.std.proofs.lemmas.List.Elements.{All-push, All-append, All-weaker, Co
 use Rattle.std.proofs.Math.Logic.{∥∥₁_elim, ∥∥₁_map, ∥∥₁_prop}
 use Rattle.logbook.specs.Pages.{Book}
 use Rattle.itip_items.specs.declared.item.Item.{Item}
+use Rattle.itip_state.proofs.Members.{cons_first}
+use Rattle.itip_view.specs.declared.window.Window.{Window}
 use Rattle.itip_desk.specs.Desk.{Shown}
+use Rattle.itip_running.specs.Deltas.{IsDeltaAfter}
 use Rattle.itip_running.specs.declared.keeper.Keeper.{Keeper}
 use Rattle.itip_office.specs.declared.job.Work.{Work}
 use Rattle.itip_office.specs.declared.job.Work.TheVariants.{Text, Carry, Look}
 use Rattle.itip_office.specs.declared.outcome.Outcome.{Outcome}
 use Rattle.itip_office.specs.Answers.{Answer, AnswersMerged}
-use Rattle.itip_office.specs.Seen.{Source, IsOneOf, LooksAt, IsAnswered, Brings, IsBrought}
+use Rattle.itip_office.specs.Seen.{Source, IsOneOf, IsListed, LooksAt, IsAnswered, Brings, IsBrought}
 use Rattle.itip_office.specs.Merged.{GrewBy, GrewShown, ShowsOne}
 use Rattle.itip_office.specs.Published.{ArePublished}
 use Rattle.itip_office.specs.Pairs.{HasKept}
@@ -80,6 +83,18 @@ module _ (P Q : ℕ → List (List Item) → Type 0) (wider : (desk : ℕ) (seen
   grew_shown_wider desk None (Some n) answers grew = absurd grew
   grew_shown_wider desk (Some o) None answers grew = absurd grew
   grew_shown_wider desk (Some o) (Some n) answers grew = grew_by_wider desk o n answers grew
+
+-- a job that has its one source
+module _ (source : Source) (desk : ℕ) (same : source.0 ≡ desk) where
+  seen_here : IsOneOf (source ∷ []) desk source.1
+  seen_here = subst (λ (d : ℕ). Contains (source ∷ []) (d, source.1)) same (cons_first source [])
+
+  pub brings_here : (to : ℕ) (batch : List Item) → IsDeltaAfter source.1 0 batch → IsBrought (IsOneOf (source ∷ [])) (Carry desk to) batch
+  brings_here to batch is = ∣ record { seen = source.1; is_seen = seen_here; brings = is } ∣₁
+
+  pub shows_here : (desks : ℕ) (window : Window) (outcome : Outcome) → IsListed source.1 window outcome →
+      LooksAt desks (IsOneOf (source ∷ [])) (Look desk window) outcome
+  shows_here desks window outcome is = inr (record { seen = source.1; is_seen = seen_here; listed = is })
 
 -- sources, and more of them
 module _ (sources more : List Source) where
