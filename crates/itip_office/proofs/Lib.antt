@@ -7,6 +7,7 @@ pub mod Sharing
 pub mod Beside
 pub mod Reports
 pub mod Seeing
+pub mod Stepping
 pub mod Publishing
 pub mod Starting
 pub mod Replying

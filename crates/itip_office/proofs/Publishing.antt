@@ -5,7 +5,8 @@ use Rattle.std.specs.Prelude.{IsPermutation, IfOk, option_map}
 use Rattle.std.specs.List.{Contains, AllZip, flat_map}
 use mathlib.Core.List.{IsPrefix}
 use Rattle.std.proofs.lemmas.Option.{slice_get-map, slice_get_read}
-use Rattle.std.proofs.lemmas.List.Elements.{All-nil, All-cons, All-head, All-tail, All-append, All-weaker, All-contains, All-contains_itself}
+use Rattle.std.proofs.lemmas.List.Elements.{All-nil, All-cons, All-head, All-tail, All-append, All-map, All-weaker}
+use Rattle.std.proofs.lemmas.List.Elements.{All-contains, All-contains_itself}
 use Rattle.std.proofs.lemmas.List.Elements.{Contains-append_left, Contains-append_right}
 use Rattle.std.proofs.lemmas.List.Sorted.{All-permutation, Contains-permutation}
 use Rattle.logbook.specs.Pages.{Book}
@@ -13,7 +14,7 @@ use Rattle.itip_items.specs.declared.item.Item.{Item}
 use Rattle.itip_state.proofs.Members.{cons_first, cons_later}
 use Rattle.itip_desk.specs.Desk.{Shown}
 use Rattle.itip_running.specs.History.{Group, batches_of}
-use Rattle.itip_running.specs.Ends.{published}
+use Rattle.itip_running.specs.Ends.{published, keeper_pair}
 use Rattle.itip_running.specs.declared.keeper.Keeper.{Keeper}
 use Rattle.itip_office.specs.declared.job.Work.{Work}
 use Rattle.itip_office.specs.declared.job.Work.TheVariants.{Text, Carry, Look}
@@ -22,7 +23,8 @@ use Rattle.itip_office.specs.Texts.{desk_of}
 use Rattle.itip_office.specs.Answers.{Answer, AnswersAlone, AnswersMerged}
 use Rattle.itip_office.specs.Seen.{Source, IsOneOf, LooksAt, IsAnswered, IsBrought}
 use Rattle.itip_office.specs.Merged.{AreMerged, IsMerged, GrewShown, GrewTexts}
-use Rattle.itip_office.specs.Published.{Publication, shown_of, IsBeginning, ArePublished, AreShown, IsPublication, IsAmong, HasShown}
+use Rattle.itip_office.specs.Published.{Publication, shown_of, publication_of, IsBeginning, ArePublished, AreShown}
+use Rattle.itip_office.specs.Published.{IsPublication, IsAmong, HasShown}
 use Rattle.itip_office.specs.Pairs.{IsOfPair, IsUnpublished, IsFresh, HasKept}
 use Rattle.itip_office.proofs.Taking.{has_merged}
 use Rattle.itip_office.proofs.Reports.{IsFor}
@@ -69,6 +71,29 @@ beginning_at f xs desk x low at seen batches of_desk are begins = record {
   begins = begins;
 }
 
+-- of keepers, each with the number of its desk, its answers and its running desk
+module _ {X : Type 0} (number : X → ℕ) (answers : X → List Answer) (shown : X → Option Keeper) where
+  abbrev pub publications : List X → List Publication
+  publications kept = map (λ (k : X). publication_of (number k) (answers k) (shown k)) kept
+
+  -- the one at a place has the pair of its number
+  pub pair_at_place : (pair : ℕ → Option Book) (kept : List X) (place : ℕ) (one : X) (keeper : Keeper) (desk : ℕ) →
+      All (λ (k : X). IsOfPair (pair (number k)) (shown k)) kept → place < length kept → one ≡ get_or kept place one →
+      number one ≡ desk → shown one ≡ Some keeper → keeper_pair keeper ≡ pair desk
+  pair_at_place pair kept place one keeper desk all low at same is =
+      let own : IsOfPair (pair (number one)) (shown one) =
+          subst (λ (k : X). IsOfPair (pair (number k)) (shown k)) (sym at) (all place one low) in
+      subst (λ (o : Option Keeper). IsOfPair (pair (number one)) o) is own ∙ ap pair same
+
+  -- what it has published all of
+  pub begins_at_place : (kept : List X) (place : ℕ) (one : X) (keeper : Keeper) (desk : ℕ) (seen : List (List Item)) →
+      place < length kept → one ≡ get_or kept place one → place ≡ desk → number one ≡ desk → shown one ≡ Some keeper
+      → IsPrefix seen (published keeper) → IsBeginning (publications kept) desk seen
+  begins_at_place kept place one keeper desk seen low at here same is begins =
+      subst (λ (n : ℕ). IsBeginning (publications kept) n seen) here
+      (beginning_at (λ (k : X). publication_of (number k) (answers k) (shown k)) kept place one low at seen (published keeper) (same ∙ sym here)
+      (ap shown_of is) begins)
+
 -- what sources have was seen, where each is a beginning of what was published
 seen_in : (ps : List Publication) (sources : List Source) → All (λ (s : Source). IsBeginning ps s.0 s.1) sources → (desk : ℕ)
     (seen : List (List Item)) → IsOneOf sources desk seen → IsBeginning ps desk seen
@@ -86,6 +111,28 @@ are_shown desks alone looked carried ps all_looked all_carried answered each = r
       (λ (p : Publication). ArePublished p.desk (IsBeginning ps) p.answers p.batches)
       (λ p are. published_wider (IsOneOf carried) (IsBeginning ps) (seen_in ps carried all_carried) p.desk p.answers p.batches are) ps each;
 }
+
+-- of all that threads returned, where what was seen is a beginning of what was published
+module _ {X : Type 0} (number : X → ℕ) (answers : X → List Answer) (texts : X → Shown) (shown : X → Option Keeper) (pair : ℕ → Option Book)
+  where
+    pub all_shown : (desks : ℕ) (alone : List Answer) (looked carried : List Source) (kept : List X) →
+        All (λ (s : Source). IsBeginning (publications number answers shown kept) s.0 s.1) looked
+        → All (λ (s : Source). IsBeginning (publications number answers shown kept) s.0 s.1) carried
+        → All (IsAnswered desks (IsOneOf looked)) alone
+        → All (λ (k : X). HasKept (pair (number k)) (IsOneOf carried) (number k) (answers k) (texts k) (shown k)) kept
+        → AreShown desks alone (publications number answers shown kept)
+    all_shown desks alone looked carried kept all_looked all_carried answered has =
+        are_shown desks alone looked carried (publications number answers shown kept) all_looked all_carried answered
+        (All-map (λ (p : Publication). ArePublished p.desk (IsOneOf carried) p.answers p.batches)
+        (λ (k : X). publication_of (number k) (answers k) (shown k)) kept
+        (All-weaker (λ (k : X). HasKept (pair (number k)) (IsOneOf carried) (number k) (answers k) (texts k) (shown k))
+        (λ (k : X). ArePublished (number k) (IsOneOf carried) (answers k) (shown_of (shown k))) (λ k is. is.published) kept has))
+
+-- three facts of what is there
+pub ok_from : {T E : Type 0} (r : Result T E) (A B C D : T → Type 0) → ((x : T) → A x → B x → C x → D x) → IfOk r A → IfOk r B → IfOk r C →
+    IfOk r D
+ok_from (Ok x) A B C D f a b c = f x a b c
+ok_from (Err e) A B C D f a b c = tt
 
 abbrev pub answers_of : Publication → List Answer
 answers_of p = p.answers

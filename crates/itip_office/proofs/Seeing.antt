@@ -1,7 +1,7 @@
 -- What was seen stays so where more was seen.
 use Rattle.std.proofs.Common.{◌≡◌, ℕ, List, [], ◌∷◌, ◌++◌, All, inl, inr, sym, subst, Option, Some, None}
 use Rattle.std.specs.List.{Contains, AllZip}
-use Rattle.std.proofs.lemmas.List.Elements.{All-push, All-append, All-weaker, Contains-append_left, Contains-append_right}
+use Rattle.std.proofs.lemmas.List.Elements.{All-append, All-weaker, Contains-append_left, Contains-append_right}
 use Rattle.std.proofs.Math.Logic.{∥∥₁_elim, ∥∥₁_map, ∥∥₁_prop}
 use Rattle.logbook.specs.Pages.{Book}
 use Rattle.itip_items.specs.declared.item.Item.{Item}
@@ -9,6 +9,7 @@ use Rattle.itip_state.proofs.Members.{cons_first}
 use Rattle.itip_view.specs.declared.window.Window.{Window}
 use Rattle.itip_desk.specs.Desk.{Shown}
 use Rattle.itip_running.specs.Deltas.{IsDeltaAfter}
+use Rattle.itip_running.specs.Ends.{published}
 use Rattle.itip_running.specs.declared.keeper.Keeper.{Keeper}
 use Rattle.itip_office.specs.declared.job.Work.{Work}
 use Rattle.itip_office.specs.declared.job.Work.TheVariants.{Text, Carry, Look}
@@ -62,7 +63,7 @@ module _ (P Q : ℕ → List (List Item) → Type 0) (wider : (desk : ℕ) (seen
       record { merged = kept.merged; published = kept.published; of_pair = kept.of_pair }
   kept_wider pair desk answers texts (Some keeper) kept = record {
     merged = kept.merged;
-    published = (kept.published.0, all_wider answers _ kept.published.1);
+    published = (kept.published.0, all_wider answers (published keeper) kept.published.1);
     of_pair = kept.of_pair;
   }
 

@@ -1,9 +1,37 @@
 -- Desks that were just started, in the order of their numbers.
-use Rattle.std.proofs.Common.{◌≡◌, ℕ, zero, suc, ◌+◌, List, [], ◌∷◌, ◌++◌, length, map, All, refl, sym, ap, subst, ◌∙◌, arith, Option}
-use Rattle.std.proofs.lemmas.List.Elements.{All-nil, All-cons, All-head, All-tail}
+use Rattle.std.proofs.Common.{◌≡◌, ℕ, zero, suc, ◌+◌, List, [], ◌∷◌, ◌++◌, length, map, All, refl, sym, ap, subst, ◌∙◌, arith}
+use Rattle.std.proofs.Common.{Option, Some, None}
+use Rattle.std.proofs.lemmas.List.Elements.{All-nil, All-cons, All-head, All-tail, All-same, All-weaker}
 use Rattle.logbook.specs.Pages.{Book}
+use Rattle.itip_desk.specs.Desk.{Shown, IsDeskOf}
+use Rattle.itip_running.specs.Ends.{publishes, pending, keeper_pair, publishes_seen, pass_pair}
 use Rattle.itip_running.specs.declared.keeper.Keeper.{Keeper}
-use Rattle.itip_office.specs.Pairs.{pair_of, pair_at, AreNumbered}
+use Rattle.itip_running.specs.declared.pass.Pass.{Pass}
+use Rattle.itip_office.specs.Pairs.{pair_of, pair_at, AreNumbered, IsStarted}
+
+-- a running desk that was just made
+pub read_started : (texts : Shown) (keeper : Keeper) (passes : List Pass) → IsDeskOf [] 0 texts → (publishes keeper ≡ []) × (pending keeper ≡ [])
+    → All (λ (p : Pass). (publishes_seen p ≡ []) × (pass_pair p ≡ keeper_pair keeper)) passes
+    → IsStarted (keeper_pair keeper) texts (Some keeper) passes
+read_started texts keeper passes empty none each = record {
+  fresh = record { empty = empty; idle = none.1; unpublished = none.0; of_pair = refl };
+  passes_are = All-weaker (λ (p : Pass). (publishes_seen p ≡ []) × (pass_pair p ≡ keeper_pair keeper))
+      (λ (p : Pass). pass_pair p ≡ keeper_pair keeper) (λ p is. is.1) passes each;
+}
+
+-- a desk that is not read
+pub unread_started : (texts : Shown) (passes : List Pass) → IsDeskOf [] 0 texts → passes ≡ [] → (pair : Option Book) →
+    IsStarted pair texts None passes
+unread_started texts passes empty none pair = record {
+  fresh = record { empty = empty; idle = tt; unpublished = tt; of_pair = tt };
+  passes_are = All-same (λ (p : Pass). pass_pair p ≡ pair) passes [] none (All-nil (λ (p : Pass). pass_pair p ≡ pair));
+}
+
+-- what is so of every pair is so of the pair of each
+pub of_any_pair : {X : Type 0} (Has : Option Book → X → Type 0) (pair : X → Option Book) (xs : List X) →
+    All (λ (x : X). (p : Option Book) → Has p x) xs → All (λ (x : X). Has (pair x) x) xs
+of_any_pair {X} Has pair xs all =
+    All-weaker (λ (x : X). (p : Option Book) → Has p x) (λ (x : X). Has (pair x) x) (λ x has. has (pair x)) xs all
 
 pub numbered_more : {X : Type 0} (number : X → ℕ) (n : ℕ) (xs : List X) (x : X) → AreNumbered number n xs → number x ≡ n + length xs →
     AreNumbered number n (xs ++ x ∷ [])
