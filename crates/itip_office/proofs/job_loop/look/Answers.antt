@@ -18,7 +18,9 @@ text_is g c =
     IfOk-at_ok (λ text. IsListText (heard c.list-list.result.1.1) c.args.window text.items) c.in-Ok.is c.list-list.ensures.text
 
 are_many : (g : _) (c : In-Err-TooManyRows g) → AreTooMany (heard c.list-list.result.1.1) c.args.window
-are_many g c = c.list-list.ensures.many (c.in-Err-TooManyRows.is ∙ ap Err c.in-Err-TooManyRows.field-0-is)
+are_many g c =
+    let cause = rw c.in-Err-TooManyRows.is at c.in-Err-TooManyRows.field-0-is in
+    c.list-list.ensures.many (c.in-Err-TooManyRows.is ∙ ap Err cause)
 
 pub returns-in-Ok-clause-step : goal.returns-in-Ok-clause-step
 returns-in-Ok-clause-step g c =

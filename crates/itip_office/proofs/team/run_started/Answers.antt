@@ -26,9 +26,11 @@ kept : (g : _) (c : In-Ok g) → All (Has g.N.Pairs.pair c.in-Ok.joined.carried.
 kept g c = IfOk-at_ok (λ r. All (Has g.N.Pairs.pair r.carried.items) r.done.kept.items) c.in-Ok.is c.join-joined.ensures.kept
 
 pub checked-requires : goal.checked-requires
-checked-requires g c =
-    All-weaker (Has g.N.Pairs.pair c.in-Ok.joined.carried.items) (λ (k : Merged g.row.R.Denot). IsOfPair (g.N.Pairs.pair k.desk) k.held.shown)
-    (λ k has. has.of_pair) c.in-Ok.joined.done.kept.items (kept g (goal.at.checked-requires g c).In-Ok)
+checked-requires g c = record {
+  pairs = All-weaker (Has g.N.Pairs.pair c.in-Ok.joined.carried.items)
+      (λ (k : Merged g.row.R.Denot). IsOfPair (g.N.Pairs.pair k.desk) k.held.shown) (λ k has. has.of_pair) c.in-Ok.joined.done.kept.items
+      (kept g (goal.at.checked-requires g c).In-Ok);
+}
 
 pub returns-in-Ok-clause-alone : goal.returns-in-Ok-clause-alone
 returns-in-Ok-clause-alone g c =

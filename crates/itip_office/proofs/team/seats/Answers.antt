@@ -13,7 +13,9 @@ loop-pass-init g c =
 pub new-requires : goal.new-requires
 new-requires g c =
     let P : Pass → Type 0 = λ p. pass_pair p ≡ g.N.Pairs.pair c.args.desk in
-    All-head P c.in-Some.pass (into_iter_items c.next.new.self) (subst (All P) c.in-Some.ensures.steps.0 c.loop-pass.invariant)
+    record {
+      pair = All-head P c.in-Some.pass (into_iter_items c.next.new.self) (subst (All P) c.in-Some.ensures.steps.0 c.loop-pass.invariant);
+    }
 
 pub loop-pass-preserved : goal.loop-pass-preserved
 loop-pass-preserved g c =

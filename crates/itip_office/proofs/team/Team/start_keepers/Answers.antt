@@ -11,10 +11,12 @@ loop-one-init g c =
     let all : into_iter_items c.into_iter-one-iterator.result ≡ c.args.started.items = search rules in
     record { started = subst (All P) (sym all) c.requires.started; workers = refl }
 
-pub start_keeper-requires : goal.start_keeper-requires
-start_keeper-requires g c =
+pub start_keeper-requires-clause-started : goal.start_keeper-requires-clause-started
+start_keeper-requires-clause-started g c =
     let P : Started g.row.R.Denot → Type 0 = λ s. IsStarted (g.N.Pairs.pair s.desk) s.held.texts s.held.shown s.passes.items in
-    All-head P c.in-Some.one (into_iter_items c.next.new.self) (subst (All P) c.in-Some.ensures.steps.0 c.loop-one.invariant.started)
+    let started : P c.in-Some.one =
+        All-head P c.in-Some.one (into_iter_items c.next.new.self) (subst (All P) c.in-Some.ensures.steps.0 c.loop-one.invariant.started) in
+    search rules
 
 pub loop-one-preserved : goal.loop-one-preserved
 loop-one-preserved g c =
