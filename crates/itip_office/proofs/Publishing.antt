@@ -1,5 +1,5 @@
 -- What an office has shown, from what its threads did.
-use Rattle.std.proofs.Common.{◌≡◌, ℕ, ◌<◌, List, [], ◌∷◌, ◌++◌, length, map, get_or, All, inl, inr, refl, sym, ap, subst, ◌∙◌, ◌⊎◌, arith}
+use Rattle.std.proofs.Common.{◌≡◌, ℕ, ◌<◌, List, [], ◌∷◌, ◌++◌, length, map, get_or, All, inl, inr, refl, sym, ap, subst, ◌∙◌, ◌⊎◌}
 use Rattle.std.proofs.Common.{Option, Some, None, Result, Ok, Err}
 use Rattle.std.specs.Prelude.{IsPermutation, IfOk, option_map}
 use Rattle.std.specs.List.{Contains, AllZip, flat_map}
@@ -82,7 +82,7 @@ module _ {X : Type 0} (number : X → ℕ) (answers : X → List Answer) (shown 
       number one ≡ desk → shown one ≡ Some keeper → keeper_pair keeper ≡ pair desk
   pair_at_place pair kept place one keeper desk all low at same is =
       let own : IsOfPair (pair (number one)) (shown one) =
-          subst (λ (k : X). IsOfPair (pair (number k)) (shown k)) (sym at) (all place one low) in
+      subst (λ (k : X). IsOfPair (pair (number k)) (shown k)) (sym at) (all place one low) in
       subst (λ (o : Option Keeper). IsOfPair (pair (number one)) o) is own ∙ ap pair same
 
   -- what it has published all of

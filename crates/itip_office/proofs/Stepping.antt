@@ -3,7 +3,7 @@ use Rattle.std.proofs.Common.{◌≡◌, ℕ, List, sym, subst}
 use Rattle.itip_items.specs.declared.item.Item.{Item}
 use Rattle.itip_office.specs.declared.job.Job.{Job}
 use Rattle.itip_office.specs.declared.job.Work.{Work}
-use Rattle.itip_office.specs.declared.job.Work.TheVariants.{Text, Carry, Look}
+use Rattle.itip_office.specs.declared.job.Work.TheVariants.{Text}
 use Rattle.itip_office.specs.declared.outcome.Outcome.{Outcome}
 use Rattle.itip_office.specs.declared.job_loop.Step.{Step}
 use Rattle.itip_office.specs.declared.job_loop.Step.TheVariants.{Answers, HandsOn}

@@ -58,16 +58,23 @@ pub(crate) struct OfDesks<G: Gate> {
     gate: PhantomData<G>,
 }
 
-impl<N: Pairs, G: Gate> Promise<Result<(Vec<(Job, Outcome)>, Vec<Source<N>>), OfficeError>> for OfDesks<G> {
+impl<N: Pairs, G: Gate> Promise<Result<(Vec<(Job, Outcome)>, Vec<Source<N>>), OfficeError>>
+    for OfDesks<G> {
     ghost use Rattle.itip_office.specs.declared.error.OfficeError.{OfficeError};
 
     ghost kept_by = { λ p r. IfOk r (λ done. All (IsAnswered p.desks (IsOneOf done.1.items)) done.0.items)
         × (IsErrOf r OfficeError.GateClosed → G.may_close) };
 }
 
-type KeeperThread<N, R, G> = PromisedHandle<Result<(Merged<R>, Vec<Source<N>>), OfficeError>, OfTexts<G>>;
+type KeeperThread<N, R, G> = PromisedHandle<
+    Result<(Merged<R>, Vec<Source<N>>), OfficeError>,
+    OfTexts<G>,
+>;
 
-type WorkerThread<N, G> = PromisedHandle<Result<(Vec<(Job, Outcome)>, Vec<Source<N>>), OfficeError>, OfDesks<G>>;
+type WorkerThread<N, G> = PromisedHandle<
+    Result<(Vec<(Job, Outcome)>, Vec<Source<N>>), OfficeError>,
+    OfDesks<G>,
+>;
 
 /// The threads that were made. It can't be let go: whoever has it has to join them.
 pub(crate) struct Team<N: Pairs, R: AllocGlobal + Wait + Copy, G: Gate> {
@@ -328,11 +335,7 @@ fn start_keeper<
 }
 
 // Seats at a desk, by its passes.
-fn seats<N: Pairs>(
-    alloc: Global,
-    desk: u64,
-    passes: Vec<Pass>,
-) -> Result<Vec<Seat<N>>, AllocError>
+fn seats<N: Pairs>(alloc: Global, desk: u64, passes: Vec<Pass>) -> Result<Vec<Seat<N>>, AllocError>
     requires pair { All (λ p. pass_pair p ≡ N.pair desk) passes.items }
 {
     let mut all = Vec::with_capacity(alloc, passes.len())?;

@@ -1,7 +1,5 @@
-use Rattle.std.proofs.Common.{rules, ◌≡◌, ◌≤◌, ℕ, List, length, subst}
+use Rattle.std.proofs.Common.{rules, ◌≡◌, ◌≤◌, length}
 use Rattle.std.specs.Prelude.{IfSome}
-use Rattle.itip_desk.specs.Desk.{Shown}
-use Rattle.itip_desk.specs.declared.refusal.Refusal.{Refusal}
 use Rattle.itip_streams.specs.Written.{WritesOutput}
 use Rattle.itip_script.specs.Jobs.{errands_of}
 use Rattle.itip_office.specs.Scripts.{jobs_from, others_from, IsEndedText, WritesEndedFront}

@@ -1,4 +1,4 @@
-use Rattle.std.proofs.Common.{◌≡◌, List, [], ◌∷◌, ◌++◌, Option}
+use Rattle.std.proofs.Common.{[], ◌∷◌, ◌++◌, Option}
 use Rattle.std.proofs.lemmas.List.Elements.{All-nil, All-push, All-same}
 use Rattle.logbook.specs.Pages.{Book}
 use Rattle.itip_office.specs.declared.start.Started.{Started}

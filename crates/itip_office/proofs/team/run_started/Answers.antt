@@ -36,7 +36,7 @@ pub returns-in-Ok-clause-alone : goal.returns-in-Ok-clause-alone
 returns-in-Ok-clause-alone g c =
     let done = c.in-Ok.joined.done in
     let all = All-weaker (IsAnswered c.args.desks (IsOneOf c.in-Ok.joined.looked.items)) (λ (a : Answer). AnswersAlone c.args.desks a.0.work a.1)
-        (λ a is. is.alone) done.alone.items (answered g (goal.at.returns-in-Ok-clause-alone g c).In-Ok) in
+    (λ a is. is.alone) done.alone.items (answered g (goal.at.returns-in-Ok-clause-alone g c).In-Ok) in
     IfOk-weaker c.checked.result (λ d. d ≡ done) (λ d. All (λ a. AnswersAlone c.args.desks a.0.work a.1) d.alone.items)
     (λ d same. subst (λ (d : Done g.row.R.Denot). All (λ a. AnswersAlone c.args.desks a.0.work a.1) d.alone.items) (sym same) all)
     c.checked.ensures.done
@@ -45,8 +45,8 @@ pub returns-in-Ok-clause-kept : goal.returns-in-Ok-clause-kept
 returns-in-Ok-clause-kept g c =
     let done = c.in-Ok.joined.done in
     let all = All-weaker (Has g.N.Pairs.pair c.in-Ok.joined.carried.items)
-        (λ (k : Merged g.row.R.Denot). HasMerged k.desk k.answers.items k.held.texts) (λ k has. has.merged) done.kept.items
-        (kept g (goal.at.returns-in-Ok-clause-kept g c).In-Ok) in
+    (λ (k : Merged g.row.R.Denot). HasMerged k.desk k.answers.items k.held.texts) (λ k has. has.merged) done.kept.items
+    (kept g (goal.at.returns-in-Ok-clause-kept g c).In-Ok) in
     IfOk-weaker c.checked.result (λ d. d ≡ done) (λ d. All (λ k. HasMerged k.desk k.answers.items k.held.texts) d.kept.items)
     (λ d same. subst (λ (d : Done g.row.R.Denot). All (λ k. HasMerged k.desk k.answers.items k.held.texts) d.kept.items) (sym same) all)
     c.checked.ensures.done
@@ -57,13 +57,13 @@ returns-in-Ok-clause-shown g c =
     let done = c.in-Ok.joined.done in
     let before = (goal.at.returns-in-Ok-clause-shown g c).In-Ok in
     let Begin : List Source → Done R → Type 0 =
-        λ sources d. All (λ s. IsBeginning (map (λ k. publication_of k.desk k.answers.items k.held.shown) d.kept.items) s.0 s.1) sources in
+    λ sources d. All (λ s. IsBeginning (map (λ k. publication_of k.desk k.answers.items k.held.shown) d.kept.items) s.0 s.1) sources in
     let Shown : Done R → Type 0 =
-        λ d. AreShown c.args.desks d.alone.items (map (λ k. publication_of k.desk k.answers.items k.held.shown) d.kept.items) in
+    λ d. AreShown c.args.desks d.alone.items (map (λ k. publication_of k.desk k.answers.items k.held.shown) d.kept.items) in
     let given : Begin c.in-Ok.joined.looked.items done → Begin c.in-Ok.joined.carried.items done → Shown done = λ looked carried.
-        all_shown (λ (k : Merged R). k.desk) (λ (k : Merged R). k.answers.items) (λ (k : Merged R). k.held.texts)
-        (λ (k : Merged R). k.held.shown) g.N.Pairs.pair c.args.desks done.alone.items c.in-Ok.joined.looked.items c.in-Ok.joined.carried.items
-        done.kept.items looked carried (answered g before) (kept g before) in
+    all_shown (λ (k : Merged R). k.desk) (λ (k : Merged R). k.answers.items) (λ (k : Merged R). k.held.texts)
+    (λ (k : Merged R). k.held.shown) g.N.Pairs.pair c.args.desks done.alone.items c.in-Ok.joined.looked.items c.in-Ok.joined.carried.items
+    done.kept.items looked carried (answered g before) (kept g before) in
     ok_from c.checked.result (λ d. d ≡ done) (Begin c.in-Ok.joined.looked.items) (Begin c.in-Ok.joined.carried.items) Shown
     (λ d same looked carried. subst Shown (sym same) (given (subst (Begin c.in-Ok.joined.looked.items) same looked)
     (subst (Begin c.in-Ok.joined.carried.items) same carried)))

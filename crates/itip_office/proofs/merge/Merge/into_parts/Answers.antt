@@ -1,4 +1,3 @@
-use Rattle.std.proofs.Common.{rules}
 use Rattle.std.specs.Prelude.{option_to_list}
 use Rattle.itip_office.specs.Seen.{IsOneOf}
 use Rattle.itip_office.proofs.Texts.{merges_of}

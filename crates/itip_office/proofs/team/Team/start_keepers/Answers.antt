@@ -1,4 +1,4 @@
-use Rattle.std.proofs.Common.{rules, ◌≡◌, List, ◌∷◌, All, sym, subst, refl}
+use Rattle.std.proofs.Common.{rules, ◌≡◌, All, sym, subst, refl}
 use Rattle.std.specs.Vec.Iter.{into_iter_items}
 use Rattle.std.proofs.lemmas.List.Elements.{All-head, All-tail}
 use Rattle.itip_office.specs.declared.start.Started.{Started}
@@ -15,7 +15,7 @@ pub start_keeper-requires-clause-started : goal.start_keeper-requires-clause-sta
 start_keeper-requires-clause-started g c =
     let P : Started g.row.R.Denot → Type 0 = λ s. IsStarted (g.N.Pairs.pair s.desk) s.held.texts s.held.shown s.passes.items in
     let started : P c.in-Some.one =
-        All-head P c.in-Some.one (into_iter_items c.next.new.self) (subst (All P) c.in-Some.ensures.steps.0 c.loop-one.invariant.started) in
+    All-head P c.in-Some.one (into_iter_items c.next.new.self) (subst (All P) c.in-Some.ensures.steps.0 c.loop-one.invariant.started) in
     search rules
 
 pub loop-one-preserved : goal.loop-one-preserved
