@@ -91,8 +91,8 @@ module _ {X : Type 0} (number : X → ℕ) (answers : X → List Answer) (shown 
       → IsPrefix seen (published keeper) → IsBeginning (publications kept) desk seen
   begins_at_place kept place one keeper desk seen low at here same is begins =
       subst (λ (n : ℕ). IsBeginning (publications kept) n seen) here
-      (beginning_at (λ (k : X). publication_of (number k) (answers k) (shown k)) kept place one low at seen (published keeper) (same ∙ sym here)
-      (ap shown_of is) begins)
+      (beginning_at (λ (k : X). publication_of (number k) (answers k) (shown k)) kept place one low at seen (published keeper)
+      (same ∙ sym here) (ap shown_of is) begins)
 
 -- what sources have was seen, where each is a beginning of what was published
 seen_in : (ps : List Publication) (sources : List Source) → All (λ (s : Source). IsBeginning ps s.0 s.1) sources → (desk : ℕ)

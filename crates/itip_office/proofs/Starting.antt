@@ -10,7 +10,8 @@ use Rattle.itip_running.specs.declared.pass.Pass.{Pass}
 use Rattle.itip_office.specs.Pairs.{pair_of, pair_at, AreNumbered, IsStarted}
 
 -- a running desk that was just made
-pub read_started : (texts : Shown) (keeper : Keeper) (passes : List Pass) → IsDeskOf [] 0 texts → (publishes keeper ≡ []) × (pending keeper ≡ [])
+pub read_started : (texts : Shown) (keeper : Keeper) (passes : List Pass) → IsDeskOf [] 0 texts
+    → (publishes keeper ≡ []) × (pending keeper ≡ [])
     → All (λ (p : Pass). (publishes_seen p ≡ []) × (pass_pair p ≡ keeper_pair keeper)) passes
     → IsStarted (keeper_pair keeper) texts (Some keeper) passes
 read_started texts keeper passes empty none each = record {

@@ -9,4 +9,5 @@ pub returns-clause-started : goal.returns-clause-started
 returns-clause-started g c =
     let all = c.in_ok-unread_desks.field-0.items in
     of_any_pair (λ (pair : Option Book) (s : Started g.row.R.Denot). IsStarted pair s.held.texts s.held.shown s.passes.items)
-    (λ (s : Started g.row.R.Denot). pair_at (map (λ (x : Started g.row.R.Denot). x.held.shown) all) s.desk) all c.in_ok-unread_desks.ensures.started
+    (λ (s : Started g.row.R.Denot). pair_at (map (λ (x : Started g.row.R.Denot). x.held.shown) all) s.desk) all
+    c.in_ok-unread_desks.ensures.started

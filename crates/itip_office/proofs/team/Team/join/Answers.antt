@@ -10,5 +10,5 @@ returns-in-Ok-Ok-clause-answered g c = λ desks all.
 
 pub returns-in-Ok-Ok-clause-kept : goal.returns-in-Ok-Ok-clause-kept
 returns-in-Ok-Ok-clause-kept g c =
-    IfOk-at_ok (λ v. All (λ k. HasKept (g.N.Pairs.pair k.desk) (IsOneOf v.1.items) k.desk k.answers.items k.held.texts k.held.shown) v.0.items)
-    c.in-Ok-Ok.is-1 c.join_keepers-kept.ensures.kept
+    IfOk-at_ok (λ v. All (λ k. HasKept (g.N.Pairs.pair k.desk) (IsOneOf v.1.items) k.desk k.answers.items k.held.texts k.held.shown)
+    v.0.items) c.in-Ok-Ok.is-1 c.join_keepers-kept.ensures.kept
