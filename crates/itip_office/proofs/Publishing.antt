@@ -1,30 +1,25 @@
 -- What an office has shown, from what its threads did.
-use Rattle.std.proofs.Common.{◌≡◌, ℕ, ◌<◌, List, [], ◌∷◌, ◌++◌, length, map, get_or, All, inl, inr, refl, sym, ap, subst, ◌∙◌, ◌⊎◌}
+use Rattle.std.proofs.Common.{◌≡◌, ℕ, ◌<◌, List, [], ◌∷◌, ◌++◌, length, map, get_or, All, refl, sym, ap, subst, ◌∙◌}
 use Rattle.std.proofs.Common.{Option, Some, None, Result, Ok, Err}
 use Rattle.std.specs.Prelude.{IsPermutation, IfOk, option_map}
-use Rattle.std.specs.List.{Contains, AllZip, flat_map}
+use Rattle.std.specs.List.{AllZip, flat_map}
 use mathlib.Core.List.{IsPrefix}
 use Rattle.std.proofs.lemmas.Option.{slice_get-map, slice_get_read}
-use Rattle.std.proofs.lemmas.List.Elements.{All-nil, All-cons, All-head, All-tail, All-append, All-map, All-weaker}
-use Rattle.std.proofs.lemmas.List.Elements.{All-contains, All-contains_itself}
-use Rattle.std.proofs.lemmas.List.Elements.{Contains-append_left, Contains-append_right}
-use Rattle.std.proofs.lemmas.List.Sorted.{All-permutation, Contains-permutation}
+use Rattle.std.proofs.lemmas.List.Elements.{All-nil, All-cons, All-head, All-tail, All-map, All-weaker}
+use Rattle.std.proofs.lemmas.List.Elements.{All-contains}
+use Rattle.std.proofs.lemmas.List.Sorted.{IsPermutation-refl, IsPermutation-trans}
 use Rattle.logbook.specs.Pages.{Book}
 use Rattle.itip_items.specs.declared.item.Item.{Item}
-use Rattle.itip_state.proofs.Members.{cons_first, cons_later}
 use Rattle.itip_desk.specs.Desk.{Shown}
 use Rattle.itip_running.specs.History.{Group, batches_of}
 use Rattle.itip_running.specs.Ends.{published, keeper_pair}
 use Rattle.itip_running.specs.declared.keeper.Keeper.{Keeper}
-use Rattle.itip_office.specs.declared.job.Work.{Work}
-use Rattle.itip_office.specs.declared.job.Work.TheVariants.{Text, Carry, Look}
-use Rattle.itip_office.specs.declared.outcome.Outcome.{Outcome}
 use Rattle.itip_office.specs.Texts.{desk_of}
-use Rattle.itip_office.specs.Answers.{Answer, AnswersAlone, AnswersMerged}
+use Rattle.itip_office.specs.Answers.{Answer, AnswersAlone}
 use Rattle.itip_office.specs.Seen.{Source, IsOneOf, LooksAt, IsAnswered, IsBrought}
-use Rattle.itip_office.specs.Merged.{AreMerged, IsMerged, GrewShown, GrewTexts}
+use Rattle.itip_office.specs.Merged.{AreMerged, GrewShown, GrewTexts}
 use Rattle.itip_office.specs.Published.{Publication, shown_of, publication_of, IsBeginning, ArePublished, AreShown}
-use Rattle.itip_office.specs.Published.{IsPublication, IsAmong, HasShown}
+use Rattle.itip_office.specs.Published.{IsPublication, HasShown, answers_of}
 use Rattle.itip_office.specs.Pairs.{IsOfPair, IsUnpublished, IsFresh, HasKept}
 use Rattle.itip_office.proofs.Taking.{has_merged}
 use Rattle.itip_office.proofs.Reports.{IsFor}
@@ -134,76 +129,38 @@ pub ok_from : {T E : Type 0} (r : Result T E) (A B C D : T → Type 0) → ((x :
 ok_from (Ok x) A B C D f a b c = f x a b c
 ok_from (Err e) A B C D f a b c = tt
 
-abbrev pub answers_of : Publication → List Answer
-answers_of p = p.answers
-
-merged_looks : (desks desk : ℕ) (IsSeen : ℕ → List (List Item) → Type 0) (batch : List Item) (work : Work) (outcome : Outcome) →
-    AnswersMerged desk batch work outcome → LooksAt desks IsSeen work outcome
-merged_looks desks desk IsSeen batch (Text at bytes) outcome merged = tt
-merged_looks desks desk IsSeen batch (Carry from to) outcome merged = tt
-merged_looks desks desk IsSeen batch (Look at window) outcome merged = absurd merged
-
 -- what keepers published, for so many desks
 module _ (desks : ℕ) (ps : List Publication) where
-  abbrev Looks : Answer → Type 0
-  Looks a = LooksAt desks (IsBeginning ps) a.0.work a.1
-
-  abbrev IsReported : Answer → Type 0
-  IsReported a = AnswersAlone desks a.0.work a.1 ⊎ IsAmong ps a
-
-  looks_of : (rest : List Publication) → All (λ (p : Publication). All (IsMerged p.desk) p.answers) rest →
-      All Looks (flat_map answers_of rest)
-  looks_of [] merged = All-nil Looks
-  looks_of (p ∷ rest) merged =
-      All-append Looks p.answers (flat_map answers_of rest)
-      (All-weaker (IsMerged p.desk) Looks (λ a m. merged_looks desks p.desk (IsBeginning ps) m.0 a.0.work a.1 m.1) p.answers
-      (All-head (λ (q : Publication). All (IsMerged q.desk) q.answers) p rest merged))
-      (looks_of rest (All-tail (λ (q : Publication). All (IsMerged q.desk) q.answers) p rest merged))
-
-  among_of : (rest : List Publication) → ((p : Publication) → Contains rest p → Contains ps p) → All IsReported (flat_map answers_of rest)
-  among_of [] within = All-nil IsReported
-  among_of (p ∷ rest) within =
-      All-append IsReported p.answers (flat_map answers_of rest)
-      (All-weaker (Contains p.answers) IsReported
-      (λ a h. inr (record { publication = p; among = within p (cons_first p rest); there = h })) p.answers (All-contains_itself p.answers))
-      (among_of rest (λ q h. within q (cons_later p rest q h)))
-
-  each_of : (all : List Answer) (rest : List Publication) → ((a : Answer) → Contains (flat_map answers_of rest) a → Contains all a) →
-      All (λ (p : Publication). ArePublished p.desk (IsBeginning ps) p.answers p.batches) rest
-      → All (λ (p : Publication). All (IsFor desks p.desk) p.answers) rest → All (IsPublication all ps) rest
-  each_of all [] within are own = All-nil (IsPublication all ps)
-  each_of all (p ∷ rest) within are own =
-      All-cons (IsPublication all ps) p rest
+  each_of : (rest : List Publication) → All (λ (p : Publication). ArePublished p.desk (IsBeginning ps) p.answers p.batches) rest
+      → All (λ (p : Publication). All (IsFor desks p.desk) p.answers) rest → All (IsPublication ps) rest
+  each_of [] are own = All-nil (IsPublication ps)
+  each_of (p ∷ rest) are own =
+      All-cons (IsPublication ps) p rest
       (record {
-        among = λ a h. within a (Contains-append_left p.answers (flat_map answers_of rest) a h);
         for_desk = All-weaker (IsFor desks p.desk) (λ (a : Answer). desk_of a.0.work ≡ p.desk) (λ a is. is.0) p.answers
             (All-head (λ (q : Publication). All (IsFor desks q.desk) q.answers) p rest own);
         batches = All-head (λ (q : Publication). ArePublished q.desk (IsBeginning ps) q.answers q.batches) p rest are;
       })
-      (each_of all rest (λ a h. within a (Contains-append_right p.answers (flat_map answers_of rest) a h))
-      (All-tail (λ (q : Publication). ArePublished q.desk (IsBeginning ps) q.answers q.batches) p rest are)
+      (each_of rest (All-tail (λ (q : Publication). ArePublished q.desk (IsBeginning ps) q.answers q.batches) p rest are)
       (All-tail (λ (q : Publication). All (IsFor desks q.desk) q.answers) p rest own))
 
   pub has_shown : (alone : List Answer) → All (λ (a : Answer). AnswersAlone desks a.0.work a.1) alone → AreShown desks alone ps →
-      All (λ (p : Publication). All (IsFor desks p.desk) p.answers) ps
-      → All (λ (p : Publication). All (IsMerged p.desk) p.answers) ps → HasShown desks (alone ++ flat_map answers_of ps)
-  has_shown alone are shown own merged = record {
+      All (λ (p : Publication). All (IsFor desks p.desk) p.answers) ps → HasShown desks (alone ++ flat_map answers_of ps)
+  has_shown alone are shown own = record {
+    alone = alone;
     publications = ps;
-    each = each_of (alone ++ flat_map answers_of ps) ps (Contains-append_right alone (flat_map answers_of ps)) shown.each own;
-    merged = All-append IsReported alone (flat_map answers_of ps)
-        (All-weaker (λ (a : Answer). AnswersAlone desks a.0.work a.1) IsReported (λ a h. inl h) alone are) (among_of ps (λ p h. h));
-    looks = All-append Looks alone (flat_map answers_of ps) shown.looks (looks_of ps merged);
+    answers_are = IsPermutation-refl (alone ++ flat_map answers_of ps);
+    alone_are = are;
+    looks = shown.looks;
+    each = each_of ps shown.each own;
   }
 
 pub shown_permuted : (desks : ℕ) (given answers : List Answer) → IsPermutation given answers → HasShown desks given → HasShown desks answers
 shown_permuted desks given answers order shown = record {
+  alone = shown.alone;
   publications = shown.publications;
-  each = All-weaker (IsPublication given shown.publications) (IsPublication answers shown.publications) (λ p is. record {
-    among = λ a h. Contains-permutation given answers a order (is.among a h);
-    for_desk = is.for_desk;
-    batches = is.batches;
-  }) shown.publications shown.each;
-  merged = All-permutation (λ (a : Answer). AnswersAlone desks a.0.work a.1 ⊎ IsAmong shown.publications a) given answers order
-      shown.merged;
-  looks = All-permutation (λ (a : Answer). LooksAt desks (IsBeginning shown.publications) a.0.work a.1) given answers order shown.looks;
+  answers_are = IsPermutation-trans (shown.alone ++ flat_map answers_of shown.publications) given answers shown.answers_are order;
+  alone_are = shown.alone_are;
+  looks = shown.looks;
+  each = shown.each;
 }

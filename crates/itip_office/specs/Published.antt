@@ -1,6 +1,6 @@
 -- What the running desks of an office published, and what looks and carries have seen of it (our own rule).
-use Rattle.std.specs.Prelude.{◌≡◌, ◌⊎◌, ℕ, List, Option, Some, None, All, slice_get}
-use Rattle.std.specs.List.{Contains, AllZip}
+use Rattle.std.specs.Prelude.{◌≡◌, ℕ, List, ◌++◌, Option, Some, None, All, IsPermutation, slice_get}
+use Rattle.std.specs.List.{AllZip, flat_map}
 use mathlib.Core.List.{IsPrefix}
 use Rattle.itip_items.specs.declared.item.Item.{Item}
 use Rattle.itip_running.specs.Ends.{published}
@@ -10,21 +10,22 @@ use Rattle.itip_office.specs.Answers.{Answer, AnswersAlone}
 use Rattle.itip_office.specs.Seen.{LooksAt, IsBrought}
 use Rattle.itip_office.specs.Merged.{AreMerged}
 
--- What one keeper did: the jobs that it merged, in order; and the batches that it published, each by itself, where it has a running desk.
+-- What one keeper did: the jobs that it merged, in order; and the batches that it published, in order, where it has a running desk.
 pub record Publication : Type 0 where
   pub desk : ℕ
   pub answers : List Answer
   pub batches : Option (List (List Item))
 
+-- the batches that a running desk published, where there is one
 abbrev pub shown_of : Option Keeper → Option (List (List Item))
 shown_of None = None
 shown_of (Some keeper) = Some (published keeper)
 
+-- what a keeper did that ends with these
 abbrev pub publication_of : ℕ → List Answer → Option Keeper → Publication
 publication_of desk answers shown = record { desk = desk; answers = answers; batches = shown_of shown }
 
--- The batches are a beginning of what the running desk of this number published, of several in the order of desks. So they are all up to the
--- end of some publish, as what a pass had seen always is.
+-- The batches are the first so many, perhaps none, that the running desk of this number published, of several in the order of desks.
 pub record IsBeginning (publications : List Publication) (desk : ℕ) (seen : List (List Item)) : Type 0 where
   pub publication : Publication
   pub at : slice_get publications desk ≡ Some publication
@@ -45,23 +46,22 @@ pub record AreShown (desks : ℕ) (alone : List Answer) (publications : List Pub
   pub looks : All (λ (a : Answer). LooksAt desks (IsBeginning publications) a.0.work a.1) alone
   pub each : All (λ (p : Publication). ArePublished p.desk (IsBeginning publications) p.answers p.batches) publications
 
--- The keeper merged some of these jobs, all for its desk, and published their batches.
-pub record IsPublication (answers : List Answer) (publications : List Publication) (p : Publication) : Type 0 where
-  pub among : (a : Answer) → Contains p.answers a → Contains answers a
+-- The keeper merged jobs for its desk alone, and published their batches where it has a running desk.
+pub record IsPublication (publications : List Publication) (p : Publication) : Type 0 where
   pub for_desk : All (λ (a : Answer). desk_of a.0.work ≡ p.desk) p.answers
   pub batches : ArePublished p.desk (IsBeginning publications) p.answers p.batches
 
--- One of the keepers merged the job.
-pub record IsAmong (publications : List Publication) (a : Answer) : Type 0 where
-  pub publication : Publication
-  pub among : Contains publications publication
-  pub there : Contains publication.answers a
+-- the jobs that a keeper merged
+abbrev pub answers_of : Publication → List Answer
+answers_of p = p.answers
 
--- Each job was answered alone or merged by a keeper. Each look shows a beginning of what its running desk published. What a running desk
--- published are the batches of the jobs that were merged there, and the batch of each carry is all that is kept of a beginning of what the
--- running desk published that it comes from.
+-- Each job was answered alone or merged by one keeper, once. Each look shows a beginning of what its running desk published. What a running
+-- desk published are the batches of the jobs that were merged there, one for each, and the batch of each carry is all that is kept of a
+-- beginning of what the running desk published that it comes from.
 pub record HasShown (desks : ℕ) (answers : List Answer) : Type 0 where
+  pub alone : List Answer
   pub publications : List Publication
-  pub each : All (IsPublication answers publications) publications
-  pub merged : All (λ (a : Answer). AnswersAlone desks a.0.work a.1 ⊎ IsAmong publications a) answers
-  pub looks : All (λ (a : Answer). LooksAt desks (IsBeginning publications) a.0.work a.1) answers
+  pub answers_are : IsPermutation (alone ++ flat_map answers_of publications) answers
+  pub alone_are : All (λ (a : Answer). AnswersAlone desks a.0.work a.1) alone
+  pub looks : All (λ (a : Answer). LooksAt desks (IsBeginning publications) a.0.work a.1) alone
+  pub each : All (IsPublication publications) publications

@@ -6,8 +6,8 @@
 //!
 //! Where an office answers, the same texts are taken whatever the schedule, and all desks end with what is kept of one set, which has
 //! the items of these texts and no others: what carries brought is in no desk of texts, since the exchange brings all of it. So the desks
-//! end as those of one thread. What a carry brings and what a look shows depends on the schedule: it is of the batches up to the end of some
-//! publish.
+//! end as those of one thread. What a carry brings and what a look shows depends on the schedule: it is of the first so many batches of a
+//! desk, perhaps of none.
 #![tactic(auto)]
 
 mod desk_loop;

@@ -26,8 +26,8 @@ pub struct Office {
 /// Runs jobs on threads: one for each worker, and one for each keeper. A desk has one keeper, or, where no job looks or carries, as many as
 /// there are workers for each desk. Desks are empty in the beginning. Once the jobs are done each desk takes what the others keep of texts.
 /// What carries brought meanwhile is seen by looks and by other carries; in the end it is nothing that a desk lacks.
-/// A look lists the batches of the jobs that its desk merged up to some one of them, and is refused by 31 exactly where these have too
-/// many rows; a carry brings all that is kept of such batches of the other desk.
+/// A look lists the batches of the first so many jobs that its desk merged, perhaps of none, and is refused by 31 exactly where these have
+/// too many rows; a carry brings all that is kept of such batches of the desk that it comes from.
 ///
 /// Ends early if an allocation failed (40), if a thread could not be made or a desk gave no place (41), if the gate said so (42), if two
 /// jobs have one number (44), if a desk refused an entry (45), or if a count is spent (21): with 40 or 41 before all if not all threads

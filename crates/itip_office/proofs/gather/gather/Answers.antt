@@ -2,15 +2,15 @@ use Rattle.std.proofs.Common.{rules, ◌≡◌, List, [], ◌∷◌, ◌++◌, �
 use Rattle.std.specs.List.{flat_map}
 use Rattle.std.specs.Vec.Iter.{into_iter_items}
 use Rattle.std.proofs.lemmas.List.{nil_from_length}
-use Rattle.std.proofs.lemmas.List.Elements.{All-nil, All-cons, All-head, All-tail, All-weaker, All-map}
+use Rattle.std.proofs.lemmas.List.Elements.{All-nil, All-cons, All-head, All-tail, All-map}
 use Rattle.itip_desk.specs.Desk.{Shown}
 use Rattle.itip_office.specs.declared.team.Merged.{Merged}
 use Rattle.itip_office.specs.Answers.{Answer}
-use Rattle.itip_office.specs.Merged.{IsMerged, HasMerged}
-use Rattle.itip_office.specs.Published.{Publication, HasShown, publication_of}
+use Rattle.itip_office.specs.Merged.{HasMerged}
+use Rattle.itip_office.specs.Published.{Publication, HasShown, answers_of, publication_of}
 use Rattle.itip_office.specs.Ended.{AreGathered}
 use Rattle.itip_office.proofs.Reports.{IsFor, gathered_none, gathered_more}
-use Rattle.itip_office.proofs.Publishing.{answers_of, has_shown}
+use Rattle.itip_office.proofs.Publishing.{has_shown}
 use Rattle.itip_office.proofs.gather.gather.Goals as goal
 
 -- what keepers published, and the answers in it
@@ -75,7 +75,4 @@ returns-clause-shown g c =
     let pub_of : Merged g.row.R.Denot → Publication = λ k. publication_of k.desk k.answers.items k.held.shown in
     subst (λ (l : List Answer). HasShown c.args.desks l) whole
     (has_shown c.args.desks (published kept) alone c.requires.alone c.requires.shown
-    (All-map (λ (p : Publication). All (IsFor c.args.desks p.desk) p.answers) pub_of kept own)
-    (All-map (λ (p : Publication). All (IsMerged p.desk) p.answers) pub_of kept
-    (All-weaker (λ (k : Merged g.row.R.Denot). HasMerged k.desk k.answers.items k.held.texts)
-    (λ (k : Merged g.row.R.Denot). All (IsMerged k.desk) k.answers.items) (λ k m. m.each) kept c.requires.kept)))
+    (All-map (λ (p : Publication). All (IsFor c.args.desks p.desk) p.answers) pub_of kept own))

@@ -2,10 +2,9 @@ use Rattle.std.proofs.Common.{◌≡◌, ◌++◌, map, All}
 use Rattle.std.specs.List.{flat_map}
 use Rattle.std.specs.Vec.Iter.{into_iter_items}
 use Rattle.itip_office.specs.Merged.{HasMerged}
-use Rattle.itip_office.specs.Published.{publication_of}
+use Rattle.itip_office.specs.Published.{answers_of, publication_of}
 use Rattle.itip_office.specs.Ended.{AreGathered}
 use Rattle.itip_office.proofs.Reports.{IsFor}
-use Rattle.itip_office.proofs.Publishing.{answers_of}
 use Rattle.itip_office.proofs.gather.gather.Given as goal
 
 abbrev pub invariant-loop-one : goal.invariant-loop-one
