@@ -8,17 +8,17 @@ use Rattle.itip_view.specs.Rows.{IsRow}
 use Rattle.itip_view.specs.declared.row.Row.{Row}
 use Rattle.itip_desk.specs.Desk.{Shown}
 use Rattle.itip_desk.proofs.Parts.{rows_in}
-use Rattle.itip_desk.proofs.desk.Desk.part_in.Goals as goal
-use Rattle.itip_desk.proofs.desk.Desk.part_in.Goals.{After-part}
+use Rattle.itip_desk.proofs.desk.Desk.items_in.Goals as goal
+use Rattle.itip_desk.proofs.desk.Desk.items_in.Goals.{After-shared_of}
 
 -- the UIDs that are found, each once
-found : (c : After-part) → (uid : List ℕ) → HasRowsIn c.args.self.now.kept c.args.window uid →
+found : (c : After-shared_of) → (uid : List ℕ) → HasRowsIn c.args.self.now.kept c.args.window uid →
     Contains (map (λ u. u.now) c.in_ok-there.there.items) uid
 found c uid has = (c.in_ok-there.ensures.same uid).1
     (c.in_ok-uids_in.ensures.uids uid (subst (λ (k : List Item). HasRowsIn k c.args.window uid)
     (sym (ap (λ (d : Shown). d.kept) c.self.view_is)) has))
 
-part_of : (c : After-part) (part : List Item) → ArePartOf part c.state.result.now (map (λ u. u.now) c.deref.result.now) →
+part_of : (c : After-shared_of) (part : List Item) → ArePartOf part c.state.result.now (map (λ u. u.now) c.deref.result.now) →
     ArePartOf part c.args.self.now.kept (map (λ u. u.now) c.in_ok-there.there.items)
 part_of c part are =
     subst (λ us. ArePartOf part c.args.self.now.kept (map (λ u. u.now) us)) c.deref.ensures.value
@@ -27,16 +27,16 @@ part_of c part are =
 
 pub returns-clause-part : goal.returns-clause-part
 returns-clause-part c =
-    let at = (goal.at.returns-clause-part c).After-part in
-    if_ok_then (λ part. ArePartOf part c.state.result.now (map (λ u. u.now) c.deref.result.now)) (λ part. (uids : List (List ℕ)) ×
-    ArePartOf part c.args.self.now.kept uids) c.part.result
-    (λ part are. (map (λ u. u.now) c.in_ok-there.there.items, part_of at part are)) c.part.ensures.part
+    let at = (goal.at.returns-clause-part c).After-shared_of in
+    if_ok_then (λ v. ArePartOf v.items c.state.result.now (map (λ u. u.now) c.deref.result.now)) (λ v. (uids : List (List ℕ)) ×
+    ArePartOf v.items c.args.self.now.kept uids) c.shared_of.result
+    (λ v are. (map (λ u. u.now) c.in_ok-there.there.items, part_of at v.items are)) c.shared_of.ensures.part
 
 pub returns-clause-rows : goal.returns-clause-rows
 returns-clause-rows c =
-    let at = (goal.at.returns-clause-rows c).After-part in
-    if_ok_then (λ part. ArePartOf part c.state.result.now (map (λ u. u.now) c.deref.result.now)) (λ part. (row : Row) →
-    IsRow part c.args.window row ↔ IsRow c.args.self.now.kept c.args.window row) c.part.result
-    (λ part are. rows_in part c.args.self.now.kept (map (λ u. u.now) c.in_ok-there.there.items) (part_of at part are) c.args.window
+    let at = (goal.at.returns-clause-rows c).After-shared_of in
+    if_ok_then (λ v. ArePartOf v.items c.state.result.now (map (λ u. u.now) c.deref.result.now)) (λ v. (row : Row) →
+    IsRow v.items c.args.window row ↔ IsRow c.args.self.now.kept c.args.window row) c.shared_of.result
+    (λ v are. rows_in v.items c.args.self.now.kept (map (λ u. u.now) c.in_ok-there.there.items) (part_of at v.items are) c.args.window
     (found at))
-    c.part.ensures.part
+    c.shared_of.ensures.part
