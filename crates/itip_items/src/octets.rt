@@ -100,6 +100,13 @@ impl Octets {
         }
     }
 
+    /// The octets behind the front that is shared: all where none is.
+    pub fn own(&self) -> &[u8]
+        ensures { (front : List ℕ) × (self.now ≡ front ++ result.now) }
+    {
+        self.own.as_slice()
+    }
+
     /// How many they are.
     pub fn len(&self) -> usize
         ensures { result ≡ length self.now }
