@@ -119,11 +119,11 @@ impl State {
         ensures kept { IfOk result (λ state. AreKept state items.now) }
         ensures succeeds { items.now ≡ [] → IsOk result }
     {
-        let mut held = Held::empty(alloc);
+        let mut kept = Held::empty(alloc);
         for item in items {
-            hear(&mut held, item)?;
+            hear(&mut kept, item)?;
         }
-        Ok(State { alloc, held })
+        Ok(State { alloc, held: kept })
     }
 
     /// Those of these items that are news: that this state doesn't tell already, and that are not dead beside it.

@@ -8,7 +8,7 @@ use Rattle.itip_state.proofs.Nothing.{none_left}
 use Rattle.itip_state.proofs.state.State.of_shared.Goals as goal
 
 pub loop-item-init : goal.loop-item-init
-loop-item-init c = rw c.empty-held.ensures hold_nothing
+loop-item-init c = rw c.empty-kept.ensures hold_nothing
 
 pub loop-item-preserved : goal.loop-item-preserved
 loop-item-preserved c = subst (λ (xs : List Item). HoldKept xs c.hear.new.held)
@@ -20,7 +20,7 @@ pub invariant_of-result : goal.invariant_of-result
 invariant_of-result c = c.loop-item.invariant.held
 
 pub returns-clause-kept : goal.returns-clause-kept
-returns-clause-kept c = subst (λ (xs : List Item). AreKept (items_of c.loop-item.held) xs)
+returns-clause-kept c = subst (λ (xs : List Item). AreKept (items_of c.loop-item.kept) xs)
     (take_all c.loop-item.item-index c.args.items.now c.loop-item-test.false) c.loop-item.invariant.kept
 
 pub returns-in_err-hear-clause-succeeds : goal.returns-in_err-hear-clause-succeeds
