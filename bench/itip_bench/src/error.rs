@@ -1,9 +1,9 @@
 //! Why nothing more was measured.
 
 use itip_desk::DeskError;
-use itip_running::LiveError;
 use itip_message::ReadError;
 use itip_recur::RecurError;
+use itip_running::LiveError;
 use itip_view::{BadWindow, ViewError};
 use std::alloc::{AllocError, AllocFailed};
 use std::io;
