@@ -17,7 +17,7 @@ use Rattle.itip_running.specs.declared.keeper.Keeper.{Keeper}
 use Rattle.itip_office.specs.Texts.{desk_of}
 use Rattle.itip_office.specs.Answers.{Answer, AnswersAlone}
 use Rattle.itip_office.specs.Seen.{Source, IsOneOf, LooksAt, IsAnswered, IsBrought}
-use Rattle.itip_office.specs.Merged.{AreMerged, GrewShown, GrewTexts}
+use Rattle.itip_office.specs.Merged.{AreMerged, IsMerged, GrewShown, GrewTexts}
 use Rattle.itip_office.specs.Published.{Publication, shown_of, publication_of, IsBeginning, ArePublished, AreShown}
 use Rattle.itip_office.specs.Published.{IsPublication, HasShown, answers_of}
 use Rattle.itip_office.specs.Pairs.{IsOfPair, IsUnpublished, IsFresh, HasKept}
@@ -27,11 +27,11 @@ use Rattle.itip_office.proofs.Seeing.{looks_wider, published_wider}
 
 -- a keeper that had published nothing
 published_of : (desk : ℕ) (IsSeen : ℕ → List (List Item) → Type 0) (old new : Option Keeper) (answers : List Answer) → IsUnpublished old →
-    GrewShown desk IsSeen old new answers → ArePublished desk IsSeen answers (shown_of new)
-published_of desk IsSeen None None answers none grew = grew
-published_of desk IsSeen None (Some n) answers none grew = absurd grew
-published_of desk IsSeen (Some o) None answers none grew = absurd grew
-published_of desk IsSeen (Some o) (Some n) answers none grew =
+    All (IsMerged desk) answers → GrewShown desk IsSeen old new answers → ArePublished desk IsSeen answers (shown_of new)
+published_of desk IsSeen None None answers none merged grew = λ i a low at. (grew i a low at, merged i a low at)
+published_of desk IsSeen None (Some n) answers none merged grew = absurd grew
+published_of desk IsSeen (Some o) None answers none merged grew = absurd grew
+published_of desk IsSeen (Some o) (Some n) answers none merged grew =
     let all : grew.batches ≡ published n = sym (grew.whole ∙ ap (λ (l : List Group). batches_of l ++ grew.batches) none) in (
       subst (λ (l : List (List Item)). AreMerged desk answers l) all grew.merged,
       subst (λ (l : List (List Item)). AllZip (λ (a : Answer) (b : List Item). IsBrought IsSeen a.0.work b) answers l) all grew.brought,
@@ -49,7 +49,7 @@ pub has_kept : (pair : Option Book) (desk : ℕ) (IsSeen : ℕ → List (List It
     → GrewTexts desk texts ended answers → GrewShown desk IsSeen old new answers → HasKept pair IsSeen desk answers ended new
 has_kept pair desk IsSeen texts ended old new answers fresh grew shown = record {
   merged = has_merged desk texts ended answers fresh.empty grew;
-  published = published_of desk IsSeen old new answers fresh.unpublished shown;
+  published = published_of desk IsSeen old new answers fresh.unpublished grew.each shown;
   of_pair = of_pair pair desk IsSeen old new answers fresh.of_pair shown;
 }
 

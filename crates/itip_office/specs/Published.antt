@@ -8,7 +8,7 @@ use Rattle.itip_running.specs.declared.keeper.Keeper.{Keeper}
 use Rattle.itip_office.specs.Texts.{desk_of, IsText}
 use Rattle.itip_office.specs.Answers.{Answer, AnswersAlone}
 use Rattle.itip_office.specs.Seen.{LooksAt, IsBrought}
-use Rattle.itip_office.specs.Merged.{AreMerged}
+use Rattle.itip_office.specs.Merged.{AreMerged, IsMerged}
 
 -- What one keeper did: the jobs that it merged, in order; and the batches that it published, in order, where it has a running desk.
 pub record Publication : Type 0 where
@@ -35,9 +35,9 @@ pub record IsBeginning (publications : List Publication) (desk : ℕ) (seen : Li
   pub begins : IsPrefix seen batches
 
 -- These are the batches of the jobs, one for each, in order, and those of carries are of what was seen. Where nothing is published the jobs
--- are texts.
+-- are texts, each merged by its batch.
 abbrev pub ArePublished : ℕ → (ℕ → List (List Item) → Type 0) → List Answer → Option (List (List Item)) → Type 0
-ArePublished desk IsSeen answers None = All (λ (a : Answer). IsText a.0.work) answers
+ArePublished desk IsSeen answers None = All (λ (a : Answer). IsText a.0.work × IsMerged desk a) answers
 ArePublished desk IsSeen answers (Some batches) =
     AreMerged desk answers batches × AllZip (λ (a : Answer) (b : List Item). IsBrought IsSeen a.0.work b) answers batches
 

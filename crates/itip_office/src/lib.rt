@@ -5,8 +5,8 @@
 //! it, into which it merges all that comes and publishes it, for readers. Once all jobs are done the desks of texts exchange everything.
 //!
 //! Where an office answers, the same texts are taken whatever the schedule, and all desks end with what is kept of one set, which has
-//! the items of these texts and no others: what carries brought is in no desk of texts, since the exchange brings all of it. So the desks
-//! end as those of one thread. What a carry brings and what a look shows depends on the schedule: it is of the first so many batches of a
+//! the items of these texts and no others: what carries brought is in no desk of texts. So the desks keep what those of one thread
+//! keep. What a carry brings and what a look shows depends on the schedule: it is of the first so many batches of a
 //! desk, perhaps of none.
 #![tactic(auto)]
 

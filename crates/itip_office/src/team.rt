@@ -148,7 +148,7 @@ fn run_started<
 {
     let alloc = rt.alloc();
     let mut team: Team<N, R, G> = Team {
-        keepers: Vec::with_capacity(alloc, desks)?,
+        keepers: Vec::with_capacity(alloc, started.len())?,
         workers: Vec::with_capacity(alloc, workers)?,
     };
     let begun = team.start(rt, desks, workers, started, jobs, gate);
