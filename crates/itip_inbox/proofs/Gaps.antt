@@ -185,10 +185,10 @@ front_apart (text ∷ texts) front rest apart = (
 )
 
 module _ (part rest : List ℕ) (gap : HasGap part rest) where
-  calendars : List ℕ
+  abbrev calendars : List ℕ
   calendars = concat gap.calendars
 
-  lines : List ℕ
+  abbrev lines : List ℕ
   lines = concat gap.lines
 
   before_rest : EndsBetween calendars (lines ++ rest)

@@ -148,7 +148,8 @@ placed_alike : (xs ys : List NumberedLine) (placed : List Placed) → plain_line
     ArePlacedSo ys placed
 placed_alike xs ys placed e framed =
     were_placed ys (frame ys) placed refl
-    (frame_so ys ∙ ap (λ (ls : List NumberedLine). placed_so (frame ls)) (sym (same_bare xs ys e)) ∙ sym (frame_so xs) ∙ ap placed_so framed)
+    (frame_so ys ∙ ap (λ (ls : List NumberedLine). placed_so (frame ls)) (sym (same_bare xs ys e)) ∙ sym (frame_so xs) ∙
+    ap placed_so framed)
 
 -- ---- the head
 
@@ -297,7 +298,8 @@ record ReadsAlso (text : List ℕ) (lines : List NumberedLine) : Type 0 where
   same : plain_lines lines ≡ plain_lines numbered
   reads : Reads text numbered
 
-reads_also : (a b : List ℕ) (lines : List NumberedLine) → lines_in b ≡ lines_in a → length b ≤ text_limit → Reads a lines → ReadsAlso b lines
+reads_also : (a b : List ℕ) (lines : List NumberedLine) → lines_in b ≡ lines_in a → length b ≤ text_limit → Reads a lines →
+    ReadsAlso b lines
 reads_also a b lines same short reads =
     let cutting = cutting_of b in
     let texts : texts_of (numbered_lines_of cutting.pieces cutting.last) ≡ texts_of (numbered_lines_of reads.pieces reads.last) =
@@ -332,7 +334,8 @@ same_lines_read a b items same short message =
       };
       read = todos_alike present message.method_is (todos begins.placed) (todos placed.others) message.all
           (sym (bare_todos placed.others) ∙ ap todos placed.same ∙ bare_todos begins.placed)
-          (subst (λ (cs : List Component). AreComponentsWithin present message.method_is cs message.all) begins.components_are message.read);
+          (subst (λ (cs : List Component). AreComponentsWithin present message.method_is cs message.all) begins.components_are
+          message.read);
       within = message.within;
       items_are = message.items_are;
     }

@@ -64,9 +64,10 @@ pub fn compaction_of_compactions()
 
 /// Inputs that have the same messages, in whatever order and each once or more often, tell the same items. The parts of an input
 /// that is cut between messages have its messages: there each part but the last has nothing but whole calendars, each up to the
-/// break behind its END:VCALENDAR, and no blank stands behind a calendar. Parts that have empty lines too, before, between or behind
-/// these calendars, tell each item that the whole tells; and they tell no other, where no message of the whole, with the empty lines
-/// before it, is longer than a message may be. A part can tell more only where such lines make a message of the whole too long.
+/// break behind its END:VCALENDAR, and no blank stands behind a calendar. Where each part but the last may have empty lines too,
+/// before, between or behind its calendars, and no blank stands behind any of these, the parts tell each item that the whole tells.
+/// They tell no other where no message of the whole has more octets than a text may have. The empty lines before a message count,
+/// as they are of it.
 pub fn items_of_parts()
     ensures messages { (inputs others : List (List ℕ)) → HaveSameMessages inputs others → TellSameItems inputs others }
     ensures parted { (whole : List ℕ) (parts : List (List ℕ)) → IsPartedInto whole parts → HaveSameMessages (whole ∷ []) parts }
