@@ -1,10 +1,10 @@
 -- An empty line before a text: its messages are those of the text, the first of them with the line before it, and give the same items.
-use Rattle.std.proofs.Common.{◌≡◌, ◌≢◌, ◌∙◌, sym, ap, refl, subst, ℕ, zero, ◌≤◌, ◌⊎◌, Bool, true, false, cond, List, [], ◌∷◌, ◌++◌}
+use Rattle.std.proofs.Common.{◌≡◌, ◌≢◌, ◌∙◌, sym, ap, refl, subst, ℕ, ◌≤◌, ◌⊎◌, Bool, cond, List, [], ◌∷◌, ◌++◌}
 use Rattle.std.proofs.Common.{length, map, arith, inl, inr, append_assoc, length-append}
 use Rattle.std.specs.List.{Contains, AllByRecursion, AllZip, concat}
 use Rattle.std.proofs.lemmas.List.Elements.{All-nil}
-use Rattle.itip_lines.specs.Cutting.{Break, Piece, IsPiece, IsCutting, break_bytes, joined, unfolded, unfolded_onto, stretches, lines_of}
-use Rattle.itip_lines.specs.Cutting.{without_empty, is_blank}
+use Rattle.itip_lines.specs.Cutting.{Break, Piece, IsPiece, IsCutting, break_bytes, joined, unfolded, unfolded_onto, lines_of}
+use Rattle.itip_lines.specs.Cutting.{without_empty}
 use Rattle.itip_lines.specs.Cutting.Break.{lf, crlf}
 use Rattle.itip_lines.specs.Reading.{text_limit}
 use Rattle.itip_lines.specs.Stretches.{LacksBlank, lines_onto}

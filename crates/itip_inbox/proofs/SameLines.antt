@@ -1,9 +1,8 @@
 -- Texts with the same lines are read as the same items: the numbers of lines only tell where a refusal is.
 use Rattle.std.proofs.Common.{◌≡◌, ◌∙◌, sym, ap, refl, subst, ℕ, ◌+◌, ◌≤◌, Bool, true, false, cond, List, [], ◌∷◌, ◌++◌, length, map}
 use Rattle.std.specs.Prelude.{nat_lt, codes, Option, Some, None, Result, Ok, Err, ◌&&◌}
-use Rattle.std.specs.List.{filter}
 use Rattle.std.proofs.lemmas.List.{length-map, map-append}
-use Rattle.itip_lines.specs.Cutting.{NumberedText, numbered_lines_of, texts_of, without_empty, lines_of}
+use Rattle.itip_lines.specs.Cutting.{NumberedText, numbered_lines_of, texts_of, without_empty}
 use Rattle.itip_lines.specs.Reading.{text_limit, AreLines, IsGood, line_at, plain_lines, Reads}
 use Rattle.itip_lines.specs.Stretches.{lines_onto}
 use Rattle.itip_lines.specs.declared.line.Line.{Line}
@@ -19,8 +18,8 @@ use Rattle.itip_items.specs.declared.item.Item.{Item}
 use Rattle.itip_items.specs.declared.kind.Method.{Method}
 use Rattle.itip_message.specs.Frame.{frame, place, with_front, nested, opening, property, component_name, depth_limit, calendar_lines}
 use Rattle.itip_message.specs.Frame.{todos, todos_from, begun, with_line}
-use Rattle.itip_message.specs.Head.{head, head_of, named, only_value, odd_line, is_version, method_in, counted, first_begins, todo_limit}
-use Rattle.itip_message.specs.Message.{HasHead, AreComponentsWithin, ReadsMessageWithin, ReadsMessage}
+use Rattle.itip_message.specs.Head.{head, head_of, named, only_value, odd_line, is_version, method_in, counted, todo_limit}
+use Rattle.itip_message.specs.Message.{HasHead, AreComponentsWithin, ReadsMessage}
 use Rattle.itip_message.specs.Refusals.{at_line}
 use Rattle.itip_message.specs.declared.frame.Placed.{Placed}
 use Rattle.itip_message.specs.declared.frame.Placed.TheVariants.{CalendarLine, TodoBegins, TodoLine}
