@@ -150,9 +150,11 @@ fn in_parts(items: Vec<SharedItem>, count: usize) -> Result<Vec<Vec<SharedItem>>
     let mut parts = Vec::new(*items.allocator());
     let mut rest = items;
     let size = rest.len() / count + 1;
-    while rest.len() > size {
-        let last = rest.split_off(rest.len() - size)?;
-        parts.push(last)?;
+    for _ in 1..count {
+        if rest.len() > size {
+            let last = rest.split_off(rest.len() - size)?;
+            parts.push(last)?;
+        }
     }
     parts.push(rest)?;
     Ok(parts)

@@ -20,9 +20,9 @@ pub(crate) fn grouped<R: AllocGlobal + Threads + Wait + Sync>(
     rt: &R,
     publishes: u64,
 ) -> Result<Vec<u8>, CallError> {
-    let Told {
+    let Ran {
         is_right,
-        ended: Ended { published, are_whole },
+        ended: Meeting { published, are_whole },
     } = started(rt, publishes)?;
     Ok(format!(in rt.alloc();
         "published {published}, told right: {is_right}, whole: {are_whole}"
@@ -30,13 +30,15 @@ pub(crate) fn grouped<R: AllocGlobal + Threads + Wait + Sync>(
 }
 
 /// What came of a pair that ran: whether each pass saw what it was told of, and what it ended with.
-struct Told {
+#[derive(Clone, Copy)]
+struct Ran {
     is_right: bool,
-    ended: Ended,
+    ended: Meeting,
 }
 
 /// How many batches were published, and whether each pass saw all of some publishes.
-struct Ended {
+#[derive(Clone, Copy)]
+struct Meeting {
     published: u64,
     are_whole: bool,
 }
@@ -44,7 +46,7 @@ struct Ended {
 fn started<R: AllocGlobal + Threads + Wait + Sync>(
     rt: &R,
     publishes: u64,
-) -> Result<Told, CallError> {
+) -> Result<Ran, CallError> {
     let (keeper, mut passes) = start_desk(rt, 2)?;
     match (passes.pop(), passes.pop()) {
         (Some(second), Some(first)) => told::<Brand, R>(rt, keeper, first, second, publishes),
@@ -62,7 +64,7 @@ fn told<N: Naming + Send + Sync, R: AllocGlobal + Threads + Wait + Sync>(
     first: Pass,
     second: Pass,
     publishes: u64,
-) -> Result<Told, CallError>
+) -> Result<Ran, CallError>
     requires keeper { keeper_pair keeper ≡ N.pair }
     requires passes { (pass_pair first ≡ N.pair) × (pass_pair second ≡ N.pair) }
 {
@@ -70,7 +72,7 @@ fn told<N: Naming + Send + Sync, R: AllocGlobal + Threads + Wait + Sync>(
     let is_right = run::<N, R>(rt, &mut keeper, &mut first, &mut second, publishes);
     let ended = end(rt, keeper, first, second)?;
     let is_right = is_right?;
-    Ok(Told { is_right, ended })
+    Ok(Ran { is_right, ended })
 }
 
 /// The two passes meet their keeper.
@@ -79,7 +81,7 @@ fn end<R: AllocGlobal + Wait>(
     keeper: Keeper,
     first: Pass,
     second: Pass,
-) -> Result<Ended, CallError>
+) -> Result<Meeting, CallError>
     requires { (pass_pair first ≡ keeper_pair keeper) × (pass_pair second ≡ keeper_pair keeper) }
 {
     let mut passes = Vec::new(rt.alloc());
@@ -94,8 +96,8 @@ fn end<R: AllocGlobal + Wait>(
     }
 }
 
-fn ended(met: &Met) -> Ended {
-    Ended {
+fn ended(met: &Met) -> Meeting {
+    Meeting {
         published: met.published,
         are_whole: met.seen.iter().all(|seen| *seen % AT_ONCE == 0),
     }

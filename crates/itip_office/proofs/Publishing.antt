@@ -28,7 +28,7 @@ use Rattle.itip_office.proofs.Seeing.{looks_wider, published_wider}
 -- a keeper that had published nothing
 published_of : (desk : ℕ) (IsSeen : ℕ → List (List Item) → Type 0) (old new : Option Keeper) (answers : List Answer) → IsUnpublished old →
     All (IsMerged desk) answers → GrewShown desk IsSeen old new answers → ArePublished desk IsSeen answers (shown_of new)
-published_of desk IsSeen None None answers none merged grew = λ i a low at. (grew i a low at, merged i a low at)
+published_of desk IsSeen None None answers none merged grew = λ i a low. (grew i a low, merged i a low)
 published_of desk IsSeen None (Some n) answers none merged grew = absurd grew
 published_of desk IsSeen (Some o) None answers none merged grew = absurd grew
 published_of desk IsSeen (Some o) (Some n) answers none merged grew =
