@@ -1,5 +1,5 @@
 use Rattle.itip_running.specs.Ends.{keeper_pair}
-use Rattle.itip_live_calls.proofs.groups.met.Given as goal
+use Rattle.itip_live_calls.proofs.groups.started.Given as goal
 
 -- the pair that was just started
 abbrev pub ghosts-told : goal.ghosts-told
