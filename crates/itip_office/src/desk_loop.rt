@@ -1,10 +1,13 @@
 //! The loop of a keeper.
-ghost use Rattle.std.specs.Prelude.{◌≡◌, ◌≢◌, length, IfOk, OnOk, IfErr, IsErrOf, option_to_list};
+ghost use Rattle.std.specs.Prelude.{◌≡◌, ◌≢◌, length, Option, IfOk, OnOk, IfErr, IsErrOf, option_to_list};
+ghost use Rattle.itip_desk.specs.Desk.{Shown};
+ghost use Rattle.itip_running.specs.declared.keeper.Keeper.{Keeper};
 ghost use Rattle.itip_office.specs.Texts.{Merges};
 ghost use Rattle.itip_office.specs.Answers.{AnswersMerged};
 ghost use Rattle.itip_office.specs.Seen.{IsOneOf};
 ghost use Rattle.itip_office.specs.Merged.{IsIdle, ShowsOne, GrewShown, TookText, GrewTexts, MergedOne};
 
+use crate::answers::keep_answer;
 use crate::error::OfficeError;
 use crate::gate::Gate;
 use crate::job::{Job, Work};
@@ -12,7 +15,7 @@ use crate::merge::Merge;
 use crate::outcome::Outcome;
 use crate::owned_keeper::close;
 use crate::pairs::Pairs;
-use crate::source::{Source, push_some};
+use crate::source::Source;
 use crate::start::live_error;
 use crossbeam_channel::Receiver;
 use itip_desk::{Batch, Desk, DeskError};
@@ -65,23 +68,42 @@ fn merge_all<N: Pairs, R: AllocGlobal + Wait, G: Gate>(
     ensures nothing { OnOk result (IsIdle shown.new) }
     ensures closed { IsErrOf result OfficeError.GateClosed → G.may_close }
 {
-    let mut answers = Vec::new(rt.alloc());
-    let mut sources = Vec::new(rt.alloc());
+    let answers = Vec::new(rt.alloc());
+    let sources = Vec::new(rt.alloc());
+    let mut found = (answers, sources);
     for _ in rt.forever() {
         let Ok(some) = merges.recv(rt) else {
-            return Ok((answers, sources));
+            return Ok(found);
         };
-        for merge in some {
-            let (answer, source) = merge_one(rt, desk, texts, shown, merge, gate)?;
-            let number = answer.0.number;
-            push_some(&mut sources, source)?;
-            answers.push(answer)?;
-            if !gate.done(number) {
-                return Err(OfficeError::GateClosed);
-            }
-        }
+        merge_some(rt, desk, texts, shown, some, gate, &mut found)?;
     }
     unreachable!()
+}
+
+// Merges what came at once. What it finds it puts behind what was found before.
+fn merge_some<N: Pairs, R: Wait, G: Gate>(
+    rt: &R,
+    desk: u64,
+    texts: &mut Desk,
+    shown: &mut Option<Keeper>,
+    some: Vec<Merge<N>>,
+    gate: &G,
+    found: &mut (Vec<(Job, Outcome)>, Vec<Source<N>>),
+) -> Result<(), OfficeError>
+    requires nothing { IsIdle shown.old }
+    ensures texts { OnOk result ((first : Shown) → GrewTexts desk first texts.old found.old.0.items →
+        GrewTexts desk first texts.new found.new.0.items) }
+    ensures published { OnOk result ((first : Option Keeper) →
+        GrewShown desk (IsOneOf found.old.1.items) first shown.old found.old.0.items →
+        GrewShown desk (IsOneOf found.new.1.items) first shown.new found.new.0.items) }
+    ensures nothing { OnOk result (IsIdle shown.new) }
+    ensures closed { IsErrOf result OfficeError.GateClosed → G.may_close }
+{
+    for merge in some {
+        let (answer, source) = merge_one(rt, desk, texts, shown, merge, gate)?;
+        keep_answer(gate, found, answer, source)?;
+    }
+    Ok(())
 }
 
 fn merge_one<N: Pairs, R: Wait, G: Gate>(
@@ -97,13 +119,40 @@ fn merge_one<N: Pairs, R: Wait, G: Gate>(
     ensures closed { IsErrOf result OfficeError.GateClosed → G.may_close }
 {
     let (job, batch, source) = merge.into_parts();
+    match merge_batch(rt, desk, texts, shown, &job, batch, gate) {
+        Ok(outcome) => Ok(((job, outcome), source)),
+        Err(error) => {
+            drop(job);
+            drop(source);
+            Err(error)
+        }
+    }
+}
+
+// The outcome of a job whose batch is merged, where the gate lets it through.
+fn merge_batch<R: Wait, G: Gate>(
+    rt: &R,
+    desk: u64,
+    texts: &mut Desk,
+    shown: &mut Option<Keeper>,
+    job: &Job,
+    batch: Batch,
+    gate: &G,
+) -> Result<Outcome, OfficeError>
+    requires nothing { IsIdle shown.old }
+    requires merges { Merges job.now.work batch }
+    ensures answers { IfOk result (λ outcome. AnswersMerged desk batch job.now.work outcome) }
+    ensures texts { OnOk result (TookText job.now.work texts.old texts.new batch) }
+    ensures shown { OnOk result (ShowsOne job.now.work shown.old shown.new batch) }
+    ensures closed { IsErrOf result OfficeError.GateClosed → G.may_close }
+{
     if !gate.keeper(desk, job.number) {
         return Err(OfficeError::GateClosed);
     }
     let outcome = outcome_of(desk, &job.work, &batch);
     take_text(texts, &job.work, &batch)?;
     show(rt, shown, &job.work, batch)?;
-    Ok(((job, outcome), source))
+    Ok(outcome)
 }
 
 /// Has the desk of texts take the batch of a text, and nothing of another job.

@@ -1,9 +1,10 @@
 //! The loop of a worker.
-ghost use Rattle.std.specs.Prelude.{◌≡◌, ◌≢◌, length, All, IfOk, IfErr, IfSome, IsErrOf, option_to_list};
+ghost use Rattle.std.specs.Prelude.{◌≡◌, ◌≢◌, length, All, IfOk, OnOk, IfErr, IfSome, IsErrOf, option_to_list};
 ghost use Rattle.itip_office.specs.declared.job.Work.TheVariants.{Text, Carry, Look};
 ghost use Rattle.itip_office.specs.Seen.{IsOneOf, IsAnswered};
 ghost use Rattle.itip_office.specs.Steps.{IsStepOf, HasSeen};
 
+use crate::answers::keep_answer;
 use crate::error::OfficeError;
 use crate::gate::Gate;
 use crate::hands::Hands;
@@ -12,7 +13,7 @@ use crate::merge::Merge;
 use crate::outcome::Outcome;
 use crate::pairs::Pairs;
 use crate::seat::Seat;
-use crate::source::{Source, push_some};
+use crate::source::Source;
 use crossbeam_channel::{Receiver, Sender};
 use itip_desk::{Batch, Refusal, read_batch};
 use itip_message::ReadError;
@@ -50,27 +51,67 @@ pub fn worker_loop<N: Pairs, R: AllocGlobal + Wait, G: Gate>(
 {
     let mut seats = seats;
     let mut hands = Hands::new(rt.alloc(), desks, keepers, gate.may_wait())?;
-    let mut answers = Vec::new(rt.alloc());
-    let mut sources = Vec::new(rt.alloc());
+    let answers = Vec::new(rt.alloc());
+    let sources = Vec::new(rt.alloc());
+    let mut found = (answers, sources);
+    answer_all(
+        rt,
+        seats.as_mut_slice(),
+        desks,
+        &mut hands,
+        &jobs,
+        gate,
+        &mut found,
+    )?;
+    Ok(found)
+}
+
+// Takes jobs until their channel is closed, and hands on what is left then. What it finds it puts behind what was found before.
+fn answer_all<N: Pairs, R: AllocGlobal + Wait, G: Gate>(
+    rt: &R,
+    seats: &mut [Seat<N>],
+    desks: usize,
+    hands: &mut Hands<N>,
+    jobs: &Receiver<Job>,
+    gate: &G,
+    found: &mut (Vec<(Job, Outcome)>, Vec<Source<N>>),
+) -> Result<(), OfficeError>
+    ensures answered { OnOk result (All (IsAnswered desks (IsOneOf found.old.1.items)) found.old.0.items →
+        All (IsAnswered desks (IsOneOf found.new.1.items)) found.new.0.items) }
+    ensures closed { IsErrOf result OfficeError.GateClosed → G.may_close }
+{
     for _ in rt.forever() {
         let Ok(job) = jobs.recv(rt) else {
             hands.send_all(rt)?;
-            return Ok((answers, sources));
+            return Ok(());
         };
-        let number = job.number;
-        if !gate.worker(number) {
-            return Err(OfficeError::GateClosed);
-        }
-        let done = do_job(rt, seats.as_mut_slice(), desks, &mut hands, job)?;
-        if let Some((answer, source)) = done {
-            push_some(&mut sources, source)?;
-            answers.push(answer)?;
-            if !gate.done(number) {
-                return Err(OfficeError::GateClosed);
-            }
-        }
+        answer_one(rt, seats, desks, hands, job, gate, found)?;
     }
     unreachable!()
+}
+
+// Does a job, where the gate lets it through.
+fn answer_one<N: Pairs, R: AllocGlobal + Wait, G: Gate>(
+    rt: &R,
+    seats: &mut [Seat<N>],
+    desks: usize,
+    hands: &mut Hands<N>,
+    job: Job,
+    gate: &G,
+    found: &mut (Vec<(Job, Outcome)>, Vec<Source<N>>),
+) -> Result<(), OfficeError>
+    ensures answered { OnOk result (All (IsAnswered desks (IsOneOf found.old.1.items)) found.old.0.items →
+        All (IsAnswered desks (IsOneOf found.new.1.items)) found.new.0.items) }
+    ensures closed { IsErrOf result OfficeError.GateClosed → G.may_close }
+{
+    if !gate.worker(job.number) {
+        return Err(OfficeError::GateClosed);
+    }
+    let Some((answer, source)) = do_job(rt, seats, desks, hands, job)? else {
+        return Ok(());
+    };
+    keep_answer(gate, found, answer, source)?;
+    Ok(())
 }
 
 // The job with its outcome and what it had seen, or nothing where it is handed on. What was read before is handed on before a pass looks or

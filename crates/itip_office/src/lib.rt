@@ -10,6 +10,7 @@
 //! desk, perhaps of none.
 #![tactic(auto)]
 
+mod answers;
 mod desk_loop;
 mod error;
 mod exchange;

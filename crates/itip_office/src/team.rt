@@ -146,14 +146,13 @@ fn run_started<
     ensures closed { IsErrOf result OfficeError.GateClosed → G.may_close }
     ensures channel { IfErr result (λ e. e ≢ OfficeError.ChannelClosed) }
 {
-    let alloc = rt.alloc();
-    let mut team: Team<N, R, G> = Team {
-        keepers: Vec::with_capacity(alloc, started.len())?,
-        workers: Vec::with_capacity(alloc, workers)?,
-    };
+    let mut team: Team<N, R, G> = Team::new(rt.alloc(), started.len(), workers)?;
     let begun = team.start(rt, desks, workers, started, jobs, gate);
     let joined = team.join(rt);
-    begun?;
+    if let Err(error) = begun {
+        drop(joined);
+        return Err(error);
+    }
     match joined {
         Ok(joined) => joined.checked(),
         Err(error) => Err(error.of_all()),
@@ -227,6 +226,15 @@ impl<
     R: AllocGlobal + Threads + Wait + Copy + Send + Sync + 'static,
     G: Gate + Send + Sync + Drop + 'static,
 > Team<N, R, G> {
+    // No thread, and room for so many.
+    fn new(alloc: Global, keepers: usize, workers: usize) -> Result<Team<N, R, G>, AllocError>
+        ensures none { IfOk result (λ team. team.workers.items ≡ []) }
+    {
+        let keepers = Vec::with_capacity(alloc, keepers)?;
+        let workers = Vec::with_capacity(alloc, workers)?;
+        Ok(Team { keepers, workers })
+    }
+
     // Makes the threads. The ends of channels that no thread got are dropped, so that those that were made return.
     fn start(
         &mut self,
@@ -242,12 +250,29 @@ impl<
         ensures workers { OnOk result (All (λ t. t.promise.desks ≡ desks) self.new.workers.items) }
         ensures causes { IfErr result AreNoLoops }
     {
-        let alloc = rt.alloc();
-        let gate = Arc::new(alloc, gate)?;
+        let gate = Arc::new(rt.alloc(), gate)?;
         let jobs = queue(rt, jobs)?;
-        let mut benches = benches(alloc, workers)?;
-        self.start_keepers(rt, started, benches.as_mut_slice(), &gate)?;
-        self.start_workers(rt, desks, benches, &jobs, &gate)
+        self.start_threads(rt, desks, workers, started, &jobs, &gate)
+    }
+
+    // The same with the gate and a channel of the jobs.
+    fn start_threads(
+        &mut self,
+        rt: &R,
+        desks: usize,
+        workers: usize,
+        started: Vec<Started<R>>,
+        jobs: &Receiver<Job>,
+        gate: &Arc<G>,
+    ) -> Result<(), OfficeError>
+        requires none { self.old.workers.items ≡ [] }
+        requires started { All (λ s. IsStarted (N.pair s.desk) s.held.texts s.held.shown s.passes.items) started.items }
+        ensures workers { OnOk result (All (λ t. t.promise.desks ≡ desks) self.new.workers.items) }
+        ensures causes { IfErr result AreNoLoops }
+    {
+        let mut benches = benches(rt.alloc(), workers)?;
+        self.start_keepers(rt, started, benches.as_mut_slice(), gate)?;
+        self.start_workers(rt, desks, benches, jobs, gate)
     }
 
     // One keeper for each that is started.
@@ -328,10 +353,24 @@ fn start_keeper<
     ensures causes { IfErr result AreNoLoops }
 {
     let Started { desk, held, passes } = started;
-    let seats = seats(rt.alloc(), desk, passes)?;
-    let (to, merges) = unbounded(rt.alloc())?;
-    seat(benches, seats, &to)?;
+    let merges = way(rt.alloc(), desk, passes, benches)?;
     keeper_thread(rt, desk, held, merges, Arc::try_clone(gate)?)
+}
+
+// The end of a channel for the keeper of a desk, to whom each worker has a way then, and a seat at the desk by one of its passes.
+fn way<N: Pairs>(
+    alloc: Global,
+    desk: u64,
+    passes: Vec<Pass>,
+    benches: &mut [Bench<N>],
+) -> Result<Receiver<Vec<Merge<N>>>, OfficeError>
+    requires pair { All (λ p. pass_pair p ≡ N.pair desk) passes.items }
+    ensures { IfErr result (λ e. e ≡ OfficeError.NoMemory) }
+{
+    let seats = seats(alloc, desk, passes)?;
+    let (to, merges) = unbounded(alloc)?;
+    seat(benches, seats, &to)?;
+    Ok(merges)
 }
 
 // Seats at a desk, by its passes.

@@ -5,13 +5,6 @@ use Rattle.itip_office.proofs.desk_loop.merge_all.Given as goal
 abbrev pub invariant-loop : goal.invariant-loop
 invariant-loop g l = record {
   idle : IsIdle l.shown;
-  texts : GrewTexts l.desk l.fn.texts l.texts l.answers.items;
-  shown : GrewShown l.desk (IsOneOf l.sources.items) l.fn.shown l.shown l.answers.items;
-}
-
-abbrev pub invariant-loop-merge : goal.invariant-loop-merge
-invariant-loop-merge g l = record {
-  idle : IsIdle l.shown;
-  texts : GrewTexts l.desk l.fn.texts l.texts l.answers.items;
-  shown : GrewShown l.desk (IsOneOf l.sources.items) l.fn.shown l.shown l.answers.items;
+  texts : GrewTexts l.desk l.fn.texts l.texts l.found.0.items;
+  shown : GrewShown l.desk (IsOneOf l.found.1.items) l.fn.shown l.shown l.found.0.items;
 }

@@ -20,7 +20,7 @@ Has pair carried k = HasKept (pair k.desk) (IsOneOf carried) k.desk k.answers.it
 answered : (g : _) (c : In-Ok g) → All (IsAnswered c.args.desks (IsOneOf c.in-Ok.joined.looked.items)) c.in-Ok.joined.done.alone.items
 answered g c =
     IfOk-at_ok (λ r. All (IsAnswered c.args.desks (IsOneOf r.looked.items)) r.done.alone.items) c.in-Ok.is
-    (c.join-joined.ensures.answered c.args.desks c.in_ok-begun.ensures.workers)
+    (c.join-joined.ensures.answered c.args.desks c.in_default.ensures.workers)
 
 kept : (g : _) (c : In-Ok g) → All (Has g.N.Pairs.pair c.in-Ok.joined.carried.items) c.in-Ok.joined.done.kept.items
 kept g c = IfOk-at_ok (λ r. All (Has g.N.Pairs.pair r.carried.items) r.done.kept.items) c.in-Ok.is c.join-joined.ensures.kept
