@@ -67,8 +67,7 @@ pub fn run_jobs<
         return Ok(refuse_whole(alloc, writer)?);
     };
     let (refused, ended) = run_script(rt, desks, workers, window, script)?;
-    tell_refused(&refused, watch);
-    Ok(write_ended(alloc, writer, &refused, &ended, window, watch)?)
+    Ok(end_script(alloc, writer, refused, ended, window, watch)?)
 }
 
 // The refused jobs of a script, in the order of their numbers, and the desks that the others end with. The script goes before they run.
@@ -91,6 +90,24 @@ fn run_script<R: AllocGlobal + Threads + Wait + Copy + Send + Sync + 'static>(
     let ended = run_office(rt, desks, workers, jobs, OpenGate)?;
     let refused = refused_jobs(others, &ended.replies)?;
     Ok((refused, ended.desks))
+}
+
+// Tells and writes what a script ends with. It is dropped here, once for all answers.
+fn end_script<W: Write, T: Watch>(
+    alloc: Global,
+    writer: &mut W,
+    refused: Vec<(u64, Refusal)>,
+    ended: Vec<Desk>,
+    window: Window,
+    watch: &mut T,
+) -> Result<bool, StreamFault>
+    ensures all { IfOk result (λ refusal.
+        WritesOutput (IsEndedText window refused.items ended.items) (W.contents writer.old) (W.contents writer.new) refusal) }
+    ensures front { OnErr result (WritesEndedFront window (W.contents writer.old) (W.contents writer.new) refused.items ended.items) }
+    ensures fault { IfErr result (λ fault. fault ≢ StreamFault.Read) }
+{
+    tell_refused(&refused, watch);
+    write_ended(alloc, writer, &refused, &ended, window, watch)
 }
 
 fn refuse_whole<W: Write>(alloc: Global, writer: &mut W) -> Result<bool, StreamFault>
