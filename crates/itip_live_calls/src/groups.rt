@@ -22,7 +22,10 @@ pub(crate) fn grouped<R: AllocGlobal + Threads + Wait + Sync>(
 ) -> Result<Vec<u8>, CallError> {
     let Ran {
         is_right,
-        ended: Meeting { published, are_whole },
+        ended: Meeting {
+            published,
+            are_whole,
+        },
     } = started(rt, publishes)?;
     Ok(format!(in rt.alloc();
         "published {published}, told right: {is_right}, whole: {are_whole}"
