@@ -1,15 +1,16 @@
 //! Compaction of many messages: of all that sources tell, the octets of what counts.
 //!
 //! Threads take blocks of whole messages from the sources, read them without copying a line, and keep the best items in maps by
-//! UID, each behind a lock of its own.
+//! UID, each behind a lock of its own. The octets of an item are only written where no later one is kept.
 
-use crate::moment::{Moment, Stamp, read_moment, read_stamp, write_moment};
-use std::borrow::Cow;
+use crate::message::{Message, Todo};
+use crate::moment::{Moment, Stamp};
+use crate::text::{Line, Lines};
+use std::collections::btree_map::Entry;
 use std::collections::{BTreeMap, HashMap};
 use std::fs::File;
 use std::hash::{BuildHasher, RandomState};
 use std::io::{self, BufWriter, Read, Write};
-use std::ops::Range;
 use std::sync::Mutex;
 use std::{mem, thread};
 
@@ -66,12 +67,35 @@ impl Blocks {
     }
 }
 
-const END: &[u8] = b"\nEND:VCALENDAR\r\n";
-
-/// Where the last message ends of which more octets follow than a fold needs.
+/// Where the last message ends behind which another octet shows that no fold goes on.
 fn last_end(text: &[u8]) -> Option<usize> {
-    let from = |at: usize| at + END.len();
-    (0..text.len().checked_sub(END.len())?).rev().find(|at| text[*at..from(*at)].eq_ignore_ascii_case(END) && !matches!(text[from(*at)], b' ' | b'\t')).map(from)
+    let mut at = text.len();
+    for line in text.split_inclusive(|it| *it == b'\n').rev() {
+        let whole = Lines { rest: line }.next().unwrap_or_default();
+        if at < text.len() && ends_message(whole, &text[at..]) {
+            return Some(at);
+        }
+        at -= line.len();
+    }
+    None
+}
+
+/// Whether a line is the last of a message, with what stands behind it.
+fn ends_message(line: &[u8], after: &[u8]) -> bool {
+    line.eq_ignore_ascii_case(b"END:VCALENDAR") && !matches!(after, [b' ' | b'\t', ..])
+}
+
+/// The first message of what is left of a text, and its lines. Empty lines alone are no message.
+fn next_message<'a>(left: &mut Lines<'a>, lines: &mut Vec<&'a [u8]>) -> Option<&'a [u8]> {
+    let text = left.rest;
+    lines.clear();
+    while let Some(line) = left.next() {
+        lines.push(line);
+        if ends_message(line, left.rest) {
+            return Some(&text[..text.len() - left.rest.len()]);
+        }
+    }
+    lines.iter().any(|it| !it.is_empty()).then_some(text)
 }
 
 #[derive(Clone, Debug, PartialEq, Eq, PartialOrd, Ord)]
@@ -79,8 +103,8 @@ enum Key {
     Series,
     Instance(Moment),
     Range(Moment),
-    Answer(Option<Moment>, String),
-    Refresh(Option<Moment>, String),
+    Answer(Option<Moment>, Vec<u8>),
+    Refresh(Option<Moment>, Vec<u8>),
 }
 
 /// An item, in the order of revisions.
@@ -99,26 +123,33 @@ struct Held {
 }
 
 impl Held {
+    /// Whether an item of this key and revision is not dead, and none that is later is kept.
+    fn may_keep(&self, key: &Key, revision: (u32, Stamp)) -> bool {
+        let held = if *key == Key::Series { self.series.as_ref() } else { self.others.get(key) };
+        let is_later = held.is_none_or(|it| (it.sequence, it.stamp) <= revision);
+        is_later && (never_dies(key) || self.series.as_ref().is_none_or(|it| it.sequence <= revision.0))
+    }
+
+    /// Keeps an item that may be kept, where its octets are not less than those of an equal revision.
     fn keep(&mut self, key: Key, item: Item) {
-        let least = self.series.as_ref().map_or(0, |it| it.sequence);
-        match &key {
-            Key::Series => {
-                if self.series.as_ref().is_none_or(|it| *it < item) {
-                    if item.sequence > least {
-                        self.others.retain(|key, it| never_dies(key) || it.sequence >= item.sequence);
-                    }
-                    self.series = Some(item);
-                }
-            }
-            _ if !never_dies(&key) && item.sequence < least => {}
-            _ => match self.others.get_mut(&key) {
-                Some(held) if *held >= item => {}
-                Some(held) => *held = item,
-                None => {
-                    self.others.insert(key, item);
-                }
-            },
+        if key == Key::Series {
+            return self.keep_series(item);
         }
+        match self.others.entry(key) {
+            Entry::Vacant(place) => drop(place.insert(item)),
+            Entry::Occupied(mut held) if *held.get() < item => drop(held.insert(item)),
+            Entry::Occupied(_) => {}
+        }
+    }
+
+    fn keep_series(&mut self, item: Item) {
+        if self.series.as_ref().is_some_and(|it| *it >= item) {
+            return;
+        }
+        if self.series.as_ref().map_or(0, |it| it.sequence) < item.sequence {
+            self.others.retain(|key, it| never_dies(key) || it.sequence >= item.sequence);
+        }
+        self.series = Some(item);
     }
 
     fn items(&self) -> impl Iterator<Item = &Item> {
@@ -130,213 +161,42 @@ fn never_dies(key: &Key) -> bool {
     matches!(key, Key::Answer(Some(_), _) | Key::Refresh(..))
 }
 
-type Shard = Mutex<HashMap<Box<str>, Held>>;
+type Shard = Mutex<HashMap<Box<[u8]>, Held>>;
 
-/// A property of a to-do: its parameters with the `;` before each, and its value.
-#[derive(Clone, Copy)]
-struct Property<'a> {
-    params: &'a str,
-    value: &'a str,
+/// What a thread reads messages with: a room for the octets of an item, and the maps that all threads put items into.
+struct Reader<'a> {
+    octets: Vec<u8>,
+    shards: &'a [Shard],
+    hasher: &'a RandomState,
 }
 
-#[derive(Default)]
-struct Todo<'a> {
-    uid: Option<&'a str>,
-    stamp: Option<Stamp>,
-    sequence: u32,
-    rid: Option<(Moment, bool)>,
-    start: Option<Moment>,
-    due: Option<Moment>,
-    status: Option<&'a str>,
-    percent: Option<u8>,
-    priority: Option<u8>,
-    summary: Option<Property<'a>>,
-    organizer: Option<Property<'a>>,
-    attendees: Vec<Property<'a>>,
-    rules: Vec<&'a str>,
-    others: Vec<(&'a str, Property<'a>)>,
-}
-
-impl<'a> Property<'a> {
-    fn of(rest: &'a str) -> Option<Property<'a>> {
-        let mut quoted = false;
-        let end = rest.bytes().position(|it| {
-            quoted ^= it == b'"';
-            it == b':' && !quoted
-        })?;
-        let (params, value) = (&rest[..end], &rest[end + 1..]);
-        let is_control = |it: u8| it != b'\t' && (it < b' ' || it == 0x7f);
-        (!params.bytes().any(is_control) && !value.bytes().any(is_control)).then_some(Property { params, value })
-    }
-
-    fn moment(self) -> Option<Moment> {
-        let zone = self.params.split(';').find_map(|it| it.strip_prefix("TZID=")).map(|it| it.trim_matches('"'));
-        read_moment(self.value, zone)
-    }
-}
-
-fn number<T: std::str::FromStr>(text: &str) -> Option<T> {
-    text.parse().ok().filter(|_| text.bytes().all(|it| it.is_ascii_digit()))
-}
-
-impl<'a> Todo<'a> {
-    fn add(&mut self, name: &'a str, it: Property<'a>) -> Option<()> {
-        let value = it.value;
-        match name {
-            "UID" => self.uid = Some(value).filter(|it| !it.is_empty()),
-            "DTSTAMP" => self.stamp = Some(read_stamp(value)?),
-            "SEQUENCE" => self.sequence = number::<u32>(value).filter(|it| *it <= 2_147_483_647)?,
-            "RECURRENCE-ID" => self.rid = Some((it.moment()?, it.params.contains("RANGE=THISANDFUTURE"))),
-            "DTSTART" => self.start = Some(it.moment()?),
-            "DUE" => self.due = Some(it.moment()?),
-            "STATUS" => self.status = Some(value),
-            "PERCENT-COMPLETE" => self.percent = Some(number::<u8>(value).filter(|it| *it <= 100)?),
-            "PRIORITY" => self.priority = Some(number::<u8>(value).filter(|it| *it <= 9)?),
-            "SUMMARY" => self.summary = Some(it),
-            "ORGANIZER" => self.organizer = Some(it),
-            "ATTENDEE" => self.attendees.push(it),
-            "RRULE" => self.rules.push(value),
-            _ => self.others.push((name, it)),
-        }
-        Some(())
-    }
-
-    /// The canonical octets of the to-do, or of what it says of one attendee.
-    fn write(&self, method: &str, attendee: Option<Property>, out: &mut String) {
-        out.clear();
-        out.push_str("BEGIN:VCALENDAR\r\nPRODID:-//itipdesk//1//EN\r\nVERSION:2.0\r\nMETHOD:");
-        out.push_str(method);
-        out.push_str("\r\nBEGIN:VTODO\r\n");
-        line(out, "UID", "", |out| out.push_str(self.uid.unwrap_or("")));
-        let stamp = self.stamp.expect("it was read");
-        line(out, "DTSTAMP", "", |out| crate::moment::write_stamp(stamp, out));
-        line(out, "SEQUENCE", "", |out| decimal(self.sequence, out));
-        if let Some((moment, is_range)) = &self.rid {
-            moment_line(out, "RECURRENCE-ID", if *is_range { ";RANGE=THISANDFUTURE" } else { "" }, moment);
-        }
-        for (name, moment) in [("DTSTART", &self.start), ("DUE", &self.due)] {
-            if let Some(moment) = moment.as_ref().filter(|_| attendee.is_none()) {
-                moment_line(out, name, "", moment);
-            }
-        }
-        if let Some(status) = self.status {
-            line(out, "STATUS", "", |out| out.push_str(status));
-        }
-        if let Some(percent) = self.percent {
-            line(out, "PERCENT-COMPLETE", "", |out| decimal(percent.into(), out));
-        }
-        if let Some(priority) = self.priority.filter(|_| attendee.is_none()) {
-            line(out, "PRIORITY", "", |out| decimal(priority.into(), out));
-        }
-        if let Some(it) = self.summary.filter(|_| attendee.is_none()) {
-            property(out, "SUMMARY", it);
-        }
-        if let Some(it) = self.organizer {
-            property(out, "ORGANIZER", it);
-        }
-        match attendee {
-            Some(it) => property(out, "ATTENDEE", it),
-            None => {
-                self.attendees.iter().for_each(|it| property(out, "ATTENDEE", *it));
-                self.rules.iter().for_each(|it| line(out, "RRULE", "", |out| out.push_str(it)));
-                self.others.iter().for_each(|(name, it)| property(out, name, *it));
-            }
-        }
-        out.push_str("END:VTODO\r\nEND:VCALENDAR\r\n");
-    }
-}
-
-fn decimal(number: u32, out: &mut String) {
-    use std::fmt::Write;
-    let _ = write!(out, "{number}");
-}
-
-fn property(out: &mut String, name: &str, it: Property) {
-    line(out, name, it.params, |out| out.push_str(it.value));
-}
-
-fn moment_line(out: &mut String, name: &str, range: &str, moment: &Moment) {
-    use crate::moment::Form;
-    let params = match (&moment.form, &moment.zone) {
-        (Form::Date, _) => format!("{range};VALUE=DATE"),
-        (_, Some(zone)) => format!("{range};TZID={zone}"),
-        _ => return line(out, name, range, |out| write_moment(moment, out)),
-    };
-    line(out, name, &params, |out| write_moment(moment, out));
-}
-
-/// Writes a line, folded after at most 75 octets.
-fn line(out: &mut String, name: &str, params: &str, value: impl FnOnce(&mut String)) {
-    let from = out.len();
-    out.push_str(name);
-    out.push_str(params);
-    out.push(':');
-    value(out);
-    if out.len() - from > 75 {
-        let whole = out.split_off(from);
-        crate::text::write_text(&whole, out);
-    } else {
-        out.push_str("\r\n");
-    }
-}
-
-/// What a thread needs to read messages, used again for each.
-#[derive(Default)]
-struct Reader {
-    octets: String,
-}
-
-impl Reader {
+impl Reader<'_> {
     /// Keeps the items of a message, or refuses it.
-    fn read(&mut self, lines: &[&str], shards: &[Shard], hasher: &RandomState) -> Option<()> {
-        let (mut method, mut has_version, mut depth, mut in_todo) = (None, false, 0, false);
-        let (mut todos, mut todo) = (Vec::new(), Todo::default());
-        for text in lines.iter().filter(|it| !it.is_empty()) {
-            let end = text.bytes().position(|it| it == b':' || it == b';')?;
-            let (name, it) = (&text[..end], Property::of(&text[end..])?);
-            match (name, depth) {
-                ("BEGIN", _) => {
-                    depth += 1;
-                    in_todo = depth == 2 && it.value.eq_ignore_ascii_case("VTODO");
-                }
-                ("END", 0) => return None,
-                ("END", _) => {
-                    depth -= 1;
-                    if mem::take(&mut in_todo) {
-                        todos.push(mem::take(&mut todo));
-                    }
-                }
-                ("METHOD", 1) => method = Some(it.value),
-                ("VERSION", 1) => has_version = it.value == "2.0",
-                (_, 2) if in_todo => todo.add(name, it)?,
-                _ => {}
-            }
-        }
-        let method = method.filter(|_| has_version && depth == 0)?;
-        if todos.is_empty() || todos.iter().any(|it| it.uid.is_none() || it.stamp.is_none()) {
+    fn read(&mut self, text: &[u8], lines: &[&[u8]]) -> Option<()> {
+        let mut room = Vec::new();
+        let Message { method, todos } = Message::read(text, lines.iter().copied(), &mut room)?;
+        if todos.is_empty() {
             return None;
         }
-        todos.into_iter().try_for_each(|it| self.keep(method, it, shards, hasher))
+        todos.iter().try_for_each(|it| self.keep(method, it))
     }
 
-    fn keep(&mut self, method: &str, todo: Todo, shards: &[Shard], hasher: &RandomState) -> Option<()> {
+    fn keep(&mut self, method: &str, todo: &Todo) -> Option<()> {
         let removes = method == "CANCEL" && todo.status.is_none() && !todo.attendees.is_empty();
-        let rid = || todo.rid.clone().map(|it| it.0);
         match method {
             "REQUEST" | "CANCEL" if !removes => {
                 let key = match todo.rid.clone() {
                     None => Key::Series,
-                    Some((moment, false)) => Key::Instance(moment),
-                    Some((moment, true)) => Key::Range(moment),
+                    Some(rid) if todo.is_range => Key::Range(rid),
+                    Some(rid) => Key::Instance(rid),
                 };
-                self.put(method, &todo, key, None, shards, hasher);
+                self.put(method, todo, key, None);
             }
-            "ADD" => self.put(method, &todo, Key::Instance(todo.start.clone()?), None, shards, hasher),
+            "ADD" => self.put(method, todo, Key::Instance(todo.start.clone()?), None),
             "REPLY" | "CANCEL" | "REFRESH" => {
+                let key = if method == "REFRESH" { Key::Refresh } else { Key::Answer };
                 for it in &todo.attendees {
-                    let name = it.value.to_ascii_lowercase();
-                    let key = if method == "REFRESH" { Key::Refresh(rid(), name) } else { Key::Answer(rid(), name) };
-                    self.put(method, &todo, key, Some(*it), shards, hasher);
+                    self.put(method, todo, key(todo.rid.clone(), it.value.to_ascii_lowercase()), Some(*it));
                 }
             }
             _ => return None,
@@ -344,41 +204,19 @@ impl Reader {
         Some(())
     }
 
-    fn put(&mut self, method: &str, todo: &Todo, key: Key, attendee: Option<Property>, shards: &[Shard], hasher: &RandomState) {
-        let (uid, stamp) = (todo.uid.unwrap_or(""), todo.stamp.expect("it was read"));
-        todo.write(method, attendee, &mut self.octets);
-        let item = Item { sequence: todo.sequence, stamp, octets: self.octets.as_bytes().into() };
-        let mut shard = shards[hasher.hash_one(uid) as usize % SHARDS].lock().expect("no thread panics");
-        match shard.get_mut(uid) {
-            Some(held) => held.keep(key, item),
-            None => shard.entry(uid.into()).or_default().keep(key, item),
+    fn put(&mut self, method: &str, todo: &Todo, key: Key, attendee: Option<Line>) {
+        let (uid, (sequence, stamp)) = (todo.uid(), todo.revision());
+        let mut shard = self.shards[self.hasher.hash_one(uid) as usize % SHARDS].lock().expect("no thread panics");
+        let held = match shard.get_mut(uid) {
+            Some(held) => held,
+            None => shard.entry(uid.into()).or_default(),
+        };
+        if held.may_keep(&key, (sequence, stamp)) {
+            self.octets.clear();
+            todo.write(method, attendee, &mut self.octets);
+            held.keep(key, Item { sequence, stamp, octets: self.octets[..].into() });
         }
     }
-}
-
-/// Where the messages of a text are, and whether one has a fold.
-fn messages(text: &str) -> Vec<(Range<usize>, bool)> {
-    let (mut found, mut from, mut at, mut folded, mut ended) = (Vec::new(), 0, 0, false, false);
-    for line in text.split_inclusive('\n') {
-        let is_fold = line.starts_with([' ', '\t']);
-        if ended && !is_fold {
-            found.push((from..at, mem::take(&mut folded)));
-            from = at;
-        }
-        folded |= is_fold;
-        at += line.len();
-        ended = !is_fold && line.trim_end_matches(['\n', '\r']).eq_ignore_ascii_case("END:VCALENDAR");
-    }
-    if !text[from..].trim_matches(['\r', '\n']).is_empty() {
-        found.push((from..at, folded));
-    }
-    found
-}
-
-/// The lines of a message, without their ends.
-fn lines<'a>(text: &'a str, into: &mut Vec<&'a str>) {
-    into.clear();
-    into.extend(text.split('\n').map(|it| it.strip_suffix('\r').unwrap_or(it)));
 }
 
 /// How many messages a block has, and the refused ones by their numbers in it, from 0.
@@ -389,23 +227,11 @@ struct Told {
     refused: Vec<usize>,
 }
 
-fn read_block(block: &Block, reader: &mut Reader, shards: &[Shard], hasher: &RandomState) -> Told {
-    let text = String::from_utf8_lossy(&block.text);
-    let is_broken = matches!(text, Cow::Owned(_));
-    let (mut told, mut each) = (Told { source: block.source, number: block.number, count: 0, refused: Vec::new() }, Vec::new());
-    for (place, folded) in messages(&text) {
-        let message = &text[place];
-        let done = if is_broken && message.contains('\u{fffd}') {
-            None
-        } else if folded {
-            let unfolded = crate::text::unfold(message);
-            let whole: Vec<&str> = unfolded.iter().map(String::as_str).collect();
-            reader.read(&whole, shards, hasher)
-        } else {
-            lines(message, &mut each);
-            reader.read(&each, shards, hasher)
-        };
-        if done.is_none() {
+fn read_block(block: &Block, reader: &mut Reader) -> Told {
+    let mut told = Told { source: block.source, number: block.number, count: 0, refused: Vec::new() };
+    let (mut left, mut lines) = (Lines { rest: &block.text }, Vec::new());
+    while let Some(message) = next_message(&mut left, &mut lines) {
+        if reader.read(message, &lines).is_none() {
             told.refused.push(told.count);
         }
         told.count += 1;
@@ -430,13 +256,13 @@ fn refusals(mut told: Vec<Told>) -> Vec<(usize, usize)> {
 fn read_all(blocks: Blocks, shards: &[Shard], threads: usize) -> io::Result<Vec<Told>> {
     let (blocks, hasher) = (Mutex::new(blocks), RandomState::new());
     let work = || -> io::Result<Vec<Told>> {
-        let (mut told, mut reader) = (Vec::new(), Reader::default());
+        let (mut told, mut reader) = (Vec::new(), Reader { octets: Vec::new(), shards, hasher: &hasher });
         loop {
             let next = blocks.lock().expect("no thread panics").next()?;
             let Some(block) = next else {
                 return Ok(told);
             };
-            told.push(read_block(&block, &mut reader, shards, &hasher));
+            told.push(read_block(&block, &mut reader));
         }
     };
     thread::scope(|scope| {
@@ -450,7 +276,7 @@ fn read_all(blocks: Blocks, shards: &[Shard], threads: usize) -> io::Result<Vec<
 }
 
 /// All octets that are kept, in their order: each thread sorts a part, and then one finds them sorted in parts.
-fn sorted<'a>(maps: &'a [HashMap<Box<str>, Held>], threads: usize) -> Vec<&'a [u8]> {
+fn sorted<'a>(maps: &'a [HashMap<Box<[u8]>, Held>], threads: usize) -> Vec<&'a [u8]> {
     let mut parts: Vec<Vec<&'a [u8]>> = thread::scope(|scope| {
         let handles: Vec<_> = maps
             .chunks(SHARDS.div_ceil(threads))

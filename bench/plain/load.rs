@@ -19,9 +19,8 @@ pub fn message(number: u64, numbers: &mut Numbers) -> String {
     let sequence = numbers.next() % 10;
     let minute = numbers.next() % 60;
     let summary = numbers.next();
-    format!(
-        "BEGIN:VCALENDAR\r\nVERSION:2.0\r\nMETHOD:REQUEST\r\nBEGIN:VTODO\r\nUID:to-do-{number}@example.com\r\nSEQUENCE:{sequence}\r\nDTSTAMP:20260101T09{minute:02}00Z\r\nSUMMARY:Task {number} of project {summary}, as it was agreed\r\nEND:VTODO\r\nEND:VCALENDAR\r\n"
-    )
+    let head = format!("UID:to-do-{number}@example.com\r\nSEQUENCE:{sequence}\r\nDTSTAMP:20260101T09{minute:02}00Z\r\n");
+    stating("REQUEST", &head, &format!("SUMMARY:Task {number} of project {summary}, as it was agreed\r\n"))
 }
 
 const ABOUT: [(&str, &str); 5] = [

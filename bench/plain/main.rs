@@ -1,27 +1,30 @@
 //! A plain program that does what the benchmark does, for its times to be held against.
 //!
 //! The words are a topic and a size, as of the benchmark; `run` for a script on standard input; `office`, the numbers of desks and of
-//! workers and the days of a window, for jobs on standard input; or `compact`, a number of threads and the names of sources. It knows as much of a message as these need. It prints the lines that the benchmark prints.
+//! workers and the days of a window, for jobs on standard input; or `compact`, a number of threads and the names of sources. It knows
+//! as much of a message as these need. It prints the lines that the benchmark prints.
 
 mod compact;
 mod desk;
 mod list;
 mod load;
+mod message;
 mod moment;
 mod office;
 mod recur;
+mod script;
 mod text;
 
-use crate::desk::Desk;
+use crate::desk::{Desk, Item, read_items};
 use crate::load::{Numbers, about, message, shuffled, stating};
 use crate::recur::{Series, occurrences, read_rule};
-use crate::text::{Item, read_message};
+use crate::script::commands;
 use std::io::{Read, Write};
 use std::rc::Rc;
 use std::time::Instant;
 
 fn read(text: &str) -> Vec<Rc<Item>> {
-    read_message(text.as_bytes()).expect("a good message").into_iter().map(Rc::new).collect()
+    read_items(text.as_bytes()).expect("a good message")
 }
 
 fn messages(count: u64) {
@@ -57,7 +60,7 @@ const SERIES: [(&str, &str, i32); 9] = [
 fn recurrence(rounds: u64) {
     for (start, rule, from) in SERIES {
         let series = Series {
-            start: moment::read_moment(start, None).expect("a moment"),
+            start: moment::read_moment(start.as_bytes(), None).expect("a moment"),
             rule: read_rule(rule),
             rdates: Vec::new(),
             exdates: Vec::new(),
@@ -75,13 +78,15 @@ fn desks(to_dos: u64) {
     let items: Vec<Rc<Item>> = (0..to_dos).flat_map(about).flat_map(|it| read(&it)).collect();
     for size in [1, 100] {
         let places = shuffled(items.len());
-        let batches: Vec<Vec<Rc<Item>>> = places.chunks(size).map(|it| it.iter().map(|place| Rc::clone(&items[*place])).collect()).collect();
+        let batch = |some: &[usize]| -> Vec<Rc<Item>> { some.iter().map(|it| Rc::clone(&items[*it])).collect() };
+        let batches: Vec<_> = places.chunks(size).map(batch).collect();
         let mut desk = Desk::default();
         let start = Instant::now();
         for batch in &batches {
             desk.take(batch);
         }
-        println!("take {} items in batches of {size}, of which {} are kept, {} us", 2 * items.len(), desk.entries(), start.elapsed().as_micros());
+        let (taken, time) = (2 * items.len(), start.elapsed().as_micros());
+        println!("take {taken} items in batches of {size}, of which {} are kept, {time} us", desk.entries());
     }
     let (mut mine, mut theirs) = (Desk::default(), Desk::default());
     for (place, item) in items.iter().enumerate() {
@@ -117,33 +122,33 @@ fn print_list(desk: &Desk, what: &str) {
 
 /// Runs a script of takes, posts and arrivals at eight desks.
 fn run() -> std::io::Result<()> {
-    let mut script = String::new();
-    std::io::stdin().read_to_string(&mut script)?;
+    let mut script = Vec::new();
+    std::io::stdin().read_to_end(&mut script)?;
     let mut desks: Vec<Desk> = (0..8).map(|_| Desk::default()).collect();
     let mut packets: Vec<Vec<Rc<Item>>> = Vec::new();
     let mut out = std::io::BufWriter::new(std::io::stdout().lock());
-    let mut rest = script.as_str();
-    while let Some((command, after)) = rest.split_once('\n') {
-        let words: Vec<&str> = command.split(' ').collect();
-        let number = |at: usize| words.get(at).and_then(|it| it.parse::<usize>().ok()).expect("a number");
-        let end = if after.starts_with('!') { 0 } else { after.find("\n!").map_or(after.len(), |it| it + 1) };
-        match words[0] {
-            "!take" => {
-                let changed = desks[number(1)].take(&read(&after[..end]));
-                writeln!(out, "take {} tick {} changed {changed}", number(1), desks[number(1)].tick)?;
+    for (command, text) in commands(&script) {
+        let mut words = command.split(' ');
+        let name = words.next();
+        let mut number = || words.next().and_then(|it| it.parse::<usize>().ok()).expect("a number");
+        match name {
+            Some("!take") => {
+                let at = number();
+                let changed = desks[at].take(&read_items(text).expect("a good message"));
+                writeln!(out, "take {at} tick {} changed {changed}", desks[at].tick)?;
             }
-            "!post" => {
-                let packet = desks[number(1)].since(number(2) as u64);
+            Some("!post") => {
+                let packet = desks[number()].since(number() as u64);
                 writeln!(out, "post {} items {}", packets.len(), packet.len())?;
                 packets.push(packet);
             }
-            "!arrive" => {
-                let changed = desks[number(2)].take(&packets[number(1)]);
-                writeln!(out, "arrive {} {} tick {} changed {changed}", number(1), number(2), desks[number(2)].tick)?;
+            Some("!arrive") => {
+                let (packet, at) = (number(), number());
+                let changed = desks[at].take(&packets[packet]);
+                writeln!(out, "arrive {packet} {at} tick {} changed {changed}", desks[at].tick)?;
             }
             _ => {}
         }
-        rest = &after[end..];
     }
     out.flush()
 }

@@ -44,7 +44,7 @@ pub struct Moment {
     pub day: i32,
     pub second: Option<u32>,
     pub form: Form,
-    pub zone: Option<String>,
+    pub zone: Option<Box<[u8]>>,
 }
 
 #[derive(Clone, Copy, Debug, PartialEq, Eq, PartialOrd, Ord)]
@@ -55,12 +55,13 @@ pub enum Form {
     Zoned,
 }
 
-fn digits(text: &str) -> Option<u32> {
-    if text.bytes().all(|it| it.is_ascii_digit()) { text.parse().ok() } else { None }
+/// The number that some digits spell.
+fn digits(text: &[u8]) -> Option<u32> {
+    text.iter().try_fold(0, |number, it| it.is_ascii_digit().then(|| 10 * number + u32::from(it - b'0')))
 }
 
-fn read_day(text: &str) -> Option<i32> {
-    if text.len() != 8 || !text.is_ascii() {
+fn read_day(text: &[u8]) -> Option<i32> {
+    if text.len() != 8 {
         return None;
     }
     let (year, month, day) = (digits(&text[..4])? as i32, digits(&text[4..6])?, digits(&text[6..])?);
@@ -70,8 +71,8 @@ fn read_day(text: &str) -> Option<i32> {
     Some(day_number(year, month, day))
 }
 
-fn read_local(text: &str) -> Option<Stamp> {
-    if text.len() != 15 || !text.is_ascii() || text.as_bytes()[8] != b'T' {
+fn read_local(text: &[u8]) -> Option<Stamp> {
+    if text.len() != 15 || text[8] != b'T' {
         return None;
     }
     let day = read_day(&text[..8])?;
@@ -82,11 +83,11 @@ fn read_local(text: &str) -> Option<Stamp> {
     Some(Stamp { day, second: hour * 3600 + minute * 60 + second.min(59) })
 }
 
-pub fn read_stamp(text: &str) -> Option<Stamp> {
-    read_local(text.strip_suffix('Z')?)
+pub fn read_stamp(text: &[u8]) -> Option<Stamp> {
+    read_local(text.strip_suffix(b"Z")?)
 }
 
-pub fn read_moment(text: &str, tzid: Option<&str>) -> Option<Moment> {
+pub fn read_moment(text: &[u8], tzid: Option<&[u8]>) -> Option<Moment> {
     if let Some(day) = read_day(text) {
         return Some(Moment { day, second: None, form: Form::Date, zone: None });
     }
@@ -94,23 +95,42 @@ pub fn read_moment(text: &str, tzid: Option<&str>) -> Option<Moment> {
         return Some(Moment { day: at.day, second: Some(at.second), form: Form::Utc, zone: None });
     }
     let at = read_local(text)?;
-    let zone = tzid.filter(|it| !it.is_empty()).map(str::to_owned);
+    let zone: Option<Box<[u8]>> = tzid.filter(|it| !it.is_empty()).map(Box::from);
     let form = if zone.is_some() { Form::Zoned } else { Form::Floating };
     Some(Moment { day: at.day, second: Some(at.second), form, zone })
 }
 
-pub fn write_stamp(at: Stamp, out: &mut String) {
-    write_moment(&Moment { day: at.day, second: Some(at.second), form: Form::Utc, zone: None }, out);
+pub fn write_stamp(at: Stamp, out: &mut Vec<u8>) {
+    write_day(at.day, out);
+    write_time(at.second, out);
+    out.push(b'Z');
 }
 
-pub fn write_moment(moment: &Moment, out: &mut String) {
-    use std::fmt::Write;
-    let (year, month, day) = date(moment.day);
-    let _ = write!(out, "{year:04}{month:02}{day:02}");
+pub fn write_moment(moment: &Moment, out: &mut Vec<u8>) {
+    write_day(moment.day, out);
     if let Some(second) = moment.second {
-        let _ = write!(out, "T{:02}{:02}{:02}", second / 3600, second / 60 % 60, second % 60);
+        write_time(second, out);
     }
     if moment.form == Form::Utc {
-        out.push('Z');
+        out.push(b'Z');
     }
+}
+
+fn write_day(day: i32, out: &mut Vec<u8>) {
+    let (year, month, day) = date(day);
+    out.extend_from_slice(&padded::<4>(year.unsigned_abs()));
+    out.extend_from_slice(&padded::<2>(month));
+    out.extend_from_slice(&padded::<2>(day));
+}
+
+fn write_time(second: u32, out: &mut Vec<u8>) {
+    out.push(b'T');
+    for number in [second / 3600, second / 60 % 60, second % 60] {
+        out.extend_from_slice(&padded::<2>(number));
+    }
+}
+
+/// The last digits of a number.
+fn padded<const N: usize>(number: u32) -> [u8; N] {
+    std::array::from_fn(|at| b'0' + (number / 10u32.pow((N - 1 - at) as u32) % 10) as u8)
 }

@@ -3,10 +3,10 @@
 //! Workers take jobs from a channel, some at a time, read the texts, and put their items into desks, each behind a lock of its own. In
 //! the end every desk has what all of them have.
 
-use crate::desk::Desk;
+use crate::desk::{Desk, Item, read_items};
 use crate::list::list;
 use crate::moment::read_moment;
-use crate::text::{Item, read_message};
+use crate::script::commands;
 use std::io::{self, BufWriter, Read, Write};
 use std::sync::mpsc::{Receiver, sync_channel};
 use std::sync::{Arc, Mutex};
@@ -18,32 +18,24 @@ const SOME: usize = 32;
 type Shared = Mutex<Desk<Arc<Item>>>;
 
 enum Job<'a> {
-    Take(usize, &'a str),
+    Take(usize, &'a [u8]),
     Carry(usize, usize),
     Look(usize),
     Unknown,
 }
 
-/// The jobs of a script, in order.
-fn jobs(script: &str) -> impl Iterator<Item = Job<'_>> {
-    let mut rest = script;
-    std::iter::from_fn(move || {
-        while !rest.starts_with('!') {
-            rest = rest.split_once('\n')?.1;
-        }
-        let (command, after) = rest.split_once('\n').unwrap_or((rest, ""));
-        let end = if after.starts_with('!') { 0 } else { after.find("\n!").map_or(after.len(), |it| it + 1) };
-        rest = &after[end..];
-        let mut words = command.trim_end_matches('\r').split(' ');
+impl<'a> Job<'a> {
+    fn read(command: &str, text: &'a [u8]) -> Job<'a> {
+        let mut words = command.split(' ');
         let name = words.next();
         let numbers: Option<Vec<usize>> = words.map(|it| it.parse().ok()).collect();
-        Some(match (name, numbers.as_deref()) {
-            (Some("!take"), Some([desk])) => Job::Take(*desk, &after[..end]),
+        match (name, numbers.as_deref()) {
+            (Some("!take"), Some([desk])) => Job::Take(*desk, text),
             (Some("!carry"), Some([from, to])) => Job::Carry(*from, *to),
             (Some("!look"), Some([desk])) => Job::Look(*desk),
             _ => Job::Unknown,
-        })
-    })
+        }
+    }
 }
 
 /// Does a job, or refuses it.
@@ -51,7 +43,7 @@ fn done(job: &Job, desks: &[Shared], window: (i32, i32)) -> Option<()> {
     let locked = |at: usize| Some(desks.get(at)?.lock().expect("no thread panics"));
     match job {
         Job::Take(desk, text) => {
-            let items: Vec<Arc<Item>> = read_message(text.as_bytes())?.into_iter().map(Arc::new).collect();
+            let items = read_items(text)?;
             locked(*desk)?.take(&items);
         }
         Job::Carry(from, to) => {
@@ -77,12 +69,12 @@ fn work(given: &Mutex<Receiver<Vec<(usize, Job)>>>, desks: &[Shared], window: (i
     }
 }
 
-fn run_jobs(script: &str, workers: usize, desks: &[Shared], window: (i32, i32)) -> Vec<usize> {
+fn run_jobs(script: &[u8], workers: usize, desks: &[Shared], window: (i32, i32)) -> Vec<usize> {
     let (give, given) = sync_channel(2 * workers);
     let given = Mutex::new(given);
     thread::scope(|scope| {
         let team: Vec<_> = (0..workers).map(|_| scope.spawn(|| work(&given, desks, window))).collect();
-        let mut all = jobs(script).enumerate().peekable();
+        let mut all = commands(script).map(|(command, text)| Job::read(command, text)).enumerate().peekable();
         while all.peek().is_some() {
             give.send(all.by_ref().take(SOME).collect()).expect("a worker is there");
         }
@@ -95,9 +87,9 @@ fn run_jobs(script: &str, workers: usize, desks: &[Shared], window: (i32, i32)) 
 
 /// Does the jobs on standard input by so many workers, and writes the list of each desk.
 pub fn office(count: usize, words: &[String]) -> io::Result<()> {
-    let mut script = String::new();
-    io::stdin().read_to_string(&mut script)?;
-    let day = |at: usize| words.get(at).and_then(|it| read_moment(it, None)).map_or(0, |it| it.day);
+    let mut script = Vec::new();
+    io::stdin().read_to_end(&mut script)?;
+    let day = |at: usize| words.get(at).and_then(|it| read_moment(it.as_bytes(), None)).map_or(0, |it| it.day);
     let (workers, window) = (words.first().and_then(|it| it.parse().ok()).unwrap_or(1), (day(1), day(2)));
     let desks: Vec<Shared> = (0..count).map(|_| Shared::default()).collect();
     let refused = run_jobs(&script, workers, &desks, window);
@@ -112,7 +104,7 @@ pub fn office(count: usize, words: &[String]) -> io::Result<()> {
     let (text, rows) = list(&all, window.0, window.1);
     for desk in 0..count {
         writeln!(out, "list {desk} rows {rows}")?;
-        out.write_all(text.as_bytes())?;
+        out.write_all(&text)?;
     }
     out.flush()
 }

@@ -65,7 +65,7 @@ pub fn read_rule(text: &str) -> Option<Rule> {
         frequency,
         interval: part("INTERVAL").map_or(Some(1), |it| it.parse().ok())?,
         count: part("COUNT").map_or(Some(None), |it| it.parse().ok().map(Some))?,
-        until: part("UNTIL").map_or(Some(None), |it| crate::moment::read_moment(it, None).map(Some))?,
+        until: part("UNTIL").map_or(Some(None), |it| crate::moment::read_moment(it.as_bytes(), None).map(Some))?,
         week_start: part("WKST").map_or(Some(0), weekday_of)?,
     })
 }

@@ -1,286 +1,215 @@
-//! Content lines, messages and their canonical octets.
+//! Content lines: read where they stand, and written folded.
 
-use crate::moment::{Form, Moment, Stamp, read_moment, read_stamp, write_moment, write_stamp};
-
-#[derive(Clone, Debug, PartialEq, Eq, PartialOrd, Ord)]
-pub struct Line {
-    pub name: String,
-    pub params: Vec<(String, Vec<String>)>,
-    pub value: String,
+/// The lines of a text without their ends.
+///
+/// In place of a line that has a control character other than a tab comes that character alone, which isn't read as a line.
+pub struct Lines<'a> {
+    pub rest: &'a [u8],
 }
 
-impl Line {
-    pub fn param(&self, name: &str) -> Option<&str> {
-        self.params.iter().find(|(it, _)| it == name).map(|(_, values)| values[0].as_str())
-    }
-}
+impl<'a> Iterator for Lines<'a> {
+    type Item = &'a [u8];
 
-fn is_control(c: char) -> bool {
-    c != '\t' && (c < ' ' || c == '\x7f')
-}
-
-fn is_name(text: &str) -> bool {
-    !text.is_empty() && text.bytes().all(|it| it.is_ascii_alphanumeric() || it == b'-')
-}
-
-/// The unfolded lines of a text, without the empty ones.
-pub fn unfold(text: &str) -> Vec<String> {
-    let mut lines: Vec<String> = Vec::new();
-    for piece in text.split('\n') {
-        let piece = piece.strip_suffix('\r').unwrap_or(piece);
-        match (piece.strip_prefix([' ', '\t']), lines.last_mut()) {
-            (Some(rest), Some(last)) => last.push_str(rest),
-            _ => lines.push(piece.to_owned()),
-        }
-    }
-    lines.retain(|it| !it.is_empty());
-    lines
-}
-
-pub fn read_line(text: &str) -> Option<Line> {
-    let end = text.find([';', ':'])?;
-    let name = &text[..end];
-    if !is_name(name) {
-        return None;
-    }
-    let mut params = Vec::new();
-    let mut rest = &text[end..];
-    while let Some(after) = rest.strip_prefix(';') {
-        let (name, after) = after.split_once('=')?;
-        if !is_name(name) {
-            return None;
-        }
-        let mut values = Vec::new();
-        let mut after = after;
+    fn next(&mut self) -> Option<&'a [u8]> {
+        let text = self.rest;
+        let (mut at, mut control) = (0, None);
         loop {
-            let value;
-            if let Some(quoted) = after.strip_prefix('"') {
-                (value, after) = quoted.split_once('"')?;
-            } else {
-                (value, after) = after.split_at(after.find([';', ':', ',', '"'])?);
-            }
-            if value.contains(is_control) {
-                return None;
-            }
-            values.push(value.to_owned());
-            match after.strip_prefix(',') {
-                Some(next) => after = next,
-                None => break,
-            }
-        }
-        params.push((name.to_ascii_uppercase(), values));
-        rest = after;
-    }
-    let value = rest.strip_prefix(':')?;
-    if value.contains(is_control) {
-        return None;
-    }
-    Some(Line { name: name.to_ascii_uppercase(), params, value: value.to_owned() })
-}
-
-/// Writes a line folded after at most 75 octets.
-pub fn write_text(line: &str, out: &mut String) {
-    let mut rest = line;
-    let mut room = 75;
-    while rest.len() > room {
-        let mut at = room;
-        while !rest.is_char_boundary(at) {
-            at -= 1;
-        }
-        out.push_str(&rest[..at]);
-        out.push_str("\r\n ");
-        rest = &rest[at..];
-        room = 74;
-    }
-    out.push_str(rest);
-    out.push_str("\r\n");
-}
-
-fn write_line(line: &Line, out: &mut String) {
-    let mut text = line.name.clone();
-    for (name, values) in &line.params {
-        text.push(';');
-        text.push_str(name);
-        for (at, value) in values.iter().enumerate() {
-            text.push(if at == 0 { '=' } else { ',' });
-            if value.contains([';', ':', ',']) {
-                text.push('"');
-                text.push_str(value);
-                text.push('"');
-            } else {
-                text.push_str(value);
-            }
+            at += control_at(&text[at..]);
+            let (line, rest) = text.split_at(at);
+            self.rest = match rest {
+                [] if line.is_empty() => return None,
+                [] => rest,
+                [b'\n', rest @ ..] | [b'\r', b'\n', rest @ ..] => rest,
+                [it, ..] => {
+                    control = control.or(Some(&text[at..=at]).filter(|_| *it != b'\t'));
+                    at += 1;
+                    continue;
+                }
+            };
+            return Some(control.unwrap_or(line));
         }
     }
-    text.push(':');
-    text.push_str(&line.value);
-    write_text(&text, out);
 }
 
-#[derive(Clone, Debug)]
-pub struct Todo {
-    pub uid: String,
-    pub stamp: Stamp,
-    pub sequence: u32,
-    pub rid: Option<Moment>,
-    pub start: Option<Moment>,
-    pub due: Option<Moment>,
-    pub status: Option<String>,
-    pub percent: Option<u8>,
-    pub priority: Option<u8>,
-    pub summary: Option<Line>,
-    pub organizer: Option<Line>,
-    pub attendees: Vec<Line>,
-    pub rules: Vec<String>,
-    pub rdates: Vec<Moment>,
-    pub exdates: Vec<Moment>,
-    pub others: Vec<Line>,
-}
+const WORD: usize = size_of::<u64>();
+// 1 in each octet of a word.
+const EACH: u64 = u64::MAX / 255;
 
-fn once<T>(place: &mut Option<T>, value: Option<T>) -> Option<()> {
-    if place.is_some() || value.is_none() {
-        return None;
-    }
-    *place = value;
-    Some(())
-}
-
-fn moments(line: &Line, into: &mut Vec<Moment>) -> Option<()> {
-    for text in line.value.split(',') {
-        into.push(read_moment(text, line.param("TZID"))?);
-    }
-    Some(())
-}
-
-pub fn read_todo(lines: Vec<Line>) -> Option<Todo> {
-    let (mut uid, mut stamp, mut sequence, mut rid, mut start, mut due) = (None, None, None, None, None, None);
-    let (mut status, mut percent, mut priority, mut summary, mut organizer) = (None, None, None, None, None);
-    let (mut attendees, mut rules, mut rdates, mut exdates, mut others) = (Vec::new(), Vec::new(), Vec::new(), Vec::new(), Vec::new());
-    for line in lines {
-        let value = line.value.as_str();
-        match line.name.as_str() {
-            "UID" => once(&mut uid, Some(value.to_owned()).filter(|it| !it.is_empty()))?,
-            "DTSTAMP" => once(&mut stamp, read_stamp(value))?,
-            "SEQUENCE" => once(&mut sequence, value.parse::<u32>().ok().filter(|it| *it <= 2_147_483_647))?,
-            "RECURRENCE-ID" => once(&mut rid, read_moment(value, line.param("TZID")))?,
-            "DTSTART" => once(&mut start, read_moment(value, line.param("TZID")))?,
-            "DUE" => once(&mut due, read_moment(value, line.param("TZID")))?,
-            "STATUS" => once(&mut status, Some(value.to_ascii_uppercase()).filter(|it| ["NEEDS-ACTION", "COMPLETED", "IN-PROCESS", "CANCELLED"].contains(&it.as_str())))?,
-            "PERCENT-COMPLETE" => once(&mut percent, value.parse().ok().filter(|it| *it <= 100))?,
-            "PRIORITY" => once(&mut priority, value.parse().ok().filter(|it| *it <= 9))?,
-            "SUMMARY" => once(&mut summary, Some(line))?,
-            "ORGANIZER" => once(&mut organizer, Some(line).filter(|it| !it.value.is_empty()))?,
-            "ATTENDEE" => attendees.push(Some(line).filter(|it| !it.value.is_empty())?),
-            "RRULE" => rules.push(line.value),
-            "RDATE" if !value.contains('/') => moments(&line, &mut rdates)?,
-            "EXDATE" => moments(&line, &mut exdates)?,
-            _ => others.push(line),
+/// Where the first control character of a text is, or its end. The search takes a word at a time.
+fn control_at(text: &[u8]) -> usize {
+    let (words, rest) = text.as_chunks::<WORD>();
+    for (at, word) in words.iter().enumerate() {
+        let found = controls(u64::from_le_bytes(*word));
+        if found != 0 {
+            return WORD * at + found.trailing_zeros() as usize / 8;
         }
     }
-    for list in [&mut rdates, &mut exdates] {
-        list.sort();
-        list.dedup();
-    }
-    let sequence = sequence.unwrap_or(0);
-    Some(Todo { uid: uid?, stamp: stamp?, sequence, rid, start, due, status, percent, priority, summary, organizer, attendees, rules, rdates, exdates, others })
+    text.len() - rest.len() + rest.iter().position(u8::is_ascii_control).unwrap_or(rest.len())
 }
 
-fn write_of(name: &str, moment: &Moment, out: &mut String) {
-    let mut line = name.to_owned();
-    match (moment.form, &moment.zone) {
-        (Form::Date, _) => line.push_str(";VALUE=DATE"),
-        (_, Some(zone)) if zone.contains([';', ':', ',']) => line.push_str(&format!(";TZID=\"{zone}\"")),
-        (_, Some(zone)) => line.push_str(&format!(";TZID={zone}")),
-        _ => {}
-    }
-    line.push(':');
-    write_moment(moment, &mut line);
-    write_text(&line, out);
+/// A bit in the first octet of a word that is a control character, and maybe bits in later ones; 0 where none is.
+fn controls(word: u64) -> u64 {
+    let delete = word ^ (EACH * 0x7f);
+    let found = (word.wrapping_sub(EACH * 0x20) & !word) | (delete.wrapping_sub(EACH) & !delete);
+    found & (EACH * 0x80)
 }
 
-fn canonical(method: &str, todo: &Todo) -> String {
-    let mut out = format!("BEGIN:VCALENDAR\r\nPRODID:-//itipdesk//1//EN\r\nVERSION:2.0\r\nMETHOD:{method}\r\nBEGIN:VTODO\r\n");
-    write_text(&format!("UID:{}", todo.uid), &mut out);
-    out.push_str("DTSTAMP:");
-    write_stamp(todo.stamp, &mut out);
-    out.push_str(&format!("\r\nSEQUENCE:{}\r\n", todo.sequence));
-    for (name, moment) in [("RECURRENCE-ID", &todo.rid), ("DTSTART", &todo.start), ("DUE", &todo.due)] {
-        if let Some(moment) = moment {
-            write_of(name, moment, &mut out);
-        }
-    }
-    if let Some(status) = &todo.status {
-        write_text(&format!("STATUS:{status}"), &mut out);
-    }
-    for (name, number) in [("PERCENT-COMPLETE", todo.percent), ("PRIORITY", todo.priority)] {
-        if let Some(number) = number {
-            write_text(&format!("{name}:{number}"), &mut out);
-        }
-    }
-    for line in todo.summary.iter().chain(&todo.organizer).chain(&todo.attendees) {
-        write_line(line, &mut out);
-    }
-    for rule in &todo.rules {
-        write_text(&format!("RRULE:{rule}"), &mut out);
-    }
-    for (name, moments) in [("RDATE", &todo.rdates), ("EXDATE", &todo.exdates)] {
-        for moment in moments {
-            write_of(name, moment, &mut out);
-        }
-    }
-    for line in &todo.others {
-        write_line(line, &mut out);
-    }
-    out.push_str("END:VTODO\r\nEND:VCALENDAR\r\n");
-    out
-}
-
-#[derive(Clone, Copy, Debug, PartialEq, Eq)]
-pub enum Kind {
-    State,
-    Cancel,
-    Answer,
-}
-
-#[derive(Debug)]
-pub struct Item {
-    pub kind: Kind,
-    pub todo: Todo,
-    pub octets: String,
-}
-
-/// The items of a message.
-pub fn read_message(text: &[u8]) -> Option<Vec<Item>> {
-    let lines = unfold(std::str::from_utf8(text).ok()?);
-    let lines: Vec<Line> = lines.iter().map(|it| read_line(it)).collect::<Option<_>>()?;
-    let (mut method, mut version, mut open, mut todos) = (None, false, Vec::new(), Vec::new());
-    let mut todo = Vec::new();
-    for line in lines {
-        match (line.name.as_str(), open.len()) {
-            ("BEGIN", _) => open.push(line.value.to_ascii_uppercase()),
-            ("END", _) => {
-                if open.pop()? != line.value.to_ascii_uppercase() {
+/// A text without its folds, where it has some. One where a fold would take away what parts a CR from an LF is refused.
+pub fn unfold(text: &[u8]) -> Option<Vec<u8>> {
+    let mut whole = Vec::with_capacity(text.len());
+    for piece in text.split_inclusive(|it| *it == b'\n') {
+        match piece {
+            [b' ' | b'\t', more @ ..] if !whole.is_empty() => {
+                whole.pop_if(|it| *it == b'\n');
+                whole.pop_if(|it| *it == b'\r');
+                if whole.ends_with(b"\r") {
                     return None;
                 }
-                if open.len() == 1 && line.value.eq_ignore_ascii_case("VTODO") {
-                    todos.push(read_todo(std::mem::take(&mut todo))?);
-                }
+                whole.extend_from_slice(more);
             }
-            ("METHOD", 1) => once(&mut method, Some(line.value.to_ascii_uppercase()))?,
-            ("VERSION", 1) => version = line.value == "2.0",
-            (_, 2) if open[1] == "VTODO" => todo.push(line),
-            _ => {}
+            _ => whole.extend_from_slice(piece),
         }
     }
-    if !version || !open.is_empty() {
-        return None;
+    (whole.len() < text.len()).then_some(whole)
+}
+
+/// A content line as it stands in a text: its name, its parameters with the `;` before each, and its value.
+#[derive(Clone, Copy)]
+pub struct Line<'a> {
+    pub name: &'a [u8],
+    pub params: &'a [u8],
+    pub value: &'a [u8],
+}
+
+impl<'a> Line<'a> {
+    /// Reads a line, and sees to all but the octets of its name.
+    #[inline]
+    pub fn read(text: &'a [u8]) -> Option<Line<'a>> {
+        let end = text.iter().position(|it| matches!(it, b':' | b';'))?;
+        let (name, rest) = text.split_at(end);
+        let (params, value) = match rest {
+            [b':', value @ ..] => (&rest[..0], value),
+            _ => cut_params(rest)?,
+        };
+        Some(Line { name, params, value })
     }
-    let method = method?;
-    let kind = match method.as_str() {
-        "REQUEST" | "ADD" | "PUBLISH" => Kind::State,
-        "CANCEL" => Kind::Cancel,
-        "REPLY" => Kind::Answer,
-        _ => return None,
-    };
-    Some(todos.into_iter().map(|todo| Item { kind, octets: canonical(&method, &todo), todo }).collect())
+
+    /// The first value of a parameter.
+    pub fn param(self, name: &[u8]) -> Option<&'a [u8]> {
+        let (_, values) = self.params().find(|it| it.0.eq_ignore_ascii_case(name))?;
+        cut_value(values).map(|it| it.0)
+    }
+
+    /// The name of each parameter, and its values as they stand in the text.
+    fn params(self) -> impl Iterator<Item = (&'a [u8], &'a [u8])> {
+        let mut rest = self.params;
+        std::iter::from_fn(move || {
+            let (name, values, after) = cut_param(rest.strip_prefix(b";")?)?;
+            rest = after;
+            Some((name, values))
+        })
+    }
+
+    /// Writes the line with its names in upper case, and with quotes only where a value of a parameter needs them.
+    pub fn write(self, out: &mut Vec<u8>) {
+        write_line(out, |out| {
+            push_upper(self.name, out);
+            for (name, values) in self.params() {
+                out.push(b';');
+                push_upper(name, out);
+                out.push(b'=');
+                push_values(values, out);
+            }
+            push(out, [b":", self.value]);
+        });
+    }
+}
+
+pub fn is_name(text: &[u8]) -> bool {
+    !text.is_empty() && text.iter().all(|it| it.is_ascii_alphanumeric() || *it == b'-')
+}
+
+/// The parameters that a text begins with, and the value behind them.
+fn cut_params(text: &[u8]) -> Option<(&[u8], &[u8])> {
+    let mut rest = text;
+    while let [b';', param @ ..] = rest {
+        rest = cut_param(param)?.2;
+    }
+    Some((&text[..text.len() - rest.len()], rest.strip_prefix(b":")?))
+}
+
+/// The name of the parameter that a text begins with, its values with their commas and quotes, and what stands behind them.
+fn cut_param(text: &[u8]) -> Option<(&[u8], &[u8], &[u8])> {
+    let end = text.iter().position(|it| *it == b'=').filter(|end| is_name(&text[..*end]))?;
+    let (name, values) = (&text[..end], &text[end + 1..]);
+    let mut rest = cut_value(values)?.1;
+    while let [b',', next @ ..] = rest {
+        rest = cut_value(next)?.1;
+    }
+    Some((name, &values[..values.len() - rest.len()], rest))
+}
+
+/// The first of the values of a parameter, without its quotes, and what stands behind it.
+fn cut_value(text: &[u8]) -> Option<(&[u8], &[u8])> {
+    if let [b'"', quoted @ ..] = text {
+        let end = quoted.iter().position(|it| *it == b'"')?;
+        return Some((&quoted[..end], &quoted[end + 1..]));
+    }
+    let end = text.iter().position(|it| *it == b'"' || needs_quotes(it));
+    Some(text.split_at(end.unwrap_or(text.len())))
+}
+
+pub fn needs_quotes(octet: &u8) -> bool {
+    matches!(octet, b';' | b':' | b',')
+}
+
+/// Writes a line, folded after at most 75 octets.
+pub fn write_line(out: &mut Vec<u8>, content: impl FnOnce(&mut Vec<u8>)) {
+    let from = out.len();
+    content(out);
+    if out.len() - from > 75 {
+        let whole = out.split_off(from);
+        push_folded(&whole, out);
+    }
+    out.extend_from_slice(b"\r\n");
+}
+
+fn push_folded(line: &[u8], out: &mut Vec<u8>) {
+    let (mut rest, mut room) = (line, 75);
+    while rest.len() > room {
+        let end = (0..=room).rev().find(|it| rest[*it] & 0xc0 != 0x80).unwrap_or(room);
+        push(out, [&rest[..end], b"\r\n "]);
+        (rest, room) = (&rest[end..], 74);
+    }
+    out.extend_from_slice(rest);
+}
+
+fn push_upper(name: &[u8], out: &mut Vec<u8>) {
+    let from = out.len();
+    out.extend_from_slice(name);
+    out[from..].make_ascii_uppercase();
+}
+
+fn push_values(values: &[u8], out: &mut Vec<u8>) {
+    if !values.contains(&b'"') {
+        return out.extend_from_slice(values);
+    }
+    let mut rest = Some(values);
+    while let Some((value, after)) = rest.and_then(cut_value) {
+        let quote: &[u8] = if value.iter().any(needs_quotes) { b"\"" } else { b"" };
+        push(out, [quote, value, quote]);
+        rest = after.strip_prefix(b",");
+        out.extend(rest.map(|_| b','));
+    }
+}
+
+pub fn push<const N: usize>(out: &mut Vec<u8>, parts: [&[u8]; N]) {
+    parts.into_iter().for_each(|it| out.extend_from_slice(it));
+}
+
+pub fn push_number(number: u32, out: &mut Vec<u8>) {
+    if number > 9 {
+        push_number(number / 10, out);
+    }
+    out.push(b'0' + (number % 10) as u8);
 }

@@ -90,10 +90,11 @@ def due(edits, records):
     return [it for it in edits.values() if it.gate and not is_valid(it, records)]
 
 
-def picked(edits, commit, count=3):
-    """Some edits of one crate, which the commit's id chooses, so that a record of what nobody tried is found out."""
+def picked(edits, commit, due, count=3):
+    """Some edits of one crate, which the commit's id chooses, so that a record of what nobody tried is found out: of one that is proved
+    once more for edits that are due, where there is one."""
     by_hash = lambda name: hashlib.sha256(f"{commit} {name}".encode()).hexdigest()
-    crate = min({it.crate for it in edits.values()}, key=by_hash)
+    crate = min({it.crate for it in due or edits.values()}, key=by_hash)
     return [edits[it] for it in sorted((it for it in edits if edits[it].crate == crate), key=by_hash)[:count]]
 
 

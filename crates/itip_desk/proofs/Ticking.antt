@@ -25,7 +25,7 @@ use Rattle.itip_state.specs.Kept.{AreMoved, KeepSame, Moves, ArePartOf, IsItemsO
 use Rattle.std.proofs.lemmas.List.Elements.{Contains-append_left, Contains-push, Contains-push_cases}
 use Rattle.itip_state.proofs.Members.{by_bool, none_in, cons_cases}
 use Rattle.itip_state.proofs.Lookups.{one_key, itself}
-use Rattle.itip_state.proofs.Parting.{listed_in, in_listed}
+use Rattle.itip_state.proofs.Listing.{listed_in, in_listed}
 use Rattle.itip_view.proofs.Showing.{into_filter}
 use Rattle.itip_desk.specs.Desk.{Shown, CarriesAfter, IsCarriedOn, IsDeltaOf}
 use Rattle.itip_desk.specs.Moves.{is_listed, tick_at, move_cmp, has_move, AreInOrder, AreTicks, AreUpTo, HavePlaces}

@@ -44,6 +44,8 @@ impl Batch {
         for item in items {
             shared.push(SharedItem::new(alloc, item)?)?;
         }
+        // Each comparison of two with one front goes over the front: so those stand in order before all are sorted.
+        shared.sort_unstable_by(|one, other| one.bytes.own().cmp(other.bytes.own()));
         Batch::of_shared(shared)
     }
 

@@ -233,28 +233,29 @@ impl Desk {
     }
 
     /// What the rows of a window are made of, shared with this desk: the kept items of the UIDs that are looked at for
-    /// them. It has the same rows there.
+    /// them, in no particular order, and perhaps more than once. They have the same rows there.
     ///
     /// Refused when out of memory.
-    pub fn part_in(&self, window: Window) -> Result<State, AllocError>
-        ensures part { IfOk result (λ part. (uids : List (List ℕ)) × ArePartOf part self.now.kept uids) }
-        ensures rows { IfOk result (λ part. (row : Row) → IsRow part window row ↔ IsRow self.now.kept window row) }
+    pub fn items_in(&self, window: Window) -> Result<Vec<SharedItem>, AllocError>
+        ensures part { IfOk result (λ items. (uids : List (List ℕ)) × ArePartOf items.items self.now.kept uids) }
+        ensures rows { IfOk result (λ items. (row : Row) → IsRow items.items window row ↔ IsRow self.now.kept window row) }
     {
         let there = sorted_uids(self.kept.uids_in(window)?)?;
-        self.kept.state().part(&there)
+        self.kept.state().shared_of(&there)
     }
 
     /// What the rows of the attendee of an address are made of, shared with this desk: the kept items of the UIDs that
-    /// are looked at for them. In each window the rows that show the attendee are those of the desk.
+    /// are looked at for them, in no particular order, and perhaps more than once. In each window their rows that show the
+    /// attendee are those of the desk.
     ///
     /// Refused when out of memory.
-    pub fn part_naming(&self, address: &str) -> Result<State, AllocError>
-        ensures part { IfOk result (λ part. (uids : List (List ℕ)) × ArePartOf part self.now.kept uids) }
-        ensures rows { IfOk result (λ part. (window : Window) (row : Row)
-            → Shows address.now row → IsRow part window row ↔ IsRow self.now.kept window row) }
+    pub fn items_naming(&self, address: &str) -> Result<Vec<SharedItem>, AllocError>
+        ensures part { IfOk result (λ items. (uids : List (List ℕ)) × ArePartOf items.items self.now.kept uids) }
+        ensures rows { IfOk result (λ items. (window : Window) (row : Row)
+            → Shows address.now row → IsRow items.items window row ↔ IsRow self.now.kept window row) }
     {
         let naming = sorted_uids(self.kept.uids_naming(address)?)?;
-        self.kept.state().part(&naming)
+        self.kept.state().shared_of(&naming)
     }
 
     /// Whether these are as many as the UIDs of which something is kept, and some are. It takes no memory.

@@ -77,10 +77,10 @@ cut_before calendars rest each apart messages cut = record {
 -- ---- one part, and the rest
 
 -- a message of one text
-record IsMessageOf (text message : List ℕ) : Type 0 where
-  messages : List (List ℕ)
-  cut : IsCutInto text messages
-  among : Contains messages message
+pub record IsMessageOf (text message : List ℕ) : Type 0 where
+  pub messages : List (List ℕ)
+  pub cut : IsCutInto text messages
+  pub among : Contains messages message
 
 module _ (part rest : List ℕ) (ends : EndsBetween part rest) where
   cut_of_part : IsCutInto part ends.calendars
@@ -93,7 +93,7 @@ module _ (part rest : List ℕ) (ends : EndsBetween part rest) where
       (cut_before ends.calendars rest ends.each ends.apart messages cut)
 
   -- a message of both is one of either
-  of_both : (message : List ℕ) → IsMessageOf (part ++ rest) message → IsMessageOf part message ⊎ IsMessageOf rest message
+  pub of_both : (message : List ℕ) → IsMessageOf (part ++ rest) message → IsMessageOf part message ⊎ IsMessageOf rest message
   of_both message has =
       let cut : IsCutInto rest (messages_of rest) = cut_by_scan rest in
       let among : Contains (ends.calendars ++ messages_of rest) message =
@@ -105,7 +105,7 @@ module _ (part rest : List ℕ) (ends : EndsBetween part rest) where
         | inr later ↦ inr (record { messages = messages_of rest; cut = cut; among = later })
       ]
 
-  in_both : (message : List ℕ) → IsMessageOf part message ⊎ IsMessageOf rest message → IsMessageOf (part ++ rest) message
+  pub in_both : (message : List ℕ) → IsMessageOf part message ⊎ IsMessageOf rest message → IsMessageOf (part ++ rest) message
   in_both message (inl has) = record {
     messages = ends.calendars ++ messages_of rest;
     cut = cut_of_both (messages_of rest) (cut_by_scan rest);
@@ -120,17 +120,17 @@ module _ (part rest : List ℕ) (ends : EndsBetween part rest) where
 
 -- ---- all parts
 
-no_message : (message : List ℕ) → IsMessageOf [] message → ⊥
+pub no_message : (message : List ℕ) → IsMessageOf [] message → ⊥
 no_message message has =
     none_in message (subst (λ (ms : List (List ℕ)). Contains ms message) (one_cut [] has.messages [] has.cut (cut_alone [] tt tt))
     has.among)
 
-one_has : (text : List ℕ) (texts : List (List ℕ)) (message : List ℕ) → IsMessageOf text message → HasMessage (text ∷ texts) message
+pub one_has : (text : List ℕ) (texts : List (List ℕ)) (message : List ℕ) → IsMessageOf text message → HasMessage (text ∷ texts) message
 one_has text texts message has =
     record { input = text; given = cons_first text texts; messages = has.messages; cut = has.cut; among = has.among }
 
 -- a message of the first of these texts, or of the others
-first_or : (text : List ℕ) (texts : List (List ℕ)) (message : List ℕ) → HasMessage (text ∷ texts) message →
+pub first_or : (text : List ℕ) (texts : List (List ℕ)) (message : List ℕ) → HasMessage (text ∷ texts) message →
     IsMessageOf text message ⊎ HasMessage texts message
 first_or text texts message has =
     elim (cons_cases text texts has.input has.given) [
@@ -148,10 +148,10 @@ first_or text texts message has =
       })
     ]
 
-none_has : (message : List ℕ) → HasMessage [] message → ⊥
+pub none_has : (message : List ℕ) → HasMessage [] message → ⊥
 none_has message has = none_in has.input has.given
 
-later_has : (text : List ℕ) (texts : List (List ℕ)) (message : List ℕ) → HasMessage texts message → HasMessage (text ∷ texts) message
+pub later_has : (text : List ℕ) (texts : List (List ℕ)) (message : List ℕ) → HasMessage texts message → HasMessage (text ∷ texts) message
 later_has text texts = has_among texts (text ∷ texts) (cons_later text texts)
 
 has_parts : (parts : List (List ℕ)) → EachEndsBetween parts → (message : List ℕ) → IsMessageOf (concat parts) message ↔

@@ -12,6 +12,9 @@ mod SomeInbox
 mod Octets
 mod Telling
 mod Between
+mod SameLines
+mod EmptyLines
+mod Gaps
 mod Parts
 mod NewsOf
 mod OfInbox

@@ -79,14 +79,14 @@ in_flat (t ∷ inputs) (ts ∷ all) cut input messages message h own among =
 -- ---- the items of messages
 
 -- an item of a message of which this holds
-record Says (P : List ℕ → Type 0) (item : Item) : Type 0 where
-  message : List ℕ
-  has : P message
-  items : List Item
-  reads : ReadsMessage message items
-  among : Contains items item
+pub record Says (P : List ℕ → Type 0) (item : Item) : Type 0 where
+  pub message : List ℕ
+  pub has : P message
+  pub items : List Item
+  pub reads : ReadsMessage message items
+  pub among : Contains items item
 
-says_more : (P Q : List ℕ → Type 0) (item : Item) → ((message : List ℕ) → P message → Q message) → Says P item → Says Q item
+pub says_more : (P Q : List ℕ → Type 0) (item : Item) → ((message : List ℕ) → P message → Q message) → Says P item → Says Q item
 says_more P Q item more s = record { message = s.message; has = more s.message s.has; items = s.items; reads = s.reads; among = s.among }
 
 heard_says : (messages : List Placed) (answers : List (Result (List Item) MessageRefusal)) (item : Item) → AreAnswers messages answers →
@@ -122,7 +122,7 @@ in_heard (m ∷ ms) (Err cause ∷ xs) item message items each h reads among =
       | inr later ↦ in_heard ms xs item message items each.1 later reads among
     ]
 
-tells_says : (inputs : List (List ℕ)) (item : Item) → TellsItem inputs item → Says (HasMessage inputs) item
+pub tells_says : (inputs : List (List ℕ)) (item : Item) → TellsItem inputs item → Says (HasMessage inputs) item
 tells_says inputs item tells =
     let inbox : IsInbox inputs tells.heard tells.refusals = tells.inbox in
     says_more (Contains (texts (placed_of 0 inbox.messages))) (HasMessage inputs) item
@@ -131,7 +131,7 @@ tells_says inputs item tells =
     (heard_says (placed_of 0 inbox.messages) inbox.hears.answers item inbox.hears.each
     (subst (λ (list : List Item). Contains list item) inbox.hears.heard_are tells.among))
 
-says_tells : (inputs : List (List ℕ)) (item : Item) → Says (HasMessage inputs) item → TellsItem inputs item
+pub says_tells : (inputs : List (List ℕ)) (item : Item) → Says (HasMessage inputs) item → TellsItem inputs item
 says_tells inputs item s =
     let is = some_inbox inputs in
     let inbox : IsInbox inputs is.0 is.1 = is.2 in

@@ -3,6 +3,7 @@ pub use Rattle.itip_desk.specs.Delta
 pub use Rattle.itip_desk.specs.Refusals
 pub mod Inbox
 pub mod Compaction
+pub mod Gaps
 pub mod News
 pub mod OfInbox
 pub mod TaskList

@@ -12,6 +12,7 @@ ghost use Rattle.itip_report.specs.declared.report_name.ReportName.{ReportName};
 ghost use Rattle.itip_desk.specs.Delta.{delta_octets};
 ghost use Rattle.itip_inbox.specs.Compaction.{IsCompaction, AreCompactions, IsPartedInto, all_inputs};
 ghost use Rattle.itip_inbox.specs.Compaction.{HaveSameMessages, TellsItem, TellSameItems};
+ghost use Rattle.itip_inbox.specs.Gaps.{IsPartedInGaps, HaveShortMessages};
 ghost use Rattle.itip_inbox.specs.News.{IsNews};
 ghost use Rattle.itip_inbox.specs.PartsByUid.{ArePartedByUid, IsOfHeard, AreOfHeard, IsTextOfBlocks};
 ghost use Rattle.itip_inbox.specs.PartsByUid.{IsKeptBatch, AreMergedBatches};
@@ -63,10 +64,17 @@ pub fn compaction_of_compactions()
 
 /// Inputs that have the same messages, in whatever order and each once or more often, tell the same items. The parts of an input
 /// that is cut between messages have its messages: there each part but the last has nothing but whole calendars, each up to the
-/// break behind its END:VCALENDAR, and no blank stands behind a calendar.
+/// break behind its END:VCALENDAR, and no blank stands behind a calendar. Where each part but the last may have empty lines too,
+/// before, between or behind its calendars, and no blank stands behind any of these, the parts tell each item that the whole tells.
+/// They tell no other where no message of the whole has more octets than a text may have. The empty lines before a message count,
+/// as they are of it.
 pub fn items_of_parts()
     ensures messages { (inputs others : List (List ℕ)) → HaveSameMessages inputs others → TellSameItems inputs others }
     ensures parted { (whole : List ℕ) (parts : List (List ℕ)) → IsPartedInto whole parts → HaveSameMessages (whole ∷ []) parts }
+    ensures told { (whole : List ℕ) (parts : List (List ℕ)) (item : Item) → IsPartedInGaps whole parts →
+        TellsItem (whole ∷ []) item → TellsItem parts item }
+    ensures spaced { (whole : List ℕ) (parts : List (List ℕ)) → IsPartedInGaps whole parts → HaveShortMessages (whole ∷ []) →
+        TellSameItems (whole ∷ []) parts }
 {}
 
 /// Inputs have news beside others, and only one: its octets, and whether a message was refused.

@@ -276,6 +276,7 @@ impl OpenInbox {
         } = heard;
         self.heard = self.heard.saturating_add(count);
         self.state.hear(rt, news.as_slice())?;
+        self.state.let_go_of(rt, news);
         self.refusals.append(&mut refusals)?;
         self.told.append(&mut told)?;
         Ok(())

@@ -108,6 +108,16 @@ impl Shards {
         sorted(rt, self.shards.as_slice())
     }
 
+    /// Lets go of items that were heard, many on as many threads as there are shards.
+    pub(crate) fn let_go_of<R: Threads + Sync>(&self, rt: &R, items: Vec<SharedItem>) {
+        let count = (items.len() / LEAST).min(self.shards.len());
+        if count > 1 {
+            if let Ok(parts) = in_parts(items, count) {
+                let _ = thread::map_vec(rt, parts, &|part: Vec<SharedItem>| drop(part));
+            }
+        }
+    }
+
     /// Lets go of what is kept, each shard on a thread of its own.
     pub(crate) fn let_go<R: Threads + Sync>(self, rt: &R) {
         let Shards { shards } = self;
@@ -131,6 +141,23 @@ impl Shards {
         }
         Ok(whole)
     }
+}
+
+/// Items in so many lists of about one length.
+fn in_parts(items: Vec<SharedItem>, count: usize) -> Result<Vec<Vec<SharedItem>>, AllocError>
+    requires { 0 < count }
+{
+    let mut parts = Vec::new(*items.allocator());
+    let mut rest = items;
+    let size = rest.len() / count + 1;
+    for _ in 1..count {
+        if rest.len() > size {
+            let last = rest.split_off(rest.len() - size)?;
+            parts.push(last)?;
+        }
+    }
+    parts.push(rest)?;
+    Ok(parts)
 }
 
 /// Whether memory was refused to one of these shards.

@@ -1,5 +1,5 @@
 //! Octets of which many can share the front, as a clause sees them: a list.
-ghost use Rattle.std.specs.Prelude.{◌≡◌, ◌++◌, length, IfOk, OnOk, OnErr, refl};
+ghost use Rattle.std.specs.Prelude.{◌≡◌, ◌++◌, List, ℕ, length, IfOk, OnOk, OnErr, refl};
 ghost use Rattle.std.specs.Ordering.{nat_cmp, as_partial_cmp, eq_by_cmp};
 ghost use Rattle.std.specs.Cmp.Lexicographic.{slice_cmp, nat_list_cmp_total};
 ghost use Rattle.std.specs.Cmp.{partial_order_from_total, partial_equiv_from_equiv, eq_by_cmp_equiv};
@@ -98,6 +98,13 @@ impl Octets {
             Some(front) => (front.as_slice(), own),
             None => (&[], own),
         }
+    }
+
+    /// The octets behind the front that is shared: all where none is.
+    pub fn own(&self) -> &[u8]
+        ensures { (front : List ℕ) × (self.now ≡ front ++ result.now) }
+    {
+        self.own.as_slice()
     }
 
     /// How many they are.

@@ -3,7 +3,7 @@ use Rattle.std.proofs.Common.{◌≡◌, ◌≢◌, ◌∙◌, ◌↔◌, ◌||�
 use Rattle.std.proofs.Common.{true, false, List, [], ◌∷◌, ◌++◌, length, get_or}
 use Rattle.std.proofs.Common.{map, arith, append_assoc, Bor}
 use Rattle.std.specs.List.{list_all, list_any, count_by, AllByRecursion}
-use Rattle.std.specs.Prelude.{◌==◌, Option, Some, None, MatchOption, cond}
+use Rattle.std.specs.Prelude.{◌==◌, Option, Some, None, MatchOption, cond, Result, Ok, Err, OnOk, OnErr}
 use Rattle.std.proofs.lemmas.Bool.Decides.{nat_tests}
 use Rattle.std.proofs.lemmas.List.Sums.{sum_by-cons}
 use Rattle.std.specs.Str.{IsUtf8}
@@ -118,6 +118,30 @@ joined_more [] text = refl
 joined_more (first ∷ texts) text =
     ap (λ (rest : List ℕ). first ++ 10 ∷ rest) (joined_more texts text)
     ∙ sym (append_assoc first (10 ∷ joined texts) (text ++ 10 ∷ []))
+
+all_more : (texts : List (List ℕ)) (text : List ℕ) → AllByRecursion IsOneLine texts → IsOneLine text →
+    AllByRecursion IsOneLine (texts ++ text ∷ [])
+all_more [] text h one = (one, tt)
+all_more (first ∷ texts) text h one = (h.0, all_more texts text h.1 one)
+
+text_joins : (old new text : List ℕ) → AreJoined old → new ≡ old ++ (text ++ 10 ∷ []) → new ≡ joined (texts_in old ++ text ∷ [])
+text_joins old new text are e = e ∙ ap (λ (t : List ℕ). t ++ (text ++ 10 ∷ [])) are.octets_are ∙ sym (joined_more (texts_in old) text)
+
+pub pushed_joined : {A E : Type 0} (r : Result A E) (old new text : List ℕ) → AreJoined old → IsOneLine text →
+    OnOk r (new ≡ old ++ (text ++ 10 ∷ [])) → OnErr r (new ≡ old) → AreJoined new
+pushed_joined (Ok x) old new text are one pushed kept =
+    are_joined new (texts_in old ++ text ∷ []) (all_more (texts_in old) text are.each one) (text_joins old new text are pushed)
+pushed_joined (Err x) old new text are one pushed kept = subst AreJoined (sym kept) are
+
+pub pushed_texts : {A E : Type 0} (r : Result A E) (old new text : List ℕ) → AreJoined old → IsOneLine text →
+    OnOk r (new ≡ old ++ (text ++ 10 ∷ [])) → OnOk r (texts_in new ≡ texts_in old ++ text ∷ [])
+pushed_texts (Ok x) old new text are one pushed =
+    found_again new (texts_in old ++ text ∷ []) (all_more (texts_in old) text are.each one) (text_joins old new text are pushed)
+pushed_texts (Err x) old new text are one pushed = tt
+
+pub kept_texts : {A E : Type 0} (r : Result A E) (old new : List ℕ) → OnErr r (new ≡ old) → OnErr r (texts_in new ≡ texts_in old)
+kept_texts (Ok x) old new kept = tt
+kept_texts (Err x) old new kept = ap texts_in kept
 
 value_unbroken : (text : List ℕ) → list_all is_value_octet text ≡ true → list_any is_break text ≡ false
 value_unbroken [] h = refl

@@ -27,3 +27,6 @@ pub mod OneFolding
 pub mod Joined
 pub mod Halves
 pub mod LineLists
+pub mod SameText
+pub mod LinePlaces
+pub mod Finding

@@ -2,7 +2,7 @@
 use Rattle.std.proofs.Common.{◌≡◌, ◌∙◌, sym, ap, refl, ℕ, ◌+◌, ◌<◌, Bool, false, List, [], ◌∷◌, ◌++◌}
 use Rattle.std.proofs.Common.{take, get_or, map, length, append_assoc, subst, arith}
 use Rattle.std.proofs.Common.{append-nil}
-use Rattle.std.specs.Prelude.{◌||◌, OnOk, is_ok, Result, Ok, Err, cond}
+use Rattle.std.specs.Prelude.{◌||◌, OnOk, OnErr, is_ok, Result, Ok, Err, cond}
 use Rattle.std.proofs.lemmas.List.{map-append, take_more}
 use Rattle.std.specs.List.{list_any}
 use Rattle.itip_lines.specs.Joining.{joined}
@@ -39,7 +39,7 @@ name_run l = record {
   stops = no_name l.params l.value;
 }
 
-name_of_line : (l : Line) → name_in (unfolded_text l) ≡ l.name
+pub name_of_line : (l : Line) → name_in (unfolded_text l) ≡ l.name
 name_of_line l = sym (name_cut (unfolded_text l) l.name (params_text l.params ++ 58 ∷ l.value) (name_run l))
 
 tail_of_line : (l : Line) → tail_in (unfolded_text l) ≡ record { front = params_text l.params; value = l.value }
@@ -49,13 +49,13 @@ tail_of_line l =
     (name_run l) (run_of_prefix is_name_octet (unfolded_text l))).1)
     ∙ halves_are l.params l.value l.lawful.each_param
 
-params_of_line : (l : Line) → params_of (unfolded_text l) ≡ l.params
+pub params_of_line : (l : Line) → params_of (unfolded_text l) ≡ l.params
 params_of_line l = params_are _ l.params l.lawful.each_param (ap (λ (h : Halves). h.front) (tail_of_line l))
 
-value_of_line : (l : Line) → value_in (unfolded_text l) ≡ l.value
+pub value_of_line : (l : Line) → value_in (unfolded_text l) ≡ l.value
 value_of_line l = ap (λ (h : Halves). h.value) (tail_of_line l)
 
-is_line_text : (l : Line) → IsLineText (unfolded_text l)
+pub is_line_text : (l : Line) → IsLineText (unfolded_text l)
 unfolding unfolded_text
 is_line_text l = record {
   lawful = lawful_copy l _ _ _ (name_of_line l) (params_of_line l) (value_of_line l);
@@ -106,6 +106,12 @@ has_named name (l ∷ ls) =
 
 -- ---- appending
 
+more_texts : (old : List (List ℕ)) (are : AreLineTexts old) (line : Line) →
+    old ++ unfolded_text line ∷ [] ≡ map unfolded_text (lines_in old are ++ line ∷ [])
+more_texts old are line =
+    ap (λ (ts : List (List ℕ)). ts ++ unfolded_text line ∷ []) (texts_of_lines old are)
+    ∙ sym (map-append unfolded_text (lines_in old are) (line ∷ []))
+
 -- one text, and one line
 pub text_taken : (texts : List (List ℕ)) (i : ℕ) (text at new : List ℕ) → i < length texts → text ≡ get_or texts i text →
     at ≡ joined (take i texts) → new ≡ at ++ (text ++ 10 ∷ []) → new ≡ joined (take (i + 1) texts)
@@ -113,27 +119,23 @@ text_taken texts i text at new less is first second =
     second ∙ ap (λ (a : List ℕ). a ++ (text ++ 10 ∷ [])) first ∙ sym (joined_more (take i texts) text)
     ∙ ap joined (sym (take_more texts i text less ∙ ap (λ (t : List ℕ). take i texts ++ t ∷ []) (sym is)))
 
-pub line_taken : (lines : List Line) (i : ℕ) (line : Line) (at new : List ℕ) → i < length lines → line ≡ get_or lines i line →
-    at ≡ joined (map unfolded_text (take i lines)) → new ≡ at ++ (unfolded_text line ++ 10 ∷ []) →
-    new ≡ joined (map unfolded_text (take (i + 1) lines))
-line_taken lines i line at new less is first second =
-    second ∙ ap (λ (a : List ℕ). a ++ (unfolded_text line ++ 10 ∷ [])) first
-    ∙ sym (joined_more (map unfolded_text (take i lines)) (unfolded_text line))
-    ∙ ap joined (sym (map-append unfolded_text (take i lines) (line ∷ []))
-    ∙ ap (map unfolded_text) (sym (take_more lines i line less ∙ ap (λ (l : Line). take i lines ++ l ∷ []) (sym is))))
+pub pushed_are : {A E : Type 0} (r : Result A E) (old new : List (List ℕ)) (are : AreLineTexts old) (line : Line) →
+    OnOk r (new ≡ old ++ unfolded_text line ∷ []) → OnErr r (new ≡ old) → AreLineTexts new
+pushed_are (Ok x) old new are line pushed kept =
+    are_line_texts new (lines_in old are ++ line ∷ []) (pushed ∙ more_texts old are line)
+pushed_are (Err x) old new are line pushed kept = subst (λ (ts : List (List ℕ)). AreLineTexts ts) (sym kept) are
 
--- the parts of a line
-pub line_appended : (l : Line) (old a b c d new : List ℕ) → a ≡ old ++ l.name → b ≡ a ++ params_text l.params → c ≡ b ++ 58 ∷ [] →
-    d ≡ c ++ l.value → new ≡ d ++ 10 ∷ [] → new ≡ old ++ (unfolded_text l ++ 10 ∷ [])
-unfolding unfolded_text
-line_appended l old a b c d new first second third fourth fifth =
-    let params : List ℕ = params_text l.params in
-    fifth ∙ ap (λ (t : List ℕ). t ++ 10 ∷ []) (fourth ∙ ap (λ (t : List ℕ). t ++ l.value)
-    (third ∙ ap (λ (t : List ℕ). t ++ 58 ∷ []) (second ∙ ap (λ (t : List ℕ). t ++ params) first))
-    ∙ append_assoc ((old ++ l.name) ++ params) (58 ∷ []) l.value
-    ∙ append_assoc (old ++ l.name) params (58 ∷ l.value)
-    ∙ append_assoc old l.name (params ++ 58 ∷ l.value))
-    ∙ append_assoc old (l.name ++ (params ++ 58 ∷ l.value)) (10 ∷ [])
+pub pushed_lines : {A E : Type 0} (r : Result A E) (old new : List (List ℕ)) (are : AreLineTexts old) (now : AreLineTexts new)
+    (lines : List Line) (line : Line) → lines_in old are ≡ lines → OnOk r (new ≡ old ++ unfolded_text line ∷ []) →
+    OnOk r (lines_in new now ≡ lines ++ line ∷ [])
+pushed_lines (Ok x) old new are now lines line were pushed =
+    lines_are new now (lines_in old are ++ line ∷ []) (pushed ∙ more_texts old are line) ∙ ap (λ (ls : List Line). ls ++ line ∷ []) were
+pushed_lines (Err x) old new are now lines line were pushed = tt
+
+pub kept_lines : {A E : Type 0} (r : Result A E) (old new : List (List ℕ)) (are : AreLineTexts old) (now : AreLineTexts new)
+    (lines : List Line) → lines_in old are ≡ lines → OnErr r (new ≡ old) → OnErr r (lines_in new now ≡ lines)
+kept_lines (Ok x) old new are now lines were kept = tt
+kept_lines (Err x) old new are now lines were kept = lines_are new now (lines_in old are) (kept ∙ texts_of_lines old are) ∙ were
 
 -- a text with its folds and its break
 pub text_ended : {A E : Type 0} (r : Result A E) (old text all new : List ℕ) (now : ℕ) → Writes old 0 text all now →

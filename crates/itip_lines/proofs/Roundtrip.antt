@@ -34,7 +34,7 @@ all_weaker : (p q : ℕ → Bool) → ((b : ℕ) → p b ≡ true → q b ≡ tr
 all_weaker p q h [] k = refl
 all_weaker p q h (b ∷ bs) k = let r = and_parts _ _ k in rw (h b r.0) (all_weaker p q h bs r.1)
 
-upper_name_same : (name : List ℕ) → list_all is_upper_name_octet name ≡ true → map to_ascii_uppercase name ≡ name
+pub upper_name_same : (name : List ℕ) → list_all is_upper_name_octet name ≡ true → map to_ascii_uppercase name ≡ name
 upper_name_same [] h = refl
 upper_name_same (b ∷ bs) h =
     let p = and_parts _ _ h in

@@ -8,9 +8,12 @@ pub mod Parts
 pub mod Lookup
 pub mod Stretches
 pub mod ScanSteps
+pub mod SeenOctets
+pub mod Finding
 pub mod Room
 pub mod Writing
 pub mod Folding
 pub mod Joining
 pub mod TextsLeft
 pub mod LineTexts
+pub mod LinePlaces

@@ -4,7 +4,7 @@ use Rattle.std.specs.List.{list_all}
 use Rattle.std.specs.Str.{IsUtf8}
 use Rattle.itip_lines.specs.declared.line.Param.{Param}
 use Rattle.itip_lines.specs.Octets.{is_name_octet, is_quotable_octet, is_plain_octet, is_separator}
-use Rattle.itip_lines.specs.Lawful.{values_text, param_text}
+use Rattle.itip_lines.specs.Lawful.{values_text, param_text, params_text}
 use Rattle.itip_lines.specs.Spelling.{ValueThen, ValuesThen, ParamThen, IsTail, Spells}
 use Rattle.itip_lines.specs.declared.grammar.Octets.{Octets}
 use Rattle.itip_lines.specs.declared.grammar.Octets.TheVariants.{Name, Plain, Quotable}
@@ -78,6 +78,12 @@ LacksParam text = (param : Param) (rest : List ℕ) → ParamThen text param res
 
 abbrev pub LacksTail : List ℕ → Type 0
 LacksTail text = (params : List Param) (value : List ℕ) → IsTail text params value → ⊥
+
+-- the text is the tail of this value, and its parameters are written so
+pub record WritesTail (text value wrote : List ℕ) : Type 0 where
+  pub params : List Param
+  pub is : IsTail text params value
+  pub wrote_is : wrote ≡ params_text params
 
 abbrev pub LacksLine : List ℕ → Type 0
 LacksLine text = (name : List ℕ) (params : List Param) (value : List ℕ) → Spells text name params value → ⊥

@@ -1,11 +1,12 @@
 //! Octets in memory of their own, as a clause sees them: a list.
-ghost use Rattle.std.specs.Prelude.{◌≡◌, IfOk, nat_eq, refl, Some};
+ghost use Rattle.std.specs.Prelude.{◌≡◌, ◌∷◌, ◌++◌, [], IfOk, OnOk, OnErr, nat_eq, refl, Some};
 ghost use Rattle.std.specs.Ordering.{nat_cmp};
 ghost use Rattle.std.specs.Cmp.Lexicographic.{pointwise, slice_cmp, nat_list_eq_equiv, nat_list_cmp_total, texts_ties, texts_po};
 ghost use Rattle.std.specs.Cmp.{partial_equiv_from_equiv};
 ghost use Rattle.std.specs.Cmp.Rules.{hashing};
 ghost use Rattle.std.specs.Hash as fed;
 ghost use Rattle.std.proofs.Common.{rules};
+ghost use Rattle.itip_lines.specs.Writing.{Extends};
 
 use std::alloc::AllocError;
 use std::cmp::Ordering;
@@ -41,12 +42,35 @@ impl Bytes {
         self.octets
     }
 
+    /// Adds a text with LF behind it. Where memory is refused they stay as they were.
+    pub(crate) fn push_text(&mut self, text: &[u8]) -> Result<(), AllocError>
+        ensures pushed { OnOk result (self.new ≡ self.old ++ (text.now ++ 10 ∷ [])) }
+        ensures err { OnErr result (self.new ≡ self.old) }
+    {
+        let start = self.octets.len();
+        let done = append(text, &mut self.octets);
+        if done.is_err() {
+            self.octets.truncate(start);
+        }
+        done
+    }
+
     /// The octets.
     pub fn as_slice(&self) -> &[u8]
         ensures { result.now ≡ self.now }
     {
         self.octets.as_slice()
     }
+}
+
+/// Appends a text with LF behind it; where memory is refused, perhaps a part of it.
+pub(crate) fn append(text: &[u8], out: &mut Vec<u8>) -> Result<(), AllocError>
+    ensures appended { OnOk result (out.new.items ≡ out.old.items ++ (text.now ++ 10 ∷ [])) }
+    ensures extends { Extends out.old.items out.new.items }
+{
+    out.extend_from_slice(text)?;
+    out.push(b'\n')?;
+    Ok(())
 }
 
 impl Clone for Bytes {

@@ -1,17 +1,18 @@
 //! The grammar of one unfolded line.
-ghost use Rattle.std.specs.Prelude.{◌≡◌, ◌≢◌, ◌≤◌, ◌∷◌, ◌++◌, [], ℕ, List, IfOk, OnOk, length, map, MatchOption};
+ghost use Rattle.std.specs.Prelude.{◌≡◌, ◌≢◌, ◌≤◌, ◌∷◌, ◌++◌, [], ℕ, List, IsTrue, IfOk, OnOk, length, map, MatchOption};
 ghost use Rattle.std.specs.Char.{to_ascii_uppercase};
 ghost use Rattle.std.specs.List.{list_all, prefix_len};
 ghost use Rattle.std.specs.Str.{IsUtf8, str_to_ascii_uppercase};
-ghost use Rattle.itip_lines.specs.Octets.{is_name_octet, is_value_octet, is_separator};
+ghost use Rattle.itip_lines.specs.Octets.{is_upper_name_octet, is_name_octet, is_value_octet, is_separator};
 ghost use Rattle.itip_lines.specs.Lawful.{line_limit};
-ghost use Rattle.itip_lines.specs.Spelling.{IsTail, Spells};
+ghost use Rattle.itip_lines.specs.SeenOctets.{octets_of};
+ghost use Rattle.itip_lines.specs.Spelling.{Spells};
 ghost use Rattle.itip_lines.specs.Parts.{is_of, begins, ends_param, IsRun, CutsValue, LacksValue, LacksValues, WritesValues};
-ghost use Rattle.itip_lines.specs.Parts.{LacksParam, WritesParam, LacksTail, LacksLine};
+ghost use Rattle.itip_lines.specs.Parts.{LacksParam, WritesParam, LacksTail, WritesTail, LacksLine};
+ghost use Rattle.itip_lines.specs.Finding.{or_anew, IsFoundIn};
 
-use crate::line::Line;
-use crate::params::Params;
-use crate::text::Text;
+use crate::line_octets::LineOctets;
+use crate::seen_line::SeenLine;
 use crate::write::push_value;
 use std::alloc::{AllocError, Global};
 
@@ -26,13 +27,16 @@ pub(crate) enum Octets {
     Quotable,
 }
 
+fn is_upper_name_octet(octet: u8) -> bool
+    ensures { result ≡ is_upper_name_octet octet }
+{
+    octet.is_ascii_uppercase() || octet.is_ascii_digit() || octet == b'-'
+}
+
 fn is_name_octet(octet: u8) -> bool
     ensures { result ≡ is_name_octet octet }
 {
-    octet.is_ascii_uppercase()
-        || octet.is_ascii_digit()
-        || octet == b'-'
-        || octet.is_ascii_lowercase()
+    is_upper_name_octet(octet) || octet.is_ascii_lowercase()
 }
 
 fn is_value_octet(octet: u8) -> bool
@@ -114,23 +118,6 @@ fn cut_value(text: &[u8]) -> Option<(&[u8], &[u8])>
     Some((value, rest))
 }
 
-/// A text of its own.
-fn copy(alloc: Global, octets: &[u8]) -> Result<Text, AllocError>
-    requires { IsUtf8 octets.now }
-    ensures { IfOk result (λ text. text ≡ octets.now) }
-{
-    // A part of a line, cut at ASCII octets: UTF-8 as the line is.
-    Text::copy(alloc, unsafe { str::from_utf8_unchecked(octets) })
-}
-
-/// A name in upper case.
-fn upper_name(alloc: Global, octets: &[u8]) -> Result<Text, AllocError>
-    requires { IsUtf8 octets.now }
-    ensures { IfOk result (λ name. name ≡ str_to_ascii_uppercase octets.now) }
-{
-    Text::upper(alloc, unsafe { str::from_utf8_unchecked(octets) })
-}
-
 /// Whether the text begins with `;` or `:`.
 fn ends_param(text: &[u8]) -> bool
     ensures { result ≡ begins ends_param text.now }
@@ -203,23 +190,16 @@ fn read_param<'a>(text: &'a [u8], out: &mut Vec<u8>) -> Result<Option<&'a [u8]>,
     Ok(Some(rest))
 }
 
-/// Room for the parameters of a line, which are written no longer than they were read.
-fn room(text: &[u8]) -> usize {
-    match text {
-        [b';', ..] => text.len(),
-        _ => 0,
-    }
-}
-
-/// The parameters and the value of a line, from what stands behind its name.
-fn read_tail(alloc: Global, text: &[u8]) -> Result<Option<(Params, Text)>, AllocError>
+/// The value of a line, from what stands behind its name. `params` gets the text of the parameters as they are written, in place
+/// of what it had; where there is no value, perhaps a part of it.
+fn read_tail<'a>(text: &'a [u8], params: &mut Vec<u8>) -> Result<Option<&'a [u8]>, AllocError>
     requires { IsUtf8 text.now }
-    ensures { IfOk result (λ o. MatchOption o (LacksTail text.now) (λ p. IsTail text.now p.0 p.1)) }
+    ensures { IfOk result (λ o. MatchOption o (LacksTail text.now) (λ value. WritesTail text.now value.now params.new.items)) }
 {
-    let mut params = Vec::with_capacity(alloc, room(text))?;
+    params.clear();
     let mut rest = text;
     while let Some(after) = strip(rest, b';') {
-        let Some(behind) = read_param(after, &mut params)? else {
+        let Some(behind) = read_param(after, params)? else {
             return Ok(None);
         };
         rest = behind;
@@ -230,28 +210,128 @@ fn read_tail(alloc: Global, text: &[u8]) -> Result<Option<(Params, Text)>, Alloc
     if !are_value_octets(value) {
         return Ok(None);
     }
-    let value = copy(alloc, value)?;
-    Ok(Some((Params::from_text(params), value)))
+    Ok(Some(value))
 }
 
-/// The line of a text, where the grammar has one.
-pub(crate) fn read_text(alloc: Global, text: &[u8]) -> Result<Option<Line>, AllocError>
+/// Whether a name has no letter in lower case.
+fn is_upper(name: &[u8]) -> bool
+    ensures { result ≡ list_all is_upper_name_octet name.now }
+{
+    name.iter().all(|octet| is_upper_name_octet(*octet))
+}
+
+/// Whether a text is these parameters, `:` and this value.
+fn is_tail(text: &[u8], params: &[u8], value: &[u8]) -> bool
+    ensures { IsTrue result → text.now ≡ params.now ++ 58 ∷ value.now }
+{
+    match text.strip_prefix(params) {
+        Some(behind) => is_value(behind, value),
+        None => false,
+    }
+}
+
+/// Whether a text is `:` and this value.
+fn is_value(text: &[u8], value: &[u8]) -> bool
+    ensures { IsTrue result → text.now ≡ 58 ∷ value.now }
+{
+    match strip(text, b':') {
+        Some(rest) => rest == value,
+        None => false,
+    }
+}
+
+/// Appends a line without folds, of this name, of parameters that are written so, and of this value.
+pub(crate) fn append_line(
+    name: &[u8],
+    params: &[u8],
+    value: &[u8],
+    out: &mut Vec<u8>,
+) -> Result<(), AllocError>
+    ensures { OnOk result (out.new.items ≡ out.old.items ++ (str_to_ascii_uppercase name.now ++ (params.now ++ 58 ∷ value.now))) }
+{
+    push_upper(name, out)?;
+    out.extend_from_slice(params)?;
+    out.push(b':')?;
+    out.extend_from_slice(value)
+}
+
+/// The octets of a line of this name and tail, where they are written otherwise than they stand.
+fn anew(
+    alloc: Global,
+    name: &[u8],
+    tail: &[u8],
+    params: &[u8],
+    value: &[u8],
+) -> Result<Option<Vec<u8>>, AllocError>
+    ensures { IfOk result (λ anew.
+        or_anew (name.now ++ tail.now) anew ≡ str_to_ascii_uppercase name.now ++ (params.now ++ 58 ∷ value.now)) }
+{
+    if is_upper(name) && is_tail(tail, params, value) {
+        return Ok(None);
+    }
+    let mut octets = Vec::with_capacity(alloc, name.len() + tail.len())?;
+    append_line(name, params, value, &mut octets)?;
+    Ok(Some(octets))
+}
+
+/// How a text is a line, as it is written.
+#[derive(Drop)]
+pub(crate) struct Found {
+    /// The octets of the line, where the text has others.
+    pub anew: Option<Vec<u8>>,
+    /// How many octets the name has.
+    pub name: usize,
+    /// Where the value begins.
+    pub value: usize,
+}
+
+/// How the text is a line, where the grammar has one. `params` is room for its parameters.
+fn find_line(alloc: Global, text: &[u8], params: &mut Vec<u8>) -> Result<Option<Found>, AllocError>
     requires utf8 { IsUtf8 text.now }
     requires short { length text.now ≤ line_limit }
-    ensures { IfOk result (λ o.
-        MatchOption o (LacksLine text.now) (λ l. Spells text.now l.name l.params l.value)) }
+    ensures { IfOk result (λ o. MatchOption o (LacksLine text.now) (IsFoundIn text.now)) }
 {
     let (spelled, tail) = cut_run(text, Octets::Name);
     if spelled.is_empty() {
         return Ok(None);
     }
-    let Some((params, value)) = read_tail(alloc, tail)? else {
+    let Some(value) = read_tail(tail, params)? else {
         return Ok(None);
     };
-    let name = upper_name(alloc, spelled)?;
-    Ok(Some(Line {
+    let anew = anew(alloc, spelled, tail, params.as_slice(), value)?;
+    let name = spelled.len();
+    let written = params.len();
+    Ok(Some(Found {
+        anew,
         name,
-        params,
-        value,
+        value: name + written + 1,
     }))
+}
+
+/// The octets that are written anew, and else those of the text.
+fn or_anew(text: LineOctets<'_>, anew: Option<Vec<u8>>) -> LineOctets<'_>
+    ensures { octets_of result ≡ or_anew (octets_of text.entry) anew }
+{
+    match anew {
+        Some(anew) => LineOctets::Own(anew),
+        None => text,
+    }
+}
+
+/// The line of a text, where the grammar has one. `params` is room for its parameters.
+pub(crate) fn read_text<'a>(
+    alloc: Global,
+    text: LineOctets<'a>,
+    params: &mut Vec<u8>,
+) -> Result<Option<SeenLine<'a>>, AllocError>
+    requires utf8 { IsUtf8 (octets_of text) }
+    requires short { length (octets_of text) ≤ line_limit }
+    ensures { IfOk result (λ o.
+        MatchOption o (LacksLine (octets_of text.entry)) (λ l. Spells (octets_of text.entry) l.name l.params l.value)) }
+{
+    let Some(found) = find_line(alloc, text.as_slice(), params)? else {
+        return Ok(None);
+    };
+    let Found { anew, name, value } = found;
+    Ok(Some(SeenLine::new(or_anew(text, anew), name, value)))
 }

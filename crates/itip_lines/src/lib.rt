@@ -1,8 +1,9 @@
-//! Content lines (RFC 5545 3.1): bytes are read into numbered `Line`s, or refused with the place of their first fault,
+//! Content lines (RFC 5545 3.1): bytes are read into numbered lines, or refused with the place of their first fault,
 //! and a `Line` is written with folds.
 //!
-//! `Text`, `Bytes` and `ListOf` are strings and vectors that contracts see as plain lists. `Params`, `TextList` and `LineList` are
-//! one text each, and contracts see them as the parameters, texts and lines in it.
+//! A `SeenLine` stands in the bytes that it is read of, and contracts see it as the `Line` that it is. `Text`, `Bytes` and
+//! `ListOf` are strings and vectors that contracts see as plain lists. `Params`, `TextList` and `LineList` are one text each, and
+//! contracts see them as the parameters, texts and lines in it.
 #![tactic(auto)]
 
 mod bytes;
@@ -11,11 +12,13 @@ mod grammar;
 mod laws;
 mod line;
 mod line_list;
+mod line_octets;
 mod list;
 mod lookup;
 mod params;
 mod read;
 mod scan;
+mod seen_line;
 mod text;
 mod text_list;
 mod write;
@@ -30,6 +33,7 @@ pub use lookup::param_value;
 pub use params::Params;
 pub use read::read_lines;
 pub use scan::cut_lf;
+pub use seen_line::SeenLine;
 pub use text::Text;
 pub use text_list::{TextList, Texts};
 pub use write::{write_line, write_param, write_parts, write_text};

@@ -4,6 +4,7 @@ ghost use Rattle.std.specs.Prelude.{◌≡◌};
 
 use crate::list::ListOf;
 use crate::params::Params;
+use crate::seen_line::SeenLine;
 use crate::text::Text;
 use std::alloc::AllocError;
 
@@ -28,11 +29,11 @@ pub struct Line {
 
 /// A content line, and where it stands in its text.
 #[derive(Debug, Drop)]
-pub struct NumberedLine {
+pub struct NumberedLine<'a> {
     /// The number, from 1, of the physical line in which the line begins. A physical line ends at LF: folded and empty
     /// ones are counted.
     pub number: usize,
-    pub line: Line,
+    pub line: SeenLine<'a>,
 }
 
 impl Clone for Line {

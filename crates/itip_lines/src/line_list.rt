@@ -1,5 +1,5 @@
 //! Lines that stand in one piece of memory.
-ghost use Rattle.std.specs.Prelude.{◌≡◌, ◌∷◌, ◌++◌, [], IfOk, OnOk, length, map};
+ghost use Rattle.std.specs.Prelude.{◌≡◌, ◌∷◌, ◌++◌, [], OnOk, OnErr, length, map};
 ghost use Rattle.std.specs.List.{list_any};
 ghost use Rattle.itip_lines.specs.LineTexts.{AreLineTexts, AreLineTexts-prop, has_line, name_in};
 ghost use Rattle.itip_lines.specs.TextsLeft.{texts_left};
@@ -7,8 +7,8 @@ ghost use Rattle.itip_lines.specs.Lookup.{same_text};
 ghost use Rattle.itip_lines.specs.Writing.{unfolded_text};
 
 use crate::grammar::{Octets, cut_run};
-use crate::line::Line;
 use crate::lookup::is_named;
+use crate::seen_line::SeenLine;
 use crate::text_list::{TextList, Texts};
 use std::alloc::{AllocError, Global};
 use std::marker::Model;
@@ -49,17 +49,21 @@ impl LineList {
         }
     }
 
-    /// Copies of these lines.
-    pub fn copy(alloc: Global, lines: &[Line]) -> Result<LineList, AllocError>
-        ensures { IfOk result (λ copy. copy ≡ lines.now) }
+    /// Adds a copy of a line. Where memory is refused the list stays as it was.
+    pub fn push(&mut self, line: &SeenLine<'_>) -> Result<(), AllocError>
+        ensures pushed { OnOk result (self.new ≡ self.old ++ line.now ∷ []) }
+        ensures err { OnErr result (self.new ≡ self.old) }
     {
-        let mut octets = Vec::new(alloc);
-        for line in lines {
-            append(line, &mut octets)?;
+        self.texts.push(line.as_str())
+    }
+
+    /// The same lines, without spare room.
+    pub fn exact(self) -> LineList
+        ensures { result ≡ self }
+    {
+        LineList {
+            texts: self.texts.exact(),
         }
-        Ok(LineList {
-            texts: TextList::from_octets(octets),
-        })
     }
 
     /// The lines as they are written, without folds and breaks, one after the other.
@@ -97,18 +101,6 @@ fn has_name(text: &str, name: &str) -> bool
 {
     let (spelled, _) = cut_run(text.as_bytes(), Octets::Name);
     is_named(spelled, name)
-}
-
-/// Appends a line without folds, and LF behind it.
-fn append(line: &Line, out: &mut Vec<u8>) -> Result<(), AllocError>
-    ensures { OnOk result (out.new.items ≡ out.old.items ++ (unfolded_text line.now ++ 10 ∷ [])) }
-{
-    out.extend_from_slice(line.name.as_str().as_bytes())?;
-    out.extend_from_slice(line.params.as_str().as_bytes())?;
-    out.push(b':')?;
-    out.extend_from_slice(line.value.as_str().as_bytes())?;
-    out.push(b'\n')?;
-    Ok(())
 }
 
 impl Clone for LineList {

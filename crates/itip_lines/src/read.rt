@@ -3,6 +3,7 @@ ghost use Rattle.std.specs.Prelude.{◌≡◌, ◌+◌, ◌<◌, ◌≤◌, ◌�
 ghost use Rattle.std.specs.Str.{IsUtf8};
 ghost use Rattle.itip_lines.specs.Cutting.{text_at};
 ghost use Rattle.itip_lines.specs.Reading.{Reads, Refused, IfRefused, HasRefusal};
+ghost use Rattle.itip_lines.specs.SeenOctets.{octets_of};
 ghost use Rattle.itip_lines.specs.Stretches.{texts_behind};
 ghost use Rattle.itip_lines.specs.ScanSteps.{AreUtf8, PushesLine, ReadsNext, HasNextRefusal, last_number, number_limit};
 ghost use Rattle.itip_lines.specs.declared.error.LineError.TheVariants as error;
@@ -10,6 +11,7 @@ ghost use Rattle.itip_lines.specs.declared.error.LineError.TheVariants as error;
 use crate::error::{LineCause, LineError, LineRefusal};
 use crate::grammar::read_text;
 use crate::line::NumberedLine;
+use crate::line_octets::LineOctets;
 use crate::scan::{End, Rest, cut_stretch, unfold};
 use simdutf8::is_utf8;
 use std::alloc::Global;
@@ -22,15 +24,15 @@ const COUNT_LIMIT: usize = 20_000;
 const LINE_LIMIT: usize = 65_536;
 
 /// As many lines as most messages have.
-const USUAL: usize = 16;
+const USUAL: usize = 20;
 
 /// The content lines of a text (RFC 5545 3.1), unfolded, in order, the empty ones left out, each with the number of the
 /// physical line in which it begins.
 ///
 /// A line break is LF or CRLF, and one before SPACE or HTAB is a fold. A refusal names the place of the first faulty
 /// line: more than 20,000 lines or 65,536 octets come first, then UTF-8, then the grammar. A text of more than 1,048,576
-/// octets is not looked at.
-pub fn read_lines(alloc: Global, text: &[u8]) -> Result<Vec<NumberedLine>, LineError>
+/// octets is not looked at. A line stands in the text, where it stands there as it is written.
+pub fn read_lines(alloc: Global, text: &[u8]) -> Result<Vec<NumberedLine<'_>>, LineError>
     ensures found { IfOk result (λ lines. Reads text.now lines.items) }
     ensures refused { IfErr result (λ e. IfRefused e (Refused text.now)) }
 {
@@ -41,12 +43,24 @@ pub fn read_lines(alloc: Global, text: &[u8]) -> Result<Vec<NumberedLine>, LineE
         }));
     }
     let utf8 = is_utf8(text);
-    let mut lines = Vec::with_capacity(alloc, USUAL)?;
+    let lines = Vec::with_capacity(alloc, USUAL)?;
+    let mut read = LinesRead {
+        lines,
+        params: Vec::new(alloc),
+    };
     let mut rest = Some(Rest { number: 1, text });
     while let Some(left) = rest {
-        rest = read_next(alloc, left, utf8, &mut lines)?;
+        rest = read_next(alloc, left, utf8, &mut read)?;
     }
-    Ok(lines)
+    Ok(read.lines)
+}
+
+/// The lines that are read so far.
+#[derive(Drop)]
+pub(crate) struct LinesRead<'a> {
+    pub lines: Vec<NumberedLine<'a>>,
+    /// Room for the parameters of a line.
+    pub params: Vec<u8>,
 }
 
 /// Reads the first unfolded line of what is left of a text, and returns what is left after it. `utf8` says that the
@@ -55,53 +69,56 @@ fn read_next<'a>(
     alloc: Global,
     left: Rest<'a>,
     utf8: bool,
-    lines: &mut Vec<NumberedLine>,
+    read: &mut LinesRead<'a>,
 ) -> Result<Option<Rest<'a>>, LineError>
     requires within { last_number left ≤ number_limit }
     requires utf8 { IsTrue utf8 → AreUtf8 (texts_behind (Some left)) }
-    ensures next { IfOk result (ReadsNext left.entry lines.old.items lines.new.items) }
-    ensures refused { IfErr result (λ e. IfRefused e (HasNextRefusal left.entry lines.old.items)) }
+    ensures next { IfOk result (ReadsNext left.entry read.old.lines.items read.new.lines.items) }
+    ensures refused { IfErr result (λ e. IfRefused e (HasNextRefusal left.entry read.old.lines.items)) }
 {
     let (stretch, end) = cut_stretch(left);
     match end {
         End::Line(after) => {
-            push_line(alloc, left.number, stretch, utf8, lines)?;
+            let text = LineOctets::InText(stretch);
+            push_line(alloc, left.number, text, utf8, read)?;
             Ok(after)
         }
         End::Fold(more) => {
             let (line, after) = unfold(alloc, stretch, more)?;
-            push_line(alloc, left.number, line.as_slice(), utf8, lines)?;
+            push_line(alloc, left.number, LineOctets::Own(line), utf8, read)?;
             Ok(after)
         }
     }
 }
 
 /// Reads an unfolded line, which begins in the physical line of this number, and appends it; an empty one is left out.
-fn push_line(
+fn push_line<'a>(
     alloc: Global,
     number: usize,
-    text: &[u8],
+    text: LineOctets<'a>,
     utf8: bool,
-    lines: &mut Vec<NumberedLine>,
+    read: &mut LinesRead<'a>,
 ) -> Result<(), LineError>
-    requires { IsTrue utf8 → IsUtf8 text.now }
-    ensures pushed { OnOk result (PushesLine lines.old.items (text_at number text.now) lines.new.items) }
+    requires { IsTrue utf8 → IsUtf8 (octets_of text) }
+    ensures pushed { OnOk result (PushesLine read.old.lines.items (text_at number (octets_of text.entry)) read.new.lines.items) }
     ensures refused { IfErr result (λ e. IfRefused e (λ refusal.
-        (0 < length text.now) × HasRefusal (length lines.old.items + 1) (text_at number text.now) refusal)) }
+        (0 < length (octets_of text.entry))
+        × HasRefusal (length read.old.lines.items + 1) (text_at number (octets_of text.entry)) refusal)) }
 {
-    if text.is_empty() {
+    let octets = text.as_slice();
+    if octets.is_empty() {
         return Ok(());
     }
-    if lines.len() >= COUNT_LIMIT || text.len() > LINE_LIMIT {
+    if read.lines.len() >= COUNT_LIMIT || octets.len() > LINE_LIMIT {
         return Err(refused(LineCause::TooMany, number));
     }
-    if !is_line_utf8(text, utf8) {
+    if !is_line_utf8(octets, utf8) {
         return Err(refused(LineCause::NotUtf8, number));
     }
-    let Some(line) = read_text(alloc, text)? else {
+    let Some(line) = read_text(alloc, text, &mut read.params)? else {
         return Err(refused(LineCause::BadLine, number));
     };
-    lines.push(NumberedLine { number, line })?;
+    read.lines.push(NumberedLine { number, line })?;
     Ok(())
 }
 

@@ -1,10 +1,10 @@
 //! Texts that stand in one piece of memory.
-ghost use Rattle.std.specs.Prelude.{◌≡◌, ◌↔◌, ◌∷◌, ◌++◌, [], ℕ, List, IsTrue, IfOk, OnOk, MatchOption, count_by, length};
+ghost use Rattle.std.specs.Prelude.{◌≡◌, ◌↔◌, ◌∷◌, ◌++◌, [], ℕ, List, IsTrue, IfOk, OnOk, OnErr, MatchOption, count_by, length};
 ghost use Rattle.std.specs.List.{AllByRecursion};
 ghost use Rattle.itip_lines.specs.Joining.{is_break, joined, texts_in, IsOneLine, AreJoined};
 ghost use Rattle.itip_lines.specs.TextsLeft.{texts_left};
 
-use crate::bytes::Bytes;
+use crate::bytes::{Bytes, append};
 use crate::text::Text;
 use std::alloc::{AllocError, Global};
 use std::fmt;
@@ -12,7 +12,7 @@ use std::marker::Model;
 
 /// Texts in order, of which none has a line feed.
 ///
-/// They have no values of their own: they stand in one piece of memory without spare room, each with LF behind it.
+/// They have no values of their own: they stand in one piece of memory, each with LF behind it. A copy has no spare room.
 #[derive(Drop)]
 pub struct TextList {
     octets: Bytes,
@@ -61,6 +61,22 @@ impl TextList {
         }
     }
 
+    /// Adds a text. Where memory is refused the list stays as it was.
+    pub fn push(&mut self, text: &str) -> Result<(), AllocError>
+        requires { IsOneLine text.now }
+        ensures pushed { OnOk result (self.new ≡ self.old ++ text.now ∷ []) }
+        ensures err { OnErr result (self.new ≡ self.old) }
+    {
+        self.octets.push_text(text.as_bytes())
+    }
+
+    /// The same texts, without spare room.
+    pub fn exact(self) -> TextList
+        ensures { result ≡ self }
+    {
+        TextList::from_octets(self.octets.into_vec())
+    }
+
     /// The texts as they stand, each with LF behind it.
     fn as_str(&self) -> &str
         ensures { texts_in result.now ≡ self.now }
@@ -105,15 +121,6 @@ fn cut_text(text: &str) -> Option<(&str, &str)>
     ensures { MatchOption result (texts_in text.now ≡ []) (λ p. texts_in text.now ≡ p.0.now ∷ texts_in p.1.now) }
 {
     text.split_once('\n')
-}
-
-/// Appends a text with LF behind it.
-fn append(text: &[u8], out: &mut Vec<u8>) -> Result<(), AllocError>
-    ensures { OnOk result (out.new.items ≡ out.old.items ++ (text.now ++ 10 ∷ [])) }
-{
-    out.extend_from_slice(text)?;
-    out.push(b'\n')?;
-    Ok(())
 }
 
 impl Clone for TextList {

@@ -36,10 +36,18 @@ pub(crate) fn steps_again<R: AllocGlobal + Eprint>(
 ) -> Result<Vec<u8>, CallError> {
     let events = crossing(rt.alloc(), one, other)?;
     let mut world = World::start(rt.alloc(), 2)?;
-    for event in &events {
-        step(rt, &mut world, event)?;
+    shown_after(rt, &mut world, &events)
+}
+
+fn shown_after<R: AllocGlobal + Eprint>(
+    rt: &R,
+    world: &mut World,
+    events: &[Event],
+) -> Result<Vec<u8>, CallError> {
+    for event in events {
+        step(rt, world, event)?;
     }
-    world_picture(rt.alloc(), &world, events.len())
+    world_picture(rt.alloc(), world, events.len())
 }
 
 fn step<R: AllocGlobal + Eprint>(

@@ -24,8 +24,25 @@ fn taken<R: AllocGlobal + Eprint>(
     last: &[u8],
 ) -> Result<Vec<u8>, CallError> {
     let mut desk = desk_after(rt.alloc(), before)?;
-    take(rt, &mut desk, &batch(rt.alloc(), last)?)?;
-    picture(rt.alloc(), &desk)
+    shown_after(rt, &mut desk, last)
+}
+
+fn shown_after<R: AllocGlobal + Eprint>(
+    rt: &R,
+    desk: &mut Desk,
+    last: &[u8],
+) -> Result<Vec<u8>, CallError> {
+    take_text(rt, desk, last)?;
+    picture(rt.alloc(), desk)
+}
+
+fn take_text<R: AllocGlobal + Eprint>(
+    rt: &R,
+    desk: &mut Desk,
+    text: &[u8],
+) -> Result<(), CallError> {
+    let batch = batch(rt.alloc(), text)?;
+    take(rt, desk, &batch)
 }
 
 fn take<R: AllocGlobal + Eprint>(rt: &R, desk: &mut Desk, batch: &Batch) -> Result<(), CallError> {
@@ -59,7 +76,19 @@ pub(crate) fn since_again<R: AllocGlobal + Eprint>(
     texts: &[Vec<u8>],
 ) -> Result<Vec<u8>, CallError> {
     let desk = desk_after(rt.alloc(), texts)?;
-    Ok(write_delta(rt.alloc(), &since(rt, &desk, tick)?)?)
+    written_since(rt, &desk, tick)
+}
+
+fn written_since<R: AllocGlobal + Eprint>(
+    rt: &R,
+    desk: &Desk,
+    tick: u64,
+) -> Result<Vec<u8>, CallError> {
+    let delta = since(rt, desk, tick)?;
+    match write_delta(rt.alloc(), &delta) {
+        Ok(octets) => Ok(octets),
+        Err(error) => Err(CallError::from(error)),
+    }
 }
 
 fn since<R: Eprint>(rt: &R, desk: &Desk, tick: u64) -> Result<Batch, CallError> {

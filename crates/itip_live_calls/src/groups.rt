@@ -20,18 +20,36 @@ pub(crate) fn grouped<R: AllocGlobal + Threads + Wait + Sync>(
     rt: &R,
     publishes: u64,
 ) -> Result<Vec<u8>, CallError> {
-    let (met, is_right) = met(rt, publishes)?;
-    let published = met.published;
-    let are_whole = met.seen.iter().all(|seen| *seen % AT_ONCE == 0);
+    let Ran {
+        is_right,
+        ended: Meeting {
+            published,
+            are_whole,
+        },
+    } = started(rt, publishes)?;
     Ok(format!(in rt.alloc();
         "published {published}, told right: {is_right}, whole: {are_whole}"
     )?.into_bytes())
 }
 
-fn met<R: AllocGlobal + Threads + Wait + Sync>(
+/// What came of a pair that ran: whether each pass saw what it was told of, and what it ended with.
+#[derive(Clone, Copy)]
+struct Ran {
+    is_right: bool,
+    ended: Meeting,
+}
+
+/// How many batches were published, and whether each pass saw all of some publishes.
+#[derive(Clone, Copy)]
+struct Meeting {
+    published: u64,
+    are_whole: bool,
+}
+
+fn started<R: AllocGlobal + Threads + Wait + Sync>(
     rt: &R,
     publishes: u64,
-) -> Result<(Met, bool), CallError> {
+) -> Result<Ran, CallError> {
     let (keeper, mut passes) = start_desk(rt, 2)?;
     match (passes.pop(), passes.pop()) {
         (Some(second), Some(first)) => told::<Brand, R>(rt, keeper, first, second, publishes),
@@ -49,19 +67,43 @@ fn told<N: Naming + Send + Sync, R: AllocGlobal + Threads + Wait + Sync>(
     first: Pass,
     second: Pass,
     publishes: u64,
-) -> Result<(Met, bool), CallError>
+) -> Result<Ran, CallError>
     requires keeper { keeper_pair keeper ≡ N.pair }
     requires passes { (pass_pair first ≡ N.pair) × (pass_pair second ≡ N.pair) }
 {
     let (mut keeper, mut first, mut second) = (keeper, first, second);
     let is_right = run::<N, R>(rt, &mut keeper, &mut first, &mut second, publishes);
+    let ended = end(rt, keeper, first, second)?;
+    let is_right = is_right?;
+    Ok(Ran { is_right, ended })
+}
+
+/// The two passes meet their keeper.
+fn end<R: AllocGlobal + Wait>(
+    rt: &R,
+    keeper: Keeper,
+    first: Pass,
+    second: Pass,
+) -> Result<Meeting, CallError>
+    requires { (pass_pair first ≡ keeper_pair keeper) × (pass_pair second ≡ keeper_pair keeper) }
+{
     let mut passes = Vec::new(rt.alloc());
     let is_one_lost = passes.push(first).is_err() || passes.push(second).is_err();
-    let met = meet(rt, keeper, passes)?;
+    let met = meet(rt, keeper, passes);
     if is_one_lost {
         return Err(CallError::NoMemory);
     }
-    Ok((met, is_right?))
+    match met {
+        Ok(met) => Ok(ended(&met)),
+        Err(error) => Err(CallError::from(error)),
+    }
+}
+
+fn ended(met: &Met) -> Meeting {
+    Meeting {
+        published: met.published,
+        are_whole: met.seen.iter().all(|seen| *seen % AT_ONCE == 0),
+    }
 }
 
 fn run<N: Naming + Send + Sync, R: AllocGlobal + Threads + Wait + Sync>(

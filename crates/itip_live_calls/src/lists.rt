@@ -1,7 +1,7 @@
 //! Batches of one item each, and the lists of a desk that takes them on one thread.
 
 use crate::error::CallError;
-use crate::texts::batch;
+use crate::texts::{batch, take};
 use itip_desk::{Batch, Desk};
 use itip_view::Window;
 use std::alloc::Global;
@@ -22,17 +22,24 @@ pub(crate) fn revision(alloc: Global, number: u64) -> Result<Batch, CallError> {
 pub(crate) fn lists(alloc: Global, count: u64, window: Window) -> Result<Vec<Vec<u8>>, CallError> {
     let mut desk = Desk::empty_at(alloc, 0);
     let mut lists = Vec::new(alloc);
-    lists.push(list_of(&desk, window)?)?;
-    for number in 0..count {
-        lists.push(list_after(&mut desk, &revision(alloc, number)?, window)?)?;
-    }
+    list_all(alloc, &mut desk, count, window, &mut lists)?;
     Ok(lists)
 }
 
-/// The list of a desk after one more batch.
-fn list_after(desk: &mut Desk, batch: &Batch, window: Window) -> Result<Vec<u8>, CallError> {
-    desk.take(batch)?;
-    list_of(desk, window)
+/// Adds the lists of a desk before and after each revision that it takes.
+fn list_all(
+    alloc: Global,
+    desk: &mut Desk,
+    count: u64,
+    window: Window,
+    lists: &mut Vec<Vec<u8>>,
+) -> Result<(), CallError> {
+    lists.push(list_of(desk, window)?)?;
+    for number in 0..count {
+        take(desk, &revision(alloc, number)?)?;
+        lists.push(list_of(desk, window)?)?;
+    }
+    Ok(())
 }
 
 fn list_of(desk: &Desk, window: Window) -> Result<Vec<u8>, CallError> {

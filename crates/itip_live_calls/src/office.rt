@@ -1,13 +1,16 @@
 //! Jobs on threads, whose workers and keepers a gate holds.
+ghost use Rattle.std.specs.Prelude.{◌≡◌};
+ghost use Rattle.itip_running.specs.Ends.{pass_pair};
 
 use crate::error::CallError;
 use crate::gates::HoldingGate;
 use crate::texts::{number_of, text, window};
 use crossbeam_channel::unbounded;
 use itip_lines::Bytes;
-use itip_office::{Job, Office, OpenGate, Outcome, Work, run_office, worker_loop};
+use itip_office::{Job, Office, OpenGate, Outcome, Pairs, Seat, Work, run_office, worker_loop};
 use itip_running::{Pass, meet, start_desk};
 use std::alloc::Global;
+use std::marker::Brand;
 use std::sync::Wait;
 use std::thread::Threads;
 
@@ -134,18 +137,23 @@ pub(crate) fn deaf_keeper<R: AllocGlobal + Wait>(rt: &R, job: &[u8]) -> Result<V
 
 /// How many jobs are answered, of one.
 fn answered<R: AllocGlobal + Wait>(rt: &R, job: Job) -> Result<usize, CallError> {
-    let (keeper, passes) = start_desk(rt, 1)?;
-    let answered = answered_alone(rt, passes, job);
+    let (keeper, mut passes) = start_desk(rt, 1)?;
+    let answered = match passes.pop() {
+        Some(pass) => answered_alone::<Brand, R>(rt, pass, job),
+        None => Err(CallError::NoSuchCall),
+    };
     let _ = meet(rt, keeper, Vec::new(rt.alloc()));
     answered
 }
 
-/// How many jobs a worker answers itself, of one.
-fn answered_alone<R: AllocGlobal + Wait>(
+/// How many jobs a worker answers itself, of one, with a pass of the pair that the type names.
+fn answered_alone<N: Pairs, R: AllocGlobal + Wait>(
     rt: &R,
-    passes: Vec<Pass>,
+    pass: Pass,
     job: Job,
-) -> Result<usize, CallError> {
+) -> Result<usize, CallError>
+    requires pair { pass_pair pass ≡ N.pair 0 }
+{
     let alloc = rt.alloc();
     let (to_keeper, merges) = unbounded(alloc)?;
     drop(merges);
@@ -154,7 +162,10 @@ fn answered_alone<R: AllocGlobal + Wait>(
         return Err(CallError::NoMemory);
     }
     drop(to_worker);
+    let mut seats = Vec::new(alloc);
+    seats.push(Seat::<N>::new(0, pass))?;
     let mut keepers = Vec::new(alloc);
     keepers.push(to_keeper)?;
-    Ok(worker_loop(rt, 1, passes, jobs, keepers, &OpenGate)?.len())
+    let (answers, _) = worker_loop(rt, 1, seats, jobs, keepers, &OpenGate)?;
+    Ok(answers.len())
 }

@@ -36,9 +36,9 @@ pub(crate) fn run_steps<R: AllocGlobal + Eprint + Wait>(
     let mut running = start(rt)?;
     let mut told = String::new(rt.alloc());
     let taken = take_steps(rt, &mut running, steps, &mut told);
-    let met = running.finish(rt);
+    let ended = running.finish(rt, &mut told);
     taken?;
-    add_met(rt.alloc(), &met?, &mut told)?;
+    ended?;
     Ok(told.into_bytes())
 }
 
@@ -211,7 +211,8 @@ impl Running {
         Ok(delta.as_slice().len() as u64)
     }
 
-    fn finish<R: AllocGlobal + Wait>(self, rt: &R) -> Result<Met, CallError> {
+    /// The keeper and the passes meet, and what they end with is told.
+    fn finish<R: AllocGlobal + Wait>(self, rt: &R, told: &mut String) -> Result<(), CallError> {
         let Running {
             keeper,
             first,
@@ -220,11 +221,14 @@ impl Running {
         } = self;
         let mut passes = Vec::new(rt.alloc());
         let is_one_lost = passes.push(first).is_err() || passes.push(second).is_err();
-        let met = meet(rt, keeper, passes)?;
+        let met = meet(rt, keeper, passes);
         if is_one_lost {
             return Err(CallError::NoMemory);
         }
-        Ok(met)
+        match met {
+            Ok(met) => add_met(rt.alloc(), &met, told),
+            Err(error) => Err(CallError::from(error)),
+        }
     }
 }
 
@@ -232,12 +236,30 @@ fn count_of(alloc: Global, pass: &mut Pass, word: &str, rest: &str) -> Result<u6
     ensures { pass_pair pass.new ≡ pass_pair pass.old }
 {
     match word {
-        "rows" => Ok(pass.rows(window()?)?.len() as u64),
-        "shown" => Ok(pass.rows_for(window()?, rest)?.len() as u64),
-        "kept" => Ok(pass.kept()?.entries() as u64),
+        "rows" => rows(pass, window()?),
+        "shown" => rows_for(pass, window()?, rest),
+        "kept" => entries(pass),
         "of" => items_of(alloc, pass, rest),
         _ => Err(CallError::NoSuchCall),
     }
+}
+
+fn rows(pass: &mut Pass, window: Window) -> Result<u64, CallError>
+    ensures { pass_pair pass.new ≡ pass_pair pass.old }
+{
+    Ok(pass.rows(window)?.len() as u64)
+}
+
+fn rows_for(pass: &mut Pass, window: Window, address: &str) -> Result<u64, CallError>
+    ensures { pass_pair pass.new ≡ pass_pair pass.old }
+{
+    Ok(pass.rows_for(window, address)?.len() as u64)
+}
+
+fn entries(pass: &mut Pass) -> Result<u64, CallError>
+    ensures { pass_pair pass.new ≡ pass_pair pass.old }
+{
+    Ok(pass.kept()?.entries() as u64)
 }
 
 fn items_of(alloc: Global, pass: &mut Pass, uid: &str) -> Result<u64, CallError>
@@ -327,8 +349,14 @@ pub(crate) fn scoped<R: AllocGlobal + Wait>(
         listed(rt, desk, texts)
     })?;
     let published = met.published;
-    let list = text(list.as_slice())?;
-    Ok(format!(in rt.alloc(); "{list}published {published}\n")?.into_bytes())
+    drop(met);
+    with_count(rt.alloc(), &list, published)
+}
+
+/// A list, and after it how many batches were published.
+fn with_count(alloc: Global, list: &[u8], published: u64) -> Result<Vec<u8>, CallError> {
+    let list = text(list)?;
+    Ok(format!(in alloc; "{list}published {published}\n")?.into_bytes())
 }
 
 fn listed<R: AllocGlobal + Wait>(

@@ -28,10 +28,23 @@ pub(crate) fn batch(alloc: Global, text: &[u8]) -> Result<Batch, CallError> {
 /// A desk that has taken these messages, one after another.
 pub(crate) fn desk_after(alloc: Global, texts: &[Vec<u8>]) -> Result<Desk, CallError> {
     let mut desk = Desk::empty_at(alloc, 0);
-    for text in texts {
-        desk.take(&batch(alloc, text)?)?;
-    }
+    take_all(alloc, &mut desk, texts)?;
     Ok(desk)
+}
+
+fn take_all(alloc: Global, desk: &mut Desk, texts: &[Vec<u8>]) -> Result<(), CallError> {
+    for text in texts {
+        take(desk, &batch(alloc, text)?)?;
+    }
+    Ok(())
+}
+
+/// Has a desk take a batch, whose news are not asked for.
+pub(crate) fn take(desk: &mut Desk, batch: &Batch) -> Result<(), CallError> {
+    match desk.take(batch) {
+        Ok(_) => Ok(()),
+        Err(error) => Err(CallError::from(error)),
+    }
 }
 
 /// The year 2026.

@@ -144,6 +144,12 @@ pub added_sound : (old new : List NumberedLine) (number : ℕ) (line : Line) →
 added_sound old new number line sound is whole =
     subst (λ (ls : List NumberedLine). AreProperties (plain_lines ls)) (sym whole) (properties_more old (line_at number line) sound is)
 
+-- the one property of a text is so in memory of its own
+pub owned_property : (text : List ℕ) (only : NumberedLine) (own : Line) → lines.Reads text (only ∷ []) → is_property only.line ≡ true →
+    own ≡ only.line → IsOneProperty text own
+owned_property text only own reads property same =
+    subst (λ (line : Line). IsOneProperty text line) (sym same) (record { number = only.number; reads = reads; property = property })
+
 -- one octet of a text more
 pub octet_more : (f : ℕ → List ℕ) (octets : List ℕ) (i : ℕ) (old page new : List ℕ) → i < length octets →
     page ≡ old ++ flat_map f (take i octets) → new ≡ page ++ f (get_or octets i 0) → new ≡ old ++ flat_map f (take (i + 1) octets)

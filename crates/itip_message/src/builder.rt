@@ -17,7 +17,7 @@ ghost use Rattle.itip_message.specs.declared.error.ReadError.TheVariants as erro
 use crate::error::{MessageCause, MessageRefusal, ReadError, todo_gives};
 use crate::frame::{is_begin, is_end};
 use itip_items::{Item, Method, make_items};
-use itip_lines::{Line, LineCause, LineError, NoMemory, NumberedLine, read_lines, write_param};
+use itip_lines::{LineCause, LineError, NoMemory, NumberedLine, SeenLine, read_lines, write_param};
 use itip_moment::{Moment, Stamp, write_moment};
 use itip_todo::{Todo, read_todo};
 use std::alloc::Global;
@@ -32,19 +32,20 @@ use std::marker::Model;
 /// none is folded into another, and zones no octet that no value of a parameter has (2).
 #[derive(Debug, Drop)]
 pub struct TodoBuilder {
-    lines: Vec<NumberedLine>,
+    lines: Vec<NumberedLine<'static>>,
 }
 
 impl Model for TodoBuilder {
-    ghost use Rattle.std.specs.Prelude.{List, IsTrue};
+    ghost use Rattle.std.specs.Prelude.{List, [], IsTrue};
     ghost use Rattle.itip_lines.specs.declared.line.NumberedLine.{NumberedLine};
 
     ghost Value = { List NumberedLine };
 
     ghost use Rattle.std.specs.Coded.{coded_list};
+    ghost use mir.Syntax.{static};
     ghost use Rattle.itip_lines.specs.contracts.line.NumberedLine as numbered;
 
-    ghost coded = { coded_list numbered.the_row.coded };
+    ghost coded = { coded_list (numbered.the_row (record { mir = static; lft = [] })).coded };
 
     ghost use Rattle.std.specs.List.{list_all};
     ghost use Rattle.itip_lines.specs.Reading.{plain_lines};
@@ -304,7 +305,7 @@ fn is_quotable_octet(octet: u8) -> bool
 }
 
 /// The property that a text is, as the line of a number.
-fn read_property(alloc: Global, text: &[u8], number: usize) -> Result<Line, ReadError>
+fn read_property(alloc: Global, text: &[u8], number: usize) -> Result<SeenLine<'static>, ReadError>
     ensures found { IfOk result (IsOneProperty text.now) }
     ensures refused { IfErr result (λ e. IfRefused e (RefusesText text.now number)) }
 {
@@ -320,7 +321,7 @@ fn read_property(alloc: Global, text: &[u8], number: usize) -> Result<Line, Read
     };
     let line = only.line;
     if is_property(&line) {
-        Ok(line)
+        Ok(line.into_own(alloc)?)
     } else {
         drop(line);
         Err(refused(MessageCause::Nesting, number))
@@ -335,7 +336,7 @@ fn refused(cause: MessageCause, number: usize) -> ReadError
 }
 
 /// Whether a line neither begins nor ends a component.
-fn is_property(line: &Line) -> bool
+fn is_property(line: &SeenLine<'_>) -> bool
     ensures { result ≡ is_property line.now }
 {
     !(is_begin(line) || is_end(line))

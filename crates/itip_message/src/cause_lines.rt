@@ -9,7 +9,7 @@ use itip_lines::NumberedLine;
 use itip_todo::PropertyName;
 
 /// The number of the line of these lines of a to-do in which it is not what its method needs; `None` where something is missing.
-pub(crate) fn line_of_cause(cause: MethodCause, lines: &[NumberedLine]) -> Option<usize>
+pub(crate) fn line_of_cause(cause: MethodCause, lines: &[NumberedLine<'_>]) -> Option<usize>
     ensures { result ≡ line_of_cause cause lines.now }
 {
     match cause {
@@ -20,7 +20,7 @@ pub(crate) fn line_of_cause(cause: MethodCause, lines: &[NumberedLine]) -> Optio
     }
 }
 
-fn first_named(property: PropertyName, lines: &[NumberedLine]) -> Option<usize>
+fn first_named(property: PropertyName, lines: &[NumberedLine<'_>]) -> Option<usize>
     ensures { result ≡ first_line (filter (is_named property) lines.now) }
 {
     for line in lines {
@@ -31,7 +31,7 @@ fn first_named(property: PropertyName, lines: &[NumberedLine]) -> Option<usize>
     None
 }
 
-fn second_named(property: PropertyName, lines: &[NumberedLine]) -> Option<usize>
+fn second_named(property: PropertyName, lines: &[NumberedLine<'_>]) -> Option<usize>
     ensures { result ≡ second_line (filter (is_named property) lines.now) }
 {
     let mut is_found = false;
@@ -46,7 +46,7 @@ fn second_named(property: PropertyName, lines: &[NumberedLine]) -> Option<usize>
     None
 }
 
-fn first_recurring(lines: &[NumberedLine]) -> Option<usize>
+fn first_recurring(lines: &[NumberedLine<'_>]) -> Option<usize>
     ensures { result ≡ first_line (filter is_recurring lines.now) }
 {
     for line in lines {
@@ -58,14 +58,14 @@ fn first_recurring(lines: &[NumberedLine]) -> Option<usize>
 }
 
 /// Whether a line has the name of the property.
-pub(crate) fn is_named(property: PropertyName, line: &NumberedLine) -> bool
+pub(crate) fn is_named(property: PropertyName, line: &NumberedLine<'_>) -> bool
     ensures { result ≡ is_named property line.now }
 {
-    PropertyName::named(line.line.name.as_str()) == property
+    PropertyName::named(line.line.name()) == property
 }
 
 /// Whether a line has the name of a property that makes a to-do one of an instance, or lets it recur.
-fn is_recurring(line: &NumberedLine) -> bool
+fn is_recurring(line: &NumberedLine<'_>) -> bool
     ensures { result ≡ is_recurring line.now }
 {
     is_named(PropertyName::RecurrenceId, line)

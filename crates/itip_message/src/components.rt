@@ -13,7 +13,7 @@ use std::alloc::Global;
 pub(crate) fn read_components(
     alloc: Global,
     method: Method,
-    components: &[Component],
+    components: &[Component<'_>],
 ) -> Result<Vec<Todo>, ReadError>
     ensures found { IfOk result (λ all. AreComponents method components.now all.items) }
     ensures fault { IfErr result (λ e. IfRefused e (FirstRefused method 1 components.now)) }
@@ -30,7 +30,7 @@ fn read_component(
     alloc: Global,
     method: Method,
     number: usize,
-    component: &Component,
+    component: &Component<'_>,
 ) -> Result<Todo, ReadError>
     ensures found { IfOk result (ReadsComponent method component.now) }
     ensures fault { IfErr result (λ e. IfRefused e (RefusesComponent method number component.now)) }

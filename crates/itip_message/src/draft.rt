@@ -12,7 +12,7 @@ use crate::frame::frame;
 use crate::head::read_draft_head;
 use crate::sort::{Component, sort};
 use itip_items::{Item, Method, make_items};
-use itip_lines::{Line, ListOf, NoMemory, NumberedLine, Params, Text, read_lines};
+use itip_lines::{Line, ListOf, NoMemory, NumberedLine, Params, SeenLine, Text, read_lines};
 use itip_todo::{PropertyName, Todo};
 use std::alloc::Global;
 
@@ -60,8 +60,11 @@ fn todo_of(item: Item) -> Todo
 }
 
 /// The to-dos of a draft, each with DTSTAMP of the first second of 1970 in place of its lines of DTSTAMP and SEQUENCE.
-fn date_all(alloc: Global, components: Vec<Component>) -> Result<Vec<Component>, NoMemory>
-    ensures { IfOk result (λ all. AreDated components.items all.items) }
+fn date_all<'a>(
+    alloc: Global,
+    components: Vec<Component<'a>>,
+) -> Result<Vec<Component<'a>>, NoMemory>
+    ensures { IfOk result (λ all. AreDated components.entry.items all.items) }
 {
     let stamp = first_stamp(alloc)?;
     let all = date_with(alloc, &stamp, components)?;
@@ -82,12 +85,12 @@ fn first_stamp(alloc: Global) -> Result<Line, NoMemory>
 }
 
 /// The to-dos of a draft, each with this line in place of its lines of DTSTAMP and SEQUENCE.
-fn date_with(
+fn date_with<'a>(
     alloc: Global,
     stamp: &Line,
-    components: Vec<Component>,
-) -> Result<Vec<Component>, NoMemory>
-    ensures { IfOk result (λ all. all.items ≡ map (dated stamp.now) components.items) }
+    components: Vec<Component<'a>>,
+) -> Result<Vec<Component<'a>>, NoMemory>
+    ensures { IfOk result (λ all. all.items ≡ map (dated stamp.now) components.entry.items) }
 {
     let mut all = Vec::with_capacity(alloc, components.len())?;
     for component in components {
@@ -98,15 +101,19 @@ fn date_with(
 
 /// A to-do of a draft, with this line in place of its lines of DTSTAMP and SEQUENCE. It takes the number of the line in which the
 /// to-do begins, which no refusal names: nothing is wrong with it.
-fn date(alloc: Global, stamp: &Line, component: Component) -> Result<Component, NoMemory>
-    ensures { IfOk result (λ new. new ≡ dated stamp.now component) }
+fn date<'a>(
+    alloc: Global,
+    stamp: &Line,
+    component: Component<'a>,
+) -> Result<Component<'a>, NoMemory>
+    ensures { IfOk result (λ new. new ≡ dated stamp.now component.entry) }
 {
     let begins = component.begins;
     let others = component.lines.into_vec();
     let mut lines = Vec::new(alloc);
     lines.push(NumberedLine {
         number: begins,
-        line: stamp.clone()?,
+        line: SeenLine::copy(alloc, stamp)?,
     })?;
     add_undated(&mut lines, others)?;
     Ok(Component {
@@ -116,8 +123,11 @@ fn date(alloc: Global, stamp: &Line, component: Component) -> Result<Component, 
 }
 
 /// Adds those of these lines that are neither of DTSTAMP nor of SEQUENCE.
-fn add_undated(lines: &mut Vec<NumberedLine>, others: Vec<NumberedLine>) -> Result<(), NoMemory>
-    ensures { OnOk result (lines.new.items ≡ lines.old.items ++ filter is_undated others.items) }
+fn add_undated<'a>(
+    lines: &mut Vec<NumberedLine<'a>>,
+    others: Vec<NumberedLine<'a>>,
+) -> Result<(), NoMemory>
+    ensures { OnOk result (lines.new.items ≡ lines.old.items ++ filter is_undated others.entry.items) }
 {
     for line in others {
         if is_undated(&line) {
@@ -130,7 +140,7 @@ fn add_undated(lines: &mut Vec<NumberedLine>, others: Vec<NumberedLine>) -> Resu
 }
 
 /// Whether a line says neither when nor as which revision its to-do was sent.
-fn is_undated(line: &NumberedLine) -> bool
+fn is_undated(line: &NumberedLine<'_>) -> bool
     ensures { result ≡ is_undated line.now }
 {
     !is_named(PropertyName::DtStamp, line) && !is_named(PropertyName::Sequence, line)

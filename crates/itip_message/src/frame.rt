@@ -12,7 +12,7 @@ ghost use Rattle.itip_items.specs.Needs.{is_begin, is_end};
 ghost use Rattle.itip_todo.specs.Participation.{same_text};
 
 use crate::error::{MessageCause, MessageRefusal, ReadError};
-use itip_lines::{Line, NoMemory, NumberedLine, Text};
+use itip_lines::{NoMemory, NumberedLine, SeenLine, Text};
 use std::alloc::Global;
 use std::vec::IntoIter;
 
@@ -21,19 +21,22 @@ const DEPTH_LIMIT: usize = 32;
 
 /// A line that a message is made of, as it stands. No function gives one; contracts of crates above speak of them.
 #[derive(Drop)]
-pub enum Placed {
+pub enum Placed<'a> {
     /// A property directly in the VCALENDAR.
-    CalendarLine(NumberedLine),
+    CalendarLine(NumberedLine<'a>),
     /// A VTODO begins directly in the VCALENDAR, in the line of this number.
     TodoBegins(usize),
     /// A property directly in that VTODO.
-    TodoLine(NumberedLine),
+    TodoLine(NumberedLine<'a>),
 }
 
 /// The lines of a message as they are placed, those of other components left out (RFC 5545 3.4).
-pub(crate) fn frame(alloc: Global, lines: Vec<NumberedLine>) -> Result<Vec<Placed>, ReadError>
-    ensures found { IfOk result (λ placed. frame lines.items ≡ Ok placed.items) }
-    ensures fault { IfErr result (λ e. IfRefused e (λ f. frame lines.items ≡ Err f)) }
+pub(crate) fn frame<'a>(
+    alloc: Global,
+    lines: Vec<NumberedLine<'a>>,
+) -> Result<Vec<Placed<'a>>, ReadError>
+    ensures found { IfOk result (λ placed. frame lines.entry.items ≡ Ok placed.items) }
+    ensures fault { IfErr result (λ e. IfRefused e (λ f. frame lines.entry.items ≡ Err f)) }
 {
     let mut lines = lines.into_iter();
     let Some(first) = lines.next() else {
@@ -59,13 +62,13 @@ fn nested(line: Option<usize>) -> ReadError
 }
 
 /// The lines inside a component.
-fn place_lines(
+fn place_lines<'a>(
     alloc: Global,
     name: Text,
-    lines: IntoIter<NumberedLine>,
-) -> Result<Vec<Placed>, ReadError>
-    ensures found { IfOk result (λ placed. place (name ∷ []) (into_iter_items lines) ≡ Ok placed.items) }
-    ensures fault { IfErr result (λ e. IfRefused e (λ f. place (name ∷ []) (into_iter_items lines) ≡ Err f)) }
+    lines: IntoIter<NumberedLine<'a>>,
+) -> Result<Vec<Placed<'a>>, ReadError>
+    ensures found { IfOk result (λ placed. place (name ∷ []) (into_iter_items lines.entry) ≡ Ok placed.items) }
+    ensures fault { IfErr result (λ e. IfRefused e (λ f. place (name ∷ []) (into_iter_items lines.entry) ≡ Err f)) }
 {
     let mut inside = Vec::new(alloc);
     inside.push(name)?;
@@ -82,16 +85,16 @@ fn place_lines(
 }
 
 /// Places one line, where these components are open, the innermost last.
-fn place_line(
+fn place_line<'a>(
     alloc: Global,
     inside: &mut Vec<Text>,
-    line: NumberedLine,
-) -> Result<Option<Placed>, ReadError>
+    line: NumberedLine<'a>,
+) -> Result<Option<Placed<'a>>, ReadError>
     ensures placed { IfOk result (λ placed. (lines : List NumberedLine)
-        → place (innermost_first inside.old.items) (line ∷ lines)
+        → place (innermost_first inside.old.items) (line.entry ∷ lines)
         ≡ with_front (option_to_list placed) (place (innermost_first inside.new.items) lines)) }
     ensures fault { IfErr result (λ e. IfRefused e (λ f. (lines : List NumberedLine)
-        → place (innermost_first inside.old.items) (line ∷ lines) ≡ Err f)) }
+        → place (innermost_first inside.old.items) (line.entry ∷ lines) ≡ Err f)) }
 {
     if inside.is_empty() {
         let number = line.number;
@@ -112,11 +115,11 @@ fn place_line(
 }
 
 /// Places the line that begins a component inside these.
-fn place_begin(
+fn place_begin<'a>(
     alloc: Global,
     inside: &mut Vec<Text>,
-    line: &NumberedLine,
-) -> Result<Option<Placed>, ReadError>
+    line: &NumberedLine<'a>,
+) -> Result<Option<Placed<'a>>, ReadError>
     requires { (is_begin line.now.line ≡ true) × (0 < length inside.old.items) }
     ensures placed { IfOk result (λ placed. (lines : List NumberedLine)
         → place (innermost_first inside.old.items) (line.now ∷ lines)
@@ -134,11 +137,11 @@ fn place_begin(
 }
 
 /// Places the line that ends a component: the innermost, or it is out of place.
-fn place_end(
+fn place_end<'a>(
     alloc: Global,
     inside: &mut Vec<Text>,
-    line: &NumberedLine,
-) -> Result<Option<Placed>, ReadError>
+    line: &NumberedLine<'a>,
+) -> Result<Option<Placed<'a>>, ReadError>
     requires { (is_begin line.now.line ≡ false) × (is_end line.now.line ≡ true) × (0 < length inside.old.items) }
     ensures placed { IfOk result (λ placed. (lines : List NumberedLine)
         → place (innermost_first inside.old.items) (line.now ∷ lines)
@@ -155,34 +158,34 @@ fn place_end(
     Ok(None)
 }
 
-pub(crate) fn is_begin(line: &Line) -> bool
+pub(crate) fn is_begin(line: &SeenLine<'_>) -> bool
     ensures { result ≡ is_begin line.now }
 {
-    line.name.as_str() == "BEGIN"
+    line.name() == "BEGIN"
 }
 
-pub(crate) fn is_end(line: &Line) -> bool
+pub(crate) fn is_end(line: &SeenLine<'_>) -> bool
     ensures { result ≡ is_end line.now }
 {
-    line.name.as_str() == "END"
+    line.name() == "END"
 }
 
 /// The name of the component that a BEGIN or END names, in upper case.
-fn component_name(alloc: Global, line: &Line) -> Result<Text, NoMemory>
+fn component_name(alloc: Global, line: &SeenLine<'_>) -> Result<Text, NoMemory>
     ensures { IfOk result (λ name. name ≡ component_name line.now) }
 {
-    upper_case(alloc, &line.value)
+    upper_case(alloc, line.value())
 }
 
 /// A text with its ASCII letters in upper case.
-pub(crate) fn upper_case(alloc: Global, text: &Text) -> Result<Text, NoMemory>
+pub(crate) fn upper_case(alloc: Global, text: &str) -> Result<Text, NoMemory>
     ensures { IfOk result (λ upper. upper ≡ str_to_ascii_uppercase text.now) }
 {
-    Text::upper(alloc, text.as_str())
+    Text::upper(alloc, text)
 }
 
 /// What a component of this name adds that begins inside these, in the line of this number.
-fn opening(inside: &[Text], name: &Text, number: usize) -> Option<Placed>
+fn opening<'a>(inside: &[Text], name: &Text, number: usize) -> Option<Placed<'a>>
     ensures { option_to_list result ≡ opening (innermost_first inside.now) name.now number }
 {
     if inside.len() == 1 && name.as_str() == "VTODO" {
@@ -200,8 +203,8 @@ fn end(inside: &mut Vec<Text>, name: &Text) -> bool
 }
 
 /// What a property inside these components adds.
-fn property(inside: &[Text], line: NumberedLine) -> Option<Placed>
-    ensures { option_to_list result ≡ property (innermost_first inside.now) line }
+fn property<'a>(inside: &[Text], line: NumberedLine<'a>) -> Option<Placed<'a>>
+    ensures { option_to_list result ≡ property (innermost_first inside.now) line.entry }
 {
     if inside.len() == 1 {
         return Some(Placed::CalendarLine(line));

@@ -13,7 +13,7 @@ use crate::error::{MessageCause, MessageRefusal, ReadError};
 use crate::frame::upper_case;
 use crate::sort::Component;
 use itip_items::{Method, method_named};
-use itip_lines::{NoMemory, NumberedLine, Text};
+use itip_lines::{NoMemory, NumberedLine};
 use std::alloc::Global;
 
 /// The most to-dos of a message (our own limit).
@@ -25,8 +25,8 @@ const TODO_LIMIT: usize = 1000;
 /// second of its lines, or the only one.
 pub(crate) fn read_head(
     alloc: Global,
-    calendar: &[NumberedLine],
-    components: &[Component],
+    calendar: &[NumberedLine<'_>],
+    components: &[Component<'_>],
 ) -> Result<Method, ReadError>
     ensures found { IfOk result (λ method. head_of calendar.now components.now ≡ Ok method) }
     ensures fault { IfErr result (λ e. IfRefused e (λ f. head_of calendar.now components.now ≡ Err f)) }
@@ -46,8 +46,8 @@ pub(crate) fn read_head(
 ///
 /// VERSION is looked at first, then the number of to-dos.
 pub(crate) fn read_draft_head(
-    calendar: &[NumberedLine],
-    components: &[Component],
+    calendar: &[NumberedLine<'_>],
+    components: &[Component<'_>],
 ) -> Result<(), ReadError>
     ensures found { OnOk result (draft_head_of calendar.now components.now ≡ Ok methods.Request) }
     ensures fault { IfErr result (λ e. IfRefused e (λ f. draft_head_of calendar.now components.now ≡ Err f)) }
@@ -60,17 +60,17 @@ pub(crate) fn read_draft_head(
 }
 
 /// Whether VERSION appears once, with 2.0.
-fn has_version(calendar: &[NumberedLine]) -> bool
+fn has_version(calendar: &[NumberedLine<'_>]) -> bool
     ensures { result ≡ is_version (only_value (named (codes "VERSION") calendar.now)) }
 {
     match only_value(calendar, "VERSION") {
-        Some(version) => version.as_str() == "2.0",
+        Some(version) => version == "2.0",
         None => false,
     }
 }
 
 /// The method that METHOD names, where it appears once, with the name of one that is read.
-fn method_in(alloc: Global, calendar: &[NumberedLine]) -> Result<Option<Method>, NoMemory>
+fn method_in(alloc: Global, calendar: &[NumberedLine<'_>]) -> Result<Option<Method>, NoMemory>
     ensures { IfOk result (λ found. found ≡ method_in (only_value (named (codes "METHOD") calendar.now))) }
 {
     let Some(value) = only_value(calendar, "METHOD") else {
@@ -81,7 +81,7 @@ fn method_in(alloc: Global, calendar: &[NumberedLine]) -> Result<Option<Method>,
 }
 
 /// That there are to-dos, and not too many.
-fn check_count(components: &[Component]) -> Result<(), ReadError>
+fn check_count(components: &[Component<'_>]) -> Result<(), ReadError>
     ensures found { OnOk result ((line : Option ℕ) (m : Method) → counted components.now line (Some m) ≡ Ok m) }
     ensures fault { IfErr result (λ e. IfRefused e (λ f. (line : Option ℕ) (m : Method) → counted components.now line (Some m) ≡ Err f)) }
 {
@@ -102,28 +102,28 @@ fn wrong(cause: MessageCause, line: Option<usize>) -> ReadError
 }
 
 /// The value of the one line of a name.
-fn only_value<'a>(lines: &'a [NumberedLine], name: &str) -> Option<&'a Text>
+fn only_value<'a>(lines: &'a [NumberedLine<'_>], name: &str) -> Option<&'a str>
     ensures { option_map (λ value. value.now) result ≡ only_value (named name.now lines.now) }
 {
     let mut found = None;
     for line in lines {
-        if line.line.name.as_str() == name {
+        if line.line.name() == name {
             if found.is_some() {
                 return None;
             }
-            found = Some(&line.line.value);
+            found = Some(line.line.value());
         }
     }
     found
 }
 
 /// The number of the second line of a name, or of the only one.
-fn odd_line(lines: &[NumberedLine], name: &str) -> Option<usize>
+fn odd_line(lines: &[NumberedLine<'_>], name: &str) -> Option<usize>
     ensures { result ≡ odd_line (named name.now lines.now) }
 {
     let mut found = None;
     for line in lines {
-        if line.line.name.as_str() == name {
+        if line.line.name() == name {
             if found.is_some() {
                 return Some(line.number);
             }

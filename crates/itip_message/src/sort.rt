@@ -10,18 +10,18 @@ use std::alloc::Global;
 
 /// A VTODO directly in the VCALENDAR. No function gives one; contracts of crates above speak of them.
 #[derive(Drop)]
-pub struct Component {
+pub struct Component<'a> {
     /// The number of the line that begins it.
     pub begins: usize,
     /// The properties directly in it.
-    pub lines: ListOf<NumberedLine>,
+    pub lines: ListOf<NumberedLine<'a>>,
 }
 
-impl Component {
+impl<'a> Component<'a> {
     ghost use Rattle.std.specs.Prelude.{◌≡◌};
     ghost use Rattle.itip_message.specs.Frame.{begun, with_line};
 
-    fn begun(alloc: Global, number: usize) -> Component
+    fn begun(alloc: Global, number: usize) -> Component<'a>
         ensures { result ≡ begun number }
     {
         Component {
@@ -30,8 +30,8 @@ impl Component {
         }
     }
 
-    fn with_line(self, line: NumberedLine) -> Result<Component, NoMemory>
-        ensures { IfOk result (λ component. component ≡ with_line self line) }
+    fn with_line(self, line: NumberedLine<'a>) -> Result<Component<'a>, NoMemory>
+        ensures { IfOk result (λ component. component ≡ with_line self.entry line.entry) }
     {
         let mut lines = self.lines.into_vec();
         lines.push(line)?;
@@ -44,21 +44,21 @@ impl Component {
 
 /// The lines that are sorted so far.
 #[derive(Drop)]
-pub(crate) struct Sorted {
+pub(crate) struct Sorted<'a> {
     /// The properties directly in the VCALENDAR.
-    pub calendar: Vec<NumberedLine>,
+    pub calendar: Vec<NumberedLine<'a>>,
     /// Each VTODO but the last.
-    pub closed: Vec<Component>,
+    pub closed: Vec<Component<'a>>,
     /// The last VTODO.
-    pub open: Option<Component>,
+    pub open: Option<Component<'a>>,
 }
 
 /// Sorts lines as they are placed.
-pub(crate) fn sort(
+pub(crate) fn sort<'a>(
     alloc: Global,
-    placed: Vec<Placed>,
-) -> Result<(Vec<NumberedLine>, Vec<Component>), NoMemory>
-    ensures { IfOk result (λ sorted. (sorted.0.items ≡ calendar_lines placed.items) × (sorted.1.items ≡ todos placed.items)) }
+    placed: Vec<Placed<'a>>,
+) -> Result<(Vec<NumberedLine<'a>>, Vec<Component<'a>>), NoMemory>
+    ensures { IfOk result (λ sorted. (sorted.0.items ≡ calendar_lines placed.entry.items) × (sorted.1.items ≡ todos placed.entry.items)) }
 {
     let mut sorted = Sorted {
         calendar: Vec::new(alloc),
@@ -80,8 +80,8 @@ pub(crate) fn sort(
 }
 
 /// Sorts one line more.
-fn put(alloc: Global, sorted: &mut Sorted, placed: Placed) -> Result<(), NoMemory>
-    ensures { OnOk result ((rest : List Placed) → Continues sorted.old sorted.new placed rest) }
+fn put<'a>(alloc: Global, sorted: &mut Sorted<'a>, placed: Placed<'a>) -> Result<(), NoMemory>
+    ensures { OnOk result ((rest : List Placed) → Continues sorted.old sorted.new placed.entry rest) }
 {
     match placed {
         Placed::CalendarLine(line) => sorted.calendar.push(line)?,

@@ -8,7 +8,7 @@ use Rattle.itip_items.specs.declared.item.Item.{Item}
 use Rattle.itip_state.specs.Kept.{AreKept}
 use Rattle.itip_desk.specs.Desk.{Shown}
 use Rattle.itip_office.specs.declared.error.OfficeError.{OfficeError}
-use Rattle.itip_office.specs.Ended.{all_heard}
+use Rattle.itip_office.specs.Ended.{all_heard, IsSomeDesk}
 use Rattle.itip_office.specs.Exchanged.{AreNoLoops, GivesDelta, TakesAll}
 use Rattle.itip_office.proofs.Sharing.{History, AreDesksOf, AreDeltasOf, AreLeft, IsNext, left_some, left_next, shared}
 
@@ -61,6 +61,26 @@ module _ (hs : List History) (desks : List Shown) (deltas : List (List Item)) (a
     all_kept_alike n left all ended first count each ok =
         each_kept left ended (subst (AreLeft hs) (sym first) (left_some hs desks n are))
         (subst (λ (l : List (Result Shown OfficeError)). AllZip (TakesAll deltas) left l) ok (zip_at (TakesAll deltas) left all count each))
+
+-- and is that of what it heard and of all deltas
+module _ (hs : List History) (deltas : List (List Item)) where
+  each_some : (left ended : List Shown) → AreLeft hs left → AllZip (TakesAll deltas) left (map Ok ended) → All IsSomeDesk ended
+  each_some [] [] l took = All-nil IsSomeDesk
+  each_some [] (r ∷ ended) l took = absurd took
+  each_some (d ∷ left) [] l took = absurd took
+  each_some (d ∷ left) (r ∷ ended) l took =
+      let next : IsNext hs d left = left_next hs d left l in
+      All-cons IsSomeDesk r ended (record { batches = next.history ++ deltas; is = took.0 next.history 0 next.is })
+      (each_some left ended next.rest took.1)
+
+  -- the first so many of some desks
+  pub all_some : (desks : List Shown) → AreDesksOf hs desks → (n : ℕ) (left : List Shown) (all : List (Result Shown OfficeError))
+      (ended : List Shown) → left ≡ take n desks → length all ≡ length left
+      → ((i : ℕ) (d : Shown) (r : Result Shown OfficeError) → i < length left
+      → TakesAll deltas (slice_index_or left i d) (slice_index_or all i r)) → all ≡ map Ok ended → All IsSomeDesk ended
+  all_some desks are n left all ended first count each ok =
+      each_some left ended (subst (AreLeft hs) (sym first) (left_some hs desks n are))
+      (subst (λ (l : List (Result Shown OfficeError)). AllZip (TakesAll deltas) left l) ok (zip_at (TakesAll deltas) left all count each))
 
 pub as_many : {A : Type 0} (n : ℕ) (all : List (Result A OfficeError)) (values : List A) → length all ≡ n → all ≡ map Ok values →
     length values ≡ n

@@ -8,8 +8,10 @@ use Rattle.itip_desk.specs.Desk.{Shown}
 use Rattle.itip_office.specs.declared.job.Job.{Job}
 use Rattle.itip_office.specs.declared.outcome.Outcome.{Outcome}
 use Rattle.itip_office.specs.Answers.{Answer, IsOutcome}
-use Rattle.itip_office.specs.Ended.{Tells, AreRepliesFrom, HasEnded}
+use Rattle.itip_office.specs.Published.{HasShown}
+use Rattle.itip_office.specs.Ended.{Tells, AreRepliesFrom, IsSomeDesk, HasEnded}
 use Rattle.itip_office.proofs.Taking.{taken_among}
+use Rattle.itip_office.proofs.Publishing.{shown_permuted}
 
 tells_permuted : (desks : ℕ) (given answers : List Answer) (set : List Item) → IsPermutation given answers → Tells desks given set →
     Tells desks answers set
@@ -24,9 +26,9 @@ tells_permuted desks given answers set order tells = record {
 
 pub has_ended : (desks : ℕ) (jobs sorted : List Job) (given : List Answer) (replies : List (ℕ × Outcome)) (set : List Item)
     (ended : List Shown) → IsPermutation jobs sorted
-    → AreRepliesFrom given sorted replies → Tells desks given set → length ended ≡ desks → All (λ (d : Shown). AreKept d.kept set) ended →
-    HasEnded desks jobs replies ended
-has_ended desks jobs sorted given replies set ended order are tells count kept = record {
+    → AreRepliesFrom given sorted replies → Tells desks given set → HasShown desks given → length ended ≡ desks →
+    All IsSomeDesk ended → All (λ (d : Shown). AreKept d.kept set) ended → HasEnded desks jobs replies ended
+has_ended desks jobs sorted given replies set ended order are tells shown count each kept = record {
   answers = are.answers;
   are_replies = record {
     jobs_are = subst (λ (l : List Job). IsPermutation jobs l) (sym are.jobs_are) order;
@@ -35,6 +37,8 @@ has_ended desks jobs sorted given replies set ended order are tells count kept =
   };
   set = set;
   tells = tells_permuted desks given are.answers set are.given_are tells;
+  shown = shown_permuted desks given are.answers are.given_are shown;
   count = count;
+  each = each;
   kept = kept;
 }

@@ -6,6 +6,10 @@ pub mod Whole
 pub mod Sharing
 pub mod Beside
 pub mod Reports
+pub mod Seeing
+pub mod Stepping
+pub mod Publishing
+pub mod Starting
 pub mod Replying
 pub mod Ending
 pub mod OneEnd

@@ -3,7 +3,6 @@ use Rattle.std.proofs.Common.{◌≡◌, ℕ, ◌+◌, List, [], ◌∷◌, ◌+
 use Rattle.std.proofs.lemmas.List.{length-append, append-nil}
 use Rattle.itip_view.specs.declared.window.Window.{Window}
 use Rattle.itip_desk.specs.declared.refusal.Refusal.{Refusal}
-use Rattle.itip_desk.specs.declared.refusal.Refusal.TheVariants.{NoCommand}
 use Rattle.itip_script.specs.Jobs.{Errand}
 use Rattle.itip_office.specs.declared.job.Job.{Job}
 use Rattle.itip_office.specs.declared.job.Work.{Work}

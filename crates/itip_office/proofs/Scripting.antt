@@ -1,9 +1,9 @@
 -- A script of jobs from its reading to what was written.
-use Rattle.std.proofs.Common.{◌≡◌, ℕ, ◌≤◌, ◌<◌, Bool, true, List, [], ◌++◌, length, refl, inl, inr, subst, Option, Some, None, Result, Ok}
+use Rattle.std.proofs.Common.{◌≡◌, ℕ, ◌≤◌, ◌<◌, Bool, true, List, ◌++◌, length, refl, inl, inr, subst, Option, Some, None, Result, Ok}
 use Rattle.std.proofs.Common.{Err}
 use Rattle.std.specs.Prelude.{IfSome, IfOk, OnErr, IsPermutation}
 use Rattle.std.specs.List.Sorted.{IsNonDecreasingBy}
-use Rattle.std.specs.Io.KnownBytes.{Keeps, Appends}
+use Rattle.std.specs.Io.KnownBytes.{Appends}
 use Rattle.std.proofs.KnownBytes.{Appends-nil}
 use Rattle.itip_streams.specs.Written.{AppendsFront, WritesOutput}
 use Rattle.itip_view.specs.declared.window.Window.{Window}
@@ -58,32 +58,32 @@ pub long_front : (window : Window) (desks : ℕ) (old new : Option (List ℕ)) (
 long_front window desks old new r long front =
     known_long r (WritesScriptFront window desks old new) long (λ script over. inr (inr (over, front)))
 
-module _ (window : Window) (desks : ℕ) (script : List ℕ) (jobs : List Job) (others refused : List (ℕ × Refusal))
-    (replies : List (ℕ × Outcome)) (ended : List Shown)
-    (jobs_are : jobs ≡ jobs_from window 0 (errands_of script)) (others_are : others ≡ others_from window 0 (errands_of script))
-    (has_ended : HasEnded desks jobs replies ended)
-    (refused_are : IsPermutation (others ++ refused_of replies) refused) (ascend : IsNonDecreasingBy (λ (r : ℕ × Refusal). r.0) refused)
+pub ends_with : (window : Window) (desks : ℕ) (script : List ℕ) (jobs : List Job) (others refused : List (ℕ × Refusal))
+    (replies : List (ℕ × Outcome)) (ended : List Shown) → jobs ≡ jobs_from window 0 (errands_of script)
+    → others ≡ others_from window 0 (errands_of script) → HasEnded desks jobs replies ended → IsPermutation (others ++ refused_of replies) refused →
+    IsNonDecreasingBy (λ (r : ℕ × Refusal). r.0) refused
+    → EndsWith window desks (errands_of script) refused ended
+ends_with window desks script jobs others refused replies ended jobs_are others_are has_ended refused_are ascend = record {
+  replies = replies;
+  has_ended = subst (λ (js : List Job). HasEnded desks js replies ended) jobs_are has_ended;
+  refused_are = subst (λ (os : List (ℕ × Refusal)). IsPermutation (os ++ refused_of replies) refused) others_are refused_are;
+  ascend = ascend;
+}
+
+module _ (window : Window) (desks : ℕ) (script : List ℕ) (refused : List (ℕ × Refusal)) (ended : List Shown)
+    (ends : EndsWith window desks (errands_of script) refused ended) (old new : Option (List ℕ)) (r : Option (List ℕ))
+    (read : IfSome r (λ input. script ≡ input)) (short : length script ≤ 16777216)
   where
-    ends : EndsWith window desks (errands_of script) refused ended
-    ends = record {
-      replies = replies;
-      has_ended = subst (λ (js : List Job). HasEnded desks js replies ended) jobs_are has_ended;
-      refused_are = subst (λ (os : List (ℕ × Refusal)). IsPermutation (os ++ refused_of replies) refused) others_are refused_are;
-      ascend = ascend;
-    }
+    pub all_written : (refusal : Bool) → WritesOutput (IsEndedText window refused ended) old new refusal →
+        IfSome r (λ input. WritesOutput (IsScriptOutput window desks input) old new refusal)
+    all_written refusal writes =
+        known_script r script (λ input. WritesOutput (IsScriptOutput window desks input) old new refusal) read (record {
+          output = writes.output;
+          is_output = inl (short, record { refused = refused; ended = ended; ends = ends; is_text = writes.is_output });
+          appended = writes.appended;
+        })
 
-    module _ (old new : Option (List ℕ)) (r : Option (List ℕ)) (read : IfSome r (λ input. script ≡ input)) (short : length script ≤ 16777216)
-      where
-        pub all_written : (refusal : Bool) → WritesOutput (IsEndedText window refused ended) old new refusal →
-            IfSome r (λ input. WritesOutput (IsScriptOutput window desks input) old new refusal)
-        all_written refusal writes =
-            known_script r script (λ input. WritesOutput (IsScriptOutput window desks input) old new refusal) read (record {
-              output = writes.output;
-              is_output = inl (short, record { refused = refused; ended = ended; ends = ends; is_text = writes.is_output });
-              appended = writes.appended;
-            })
-
-        pub front_written : WritesEndedFront window old new refused ended → IfSome r (WritesScriptFront window desks old new)
-        front_written front =
-            known_script r script (WritesScriptFront window desks old new) read
-            (inr (inl (short, record { refused = refused; ended = ended; ends = ends; front = front })))
+    pub front_written : WritesEndedFront window old new refused ended → IfSome r (WritesScriptFront window desks old new)
+    front_written front =
+        known_script r script (WritesScriptFront window desks old new) read
+        (inr (inl (short, record { refused = refused; ended = ended; ends = ends; front = front })))

@@ -10,7 +10,7 @@ use Rattle.itip_state.proofs.Members.{none_in, cons_cases, cons_first, cons_late
 use Rattle.itip_state.proofs.Keeping.{Covers, covers_kept, covers_itself, kept_part, kept_of_parts, kept_iff, same_absorbed, are_kept_by}
 use Rattle.itip_desk.specs.Desk.{Shown, IsDeskOf, IsDeltaOf}
 use Rattle.itip_desk.specs.Heard.{heard}
-use Rattle.itip_office.specs.Ended.{all_heard}
+use Rattle.itip_office.specs.Ended.{all_heard, IsSomeDesk}
 use Rattle.itip_office.proofs.Taking.{heard_both}
 use Rattle.itip_office.proofs.Whole.{whole_delta}
 
@@ -154,6 +154,13 @@ left_next hs d desks l = by l.left l.are l.within
     }
 
 -- a desk that is alone keeps what is kept of all that was heard
+-- desks that each heard a history
+pub some_desks : (hs : List History) (desks : List Shown) → AreDesksOf hs desks → All IsSomeDesk desks
+some_desks [] [] are = All-nil IsSomeDesk
+some_desks [] (d ∷ desks) are = absurd are
+some_desks (h ∷ hs) [] are = absurd are
+some_desks (h ∷ hs) (d ∷ desks) are = All-cons IsSomeDesk d desks (record { batches = h; is = are.0 }) (some_desks hs desks are.1)
+
 pub alone_kept : (hs : List History) (desks : List Shown) → length desks < 2 → AreDesksOf hs desks →
     All (λ (d : Shown). AreKept d.kept (all_heard hs)) desks
 alone_kept [] [] few are = All-nil (λ (d : Shown). AreKept d.kept (all_heard []))

@@ -1,12 +1,11 @@
 -- Whether a batch is that of a text can be told, so where it is merely said to be it is.
-use Rattle.std.proofs.Common.{◌≡◌, ℕ, List, ◌↔◌, inl, inr, subst}
-use Rattle.std.specs.List.{Contains}
+use Rattle.std.proofs.Common.{ℕ, List, inl, inr, subst}
 use Rattle.std.proofs.Math.Logic.{∥∥₁_elim}
 use Rattle.itip_message.specs.Message.{ReadsMessage}
 use Rattle.itip_items.specs.declared.item.Item.{Item}
 use Rattle.itip_message.proofs.OneMessage.{one_message, message_apart}
 use Rattle.itip_message.proofs.SomeMessage.{some_message}
-use Rattle.itip_state.specs.Kept.{SameItems, IsItemsOf}
+use Rattle.itip_state.specs.Kept.{SameItems}
 use Rattle.itip_desk.specs.Octets.{AscendOctets}
 use Rattle.itip_desk.proofs.Told.{told_in}
 use Rattle.itip_office.specs.declared.job.Work.{Work}

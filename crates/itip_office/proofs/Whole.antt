@@ -1,5 +1,5 @@
 -- The delta of a desk since tick 0 is all that it keeps.
-use Rattle.std.proofs.Common.{◌≡◌, ℕ, List, [], refl}
+use Rattle.std.proofs.Common.{List, [], refl}
 use Rattle.itip_items.specs.declared.item.Item.{Item}
 use Rattle.itip_state.specs.Kept.{AreKept}
 use Rattle.itip_state.proofs.Members.{none_in}

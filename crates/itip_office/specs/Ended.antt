@@ -10,6 +10,7 @@ use Rattle.itip_office.specs.declared.job.Job.{Job}
 use Rattle.itip_office.specs.declared.outcome.Outcome.{Outcome}
 use Rattle.itip_office.specs.Answers.{Answer, IsOutcome}
 use Rattle.itip_office.specs.Taken.{AreTaken}
+use Rattle.itip_office.specs.Published.{HasShown}
 
 -- everything that desks heard, of which each heard a list of batches
 abbrev pub all_heard : List (List (List Item)) → List Item
@@ -40,12 +41,20 @@ pub record AreRepliesFrom (given : List Answer) (jobs : List Job) (replies : Lis
   pub ascend : IsStrictlyIncreasing (map (λ (a : Answer). a.0.number) answers)
   pub replies_are : replies ≡ map (λ (a : Answer). (a.0.number, a.1)) answers
 
+-- a desk that took some batches, one after another, from tick 0, and whose deltas are therefore of these
+pub record IsSomeDesk (desk : Shown) : Type 0 where
+  pub batches : List (List Item)
+  pub is : IsDeskOf batches 0 desk
+
 -- There is one reply for each job number, in order, with the outcome of its job. All desks keep what is kept of one set: the items of the
--- texts that were taken, and no others, as a desk that takes these texts one after another on one thread.
+-- texts that were taken, and no others, as a desk that takes these texts one after another on one thread. What looks and carries had seen
+-- is a beginning of what a running desk published.
 pub record HasEnded (desks : ℕ) (jobs : List Job) (replies : List (ℕ × Outcome)) (ended : List Shown) : Type 0 where
   pub answers : List Answer
   pub are_replies : AreReplies jobs answers replies
   pub set : List Item
   pub tells : Tells desks answers set
+  pub shown : HasShown desks answers
   pub count : length ended ≡ desks
+  pub each : All IsSomeDesk ended
   pub kept : All (λ (desk : Shown). AreKept desk.kept set) ended

@@ -5,8 +5,11 @@ pub mod Numbers
 pub mod Texts
 pub mod Answers
 pub mod Taken
+pub mod Seen
 pub mod Steps
 pub mod Merged
+pub mod Published
+pub mod Pairs
 pub mod Ended
 pub mod Exchanged
 pub mod Scripts

@@ -1,5 +1,6 @@
 -- What a keeper has merged (our own form): into its desk of texts, and into the running desk where it has one.
 use Rattle.std.specs.Prelude.{◌≡◌, ℕ, List, [], ◌∷◌, ◌++◌, map, Option, Some, None, All}
+use Rattle.std.specs.List.{AllZip}
 use Rattle.itip_items.specs.declared.item.Item.{Item}
 use Rattle.itip_desk.specs.Desk.{Shown, IsDeskOf}
 use Rattle.itip_desk.specs.Heard.{heard}
@@ -7,9 +8,10 @@ use Rattle.itip_running.specs.Ends.{publishes, published, pending, calls, fresh,
 use Rattle.itip_running.specs.declared.keeper.Keeper.{Keeper}
 use Rattle.itip_office.specs.declared.job.Work.{Work}
 use Rattle.itip_office.specs.declared.job.Work.TheVariants.{Text, Carry, Look}
-use Rattle.itip_office.specs.Texts.{IsBatchOf}
+use Rattle.itip_office.specs.Texts.{IsBatchOf, IsText}
 use Rattle.itip_office.specs.Answers.{Answer, AnswersMerged}
 use Rattle.itip_office.specs.Taken.{AreTaken}
+use Rattle.itip_office.specs.Seen.{IsBrought}
 
 -- These jobs were merged by these batches, one for each, in order.
 abbrev pub AreMerged : ℕ → List Answer → List (List Item) → Type 0
@@ -36,28 +38,30 @@ pub record ShowsBatch (old new : Keeper) (batch : List Item) : Type 0 where
   pub all : HasShownAll new
   pub pair : keeper_pair new ≡ keeper_pair old
 
--- The running desk, where there is one, shows one more batch.
-abbrev pub ShowsOne : Option Keeper → Option Keeper → List Item → Type 0
-ShowsOne None None batch = Unit {0}
-ShowsOne None (Some new) batch = ⊥
-ShowsOne (Some old) None batch = ⊥
-ShowsOne (Some old) (Some new) batch = ShowsBatch old new batch
+-- The running desk, where there is one, shows one more batch. Where there is none the job is a text.
+abbrev pub ShowsOne : Work → Option Keeper → Option Keeper → List Item → Type 0
+ShowsOne work None None batch = IsText work
+ShowsOne work None (Some new) batch = ⊥
+ShowsOne work (Some old) None batch = ⊥
+ShowsOne work (Some old) (Some new) batch = ShowsBatch old new batch
 
--- A keeper published one batch for each of these jobs, in order. Where it had shown all before, each is a group by itself.
-pub record GrewBy (desk : ℕ) (old new : Keeper) (answers : List Answer) : Type 0 where
+-- A keeper published one batch for each of these jobs, in order, for a carry one of what was seen. Where it had shown all before, each is a
+-- group by itself.
+pub record GrewBy (desk : ℕ) (IsSeen : ℕ → List (List Item) → Type 0) (old new : Keeper) (answers : List Answer) : Type 0 where
   pub batches : List (List Item)
   pub merged : AreMerged desk answers batches
+  pub brought : AllZip (λ (a : Answer) (b : List Item). IsBrought IsSeen a.0.work b) answers batches
   pub whole : published new ≡ published old ++ batches
   pub groups : HasShownAll old → publishes new ≡ publishes old ++ map (λ batch. batch ∷ []) batches
   pub all : HasShownAll old → HasShownAll new
   pub pair : keeper_pair new ≡ keeper_pair old
 
--- The running desk, where there is one, shows one more batch for each of these jobs, in order.
-abbrev pub GrewShown : ℕ → Option Keeper → Option Keeper → List Answer → Type 0
-GrewShown desk None None answers = Unit {0}
-GrewShown desk None (Some new) answers = ⊥
-GrewShown desk (Some old) None answers = ⊥
-GrewShown desk (Some old) (Some new) answers = GrewBy desk old new answers
+-- The running desk, where there is one, shows one more batch for each of these jobs, in order. Where there is none these are texts.
+abbrev pub GrewShown : ℕ → (ℕ → List (List Item) → Type 0) → Option Keeper → Option Keeper → List Answer → Type 0
+GrewShown desk IsSeen None None answers = All (λ (a : Answer). IsText a.0.work) answers
+GrewShown desk IsSeen None (Some new) answers = ⊥
+GrewShown desk IsSeen (Some old) None answers = ⊥
+GrewShown desk IsSeen (Some old) (Some new) answers = GrewBy desk IsSeen old new answers
 
 -- The job was merged by some batch.
 abbrev pub IsMerged : ℕ → Answer → Type 0
@@ -71,12 +75,14 @@ TookText (Carry from to) old new batch = new ≡ old
 TookText (Look at window) old new batch = Unit {0}
 
 -- One job was merged: by its batch, which the desk of texts took where the job is a text, and which was published where there is a running
--- desk.
-pub record MergedOne (desk : ℕ) (old new : Shown) (was now : Option Keeper) (answer : Answer) : Type 0 where
+-- desk. The batch of a carry is of what was seen.
+pub record MergedOne (desk : ℕ) (IsSeen : ℕ → List (List Item) → Type 0) (old new : Shown) (was now : Option Keeper) (answer : Answer)
+    : Type 0 where
   pub batch : List Item
   pub answers : AnswersMerged desk batch answer.0.work answer.1
+  pub brought : IsBrought IsSeen answer.0.work batch
   pub texts : TookText answer.0.work old new batch
-  pub shown : ShowsOne was now batch
+  pub shown : ShowsOne answer.0.work was now batch
 
 -- Where the job is a text the first batch is its own, and this holds of the others; another job has no batch.
 abbrev pub TextThen : Work → (List (List Item) → Type 0) → List (List Item) → Type 0

@@ -1,16 +1,22 @@
 //! The loop of a keeper.
-ghost use Rattle.std.specs.Prelude.{◌≡◌, ◌≢◌, length, IfOk, OnOk, IfErr, IsErrOf};
+ghost use Rattle.std.specs.Prelude.{◌≡◌, ◌≢◌, length, Option, IfOk, OnOk, IfErr, IsErrOf, option_to_list};
+ghost use Rattle.itip_desk.specs.Desk.{Shown};
+ghost use Rattle.itip_running.specs.declared.keeper.Keeper.{Keeper};
 ghost use Rattle.itip_office.specs.Texts.{Merges};
 ghost use Rattle.itip_office.specs.Answers.{AnswersMerged};
+ghost use Rattle.itip_office.specs.Seen.{IsOneOf};
 ghost use Rattle.itip_office.specs.Merged.{IsIdle, ShowsOne, GrewShown, TookText, GrewTexts, MergedOne};
 
+use crate::answers::keep_answer;
 use crate::error::OfficeError;
 use crate::gate::Gate;
 use crate::job::{Job, Work};
 use crate::merge::Merge;
 use crate::outcome::Outcome;
 use crate::owned_keeper::close;
-use crate::team::live_error;
+use crate::pairs::Pairs;
+use crate::source::Source;
+use crate::start::live_error;
 use crossbeam_channel::Receiver;
 use itip_desk::{Batch, Desk, DeskError};
 use itip_running::Keeper;
@@ -19,28 +25,28 @@ use std::sync::Wait;
 /// Merges what comes until the channel is closed, and gives back what it was handed, with the jobs that it answered and their outcomes, in
 /// the order in which it merged them: the desk of texts takes the batches of texts alone, and the running desk, where there is one, all
 /// batches, each published before the next, so that each is a group by itself where no call of `publish` was refused before. The keeper
-/// is handed in with nothing pending, and nothing is pending then.
+/// is handed in with nothing pending, and nothing is pending then. Beside the answers it gives what its carries had seen.
 ///
-/// Ends early if an allocation failed (40), if the gate is closed (42), or for what a desk or a keeper refuses (21, 41); the keeper is
-/// spent then.
-pub fn keeper_loop<R: AllocGlobal + Wait, G: Gate>(
+/// Ends early if an allocation failed (40), if the gate is closed (42), for what a desk or a keeper refuses (21, 41), or where a carry comes
+/// and there is no running desk (44); the keeper is spent then.
+pub fn keeper_loop<N: Pairs, R: AllocGlobal + Wait, G: Gate>(
     rt: &R,
     desk: u64,
     texts: Desk,
     shown: Option<Keeper>,
-    merges: Receiver<Vec<Merge>>,
+    merges: Receiver<Vec<Merge<N>>>,
     gate: &G,
-) -> Result<(Desk, Option<Keeper>, Vec<(Job, Outcome)>), OfficeError>
+) -> Result<(Desk, Option<Keeper>, Vec<(Job, Outcome)>, Vec<Source<N>>), OfficeError>
     requires nothing { IsIdle shown }
     ensures texts { IfOk result (λ r. GrewTexts desk texts r.0 r.2.items) }
-    ensures published { IfOk result (λ r. GrewShown desk shown r.1 r.2.items) }
+    ensures published { IfOk result (λ r. GrewShown desk (IsOneOf r.3.items) shown r.1 r.2.items) }
     ensures nothing { IfOk result (λ r. IsIdle r.1) }
     ensures closed { IsErrOf result OfficeError.GateClosed → G.may_close }
 {
     let mut texts = texts;
     let mut shown = shown;
     match merge_all(rt, desk, &mut texts, &mut shown, &merges, gate) {
-        Ok(answers) => Ok((texts, shown, answers)),
+        Ok((answers, sources)) => Ok((texts, shown, answers, sources)),
         Err(error) => {
             close(rt, shown);
             Err(error)
@@ -48,57 +54,105 @@ pub fn keeper_loop<R: AllocGlobal + Wait, G: Gate>(
     }
 }
 
-fn merge_all<R: AllocGlobal + Wait, G: Gate>(
+fn merge_all<N: Pairs, R: AllocGlobal + Wait, G: Gate>(
     rt: &R,
     desk: u64,
     texts: &mut Desk,
     shown: &mut Option<Keeper>,
-    merges: &Receiver<Vec<Merge>>,
+    merges: &Receiver<Vec<Merge<N>>>,
     gate: &G,
-) -> Result<Vec<(Job, Outcome)>, OfficeError>
+) -> Result<(Vec<(Job, Outcome)>, Vec<Source<N>>), OfficeError>
     requires nothing { IsIdle shown.old }
-    ensures texts { IfOk result (λ answers. GrewTexts desk texts.old texts.new answers.items) }
-    ensures published { IfOk result (λ answers. GrewShown desk shown.old shown.new answers.items) }
+    ensures texts { IfOk result (λ r. GrewTexts desk texts.old texts.new r.0.items) }
+    ensures published { IfOk result (λ r. GrewShown desk (IsOneOf r.1.items) shown.old shown.new r.0.items) }
     ensures nothing { OnOk result (IsIdle shown.new) }
     ensures closed { IsErrOf result OfficeError.GateClosed → G.may_close }
 {
-    let mut answers = Vec::new(rt.alloc());
+    let answers = Vec::new(rt.alloc());
+    let sources = Vec::new(rt.alloc());
+    let mut found = (answers, sources);
     for _ in rt.forever() {
         let Ok(some) = merges.recv(rt) else {
-            return Ok(answers);
+            return Ok(found);
         };
-        for merge in some {
-            let answer = merge_one(rt, desk, texts, shown, merge, gate)?;
-            let number = answer.0.number;
-            answers.push(answer)?;
-            if !gate.done(number) {
-                return Err(OfficeError::GateClosed);
-            }
-        }
+        merge_some(rt, desk, texts, shown, some, gate, &mut found)?;
     }
     unreachable!()
 }
 
-fn merge_one<R: Wait, G: Gate>(
+// Merges what came at once. What it finds it puts behind what was found before.
+fn merge_some<N: Pairs, R: Wait, G: Gate>(
     rt: &R,
     desk: u64,
     texts: &mut Desk,
     shown: &mut Option<Keeper>,
-    merge: Merge,
+    some: Vec<Merge<N>>,
     gate: &G,
-) -> Result<(Job, Outcome), OfficeError>
+    found: &mut (Vec<(Job, Outcome)>, Vec<Source<N>>),
+) -> Result<(), OfficeError>
     requires nothing { IsIdle shown.old }
-    ensures merged { IfOk result (λ answer. MergedOne desk texts.old texts.new shown.old shown.new answer) }
+    ensures texts { OnOk result ((first : Shown) → GrewTexts desk first texts.old found.old.0.items →
+        GrewTexts desk first texts.new found.new.0.items) }
+    ensures published { OnOk result ((first : Option Keeper) →
+        GrewShown desk (IsOneOf found.old.1.items) first shown.old found.old.0.items →
+        GrewShown desk (IsOneOf found.new.1.items) first shown.new found.new.0.items) }
+    ensures nothing { OnOk result (IsIdle shown.new) }
     ensures closed { IsErrOf result OfficeError.GateClosed → G.may_close }
 {
-    let (job, batch) = merge.into_parts();
+    for merge in some {
+        let (answer, source) = merge_one(rt, desk, texts, shown, merge, gate)?;
+        keep_answer(gate, found, answer, source)?;
+    }
+    Ok(())
+}
+
+fn merge_one<N: Pairs, R: Wait, G: Gate>(
+    rt: &R,
+    desk: u64,
+    texts: &mut Desk,
+    shown: &mut Option<Keeper>,
+    merge: Merge<N>,
+    gate: &G,
+) -> Result<((Job, Outcome), Option<Source<N>>), OfficeError>
+    requires nothing { IsIdle shown.old }
+    ensures merged { IfOk result (λ r. MergedOne desk (IsOneOf (option_to_list r.1)) texts.old texts.new shown.old shown.new r.0) }
+    ensures closed { IsErrOf result OfficeError.GateClosed → G.may_close }
+{
+    let (job, batch, source) = merge.into_parts();
+    match merge_batch(rt, desk, texts, shown, &job, batch, gate) {
+        Ok(outcome) => Ok(((job, outcome), source)),
+        Err(error) => {
+            drop(job);
+            drop(source);
+            Err(error)
+        }
+    }
+}
+
+// The outcome of a job whose batch is merged, where the gate lets it through.
+fn merge_batch<R: Wait, G: Gate>(
+    rt: &R,
+    desk: u64,
+    texts: &mut Desk,
+    shown: &mut Option<Keeper>,
+    job: &Job,
+    batch: Batch,
+    gate: &G,
+) -> Result<Outcome, OfficeError>
+    requires nothing { IsIdle shown.old }
+    requires merges { Merges job.now.work batch }
+    ensures answers { IfOk result (λ outcome. AnswersMerged desk batch job.now.work outcome) }
+    ensures texts { OnOk result (TookText job.now.work texts.old texts.new batch) }
+    ensures shown { OnOk result (ShowsOne job.now.work shown.old shown.new batch) }
+    ensures closed { IsErrOf result OfficeError.GateClosed → G.may_close }
+{
     if !gate.keeper(desk, job.number) {
         return Err(OfficeError::GateClosed);
     }
     let outcome = outcome_of(desk, &job.work, &batch);
     take_text(texts, &job.work, &batch)?;
-    show(rt, shown, batch)?;
-    Ok((job, outcome))
+    show(rt, shown, &job.work, batch)?;
+    Ok(outcome)
 }
 
 /// Has the desk of texts take the batch of a text, and nothing of another job.
@@ -117,14 +171,24 @@ fn take_text(texts: &mut Desk, work: &Work, batch: &Batch) -> Result<(), OfficeE
     }
 }
 
-/// Publishes a batch by itself, where there is a running desk.
-fn show<R: Wait>(rt: &R, shown: &mut Option<Keeper>, batch: Batch) -> Result<(), OfficeError>
+/// Publishes a batch by itself, where there is a running desk. A carry is refused where there is none.
+fn show<R: Wait>(
+    rt: &R,
+    shown: &mut Option<Keeper>,
+    work: &Work,
+    batch: Batch,
+) -> Result<(), OfficeError>
     requires nothing { IsIdle shown.old }
-    ensures shows { OnOk result (ShowsOne shown.old shown.new batch) }
+    ensures shows { OnOk result (ShowsOne work.now shown.old shown.new batch) }
     ensures open { IfErr result (λ e. e ≢ OfficeError.GateClosed) }
 {
     match shown {
-        None => Ok(()),
+        None => {
+            if !work.is_text() {
+                return Err(OfficeError::StrangeDone);
+            }
+            Ok(())
+        }
         Some(keeper) => {
             if keeper.submit(batch).is_err() {
                 return Err(OfficeError::NoMemory);

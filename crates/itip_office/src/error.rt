@@ -27,7 +27,8 @@ pub enum OfficeError {
     #[error("a channel of an office was closed")]
     ChannelClosed,
     /// A job number appears twice. Or, which no run meets, an outcome came of a job that was not handed in, or from another desk's keeper, a
-    /// keeper merged a job that names a desk that isn't there, a job has no outcome, or a channel closed of itself (44).
+    /// keeper merged a job that names a desk that isn't there, a job has no outcome, a look or a carry had seen what was not published, a
+    /// carry came where there is no running desk, or a channel closed of itself (44).
     #[error("an outcome belongs to no job")]
     StrangeDone,
     /// A running desk refused an entry to a pass (45).

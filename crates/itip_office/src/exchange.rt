@@ -4,7 +4,7 @@ ghost use Rattle.std.specs.List.{AllZip};
 ghost use Rattle.itip_items.specs.declared.item.Item.{Item};
 ghost use Rattle.itip_state.specs.Kept.{AreKept};
 ghost use Rattle.itip_desk.specs.Desk.{IsDeskOf};
-ghost use Rattle.itip_office.specs.Ended.{all_heard};
+ghost use Rattle.itip_office.specs.Ended.{all_heard, IsSomeDesk};
 ghost use Rattle.itip_office.specs.Exchanged.{GivesDelta, TakesAll, AreNoLoops};
 
 use crate::error::OfficeError;
@@ -24,6 +24,8 @@ pub(crate) fn exchange<R: Threads + Sync>(
     ensures count { IfOk result (λ ended. length ended.items ≡ desks) }
     ensures kept { (histories : List (List (List Item))) → AllZip (λ batches desk. IsDeskOf batches 0 desk) histories parts.items
         → IfOk result (λ ended. All (λ desk. AreKept desk.kept (all_heard histories)) ended.items) }
+    ensures each { (histories : List (List (List Item))) → AllZip (λ batches desk. IsDeskOf batches 0 desk) histories parts.items
+        → IfOk result (λ ended. All IsSomeDesk ended.items) }
     ensures causes { IfErr result AreNoLoops }
 {
     if parts.len() < desks {

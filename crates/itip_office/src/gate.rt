@@ -1,7 +1,8 @@
 //! Who lets jobs through.
 ghost use Rattle.std.specs.Prelude.{IsFalse};
 
-/// What the loops of an office ask before they go on. Jobs and desks are meant by their numbers; `false` ends the office (42).
+/// What the loops of an office ask before they go on. Jobs and desks are meant by their numbers. A loop that hears `false` ends by 42, and
+/// so does the office, unless a thread answers a lower number.
 pub trait Gate {
     // What is so where a gate of this type may say `false`. One that never does has nothing here that can be so.
     ghost may_close: { Type 0 } = { Unit {0} };

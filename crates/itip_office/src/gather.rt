@@ -1,8 +1,9 @@
 //! Gathering what the threads answered.
-ghost use Rattle.std.specs.Prelude.{◌≡◌, All, IfOk, IfErr, IsTrue};
+ghost use Rattle.std.specs.Prelude.{◌≡◌, map, All, IfOk, IfErr, IsTrue};
 ghost use Rattle.itip_office.specs.Texts.{desk_of, AreThere};
 ghost use Rattle.itip_office.specs.Answers.{AnswersAlone};
 ghost use Rattle.itip_office.specs.Merged.{HasMerged};
+ghost use Rattle.itip_office.specs.Published.{AreShown, HasShown, publication_of};
 ghost use Rattle.itip_office.specs.Ended.{AreGathered};
 ghost use Rattle.itip_office.specs.Exchanged.{AreNoLoops};
 
@@ -22,7 +23,9 @@ pub(crate) fn gather<R: AllocGlobal + Wait + Copy>(
 ) -> Result<(Vec<(Job, Outcome)>, Vec<Desk>), OfficeError>
     requires alone { All (λ a. AnswersAlone desks a.0.work a.1) done.alone.items }
     requires kept { All (λ k. HasMerged k.desk k.answers.items k.held.texts) done.kept.items }
+    requires shown { AreShown desks done.alone.items (map (λ k. publication_of k.desk k.answers.items k.held.shown) done.kept.items) }
     ensures gathered { IfOk result (λ r. AreGathered desks r.0.items r.1.items) }
+    ensures shown { IfOk result (λ r. HasShown desks r.0.items) }
     ensures causes { IfErr result AreNoLoops }
 {
     let Done { alone, kept } = done;

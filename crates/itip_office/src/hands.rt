@@ -3,6 +3,7 @@ ghost use Rattle.std.specs.Prelude.{◌≢◌, IfErr};
 
 use crate::error::OfficeError;
 use crate::merge::Merge;
+use crate::pairs::Pairs;
 use crossbeam_channel::Sender;
 use std::alloc::{AllocError, Global};
 use std::mem;
@@ -14,22 +15,22 @@ const AT_ONCE: usize = 64;
 /// The ways to keepers, and for each the merges that wait to be handed on. There is a keeper of each desk, in the order of desks, and then
 /// perhaps one more of each, and so on.
 #[derive(Drop)]
-pub(crate) struct Hands {
+pub(crate) struct Hands<N: Pairs> {
     alloc: Global,
     desks: usize,
-    keepers: Vec<Sender<Vec<Merge>>>,
-    waiting: Vec<Vec<Merge>>,
+    keepers: Vec<Sender<Vec<Merge<N>>>>,
+    waiting: Vec<Vec<Merge<N>>>,
     most: usize,
 }
 
-impl Hands {
+impl<N: Pairs> Hands<N> {
     /// Where a gate may wait, each merge is handed on by itself.
     pub(crate) fn new(
         alloc: Global,
         desks: usize,
-        keepers: Vec<Sender<Vec<Merge>>>,
+        keepers: Vec<Sender<Vec<Merge<N>>>>,
         may_wait: bool,
-    ) -> Result<Hands, AllocError> {
+    ) -> Result<Hands<N>, AllocError> {
         let mut waiting = Vec::new(alloc);
         for _ in 0..keepers.len() {
             waiting.push(Vec::new(alloc))?;
@@ -49,7 +50,7 @@ impl Hands {
         &mut self,
         rt: &R,
         desk: usize,
-        merge: Merge,
+        merge: Merge<N>,
     ) -> Result<(), OfficeError>
         ensures { IfErr result (λ e. e ≢ OfficeError.GateClosed) }
     {
@@ -65,7 +66,7 @@ impl Hands {
     }
 
     /// Which keeper of a desk gets a merge.
-    fn keeper_of(&self, desk: usize, merge: &Merge) -> usize {
+    fn keeper_of(&self, desk: usize, merge: &Merge<N>) -> usize {
         let rounds = self.keepers.len().checked_div(self.desks).unwrap_or(0);
         let round = merge.share(rounds);
         round.saturating_mul(self.desks).saturating_add(desk)

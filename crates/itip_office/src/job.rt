@@ -54,13 +54,22 @@ impl Job {
 
     /// Whether a running desk is read for it.
     pub(crate) fn needs_pass(&self) -> bool {
-        !matches!(self.work, Work::Text { .. })
+        !self.work.is_text()
     }
 
     ghost use Rattle.itip_office.specs.Texts.{desk_of, AreThere};
 }
 
 impl Work {
+    ghost use Rattle.itip_office.specs.Texts.{IsText};
+
+    /// Whether it is a text.
+    pub(crate) fn is_text(&self) -> bool
+        ensures { IsTrue result → IsText self.now }
+    {
+        matches!(self, Work::Text { .. })
+    }
+
     fn is_same(&self, other: &Work) -> bool
         ensures { IsTrue result → self.now ≡ other.now }
     {

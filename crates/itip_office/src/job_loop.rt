@@ -1,19 +1,23 @@
 //! The loop of a worker.
-ghost use Rattle.std.specs.Prelude.{◌≡◌, ◌≢◌, length, All, IfOk, IfErr, IfSome, IsErrOf};
+ghost use Rattle.std.specs.Prelude.{◌≡◌, ◌≢◌, length, All, IfOk, OnOk, IfErr, IfSome, IsErrOf, option_to_list};
 ghost use Rattle.itip_office.specs.declared.job.Work.TheVariants.{Text, Carry, Look};
-ghost use Rattle.itip_office.specs.Answers.{AnswersAlone};
-ghost use Rattle.itip_office.specs.Steps.{IsStepOf};
+ghost use Rattle.itip_office.specs.Seen.{IsOneOf, IsAnswered};
+ghost use Rattle.itip_office.specs.Steps.{IsStepOf, HasSeen};
 
+use crate::answers::keep_answer;
 use crate::error::OfficeError;
 use crate::gate::Gate;
 use crate::hands::Hands;
 use crate::job::{Job, Work};
 use crate::merge::Merge;
 use crate::outcome::Outcome;
+use crate::pairs::Pairs;
+use crate::seat::Seat;
+use crate::source::Source;
 use crossbeam_channel::{Receiver, Sender};
 use itip_desk::{Batch, Refusal, read_batch};
 use itip_message::ReadError;
-use itip_running::{Pass, PassError};
+use itip_running::PassError;
 use itip_view::Window;
 use std::alloc::Global;
 use std::sync::Wait;
@@ -29,81 +33,130 @@ pub(crate) enum Step {
 
 /// Takes jobs until their channel is closed, and gives those that it answered itself, with their outcomes: a desk that isn't there (50), a
 /// text that is refused, and a look. What else there is to merge goes to a keeper of the desk. There are keepers for each of so many desks,
-/// in the order of desks; where these are several rounds of keepers, texts go to one of them by UID. Looks and carries need a pass of each
-/// desk, in the order of desks.
+/// in the order of desks; where these are several rounds of keepers, texts go to one of them by UID. Looks and carries need a seat at each
+/// desk, in the order of desks. Beside the answers it gives what its looks had seen.
 ///
 /// Ends early if an allocation failed (40), if a keeper isn't there (41), if the gate is closed (42), if a keeper takes nothing more (43),
-/// or if a pass is refused the entry, or isn't there (45). The passes are dropped in the end.
-pub fn worker_loop<R: AllocGlobal + Wait, G: Gate>(
+/// or if a pass is refused the entry, or isn't there (45). The seats are dropped in the end.
+pub fn worker_loop<N: Pairs, R: AllocGlobal + Wait, G: Gate>(
     rt: &R,
     desks: usize,
-    passes: Vec<Pass>,
+    seats: Vec<Seat<N>>,
     jobs: Receiver<Job>,
-    keepers: Vec<Sender<Vec<Merge>>>,
+    keepers: Vec<Sender<Vec<Merge<N>>>>,
     gate: &G,
-) -> Result<Vec<(Job, Outcome)>, OfficeError>
-    ensures alone { IfOk result (λ answers. All (λ a. AnswersAlone desks a.0.work a.1) answers.items) }
+) -> Result<(Vec<(Job, Outcome)>, Vec<Source<N>>), OfficeError>
+    ensures answered { IfOk result (λ r. All (IsAnswered desks (IsOneOf r.1.items)) r.0.items) }
     ensures closed { IsErrOf result OfficeError.GateClosed → G.may_close }
 {
-    let mut passes = passes;
+    let mut seats = seats;
     let mut hands = Hands::new(rt.alloc(), desks, keepers, gate.may_wait())?;
-    let mut answers = Vec::new(rt.alloc());
+    let answers = Vec::new(rt.alloc());
+    let sources = Vec::new(rt.alloc());
+    let mut found = (answers, sources);
+    answer_all(
+        rt,
+        seats.as_mut_slice(),
+        desks,
+        &mut hands,
+        &jobs,
+        gate,
+        &mut found,
+    )?;
+    Ok(found)
+}
+
+// Takes jobs until their channel is closed, and hands on what is left then. What it finds it puts behind what was found before.
+fn answer_all<N: Pairs, R: AllocGlobal + Wait, G: Gate>(
+    rt: &R,
+    seats: &mut [Seat<N>],
+    desks: usize,
+    hands: &mut Hands<N>,
+    jobs: &Receiver<Job>,
+    gate: &G,
+    found: &mut (Vec<(Job, Outcome)>, Vec<Source<N>>),
+) -> Result<(), OfficeError>
+    ensures answered { OnOk result (All (IsAnswered desks (IsOneOf found.old.1.items)) found.old.0.items →
+        All (IsAnswered desks (IsOneOf found.new.1.items)) found.new.0.items) }
+    ensures closed { IsErrOf result OfficeError.GateClosed → G.may_close }
+{
     for _ in rt.forever() {
         let Ok(job) = jobs.recv(rt) else {
             hands.send_all(rt)?;
-            return Ok(answers);
+            return Ok(());
         };
-        let number = job.number;
-        if !gate.worker(number) {
-            return Err(OfficeError::GateClosed);
-        }
-        let done = do_job(rt, passes.as_mut_slice(), desks, &mut hands, job)?;
-        if let Some(answer) = done {
-            answers.push(answer)?;
-            if !gate.done(number) {
-                return Err(OfficeError::GateClosed);
-            }
-        }
+        answer_one(rt, seats, desks, hands, job, gate, found)?;
     }
     unreachable!()
 }
 
-// The job with its outcome, or nothing where it is handed on. What was read before is handed on before a pass looks or carries.
-fn do_job<R: AllocGlobal + Wait>(
+// Does a job, where the gate lets it through.
+fn answer_one<N: Pairs, R: AllocGlobal + Wait, G: Gate>(
     rt: &R,
-    passes: &mut [Pass],
+    seats: &mut [Seat<N>],
     desks: usize,
-    hands: &mut Hands,
+    hands: &mut Hands<N>,
     job: Job,
-) -> Result<Option<(Job, Outcome)>, OfficeError>
-    ensures alone { IfOk result (λ done. IfSome done (λ a. AnswersAlone desks a.0.work a.1)) }
+    gate: &G,
+    found: &mut (Vec<(Job, Outcome)>, Vec<Source<N>>),
+) -> Result<(), OfficeError>
+    ensures answered { OnOk result (All (IsAnswered desks (IsOneOf found.old.1.items)) found.old.0.items →
+        All (IsAnswered desks (IsOneOf found.new.1.items)) found.new.0.items) }
+    ensures closed { IsErrOf result OfficeError.GateClosed → G.may_close }
+{
+    if !gate.worker(job.number) {
+        return Err(OfficeError::GateClosed);
+    }
+    let Some((answer, source)) = do_job(rt, seats, desks, hands, job)? else {
+        return Ok(());
+    };
+    keep_answer(gate, found, answer, source)?;
+    Ok(())
+}
+
+// The job with its outcome and what it had seen, or nothing where it is handed on. What was read before is handed on before a pass looks or
+// carries.
+fn do_job<N: Pairs, R: AllocGlobal + Wait>(
+    rt: &R,
+    seats: &mut [Seat<N>],
+    desks: usize,
+    hands: &mut Hands<N>,
+    job: Job,
+) -> Result<Option<((Job, Outcome), Option<Source<N>>)>, OfficeError>
+    ensures answered { IfOk result (λ done. IfSome done (λ d. IsAnswered desks (IsOneOf (option_to_list d.1)) d.0)) }
     ensures open { IfErr result (λ e. e ≢ OfficeError.GateClosed) }
 {
     if job.needs_pass() {
         hands.send_all(rt)?;
     }
-    match step_of(rt.alloc(), passes, desks, &job.work)? {
-        Step::Answers(outcome) => Ok(Some((job, outcome))),
+    let (step, source) = step_of(rt.alloc(), seats, desks, &job.work)?;
+    match step {
+        Step::Answers(outcome) => Ok(Some(((job, outcome), source))),
         Step::HandsOn { desk, batch } => {
-            hands.hand_on(rt, desk, Merge::new(job, batch))?;
+            hands.hand_on(rt, desk, Merge::new(job, batch, source))?;
             Ok(None)
         }
     }
 }
 
-fn step_of(
+// What to do with a job, and what its look or its carry had seen.
+fn step_of<N: Pairs>(
     alloc: Global,
-    passes: &mut [Pass],
+    seats: &mut [Seat<N>],
     desks: usize,
     work: &Work,
-) -> Result<Step, OfficeError>
-    ensures step { IfOk result (IsStepOf desks work.now) }
+) -> Result<(Step, Option<Source<N>>), OfficeError>
+    ensures step { IfOk result (λ r. IsStepOf desks work.now r.0) }
+    ensures seen { IfOk result (λ r. HasSeen desks (IsOneOf (option_to_list r.1)) work.now r.0) }
     ensures open { IfErr result (λ e. e ≢ OfficeError.GateClosed) }
 {
     match work {
-        Work::Text { desk, bytes } => read_text(alloc, desks, *desk, bytes.as_slice()),
-        Work::Carry { from, to } => carry(passes, desks, *from, *to),
-        Work::Look { desk, window } => look(passes, desks, *desk, *window),
+        Work::Text { desk, bytes } => {
+            let step = read_text(alloc, desks, *desk, bytes.as_slice())?;
+            Ok((step, None))
+        }
+        Work::Carry { from, to } => carry(seats, desks, *from, *to),
+        Work::Look { desk, window } => look(seats, desks, *desk, *window),
     }
 }
 
@@ -123,40 +176,60 @@ fn read_text(alloc: Global, desks: usize, at: u64, bytes: &[u8]) -> Result<Step,
 }
 
 // A desk that all comes from is looked for before the one that it comes to.
-fn carry(passes: &mut [Pass], desks: usize, from: u64, to: u64) -> Result<Step, OfficeError>
-    ensures step { IfOk result (IsStepOf desks (Carry from to)) }
+fn carry<N: Pairs>(
+    seats: &mut [Seat<N>],
+    desks: usize,
+    from: u64,
+    to: u64,
+) -> Result<(Step, Option<Source<N>>), OfficeError>
+    ensures step { IfOk result (λ r. IsStepOf desks (Carry from to) r.0) }
+    ensures seen { IfOk result (λ r. HasSeen desks (IsOneOf (option_to_list r.1)) (Carry from to) r.0) }
     ensures open { IfErr result (λ e. e ≢ OfficeError.GateClosed) }
 {
     let (start, end) = (from as usize, to as usize);
     if start >= desks {
-        return Ok(refused(Refusal::NoDesk(from)));
+        return Ok((refused(Refusal::NoDesk(from)), None));
     }
     if end >= desks {
-        return Ok(refused(Refusal::NoDesk(to)));
+        return Ok((refused(Refusal::NoDesk(to)), None));
     }
-    let Some(pass) = passes.get_mut(start) else {
+    let Some(seat) = seats.get_mut(start) else {
         return Err(OfficeError::NoEntry);
     };
-    match pass.delta_since(0) {
-        Ok(batch) => Ok(Step::HandsOn { desk: end, batch }),
+    let (all, source) = seat.all();
+    if source.desk() != from {
+        return Err(OfficeError::NoEntry);
+    }
+    match all {
+        Ok(batch) => Ok((Step::HandsOn { desk: end, batch }, Some(source))),
         Err(error) => Err(error_of(error)),
     }
 }
 
-fn look(passes: &mut [Pass], desks: usize, desk: u64, window: Window) -> Result<Step, OfficeError>
-    ensures step { IfOk result (IsStepOf desks (Look desk window)) }
+fn look<N: Pairs>(
+    seats: &mut [Seat<N>],
+    desks: usize,
+    desk: u64,
+    window: Window,
+) -> Result<(Step, Option<Source<N>>), OfficeError>
+    ensures step { IfOk result (λ r. IsStepOf desks (Look desk window) r.0) }
+    ensures seen { IfOk result (λ r. HasSeen desks (IsOneOf (option_to_list r.1)) (Look desk window) r.0) }
     ensures open { IfErr result (λ e. e ≢ OfficeError.GateClosed) }
 {
     let place = desk as usize;
     if place >= desks {
-        return Ok(refused(Refusal::NoDesk(desk)));
+        return Ok((refused(Refusal::NoDesk(desk)), None));
     }
-    let Some(pass) = passes.get_mut(place) else {
+    let Some(seat) = seats.get_mut(place) else {
         return Err(OfficeError::NoEntry);
     };
-    match pass.list(window) {
-        Ok(text) => Ok(Step::Answers(Outcome::Looked { text })),
-        Err(PassError::TooManyRows) => Ok(refused(Refusal::TooManyRows)),
+    let (list, source) = seat.list(window);
+    if source.desk() != desk {
+        return Err(OfficeError::NoEntry);
+    }
+    match list {
+        Ok(text) => Ok((Step::Answers(Outcome::Looked { text }), Some(source))),
+        Err(PassError::TooManyRows) => Ok((refused(Refusal::TooManyRows), Some(source))),
         Err(error) => Err(error_of(error)),
     }
 }

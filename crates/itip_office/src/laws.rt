@@ -8,8 +8,8 @@ ghost use Rattle.itip_office.specs.declared.outcome.Outcome.{Outcome};
 ghost use Rattle.itip_office.specs.Texts.{IsText};
 ghost use Rattle.itip_office.specs.Ended.{HasEnded};
 
-/// Offices that end with the same jobs, in whatever order these were handed in, keep the same at all desks, and answer each text alike:
-/// whatever the workers, the schedule, and what carries brought (our own rule).
+/// Offices of as many desks that end with the same jobs, in whatever order these were handed in, keep the same at all desks, and answer each
+/// text alike: whatever the workers, the schedule, and what carries brought (our own rule).
 pub fn one_end()
     ensures desks { (desks : ℕ) (jobs others : List Job) (replies answered : List (ℕ × Outcome)) (ended apart : List Shown) →
         IsPermutation jobs others → HasEnded desks jobs replies ended → HasEnded desks others answered apart →

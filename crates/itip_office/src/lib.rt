@@ -5,11 +5,12 @@
 //! it, into which it merges all that comes and publishes it, for readers. Once all jobs are done the desks of texts exchange everything.
 //!
 //! Where an office answers, the same texts are taken whatever the schedule, and all desks end with what is kept of one set, which has
-//! the items of these texts and no others: what carries brought is in no desk of texts, since the exchange brings all of it. So the desks
-//! end as those of one thread. What a carry brings and what a look shows depends on the schedule, and no clause says which items these may
-//! be.
+//! the items of these texts and no others: what carries brought is in no desk of texts. So the desks keep what those of one thread
+//! keep. What a carry brings and what a look shows depends on the schedule: it is of the first so many batches of a
+//! desk, perhaps of none.
 #![tactic(auto)]
 
+mod answers;
 mod desk_loop;
 mod error;
 mod exchange;
@@ -23,9 +24,13 @@ mod merge;
 mod office;
 mod outcome;
 mod owned_keeper;
+mod pairs;
 mod replies;
 mod script;
 mod script_jobs;
+mod seat;
+mod source;
+mod start;
 mod team;
 mod watch;
 
@@ -38,5 +43,8 @@ pub use laws::one_end;
 pub use merge::Merge;
 pub use office::{Office, run_office};
 pub use outcome::Outcome;
+pub use pairs::Pairs;
 pub use script::run_jobs;
+pub use seat::Seat;
+pub use source::Source;
 pub use watch::Watch;

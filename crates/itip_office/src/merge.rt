@@ -1,25 +1,31 @@
 //! What a worker sends to a keeper.
-ghost use Rattle.std.specs.Prelude.{◌≡◌};
+ghost use Rattle.std.specs.Prelude.{option_to_list};
 ghost use Rattle.itip_office.specs.Texts.{Merges};
+ghost use Rattle.itip_office.specs.Seen.{IsOneOf, IsBrought};
 
 use crate::job::Job;
+use crate::pairs::Pairs;
+use crate::source::Source;
 use itip_desk::Batch;
 
-/// A job, and the batch that its desk is to merge. The job is a text or a carry, and the batch of a text has the items that the text
-/// reads as.
+/// A job, and the batch that its desk is to merge. The job is a text or a carry. The batch of a text has the items that the text reads as,
+/// and that of a carry all that is kept of what a pass of the desk that it comes from had seen.
 #[derive(Drop)]
-pub struct Merge {
+pub struct Merge<N: Pairs> {
     job: Job,
     batch: Batch,
+    source: Option<Source<N>>,
     ghost is: { ∥ Merges job.work batch ∥₁ },
+    ghost brought: { ∥ IsBrought (IsOneOf (option_to_list source)) job.work batch ∥₁ },
 }
 
-impl Merge {
-    /// The merge of a text or a carry.
-    pub(crate) fn new(job: Job, batch: Batch) -> Merge
-        requires { Merges job.work batch }
+impl<N: Pairs> Merge<N> {
+    /// The merge of a text, or of a carry with what the pass had seen.
+    pub(crate) fn new(job: Job, batch: Batch, source: Option<Source<N>>) -> Merge<N>
+        requires merges { Merges job.work batch }
+        requires brought { IsBrought (IsOneOf (option_to_list source)) job.work batch }
     {
-        Merge { job, batch }
+        Merge { job, batch, source }
     }
 
     /// Which of so many shares it is in, by the UID of its items, the first where they have several. The first share where there is one or
@@ -34,12 +40,13 @@ impl Merge {
         }
     }
 
-    pub(crate) fn into_parts(self) -> (Job, Batch)
-        ensures { Merges result.0.work result.1 }
+    pub(crate) fn into_parts(self) -> (Job, Batch, Option<Source<N>>)
+        ensures merges { Merges result.0.work result.1 }
+        ensures brought { IsBrought (IsOneOf (option_to_list result.2)) result.0.work result.1 }
     {
-        let Merge { job, batch } = self;
+        let Merge { job, batch, source } = self;
         batch.lawful();
-        (job, batch)
+        (job, batch, source)
     }
 }
 

@@ -17,7 +17,7 @@ use std::thread::Threads;
 /// What an office ends with.
 #[derive(Drop)]
 pub struct Office {
-    /// The desks, each of which has heard what the others heard.
+    /// The desks, each of which keeps what the others keep.
     pub desks: Vec<Desk>,
     /// The outcome of each job, by its number, in the order of numbers.
     pub replies: Vec<(u64, Outcome)>,
@@ -25,11 +25,14 @@ pub struct Office {
 
 /// Runs jobs on threads: one for each worker, and one for each keeper. A desk has one keeper, or, where no job looks or carries, as many as
 /// there are workers for each desk. Desks are empty in the beginning. Once the jobs are done each desk takes what the others keep of texts.
-/// What carries brought meanwhile is seen by looks and by other carries; in the end it is nothing that a desk lacks.
+/// What carries brought meanwhile is seen by looks and by other carries; what desks end with doesn't rest on it.
+/// A look lists the batches of the first so many jobs that its desk merged, perhaps of none, and is refused by 31 exactly where these have
+/// too many rows; a carry brings all that is kept of such batches of the desk that it comes from.
 ///
 /// Ends early if an allocation failed (40), if a thread could not be made or a desk gave no place (41), if the gate said so (42), if two
 /// jobs have one number (44), if a desk refused an entry (45), or if a count is spent (21): with 40 or 41 before all if not all threads
-/// were made, else with the lowest number among what the threads answer, and after them with 44. All threads have returned by then.
+/// were made, else with the lowest number that the threads answer, and then with 44 where what they answer doesn't fit. All threads have
+/// returned by then. Of these numbers clauses name 42 and 43 alone.
 pub fn run_office<
     R: AllocGlobal + Threads + Wait + Copy + Send + Sync + 'static,
     G: Gate + Send + Sync + Drop + 'static,

@@ -9,7 +9,7 @@ pub enum Outcome {
     Took { desk: u64, items: usize },
     /// So many items came from one desk to another.
     Carried { from: u64, to: u64, items: usize },
-    /// The task list of the desk, of all that was published by then or of the beginning of it.
+    /// The task list of the first so many batches, perhaps none, that the keeper of the desk published.
     Looked { text: Vec<u8> },
     /// It was refused: its text is no message (1 to 15), its list has more than 100,000 rows (31), or a desk that it names isn't there
     /// (50).

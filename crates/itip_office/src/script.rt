@@ -5,9 +5,10 @@ ghost use Rattle.std.specs.List.Sorted.{IsNonDecreasingBy};
 ghost use Rattle.std.specs.Io.KnownBytes.{Keeps, Appends};
 ghost use Rattle.itip_desk.specs.Refusals.{refused_text};
 ghost use Rattle.itip_streams.specs.Written.{AppendsFront, WritesOutput};
+ghost use Rattle.itip_script.specs.Jobs.{errands_of};
 ghost use Rattle.itip_office.specs.declared.error.OfficeError.{OfficeError};
 ghost use Rattle.itip_office.specs.Scripts.{refused_of, refused_job_text, WritesList, WritesListFront, IsEndedText, WritesEndedFront};
-ghost use Rattle.itip_office.specs.Scripts.{IsScriptOutput, WritesScriptFront};
+ghost use Rattle.itip_office.specs.Scripts.{EndsWith, IsScriptOutput, WritesScriptFront};
 
 use crate::error::ScriptError;
 use crate::gate::OpenGate;
@@ -65,12 +66,48 @@ pub fn run_jobs<
         watch.refused_script(Refusal::LongScript);
         return Ok(refuse_whole(alloc, writer)?);
     };
-    let ScriptJobs { jobs, others } = script_jobs(alloc, script.as_slice(), window)?;
+    let (refused, ended) = run_script(rt, desks, workers, window, script)?;
+    Ok(end_script(alloc, writer, refused, ended, window, watch)?)
+}
+
+// The refused jobs of a script, in the order of their numbers, and the desks that the others end with. The script goes before they run.
+fn run_script<R: AllocGlobal + Threads + Wait + Copy + Send + Sync + 'static>(
+    rt: &R,
+    desks: usize,
+    workers: usize,
+    window: Window,
+    script: Vec<u8>,
+) -> Result<(Vec<(u64, Refusal)>, Vec<Desk>), ScriptError>
+    requires desks { (1 ≤ desks) × (desks ≤ 16) }
+    requires workers { (1 ≤ workers) × (workers ≤ 8) }
+    ensures ends { IfOk result (λ r. EndsWith window desks (errands_of script.items) r.0.items r.1.items) }
+    ensures read { IsErrOf result (ScriptError.Stream StreamFault.Read) → ⊥ }
+    ensures gate { IsErrOf result (ScriptError.Office OfficeError.GateClosed) → ⊥ }
+    ensures channel { IsErrOf result (ScriptError.Office OfficeError.ChannelClosed) → ⊥ }
+{
+    let ScriptJobs { jobs, others } = script_jobs(rt.alloc(), script.as_slice(), window)?;
     drop(script);
     let ended = run_office(rt, desks, workers, jobs, OpenGate)?;
     let refused = refused_jobs(others, &ended.replies)?;
+    Ok((refused, ended.desks))
+}
+
+// Tells and writes what a script ends with. It is dropped here, once for all answers.
+fn end_script<W: Write, T: Watch>(
+    alloc: Global,
+    writer: &mut W,
+    refused: Vec<(u64, Refusal)>,
+    ended: Vec<Desk>,
+    window: Window,
+    watch: &mut T,
+) -> Result<bool, StreamFault>
+    ensures all { IfOk result (λ refusal.
+        WritesOutput (IsEndedText window refused.items ended.items) (W.contents writer.old) (W.contents writer.new) refusal) }
+    ensures front { OnErr result (WritesEndedFront window (W.contents writer.old) (W.contents writer.new) refused.items ended.items) }
+    ensures fault { IfErr result (λ fault. fault ≢ StreamFault.Read) }
+{
     tell_refused(&refused, watch);
-    Ok(write_ended(alloc, writer, &refused, &ended.desks, window, watch)?)
+    write_ended(alloc, writer, &refused, &ended, window, watch)
 }
 
 fn refuse_whole<W: Write>(alloc: Global, writer: &mut W) -> Result<bool, StreamFault>

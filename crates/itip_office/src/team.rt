@@ -1,8 +1,11 @@
 //! The threads of an office.
-ghost use Rattle.std.specs.Prelude.{◌≡◌, ◌≢◌, ◌⊎◌, ◌≤◌, ℕ, [], length, All, IfOk, OnOk, IfErr, IsErrOf};
-ghost use Rattle.itip_desk.specs.Desk.{IsDeskOf};
+ghost use Rattle.std.specs.Prelude.{◌≡◌, ◌≢◌, ◌⊎◌, ◌≤◌, ℕ, [], length, map, All, IfOk, OnOk, IfErr, IsErrOf, IsTrue};
+ghost use Rattle.itip_running.specs.Ends.{pass_pair};
 ghost use Rattle.itip_office.specs.Answers.{AnswersAlone};
-ghost use Rattle.itip_office.specs.Merged.{IsIdle, HasMerged};
+ghost use Rattle.itip_office.specs.Seen.{IsOneOf, IsAnswered};
+ghost use Rattle.itip_office.specs.Merged.{HasMerged};
+ghost use Rattle.itip_office.specs.Pairs.{IsFresh, IsOfPair, IsStarted, HasKept};
+ghost use Rattle.itip_office.specs.Published.{AreShown, IsBeginning, publication_of};
 ghost use Rattle.itip_office.specs.Exchanged.{AreNoLoops};
 
 use crate::desk_loop::keeper_loop;
@@ -13,11 +16,14 @@ use crate::job_loop::worker_loop;
 use crate::merge::Merge;
 use crate::outcome::Outcome;
 use crate::owned_keeper::OwnedKeeper;
+use crate::pairs::Pairs;
+use crate::seat::Seat;
+use crate::source::Source;
+use crate::start::{Started, start_desks};
 use crossbeam_channel::{Receiver, Sender, unbounded};
-use itip_desk::Desk;
-use itip_running::{Keeper, LiveError, Pass, start_desk};
-use std::alloc::Global;
-use std::marker::PhantomData;
+use itip_running::Pass;
+use std::alloc::{AllocError, Global};
+use std::marker::{Brand, PhantomData};
 use std::sync::{Arc, Wait};
 use std::thread;
 use std::thread::{Promise, PromisedHandle, Threads};
@@ -30,17 +36,19 @@ pub(crate) struct Merged<R: AllocGlobal + Wait + Copy> {
     pub(crate) answers: Vec<(Job, Outcome)>,
 }
 
-/// That a keeper has a desk of the texts that it answers, under a gate of this type.
+/// That a keeper has a desk of the texts that it answers, and published the batches of all that it answers, under a gate of this type.
 #[derive(Drop)]
 pub(crate) struct OfTexts<G: Gate> {
     gate: PhantomData<G>,
 }
 
-impl<R: AllocGlobal + Wait + Copy, G: Gate> Promise<Result<Merged<R>, OfficeError>> for OfTexts<G> {
+impl<N: Pairs, R: AllocGlobal + Wait + Copy, G: Gate> Promise<
+    Result<(Merged<R>, Vec<Source<N>>), OfficeError>,
+> for OfTexts<G> {
     ghost use Rattle.itip_office.specs.declared.error.OfficeError.{OfficeError};
 
-    ghost kept_by = { λ p r. IfOk r (λ kept. HasMerged kept.desk kept.answers.items kept.held.texts)
-        × (IsErrOf r OfficeError.GateClosed → G.may_close) };
+    ghost kept_by = { λ p r. IfOk r (λ kept. HasKept (N.pair kept.0.desk) (IsOneOf kept.1.items) kept.0.desk kept.0.answers.items
+        kept.0.held.texts kept.0.held.shown) × (IsErrOf r OfficeError.GateClosed → G.may_close) };
 }
 
 /// That a worker answers for so many desks, under a gate of this type.
@@ -50,21 +58,28 @@ pub(crate) struct OfDesks<G: Gate> {
     gate: PhantomData<G>,
 }
 
-impl<G: Gate> Promise<Result<Vec<(Job, Outcome)>, OfficeError>> for OfDesks<G> {
+impl<N: Pairs, G: Gate> Promise<Result<(Vec<(Job, Outcome)>, Vec<Source<N>>), OfficeError>>
+    for OfDesks<G> {
     ghost use Rattle.itip_office.specs.declared.error.OfficeError.{OfficeError};
 
-    ghost kept_by = { λ p r. IfOk r (λ answers. All (λ a. AnswersAlone p.desks a.0.work a.1) answers.items)
+    ghost kept_by = { λ p r. IfOk r (λ done. All (IsAnswered p.desks (IsOneOf done.1.items)) done.0.items)
         × (IsErrOf r OfficeError.GateClosed → G.may_close) };
 }
 
-type KeeperThread<R, G> = PromisedHandle<Result<Merged<R>, OfficeError>, OfTexts<G>>;
+type KeeperThread<N, R, G> = PromisedHandle<
+    Result<(Merged<R>, Vec<Source<N>>), OfficeError>,
+    OfTexts<G>,
+>;
 
-type WorkerThread<G> = PromisedHandle<Result<Vec<(Job, Outcome)>, OfficeError>, OfDesks<G>>;
+type WorkerThread<N, G> = PromisedHandle<
+    Result<(Vec<(Job, Outcome)>, Vec<Source<N>>), OfficeError>,
+    OfDesks<G>,
+>;
 
 /// The threads that were made. It can't be let go: whoever has it has to join them.
-pub(crate) struct Team<R: AllocGlobal + Wait + Copy, G: Gate> {
-    keepers: Vec<KeeperThread<R, G>>,
-    workers: Vec<WorkerThread<G>>,
+pub(crate) struct Team<N: Pairs, R: AllocGlobal + Wait + Copy, G: Gate> {
+    keepers: Vec<KeeperThread<N, R, G>>,
+    workers: Vec<WorkerThread<N, G>>,
 }
 
 /// What the threads returned: the jobs that workers answered, and what each keeper did.
@@ -74,11 +89,19 @@ pub(crate) struct Done<R: AllocGlobal + Wait + Copy> {
     pub(crate) kept: Vec<Merged<R>>,
 }
 
-// What a worker works with: a way to each keeper, and a pass of each desk where jobs look or carry.
+// The same, with what looks and carries had seen.
 #[derive(Drop)]
-struct Bench {
-    passes: Vec<Pass>,
-    keepers: Vec<Sender<Vec<Merge>>>,
+struct Joined<N: Pairs, R: AllocGlobal + Wait + Copy> {
+    done: Done<R>,
+    looked: Vec<Source<N>>,
+    carried: Vec<Source<N>>,
+}
+
+// What a worker works with: a way to each keeper, and a seat at each desk where jobs look or carry.
+#[derive(Drop)]
+struct Bench<N: Pairs> {
+    seats: Vec<Seat<N>>,
+    keepers: Vec<Sender<Vec<Merge<N>>>>,
 }
 
 /// Runs the jobs on threads, one for each worker and one for each keeper, and joins them all, whatever they answer.
@@ -92,69 +115,180 @@ pub(crate) fn run_team<
     requires workers { (1 ≤ workers) × (workers ≤ 8) }
     ensures alone { IfOk result (λ done. All (λ a. AnswersAlone desks a.0.work a.1) done.alone.items) }
     ensures kept { IfOk result (λ done. All (λ k. HasMerged k.desk k.answers.items k.held.texts) done.kept.items) }
+    ensures shown { IfOk result (λ done. AreShown desks done.alone.items
+        (map (λ k. publication_of k.desk k.answers.items k.held.shown) done.kept.items)) }
     ensures closed { IsErrOf result OfficeError.GateClosed → G.may_close }
     ensures channel { IfErr result (λ e. e ≢ OfficeError.ChannelClosed) }
 {
-    let alloc = rt.alloc();
-    let mut team: Team<R, G> = Team {
-        keepers: Vec::with_capacity(alloc, desks)?,
-        workers: Vec::with_capacity(alloc, workers)?,
-    };
-    let started = team.start(rt, desks, workers, jobs, gate);
-    let done = team.join(rt);
-    started?;
-    match done {
-        Ok(done) => Ok(done),
+    let are_read = jobs.iter().any(|job| job.needs_pass());
+    let started = start_desks(rt, desks, workers, are_read)?;
+    run_started::<Brand, R, G>(rt, desks, workers, started, jobs, gate)
+}
+
+// The same of desks that are started, each with the pair that the type names.
+fn run_started<
+    N: Pairs + Send + Sync + 'static,
+    R: AllocGlobal + Threads + Wait + Copy + Send + Sync + 'static,
+    G: Gate + Send + Sync + Drop + 'static,
+>(
+    rt: &R,
+    desks: usize,
+    workers: usize,
+    started: Vec<Started<R>>,
+    jobs: Vec<Job>,
+    gate: G,
+) -> Result<Done<R>, OfficeError>
+    requires started { All (λ s. IsStarted (N.pair s.desk) s.held.texts s.held.shown s.passes.items) started.items }
+    ensures alone { IfOk result (λ done. All (λ a. AnswersAlone desks a.0.work a.1) done.alone.items) }
+    ensures kept { IfOk result (λ done. All (λ k. HasMerged k.desk k.answers.items k.held.texts) done.kept.items) }
+    ensures shown { IfOk result (λ done. AreShown desks done.alone.items
+        (map (λ k. publication_of k.desk k.answers.items k.held.shown) done.kept.items)) }
+    ensures closed { IsErrOf result OfficeError.GateClosed → G.may_close }
+    ensures channel { IfErr result (λ e. e ≢ OfficeError.ChannelClosed) }
+{
+    let mut team: Team<N, R, G> = Team::new(rt.alloc(), started.len(), workers)?;
+    let begun = team.start(rt, desks, workers, started, jobs, gate);
+    let joined = team.join(rt);
+    if let Err(error) = begun {
+        drop(joined);
+        return Err(error);
+    }
+    match joined {
+        Ok(joined) => joined.checked(),
         Err(error) => Err(error.of_all()),
     }
 }
 
+impl<N: Pairs, R: AllocGlobal + Wait + Copy> Joined<N, R> {
+    // What the threads returned, where all that looks and carries had seen is published. It is, in every run; else 44.
+    fn checked(self) -> Result<Done<R>, OfficeError>
+        requires pairs { All (λ k. IsOfPair (N.pair k.desk) k.held.shown) self.done.kept.items }
+        ensures done { IfOk result (λ done. done ≡ self.done) }
+        ensures looked { IfOk result (λ done. All (λ s. IsBeginning
+            (map (λ k. publication_of k.desk k.answers.items k.held.shown) done.kept.items) s.0 s.1) self.looked.items) }
+        ensures carried { IfOk result (λ done. All (λ s. IsBeginning
+            (map (λ k. publication_of k.desk k.answers.items k.held.shown) done.kept.items) s.0 s.1) self.carried.items) }
+        ensures causes { IfErr result AreNoLoops }
+    {
+        let Joined {
+            done,
+            looked,
+            carried,
+        } = self;
+        if !are_published(&done.kept, &looked) || !are_published(&done.kept, &carried) {
+            return Err(OfficeError::StrangeDone);
+        }
+        Ok(done)
+    }
+}
+
+fn are_published<N: Pairs, R: AllocGlobal + Wait + Copy>(
+    kept: &[Merged<R>],
+    sources: &[Source<N>],
+) -> bool
+    requires pairs { All (λ k. IsOfPair (N.pair k.desk) k.held.shown) kept.now }
+    ensures { IsTrue result → All (λ s. IsBeginning
+        (map (λ k. publication_of k.desk k.answers.items k.held.shown) kept.now) s.0 s.1) sources.now }
+{
+    for source in sources {
+        if !is_published(kept, source) {
+            return false;
+        }
+    }
+    true
+}
+
+// Whether the keeper of its desk has published all of it.
+fn is_published<N: Pairs, R: AllocGlobal + Wait + Copy>(
+    kept: &[Merged<R>],
+    source: &Source<N>,
+) -> bool
+    requires pairs { All (λ k. IsOfPair (N.pair k.desk) k.held.shown) kept.now }
+    ensures { IsTrue result → IsBeginning
+        (map (λ k. publication_of k.desk k.answers.items k.held.shown) kept.now) source.now.0 source.now.1 }
+{
+    let place = source.desk() as usize;
+    if place >= kept.len() {
+        return false;
+    }
+    let one = &kept[place];
+    if one.desk != source.desk() {
+        return false;
+    }
+    match &one.held.shown {
+        Some(keeper) => source.is_published(keeper),
+        None => false,
+    }
+}
+
 impl<
+    N: Pairs + Send + Sync + 'static,
     R: AllocGlobal + Threads + Wait + Copy + Send + Sync + 'static,
     G: Gate + Send + Sync + Drop + 'static,
-> Team<R, G> {
+> Team<N, R, G> {
+    // No thread, and room for so many.
+    fn new(alloc: Global, keepers: usize, workers: usize) -> Result<Team<N, R, G>, AllocError>
+        ensures none { IfOk result (λ team. team.workers.items ≡ []) }
+    {
+        let keepers = Vec::with_capacity(alloc, keepers)?;
+        let workers = Vec::with_capacity(alloc, workers)?;
+        Ok(Team { keepers, workers })
+    }
+
     // Makes the threads. The ends of channels that no thread got are dropped, so that those that were made return.
     fn start(
         &mut self,
         rt: &R,
         desks: usize,
         workers: usize,
+        started: Vec<Started<R>>,
         jobs: Vec<Job>,
         gate: G,
     ) -> Result<(), OfficeError>
         requires none { self.old.workers.items ≡ [] }
-        requires workers { (1 ≤ workers) × (workers ≤ 8) }
+        requires started { All (λ s. IsStarted (N.pair s.desk) s.held.texts s.held.shown s.passes.items) started.items }
         ensures workers { OnOk result (All (λ t. t.promise.desks ≡ desks) self.new.workers.items) }
         ensures causes { IfErr result AreNoLoops }
     {
-        let alloc = rt.alloc();
-        let gate = Arc::new(alloc, gate)?;
-        let are_read = jobs.iter().any(|job| job.needs_pass());
+        let gate = Arc::new(rt.alloc(), gate)?;
         let jobs = queue(rt, jobs)?;
-        let mut benches = benches(alloc, workers)?;
-        let shares = if are_read { 1 } else { shares(desks, workers) };
-        for _ in 0..shares {
-            self.start_keepers(rt, desks, are_read, benches.as_mut_slice(), &gate)?;
-        }
-        self.start_workers(rt, desks, benches, &jobs, &gate)
+        self.start_threads(rt, desks, workers, started, &jobs, &gate)
     }
 
-    // One keeper more for each desk, in the order of desks.
-    fn start_keepers(
+    // The same with the gate and a channel of the jobs.
+    fn start_threads(
         &mut self,
         rt: &R,
         desks: usize,
-        are_read: bool,
-        benches: &mut [Bench],
+        workers: usize,
+        started: Vec<Started<R>>,
+        jobs: &Receiver<Job>,
         gate: &Arc<G>,
     ) -> Result<(), OfficeError>
-        requires workers { (1 ≤ length benches.old) × (length benches.old ≤ 8) }
-        ensures workers { self.new.workers.items ≡ self.old.workers.items }
-        ensures benches { length benches.new ≡ length benches.old }
+        requires none { self.old.workers.items ≡ [] }
+        requires started { All (λ s. IsStarted (N.pair s.desk) s.held.texts s.held.shown s.passes.items) started.items }
+        ensures workers { OnOk result (All (λ t. t.promise.desks ≡ desks) self.new.workers.items) }
         ensures causes { IfErr result AreNoLoops }
     {
-        for desk in 0..desks {
-            let thread = start_keeper(rt, desk as u64, are_read, benches, gate)?;
+        let mut benches = benches(rt.alloc(), workers)?;
+        self.start_keepers(rt, started, benches.as_mut_slice(), gate)?;
+        self.start_workers(rt, desks, benches, jobs, gate)
+    }
+
+    // One keeper for each that is started.
+    fn start_keepers(
+        &mut self,
+        rt: &R,
+        started: Vec<Started<R>>,
+        benches: &mut [Bench<N>],
+        gate: &Arc<G>,
+    ) -> Result<(), OfficeError>
+        requires started { All (λ s. IsStarted (N.pair s.desk) s.held.texts s.held.shown s.passes.items) started.items }
+        ensures workers { self.new.workers.items ≡ self.old.workers.items }
+        ensures causes { IfErr result AreNoLoops }
+    {
+        for one in started {
+            let thread = start_keeper(rt, one, benches, gate)?;
             self.keepers.push(thread)?;
         }
         Ok(())
@@ -164,7 +298,7 @@ impl<
         &mut self,
         rt: &R,
         desks: usize,
-        benches: Vec<Bench>,
+        benches: Vec<Bench<N>>,
         jobs: &Receiver<Job>,
         gate: &Arc<G>,
     ) -> Result<(), OfficeError>
@@ -179,17 +313,25 @@ impl<
         Ok(())
     }
 
-    fn join(self, rt: &R) -> Result<Done<R>, OfficeError>
-        ensures alone { (desks : ℕ) → All (λ t. t.promise.desks ≡ desks) self.workers.items →
-            IfOk result (λ done. All (λ a. AnswersAlone desks a.0.work a.1) done.alone.items) }
-        ensures kept { IfOk result (λ done. All (λ k. HasMerged k.desk k.answers.items k.held.texts) done.kept.items) }
+    fn join(self, rt: &R) -> Result<Joined<N, R>, OfficeError>
+        ensures answered { (desks : ℕ) → All (λ t. t.promise.desks ≡ desks) self.workers.items →
+            IfOk result (λ r. All (IsAnswered desks (IsOneOf r.looked.items)) r.done.alone.items) }
+        ensures kept { IfOk result (λ r. All (λ k. HasKept (N.pair k.desk) (IsOneOf r.carried.items) k.desk k.answers.items
+            k.held.texts k.held.shown) r.done.kept.items) }
         ensures closed { IsErrOf result OfficeError.GateClosed → G.may_close }
     {
         let Team { keepers, workers } = self;
         let alone = join_workers(rt, workers);
         let kept = join_keepers(rt, keepers);
         match (alone, kept) {
-            (Ok(alone), Ok(kept)) => Ok(Done { alone, kept }),
+            (Ok((alone, looked)), Ok((kept, carried))) => {
+                let done = Done { alone, kept };
+                Ok(Joined {
+                    done,
+                    looked,
+                    carried,
+                })
+            }
             (Err(one), Err(other)) => Err(one.or(other)),
             (Err(error), Ok(_)) => Err(error),
             (Ok(_), Err(error)) => Err(error),
@@ -198,67 +340,61 @@ impl<
 }
 
 fn start_keeper<
+    N: Pairs + Send + Sync + 'static,
     R: AllocGlobal + Threads + Wait + Copy + Send + Sync + 'static,
     G: Gate + Send + Sync + Drop + 'static,
 >(
     rt: &R,
-    desk: u64,
-    is_read: bool,
-    benches: &mut [Bench],
+    started: Started<R>,
+    benches: &mut [Bench<N>],
     gate: &Arc<G>,
-) -> Result<KeeperThread<R, G>, OfficeError>
-    requires workers { (1 ≤ length benches.old) × (length benches.old ≤ 8) }
-    ensures workers { length benches.new ≡ length benches.old }
+) -> Result<KeeperThread<N, R, G>, OfficeError>
+    requires started { IsStarted (N.pair started.desk) started.held.texts started.held.shown started.passes.items }
     ensures causes { IfErr result AreNoLoops }
 {
-    let (shown, passes) = shown_desk(rt, is_read, benches.len())?;
-    let held = OwnedKeeper {
-        texts: Desk::empty_at(rt.alloc(), 0),
-        shown,
-        rt: *rt,
-    };
-    let (to, merges) = unbounded(rt.alloc())?;
-    seat(benches, passes, &to)?;
+    let Started { desk, held, passes } = started;
+    let merges = way(rt.alloc(), desk, passes, benches)?;
     keeper_thread(rt, desk, held, merges, Arc::try_clone(gate)?)
 }
 
-// How many keepers a desk has: as many as there are workers for it.
-fn shares(desks: usize, workers: usize) -> usize {
-    if desks == 0 || workers < desks {
-        return 1;
-    }
-    workers / desks
+// The end of a channel for the keeper of a desk, to whom each worker has a way then, and a seat at the desk by one of its passes.
+fn way<N: Pairs>(
+    alloc: Global,
+    desk: u64,
+    passes: Vec<Pass>,
+    benches: &mut [Bench<N>],
+) -> Result<Receiver<Vec<Merge<N>>>, OfficeError>
+    requires pair { All (λ p. pass_pair p ≡ N.pair desk) passes.items }
+    ensures { IfErr result (λ e. e ≡ OfficeError.NoMemory) }
+{
+    let seats = seats(alloc, desk, passes)?;
+    let (to, merges) = unbounded(alloc)?;
+    seat(benches, seats, &to)?;
+    Ok(merges)
 }
 
-// A running desk with so many passes, where it is read.
-fn shown_desk<R: AllocGlobal + Wait>(
-    rt: &R,
-    is_read: bool,
-    passes: usize,
-) -> Result<(Option<Keeper>, Vec<Pass>), OfficeError>
-    requires passes { (1 ≤ passes) × (passes ≤ 8) }
-    ensures idle { IfOk result (λ r. IsIdle r.0) }
-    ensures causes { IfErr result AreNoLoops }
+// Seats at a desk, by its passes.
+fn seats<N: Pairs>(alloc: Global, desk: u64, passes: Vec<Pass>) -> Result<Vec<Seat<N>>, AllocError>
+    requires pair { All (λ p. pass_pair p ≡ N.pair desk) passes.items }
 {
-    if !is_read {
-        return Ok((None, Vec::new(rt.alloc())));
+    let mut all = Vec::with_capacity(alloc, passes.len())?;
+    for pass in passes {
+        all.push(Seat::new(desk, pass))?;
     }
-    match start_desk(rt, passes) {
-        Ok((keeper, passes)) => Ok((Some(keeper), passes)),
-        Err(refused) => Err(live_error(refused)),
-    }
+    Ok(all)
 }
 
 fn start_worker<
+    N: Pairs + Send + Sync + 'static,
     R: AllocGlobal + Threads + Wait + Copy + Send + Sync + 'static,
     G: Gate + Send + Sync + Drop + 'static,
 >(
     rt: &R,
     desks: usize,
-    bench: Bench,
+    bench: Bench<N>,
     jobs: &Receiver<Job>,
     gate: &Arc<G>,
-) -> Result<WorkerThread<G>, OfficeError>
+) -> Result<WorkerThread<N, G>, OfficeError>
     ensures desks { IfOk result (λ thread. thread.promise.desks ≡ desks) }
     ensures causes { IfErr result AreNoLoops }
 {
@@ -278,55 +414,52 @@ fn queue<R: AllocGlobal + Wait>(rt: &R, jobs: Vec<Job>) -> Result<Receiver<Job>,
     Ok(queue)
 }
 
-fn benches(alloc: Global, workers: usize) -> Result<Vec<Bench>, OfficeError>
-    ensures count { IfOk result (λ all. length all.items ≡ workers) }
-    ensures cause { IfErr result (λ e. e ≡ OfficeError.NoMemory) }
-{
+fn benches<N: Pairs>(alloc: Global, workers: usize) -> Result<Vec<Bench<N>>, AllocError> {
     let mut all = Vec::new(alloc);
     for _ in 0..workers {
         all.push(Bench {
-            passes: Vec::new(alloc),
+            seats: Vec::new(alloc),
             keepers: Vec::new(alloc),
         })?;
     }
     Ok(all)
 }
 
-// Gives each worker a way to the keeper of a desk, and a pass of the desk where there are passes.
-fn seat(
-    benches: &mut [Bench],
-    passes: Vec<Pass>,
-    keeper: &Sender<Vec<Merge>>,
+// Gives each worker a way to the keeper of a desk, and a seat at the desk where there are seats.
+fn seat<N: Pairs>(
+    benches: &mut [Bench<N>],
+    seats: Vec<Seat<N>>,
+    keeper: &Sender<Vec<Merge<N>>>,
 ) -> Result<(), OfficeError>
-    ensures count { length benches.new ≡ length benches.old }
-    ensures cause { IfErr result (λ e. e ≡ OfficeError.NoMemory) }
+    ensures { IfErr result (λ e. e ≡ OfficeError.NoMemory) }
 {
     for bench in benches.iter_mut() {
         bench.keepers.push(keeper.clone()?)?;
     }
-    for (bench, pass) in benches.iter_mut().zip(passes) {
-        bench.passes.push(pass)?;
+    for (bench, seat) in benches.iter_mut().zip(seats) {
+        bench.seats.push(seat)?;
     }
     Ok(())
 }
 
 fn keeper_thread<
+    N: Pairs + Send + Sync + 'static,
     R: AllocGlobal + Threads + Wait + Copy + Send + 'static,
     G: Gate + Send + Sync + Drop + 'static,
 >(
     rt: &R,
     desk: u64,
     held: OwnedKeeper<R>,
-    merges: Receiver<Vec<Merge>>,
+    merges: Receiver<Vec<Merge<N>>>,
     gate: Arc<G>,
-) -> Result<KeeperThread<R, G>, OfficeError>
-    requires fresh { IsDeskOf [] 0 held.texts × IsIdle held.shown }
+) -> Result<KeeperThread<N, R, G>, OfficeError>
+    requires fresh { IsFresh (N.pair desk) held.texts held.shown }
     ensures cause { IfErr result (λ e. e ≡ OfficeError.NoPlace) }
 {
-    let work = move || -> Result<Merged<R>, OfficeError>
-        requires { IsDeskOf [] 0 held.texts × IsIdle held.shown }
-        ensures { IfOk result (λ kept. HasMerged kept.desk kept.answers.items kept.held.texts)
-            × (IsErrOf result OfficeError.GateClosed → G.may_close) }
+    let work = move || -> Result<(Merged<R>, Vec<Source<N>>), OfficeError>
+        requires { IsFresh (N.pair desk) held.texts held.shown }
+        ensures { IfOk result (λ kept. HasKept (N.pair kept.0.desk) (IsOneOf kept.1.items) kept.0.desk kept.0.answers.items
+            kept.0.held.texts kept.0.held.shown) × (IsErrOf result OfficeError.GateClosed → G.may_close) }
     { keep(desk, held, merges, gate) };
     let promise: OfTexts<G> = OfTexts { gate: PhantomData };
     match thread::spawn_with(rt, promise, work) {
@@ -335,42 +468,45 @@ fn keeper_thread<
     }
 }
 
-fn keep<R: AllocGlobal + Wait + Copy, G: Gate + Drop>(
+fn keep<N: Pairs, R: AllocGlobal + Wait + Copy, G: Gate + Drop>(
     desk: u64,
     held: OwnedKeeper<R>,
-    merges: Receiver<Vec<Merge>>,
+    merges: Receiver<Vec<Merge<N>>>,
     gate: Arc<G>,
-) -> Result<Merged<R>, OfficeError>
-    requires fresh { IsDeskOf [] 0 held.texts × IsIdle held.shown }
-    ensures merged { IfOk result (λ kept. HasMerged kept.desk kept.answers.items kept.held.texts) }
+) -> Result<(Merged<R>, Vec<Source<N>>), OfficeError>
+    requires fresh { IsFresh (N.pair desk) held.texts held.shown }
+    ensures kept { IfOk result (λ kept. HasKept (N.pair kept.0.desk) (IsOneOf kept.1.items) kept.0.desk kept.0.answers.items
+        kept.0.held.texts kept.0.held.shown) }
     ensures closed { IsErrOf result OfficeError.GateClosed → G.may_close }
 {
     let (texts, shown, rt) = held.into_parts();
-    let (texts, shown, answers) = keeper_loop(&rt, desk, texts, shown, merges, &*gate)?;
+    let (texts, shown, answers, sources) = keeper_loop(&rt, desk, texts, shown, merges, &*gate)?;
     let held = OwnedKeeper { texts, shown, rt };
-    Ok(Merged {
+    let merged = Merged {
         desk,
         held,
         answers,
-    })
+    };
+    Ok((merged, sources))
 }
 
 fn worker_thread<
+    N: Pairs + Send + Sync + 'static,
     R: AllocGlobal + Threads + Wait + Copy + Send + 'static,
     G: Gate + Send + Sync + Drop + 'static,
 >(
     rt: &R,
     desks: usize,
-    bench: Bench,
+    bench: Bench<N>,
     jobs: Receiver<Job>,
     gate: Arc<G>,
-) -> Result<WorkerThread<G>, OfficeError>
+) -> Result<WorkerThread<N, G>, OfficeError>
     ensures desks { IfOk result (λ thread. thread.promise.desks ≡ desks) }
     ensures cause { IfErr result (λ e. e ≡ OfficeError.NoPlace) }
 {
     let own = *rt;
-    let work = move || -> Result<Vec<(Job, Outcome)>, OfficeError>
-        ensures { IfOk result (λ answers. All (λ a. AnswersAlone desks a.0.work a.1) answers.items)
+    let work = move || -> Result<(Vec<(Job, Outcome)>, Vec<Source<N>>), OfficeError>
+        ensures { IfOk result (λ done. All (IsAnswered desks (IsOneOf done.1.items)) done.0.items)
             × (IsErrOf result OfficeError.GateClosed → G.may_close) }
     { work(&own, desks, bench, jobs, gate) };
     let promise: OfDesks<G> = OfDesks {
@@ -383,48 +519,49 @@ fn worker_thread<
     }
 }
 
-fn work<R: AllocGlobal + Wait, G: Gate + Drop>(
+fn work<N: Pairs, R: AllocGlobal + Wait, G: Gate + Drop>(
     rt: &R,
     desks: usize,
-    bench: Bench,
+    bench: Bench<N>,
     jobs: Receiver<Job>,
     gate: Arc<G>,
-) -> Result<Vec<(Job, Outcome)>, OfficeError>
-    ensures alone { IfOk result (λ answers. All (λ a. AnswersAlone desks a.0.work a.1) answers.items) }
+) -> Result<(Vec<(Job, Outcome)>, Vec<Source<N>>), OfficeError>
+    ensures answered { IfOk result (λ done. All (IsAnswered desks (IsOneOf done.1.items)) done.0.items) }
     ensures closed { IsErrOf result OfficeError.GateClosed → G.may_close }
 {
-    let Bench { passes, keepers } = bench;
-    worker_loop(rt, desks, passes, jobs, keepers, &*gate)
+    let Bench { seats, keepers } = bench;
+    worker_loop(rt, desks, seats, jobs, keepers, &*gate)
 }
 
-fn join_workers<R: AllocGlobal + Threads, G: Gate>(
+fn join_workers<N: Pairs, R: AllocGlobal + Threads, G: Gate>(
     rt: &R,
-    workers: Vec<WorkerThread<G>>,
-) -> Result<Vec<(Job, Outcome)>, OfficeError>
-    ensures alone { (desks : ℕ) → All (λ t. t.promise.desks ≡ desks) workers.items →
-        IfOk result (λ all. All (λ a. AnswersAlone desks a.0.work a.1) all.items) }
+    workers: Vec<WorkerThread<N, G>>,
+) -> Result<(Vec<(Job, Outcome)>, Vec<Source<N>>), OfficeError>
+    ensures answered { (desks : ℕ) → All (λ t. t.promise.desks ≡ desks) workers.items →
+        IfOk result (λ all. All (IsAnswered desks (IsOneOf all.1.items)) all.0.items) }
     ensures closed { IsErrOf result OfficeError.GateClosed → G.may_close }
 {
-    let mut all = Ok(Vec::new(rt.alloc()));
+    let mut all = Ok((Vec::new(rt.alloc()), Vec::new(rt.alloc())));
     for worker in workers {
         all = with_answers(all, worker.join(rt));
     }
     all
 }
 
-fn with_answers(
-    all: Result<Vec<(Job, Outcome)>, OfficeError>,
-    more: Result<Vec<(Job, Outcome)>, OfficeError>,
-) -> Result<Vec<(Job, Outcome)>, OfficeError>
-    ensures alone { (desks : ℕ) → IfOk all (λ v. All (λ a. AnswersAlone desks a.0.work a.1) v.items) →
-        IfOk more (λ v. All (λ a. AnswersAlone desks a.0.work a.1) v.items) →
-        IfOk result (λ v. All (λ a. AnswersAlone desks a.0.work a.1) v.items) }
+fn with_answers<N: Pairs>(
+    all: Result<(Vec<(Job, Outcome)>, Vec<Source<N>>), OfficeError>,
+    more: Result<(Vec<(Job, Outcome)>, Vec<Source<N>>), OfficeError>,
+) -> Result<(Vec<(Job, Outcome)>, Vec<Source<N>>), OfficeError>
+    ensures answered { (desks : ℕ) → IfOk all (λ v. All (IsAnswered desks (IsOneOf v.1.items)) v.0.items) →
+        IfOk more (λ v. All (IsAnswered desks (IsOneOf v.1.items)) v.0.items) →
+        IfOk result (λ v. All (IsAnswered desks (IsOneOf v.1.items)) v.0.items) }
     ensures closed { IsErrOf result OfficeError.GateClosed → IsErrOf all OfficeError.GateClosed ⊎ IsErrOf more OfficeError.GateClosed }
 {
     match (all, more) {
-        (Ok(mut all), Ok(mut more)) => {
-            all.append(&mut more)?;
-            Ok(all)
+        (Ok((mut answers, mut sources)), Ok((mut more, mut others))) => {
+            answers.append(&mut more)?;
+            sources.append(&mut others)?;
+            Ok((answers, sources))
         }
         (Err(one), Err(other)) => Err(one.or(other)),
         (Err(error), Ok(_)) => Err(error),
@@ -432,49 +569,42 @@ fn with_answers(
     }
 }
 
-fn join_keepers<R: AllocGlobal + Threads + Wait + Copy, G: Gate>(
+fn join_keepers<N: Pairs, R: AllocGlobal + Threads + Wait + Copy, G: Gate>(
     rt: &R,
-    keepers: Vec<KeeperThread<R, G>>,
-) -> Result<Vec<Merged<R>>, OfficeError>
-    ensures kept { IfOk result (λ all. All (λ k. HasMerged k.desk k.answers.items k.held.texts) all.items) }
+    keepers: Vec<KeeperThread<N, R, G>>,
+) -> Result<(Vec<Merged<R>>, Vec<Source<N>>), OfficeError>
+    ensures kept { IfOk result (λ all. All (λ k. HasKept (N.pair k.desk) (IsOneOf all.1.items) k.desk k.answers.items
+        k.held.texts k.held.shown) all.0.items) }
     ensures closed { IsErrOf result OfficeError.GateClosed → G.may_close }
 {
-    let mut all = Ok(Vec::new(rt.alloc()));
+    let mut all = Ok((Vec::new(rt.alloc()), Vec::new(rt.alloc())));
     for keeper in keepers {
         all = with_kept(all, keeper.join(rt));
     }
     all
 }
 
-fn with_kept<R: AllocGlobal + Wait + Copy>(
-    all: Result<Vec<Merged<R>>, OfficeError>,
-    more: Result<Merged<R>, OfficeError>,
-) -> Result<Vec<Merged<R>>, OfficeError>
-    ensures kept { IfOk all (λ v. All (λ k. HasMerged k.desk k.answers.items k.held.texts) v.items) →
-        IfOk more (λ k. HasMerged k.desk k.answers.items k.held.texts) →
-        IfOk result (λ v. All (λ k. HasMerged k.desk k.answers.items k.held.texts) v.items) }
+fn with_kept<N: Pairs, R: AllocGlobal + Wait + Copy>(
+    all: Result<(Vec<Merged<R>>, Vec<Source<N>>), OfficeError>,
+    more: Result<(Merged<R>, Vec<Source<N>>), OfficeError>,
+) -> Result<(Vec<Merged<R>>, Vec<Source<N>>), OfficeError>
+    ensures kept { IfOk all (λ v. All (λ k. HasKept (N.pair k.desk) (IsOneOf v.1.items) k.desk k.answers.items
+        k.held.texts k.held.shown) v.0.items) →
+        IfOk more (λ k. HasKept (N.pair k.0.desk) (IsOneOf k.1.items) k.0.desk k.0.answers.items k.0.held.texts k.0.held.shown) →
+        IfOk result (λ v. All (λ k. HasKept (N.pair k.desk) (IsOneOf v.1.items) k.desk k.answers.items
+        k.held.texts k.held.shown) v.0.items) }
     ensures closed { IsErrOf result OfficeError.GateClosed → IsErrOf all OfficeError.GateClosed ⊎ IsErrOf more OfficeError.GateClosed }
 {
     match all {
-        Ok(mut all) => {
-            let more = more?;
-            all.push(more)?;
-            Ok(all)
+        Ok((mut kept, mut sources)) => {
+            let (one, mut others) = more?;
+            sources.append(&mut others)?;
+            kept.push(one)?;
+            Ok((kept, sources))
         }
         Err(error) => match more {
             Ok(_) => Err(error),
             Err(other) => Err(error.or(other)),
         },
-    }
-}
-
-/// Why an office ends, where a running desk refused.
-pub(crate) fn live_error(refused: LiveError) -> OfficeError
-    ensures { AreNoLoops result }
-{
-    match refused {
-        LiveError::NoMemory => OfficeError::NoMemory,
-        LiveError::NoPlace => OfficeError::NoPlace,
-        LiveError::BatchesSpent => OfficeError::CountSpent,
     }
 }

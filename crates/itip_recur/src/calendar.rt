@@ -49,18 +49,21 @@ impl CalendarDay {
         }
     }
 
-    /// The date so many days later. It is worked out anew only behind the first of the next month.
+    /// The date so many days later. It is worked out anew only behind the next month.
     pub(crate) fn later(&self, days: i32) -> CalendarDay
         requires positive { pos 0 <ℤ days }
         requires high { days ≤ℤ pos 37 }
         requires in_years { IsDayNumber (self.now.number +ℤ days) }
         ensures { result.number ≡ self.now.number +ℤ days }
     {
-        let left = (self.days_in_month - self.day) as i32;
-        if days <= left {
-            self.later_in_month(days as u8)
-        } else if days == left + 1 {
-            self.first_of_next_month()
+        let rest = (self.days_in_month - self.day) as i32 + 1;
+        if days < rest {
+            return self.later_in_month(days as u8);
+        }
+        let first = self.first_of_next_month();
+        let more = days - rest;
+        if more < first.days_in_month as i32 {
+            first.later_in_month(more as u8)
         } else {
             CalendarDay::new(self.number + days)
         }
@@ -82,7 +85,8 @@ impl CalendarDay {
 
     fn first_of_next_month(&self) -> CalendarDay
         requires in_years { IsDayNumber (self.now.number +ℤ pos (self.now.days_in_month + 1 - self.now.day)) }
-        ensures { result.number ≡ self.now.number +ℤ pos (self.now.days_in_month + 1 - self.now.day) }
+        ensures number { result.number ≡ self.now.number +ℤ pos (self.now.days_in_month + 1 - self.now.day) }
+        ensures first { result.day ≡ 1 }
     {
         let days = self.days_in_month + 1 - self.day;
         let (year, month) = month_behind(self.year, self.month);

@@ -74,6 +74,19 @@ module _ (part kept all : List Item) (are : AreKept kept all) where
   pub kept_through : AreKept part kept → AreKept part all
   kept_through is = are_kept_by part kept all (kept_again kept all are) is
 
+-- a state of items that have the rows of what is kept has those of all that was heard
+module _ (state items kept all : List Item) (of_items : AreKept state items) (are : AreKept kept all) where
+  pub rows_of_items : (window : Window) → ((row : Row) → IsRow items window row ↔ IsRow kept window row) → HasRowsOf state all window
+  rows_of_items window same = rows_through state kept all are window (λ row.
+      let own = rows_through state state items of_items window (λ r. (λ h. h, λ h. h)) row in
+      (λ h. (same row).0 (own.0 h), λ h. own.1 ((same row).1 h)))
+
+  pub rows_for_of_items : (address : List ℕ) → ((window : Window) (row : Row) → Shows address row →
+      IsRow items window row ↔ IsRow kept window row) → HasRowsFor address state all
+  rows_for_of_items address same = rows_for_through state kept all are address (λ window row shows.
+      let own = rows_for_through state state items of_items address (λ w r s. (λ h. h, λ h. h)) window row shows in
+      (λ h. (same window row shows).0 (own.0 h), λ h. own.1 ((same window row shows).1 h)))
+
 one_uid : (uid other : List ℕ) → Contains (uid ∷ []) other → uid ≡ other
 one_uid uid other h = elim (cons_cases uid [] other h) [ inl same ↦ same | inr none ↦ absurd (none_in other none) ]
 

@@ -17,7 +17,7 @@ ghost use Rattle.itip_items.specs.contracts.item.Item as item;
 
 use crate::error::PassError;
 use crate::front::Front;
-use crate::outside::{rows_for, rows_in, text_for, text_in};
+use crate::outside::{rows_for, rows_in, state_of, text_for, text_in};
 use crate::pair_protocol::PublishedReading;
 use crate::read_end::ReadEnd;
 use itip_desk::{Batch, Desk};
@@ -187,30 +187,36 @@ impl Look {
         }
     }
 
-    /// A part of the desk that has the rows of a window, each item shared.
+    /// What is kept of the items that the rows of a window are made of. In the read they are shared, and behind it put in order.
     fn part_in(self, window: Window) -> (ReadEnd, Result<State, PassError>)
         ensures rows { IfOk result.1 (λ part. HasRowsOf part (heard (reader_seen result.0)) window) }
         ensures cause { IfErr result.1 (λ e. e ≡ PassError.NoListMemory) }
         ensures end { result.0.front.seen ≡ self.front.seen }
     {
-        let part = self.desk().part_in(window);
+        let items = self.desk().items_in(window);
         let end = self.close();
-        match part {
-            Ok(part) => (end, Ok(part)),
+        match items {
+            Ok(items) => {
+                let part = state_of(end.alloc, &items);
+                (end, part)
+            }
             Err(_) => (end, Err(PassError::NoListMemory)),
         }
     }
 
-    /// A part of the desk that has the rows that show the attendee of an address, each item shared.
+    /// What is kept of the items that the rows are made of that show the attendee of an address, taken as those of a window are.
     fn part_naming(self, address: &str) -> (ReadEnd, Result<State, PassError>)
         ensures rows { IfOk result.1 (λ part. HasRowsFor address.now part (heard (reader_seen result.0))) }
         ensures cause { IfErr result.1 (λ e. e ≡ PassError.NoListMemory) }
         ensures end { result.0.front.seen ≡ self.front.seen }
     {
-        let part = self.desk().part_naming(address);
+        let items = self.desk().items_naming(address);
         let end = self.close();
-        match part {
-            Ok(part) => (end, Ok(part)),
+        match items {
+            Ok(items) => {
+                let part = state_of(end.alloc, &items);
+                (end, part)
+            }
             Err(_) => (end, Err(PassError::NoListMemory)),
         }
     }

@@ -1,14 +1,26 @@
-//! What is made of a part of a desk, once the read is over.
-ghost use Rattle.std.specs.Prelude.{◌≡◌, ◌≤◌, length, IfOk, IsErrOf};
+//! What is made of the items of a desk, once the read is over.
+ghost use Rattle.std.specs.Prelude.{◌≡◌, ◌≤◌, length, IfOk, IfErr, IsErrOf};
+ghost use Rattle.itip_state.specs.Kept.{AreKept};
 ghost use Rattle.itip_view.specs.ByUid.{IsTextLeft, AreTooManyLeft};
 ghost use Rattle.itip_view.specs.ListText.{IsListText};
 ghost use Rattle.itip_view.specs.Rows.{AreRows, AreTooMany, row_limit};
 ghost use Rattle.itip_view.specs.Showing.{Shows, AreRowsWhere, AreTooManyWhere, IsListTextFor};
 
 use crate::error::PassError;
-use itip_state::State;
+use itip_state::{SharedItem, State};
 use itip_view::{Row, RowCount, RowsByUid, Wanted, Window, rows};
 use std::alloc::Global;
+
+/// The state of items.
+pub(crate) fn state_of(alloc: Global, items: &[SharedItem]) -> Result<State, PassError>
+    ensures kept { IfOk result (λ state. AreKept state items.now) }
+    ensures cause { IfErr result (λ e. e ≡ PassError.NoListMemory) }
+{
+    match State::of_shared(alloc, items) {
+        Ok(state) => Ok(state),
+        Err(_) => Err(PassError::NoListMemory),
+    }
+}
 
 /// The text of the rows of a state in a window. Beside the text the rows of one UID are held.
 pub(crate) fn text_in(alloc: Global, state: &State, window: Window) -> Result<Vec<u8>, PassError>

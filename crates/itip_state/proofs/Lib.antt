@@ -21,7 +21,7 @@ pub mod News
 pub mod Nothing
 pub mod Ordered
 pub mod Reading
-pub mod Parting
+pub mod Listing
 pub mod Sharing
 pub mod Finding
 pub mod OfKey

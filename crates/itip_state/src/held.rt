@@ -105,19 +105,6 @@ impl Held {
         self.map.replace(uid, held);
     }
 
-    /// Puts in a copy of what another map holds of a UID. A refusal (out of memory) changes nothing.
-    pub(crate) fn put(&mut self, uid: &Uid, series: &HeldOfUid) -> Result<(), NoMemory>
-        ensures put { OnOk result ((q : List ℕ)
-            → at self.new q ≡ cond (is_eq (slice_cmp nat_cmp uid.now q)) (Some (uid_state series.now)) (at self.old q)) }
-        ensures ordered { OnOk result (AreOrdered self.new) }
-    {
-        let copy = series.copy()?;
-        let name = uid.clone()?;
-        self.due.remove(uid);
-        self.map.insert(name, copy)?;
-        Ok(())
-    }
-
     /// Takes out what is held of a UID. It takes no memory.
     pub(crate) fn remove(&mut self, uid: &Uid)
         ensures without { (q : List ℕ) → at self.new q ≡ cond (is_eq (slice_cmp nat_cmp uid.now q)) None (at self.old q) }

@@ -114,6 +114,18 @@ impl State {
         Ok(State { alloc, held })
     }
 
+    /// What is kept of these items, shared with whoever has them. Of no item it takes no memory.
+    pub fn of_shared(alloc: Global, items: &[SharedItem]) -> Result<State, NoMemory>
+        ensures kept { IfOk result (λ state. AreKept state items.now) }
+        ensures succeeds { items.now ≡ [] → IsOk result }
+    {
+        let mut kept = Held::empty(alloc);
+        for item in items {
+            hear(&mut kept, item)?;
+        }
+        Ok(State { alloc, held: kept })
+    }
+
     /// Those of these items that are news: that this state doesn't tell already, and that are not dead beside it.
     ///
     /// Where none of them is news, no memory is asked for, and the answer is Ok.
@@ -180,25 +192,6 @@ impl State {
         ensures err { OnErr result (self.new ≡ self.old) }
     {
         self.held.join(&other.held)
-    }
-
-    /// The kept items of these UIDs, each shared with this state. Each UID is looked up, and what is kept of it shared,
-    /// as often as it is named; no other is looked at. Where nothing is kept of them, no memory is asked for, and the answer is Ok.
-    pub fn part(&self, uids: &[&Uid]) -> Result<State, NoMemory>
-        ensures part { IfOk result (λ part. ArePartOf part self.now (map (λ uid. uid.now) uids.now)) }
-        ensures succeeds { ArePartOf [] self.now (map (λ uid. uid.now) uids.now) → IsOk result }
-    {
-        let mut held = Held::empty(self.alloc);
-        for uid in uids {
-            let Some(series) = self.held.get(uid) else {
-                continue;
-            };
-            held.put(uid, series)?;
-        }
-        Ok(State {
-            alloc: self.alloc,
-            held,
-        })
     }
 
     /// The kept items of these UIDs, shared with this state, in no particular order, and perhaps more than once. Each

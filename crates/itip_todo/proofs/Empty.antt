@@ -1,5 +1,5 @@
 -- The draft of no line.
-use Rattle.std.proofs.Common.{false, ◌≡◌, List, [], refl, sym, ap, subst, arith, None, Vec, Global}
+use Rattle.std.proofs.Common.{false, ◌≡◌, List, [], refl, sym, ap, subst, arith, None}
 use Rattle.std.specs.BTreeMap.{is_at}
 use Rattle.std.specs.BTreeSet.{BTreeSet}
 use Rattle.std.specs.Cmp.Lexicographic.{slice_cmp}
@@ -29,9 +29,9 @@ no_attendee attendees keys e f =
       keys = λ key. ap (λ (ks : List (List ℕ)). list_any (is_at (slice_cmp nat_cmp key)) ks) f;
     }
 
-pub empty_draft : (attendees : List Property) (keys : BTreeSet (List ℕ)) (rule : Vec (List ℕ) Global)
-    (rdates exdates : BTreeSet Moment) (others : Vec Line Global)
-    → attendees ≡ [] → keys.keys ≡ [] → rule.items ≡ [] → rdates.keys ≡ [] → exdates.keys ≡ [] → others.items ≡ [] →
+pub empty_draft : (attendees : List Property) (keys : BTreeSet (List ℕ)) (rule : List (List ℕ))
+    (rdates exdates : BTreeSet Moment) (others : List Line)
+    → attendees ≡ [] → keys.keys ≡ [] → rule ≡ [] → rdates.keys ≡ [] → exdates.keys ≡ [] → others ≡ [] →
     (p : PropertyName)
     → Holds (record {
       uid = None;

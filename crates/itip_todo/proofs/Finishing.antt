@@ -8,11 +8,9 @@ use Rattle.std.specs.List.Sorted.{IsStrictlySortedBy}
 use Rattle.std.specs.Option.{is_some}
 use Rattle.std.specs.Prelude.{◌↔◌, codes, unwrap_or, IsTrue}
 use Rattle.std.proofs.lemmas.List.{length-map}
-use Rattle.itip_lines.specs.Joining.{IsOneLine}
 use Rattle.itip_lines.specs.Lawful as line
 use Rattle.itip_lines.specs.declared.line.Line.{Line}
 use Rattle.itip_lines.specs.declared.line.Param.{Param}
-use Rattle.itip_lines.proofs.Joined.{one_value}
 use Rattle.itip_lines.proofs.LawfulLemmas.{lawful_without_params}
 use Rattle.itip_moment.specs.Order.{moment_cmp}
 use Rattle.itip_moment.specs.declared.moment.Moment.{Moment}
@@ -316,15 +314,6 @@ lawful_draft lines d is = λ uid stamp known stamped rdates exdates.
       values = subst (λ (ps : List Property). AllByRecursion HasValue ps) (is name.Attendee).whole (is name.Attendee).values;
       distinct = (is name.Attendee).distinct;
     })
-
--- the values of lines have no line feed
-one_lines : (lines : List Line) → AllByRecursion IsOneLine (map value_of lines)
-one_lines [] = tt
-one_lines (line ∷ lines) = (one_value line.value line.lawful.octets line.lawful.utf8, one_lines lines)
-
-pub unbroken_draft : (lines : List Line) (d : Draft) → IsDraftOf (lines_of lines) d → AllByRecursion IsOneLine d.rule.items
-unbroken_draft lines d is =
-    subst (λ (texts : List (List ℕ)). AllByRecursion IsOneLine texts) (sym (is name.RRule)) (one_lines (lines_of lines name.RRule))
 
 -- a line is there where a value is read, and none where none is
 pub is_there : {A : Type 0} (P : Line → A → Type 0) (line : Option Line) (value : A) → IsOptional P line (Some value) → line ≢ None

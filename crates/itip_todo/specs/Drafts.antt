@@ -73,10 +73,10 @@ Holds draft name.Priority lines = IsOptional IsPriorityOf (first_of lines) draft
 Holds draft name.Summary lines = IsOptional IsPropertyOf (first_of lines) draft.summary
 Holds draft name.Organizer lines = IsOptional IsOrganizerOf (first_of lines) draft.organizer
 Holds draft name.Attendee lines = HoldsAttendees lines draft.attendees draft.keys
-Holds draft name.RRule lines = draft.rule.items ≡ map value_of lines
+Holds draft name.RRule lines = draft.rule ≡ map value_of lines
 Holds draft name.RDate lines = IsSetOf lines draft.rdates
 Holds draft name.ExDate lines = IsSetOf lines draft.exdates
-Holds draft name.Others lines = draft.others.items ≡ lines
+Holds draft name.Others lines = draft.others ≡ lines
 
 -- what a draft holds, where these lines of each property stand above
 abbrev pub IsDraftOf : (PropertyName → List Line) → Draft → Type 0
@@ -112,10 +112,10 @@ draft_parts uid stamp draft = record {
   summary = draft.summary;
   organizer = draft.organizer;
   attendees = draft.attendees;
-  rule = draft.rule.items;
+  rule = draft.rule;
   rdates = draft.rdates.keys;
   exdates = draft.exdates.keys;
-  others = draft.others.items;
+  others = draft.others;
 }
 
 -- the to-do of a draft is lawful

@@ -12,11 +12,15 @@ use crate::single::{
     add_base, add_due, add_organizer, add_percent, add_priority, add_rid, add_seq, add_stamp,
     add_start, add_status, add_summary, add_uid,
 };
-use itip_lines::Line;
+use itip_lines::SeenLine;
 use std::alloc::Global;
 
 /// Takes one more line.
-pub(crate) fn add_line(alloc: Global, draft: &mut Draft, line: &Line) -> Result<(), CauseError>
+pub(crate) fn add_line(
+    alloc: Global,
+    draft: &mut Draft,
+    line: &SeenLine<'_>,
+) -> Result<(), CauseError>
     ensures taken { OnOk result (Takes (property_of line.now) line.now draft.old draft.new) }
     ensures cause { IfErr result (λ e. IfCause e (Refuses (property_of line.now) line.now draft.old)) }
 {

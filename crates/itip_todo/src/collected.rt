@@ -6,7 +6,7 @@ ghost use Rattle.itip_todo.specs.Places.{property_at, IsPlaceIn};
 
 use crate::place::{Place, append};
 use crate::property::Property;
-use itip_lines::{Bytes, ListOf, NoMemory, Params};
+use itip_lines::{Bytes, ListOf, NoMemory, SeenLine};
 use std::alloc::Global;
 use std::marker::Model;
 use std::sync::Arc;
@@ -53,11 +53,11 @@ impl Collected {
         self.places.len()
     }
 
-    /// Adds a value with its parameters.
-    pub(crate) fn push(&mut self, params: &Params, value: &str) -> Result<(), NoMemory>
-        ensures { OnOk result (self.new ≡ self.old ++ record { params = params.now; value = value.now } ∷ []) }
+    /// Adds the value of a line with its parameters.
+    pub(crate) fn push(&mut self, line: &SeenLine<'_>) -> Result<(), NoMemory>
+        ensures { OnOk result (self.new ≡ self.old ++ record { params = line.now.params; value = line.now.value } ∷ []) }
     {
-        let place = append(params.as_str(), value, &mut self.text)?;
+        let place = append(line.params(), line.value(), &mut self.text)?;
         self.places.push(place)?;
         Ok(())
     }

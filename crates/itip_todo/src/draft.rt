@@ -5,7 +5,7 @@ use crate::collected::Collected;
 use crate::property::Property;
 use crate::status::Status;
 use crate::uid::Uid;
-use itip_lines::{Line, Text};
+use itip_lines::{LineList, Text, TextList};
 use itip_moment::{Moment, Stamp};
 use std::alloc::Global;
 use std::collections::BTreeSet;
@@ -29,10 +29,10 @@ pub(crate) struct Draft {
     pub attendees: Collected,
     /// The keys of the attendees.
     pub keys: BTreeSet<Text>,
-    pub rule: Vec<Text>,
+    pub rule: TextList,
     pub rdates: BTreeSet<Moment>,
     pub exdates: BTreeSet<Moment>,
-    pub others: Vec<Line>,
+    pub others: LineList,
 }
 
 impl Draft {
@@ -61,10 +61,10 @@ impl Draft {
             organizer: None,
             attendees: Collected::new(alloc),
             keys: BTreeSet::new(alloc),
-            rule: Vec::new(alloc),
+            rule: TextList::new(alloc),
             rdates: BTreeSet::new(alloc),
             exdates: BTreeSet::new(alloc),
-            others: Vec::new(alloc),
+            others: LineList::new(alloc),
         }
     }
 }

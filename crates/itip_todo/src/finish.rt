@@ -2,8 +2,6 @@
 ghost use Rattle.std.specs.Prelude.{◌≡◌, [], ℕ, List, None, Some, IfOk, OnOk, IfErr};
 ghost use Rattle.itip_todo.specs.declared.property_name.PropertyName.TheVariants as name;
 ghost use Rattle.std.specs.BTreeSet.{IsOrdered};
-ghost use Rattle.std.specs.List.{AllByRecursion};
-ghost use Rattle.itip_lines.specs.Joining.{IsOneLine};
 ghost use Rattle.itip_lines.specs.declared.line.Line.{Line};
 ghost use Rattle.itip_moment.specs.Order.{moment_cmp};
 ghost use Rattle.itip_todo.specs.Drafts.{IsDraftOf, IsLawfulDraft};
@@ -16,7 +14,7 @@ use crate::property::Property;
 use crate::property_name::PropertyName;
 use crate::todo::Todo;
 use crate::uid::Uid;
-use itip_lines::{Line, LineList, ListOf, NoMemory, Text, TextList};
+use itip_lines::{LineList, ListOf, NoMemory, TextList};
 use itip_moment::{Moment, Stamp};
 use std::alloc::Global;
 use std::collections::BTreeSet;
@@ -24,7 +22,6 @@ use std::collections::BTreeSet;
 /// The to-do of the lines.
 pub(crate) fn finish(alloc: Global, draft: Draft) -> Result<Todo, TodoError>
     requires lawful { IsLawfulDraft draft }
-    requires rule { AllByRecursion IsOneLine draft.rule.items }
     ensures found { IfOk result (λ todo. (lines : List Line) → AreGood [] lines → IsDraftOf (lines_of lines) draft → ReadsTodo lines todo) }
     ensures refused { IfErr result (λ e. IfRefused e (λ refusal. (lines : List Line)
         → AreGood [] lines → IsDraftOf (lines_of lines) draft → LacksProperty lines refusal)) }
@@ -36,8 +33,8 @@ pub(crate) fn finish(alloc: Global, draft: Draft) -> Result<Todo, TodoError>
         draft.attendees,
         draft.rdates,
         draft.exdates,
-        draft.rule.as_slice(),
-        draft.others.as_slice(),
+        draft.rule,
+        draft.others,
     )?;
     Ok(Todo {
         uid: needed.uid,
@@ -80,17 +77,16 @@ fn values_of(
     attendees: Collected,
     rdates: BTreeSet<Moment>,
     exdates: BTreeSet<Moment>,
-    rule: &[Text],
-    others: &[Line],
+    rule: TextList,
+    others: LineList,
 ) -> Result<Needed, TodoError>
-    requires { AllByRecursion IsOneLine rule.now }
     ensures uid { IfOk result (λ needed. uid ≡ Some needed.uid) }
     ensures stamp { IfOk result (λ needed. stamp ≡ Some needed.stamp) }
     ensures attendees { IfOk result (λ needed. needed.attendees ≡ attendees) }
     ensures rdates { IfOk result (λ needed. needed.rdates ≡ rdates.keys) }
     ensures exdates { IfOk result (λ needed. needed.exdates ≡ exdates.keys) }
-    ensures rule { IfOk result (λ needed. needed.rule ≡ rule.now) }
-    ensures others { IfOk result (λ needed. needed.others ≡ others.now) }
+    ensures rule { IfOk result (λ needed. needed.rule ≡ rule) }
+    ensures others { IfOk result (λ needed. needed.others ≡ others) }
     ensures ordered { OnOk result (IsOrdered moment_cmp rdates × IsOrdered moment_cmp exdates) }
     ensures no_uid { IfErr result (λ e. uid ≡ None → IfRefused e (λ refusal. refusal ≡ missing name.Uid)) }
     ensures no_stamp { IfErr result (λ e. (text : List ℕ) → uid ≡ Some text
@@ -101,8 +97,8 @@ fn values_of(
     let attendees = attendees.into_list(alloc)?;
     let rdates = sorted_moments(alloc, rdates)?;
     let exdates = sorted_moments(alloc, exdates)?;
-    let rule = TextList::copy(alloc, rule)?;
-    let others = LineList::copy(alloc, others)?;
+    let rule = rule.exact();
+    let others = others.exact();
     Ok(Needed {
         uid,
         stamp,

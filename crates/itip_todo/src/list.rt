@@ -15,59 +15,69 @@ use crate::draft::Draft;
 use crate::error::{CauseError, TodoCause};
 use crate::property_name::PropertyName;
 use crate::values::bad_value;
-use itip_lines::Line;
+use itip_lines::SeenLine;
 use itip_moment::{Moment, ZoneName, read_moment_in};
 use std::alloc::Global;
 use std::collections::BTreeSet;
 
 const ATTENDEE_LIMIT: usize = 2_000;
 
-pub(crate) fn add_attendee(alloc: Global, draft: &mut Draft, line: &Line) -> Result<(), CauseError>
+pub(crate) fn add_attendee(
+    alloc: Global,
+    draft: &mut Draft,
+    line: &SeenLine<'_>,
+) -> Result<(), CauseError>
     ensures taken { OnOk result (Takes name.Attendee line.now draft.old draft.new) }
     ensures cause { IfErr result (λ e. IfCause e (Refuses name.Attendee line.now draft.old)) }
 {
-    if line.value.as_str().is_empty() {
+    if line.value().is_empty() {
         return Err(bad_value(PropertyName::Attendee));
     }
     if draft.attendees.len() >= ATTENDEE_LIMIT {
         return Err(CauseError::Cause(TodoCause::TooMany));
     }
-    let key = attendee_key(alloc, line.value.as_str())?;
+    let key = attendee_key(alloc, line.value())?;
     if !draft.keys.insert(key)? {
         return Err(CauseError::Cause(TodoCause::SameAttendee));
     }
-    draft.attendees.push(&line.params, line.value.as_str())?;
+    draft.attendees.push(line)?;
     Ok(())
 }
 
-pub(crate) fn add_rule(draft: &mut Draft, line: &Line) -> Result<(), CauseError>
+pub(crate) fn add_rule(draft: &mut Draft, line: &SeenLine<'_>) -> Result<(), CauseError>
     ensures taken { OnOk result (Takes name.RRule line.now draft.old draft.new) }
     ensures cause { IfErr result (λ e. IfCause e (Refuses name.RRule line.now draft.old)) }
 {
-    let value = line.value.clone()?;
-    draft.rule.push(value)?;
+    draft.rule.push(line.value())?;
     Ok(())
 }
 
-pub(crate) fn add_rdate(alloc: Global, draft: &mut Draft, line: &Line) -> Result<(), CauseError>
+pub(crate) fn add_rdate(
+    alloc: Global,
+    draft: &mut Draft,
+    line: &SeenLine<'_>,
+) -> Result<(), CauseError>
     ensures taken { OnOk result (Takes name.RDate line.now draft.old draft.new) }
     ensures cause { IfErr result (λ e. IfCause e (Refuses name.RDate line.now draft.old)) }
 {
     put_moments(alloc, PropertyName::RDate, line, &mut draft.rdates)
 }
 
-pub(crate) fn add_exdate(alloc: Global, draft: &mut Draft, line: &Line) -> Result<(), CauseError>
+pub(crate) fn add_exdate(
+    alloc: Global,
+    draft: &mut Draft,
+    line: &SeenLine<'_>,
+) -> Result<(), CauseError>
     ensures taken { OnOk result (Takes name.ExDate line.now draft.old draft.new) }
     ensures cause { IfErr result (λ e. IfCause e (Refuses name.ExDate line.now draft.old)) }
 {
     put_moments(alloc, PropertyName::ExDate, line, &mut draft.exdates)
 }
 
-pub(crate) fn add_other(draft: &mut Draft, line: &Line) -> Result<(), CauseError>
+pub(crate) fn add_other(draft: &mut Draft, line: &SeenLine<'_>) -> Result<(), CauseError>
     ensures taken { OnOk result (Takes name.Others line.now draft.old draft.new) }
     ensures cause { IfErr result (λ e. IfCause e (Refuses name.Others line.now draft.old)) }
 {
-    let line = line.clone()?;
     draft.others.push(line)?;
     Ok(())
 }
@@ -76,14 +86,14 @@ pub(crate) fn add_other(draft: &mut Draft, line: &Line) -> Result<(), CauseError
 fn put_moments(
     alloc: Global,
     property: PropertyName,
-    line: &Line,
+    line: &SeenLine<'_>,
     set: &mut BTreeSet<Moment>,
 ) -> Result<(), CauseError>
     ensures put { OnOk result (PutsMoments line.now.params line.now.value set.old set.new) }
     ensures cause { IfErr result (λ e. IfCause e (λ c.
         (c ≡ cause.BadValue property) × ((ms : List Moment) → AreMoments line.now.params line.now.value ms → ⊥))) }
 {
-    let tzid = line.params.first_value("TZID");
+    let tzid = line.first_value("TZID");
     let zone = ZoneName::new(alloc, tzid)?;
     let put = put_in_zone(property, line, zone.as_ref(), set);
     // By a call: what is dropped in place is proved anew.
@@ -94,7 +104,7 @@ fn put_moments(
 /// Puts the moments of a line into a set, in the zone that its parameters name; where the value is bad, perhaps a part of them.
 fn put_in_zone(
     property: PropertyName,
-    line: &Line,
+    line: &SeenLine<'_>,
     zone: Option<&ZoneName>,
     set: &mut BTreeSet<Moment>,
 ) -> Result<(), CauseError>
@@ -103,7 +113,7 @@ fn put_in_zone(
     ensures cause { IfErr result (λ e. IfCause e (λ c.
         (c ≡ cause.BadValue property) × ((ms : List Moment) → AreMoments line.now.params line.now.value ms → ⊥))) }
 {
-    let mut rest = line.value.as_str();
+    let mut rest = line.value();
     while let Some((front, after)) = cut_comma(rest) {
         put_moment(property, front, zone, set)?;
         rest = after;

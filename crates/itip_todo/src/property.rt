@@ -13,7 +13,7 @@ ghost use Rattle.itip_todo.specs.Places.{property_at, IsPlaceIn};
 ghost use Rattle.itip_todo.specs.Properties.{property_text};
 
 use crate::place::{Place, append};
-use itip_lines::{Bytes, NoMemory, Params, param_value};
+use itip_lines::{Bytes, NoMemory, Params, SeenLine, param_value};
 use std::alloc::Global;
 use std::fmt;
 use std::marker::Model;
@@ -52,6 +52,13 @@ impl Property {
         ensures { IfOk result (λ property. property ≡ record { params = params.now; value = value.now }) }
     {
         copied(alloc, params.as_str(), value)
+    }
+
+    /// The value of a line with its parameters, in memory of its own, as [`Property::new`] gives them.
+    pub(crate) fn of_line(alloc: Global, line: &SeenLine<'_>) -> Result<Property, NoMemory>
+        ensures { IfOk result (λ property. property ≡ record { params = line.now.params; value = line.now.value }) }
+    {
+        copied(alloc, line.params(), line.value())
     }
 
     /// The same property, in memory of its own: it keeps no text of others.

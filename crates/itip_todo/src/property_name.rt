@@ -2,7 +2,7 @@ ghost use Rattle.std.specs.Prelude.{◌≡◌, ◌==◌};
 ghost use Rattle.std.specs.List.{list_any};
 ghost use Rattle.itip_todo.specs.Table.{has_period};
 
-use itip_lines::{Line, LineList};
+use itip_lines::{LineList, SeenLine};
 use std::fmt;
 
 /// The properties of a to-do that are told apart by name, in canonical order (RFC 5545 3.8; `X-DESK-BASE` is our own).
@@ -34,11 +34,11 @@ impl PropertyName {
 
     /// The property that a line is read as. RDATE with a `/` in its value is one of the others (our own rule).
     #[tactic(auto, unfolding(crate::specs::Table::property_of))]
-    pub fn of_line(line: &Line) -> PropertyName
+    pub fn of_line(line: &SeenLine<'_>) -> PropertyName
         ensures { result ≡ property_of line.now }
     {
-        let property = PropertyName::named(line.name.as_str());
-        if property == PropertyName::RDate && has_slash(line.value.as_str()) {
+        let property = PropertyName::named(line.name());
+        if property == PropertyName::RDate && has_slash(line.value()) {
             return PropertyName::Others;
         }
         property

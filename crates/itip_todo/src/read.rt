@@ -19,7 +19,7 @@ use std::alloc::Global;
 /// then a bad value, then too many attendees, then two of one address. After the lines UID and then DTSTAMP may be
 /// missing, which is in no line. Of RANGE the first value of the first one counts, without regard to case; elsewhere it
 /// stands for nothing.
-pub fn read_todo(alloc: Global, lines: &[NumberedLine]) -> Result<Todo, TodoError>
+pub fn read_todo(alloc: Global, lines: &[NumberedLine<'_>]) -> Result<Todo, TodoError>
     ensures found { IfOk result (λ todo. ReadsTodo (plain_lines lines.now) todo) }
     ensures refused { IfErr result (λ e. IfRefused e (RefusesTodo lines.now)) }
 {
@@ -31,7 +31,7 @@ pub fn read_todo(alloc: Global, lines: &[NumberedLine]) -> Result<Todo, TodoErro
 }
 
 /// Takes one more line; a refusal names it as the place.
-fn add_numbered(alloc: Global, draft: &mut Draft, line: &NumberedLine) -> Result<(), TodoError>
+fn add_numbered(alloc: Global, draft: &mut Draft, line: &NumberedLine<'_>) -> Result<(), TodoError>
     ensures taken { OnOk result (Takes (property_of line.now.line) line.now.line draft.old draft.new) }
     ensures refused { IfErr result (λ e. IfRefused e (λ refusal.
         (refusal.line ≡ Some line.now.number) × Refuses (property_of line.now.line) line.now.line draft.old refusal.cause)) }

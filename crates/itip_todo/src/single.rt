@@ -10,7 +10,7 @@ use crate::draft::Draft;
 use crate::error::{CauseError, TodoCause};
 use crate::property_name::PropertyName;
 use crate::values::{moment_of, number_of, organizer_of, property_of, stamp_of, status_of, uid_of};
-use itip_lines::Line;
+use itip_lines::SeenLine;
 use std::alloc::Global;
 
 const SEQUENCE_LIMIT: u32 = 2_147_483_647;
@@ -29,7 +29,11 @@ fn check_free<T>(field: &Option<T>, property: PropertyName) -> Result<(), CauseE
     Ok(())
 }
 
-pub(crate) fn add_uid(alloc: Global, draft: &mut Draft, line: &Line) -> Result<(), CauseError>
+pub(crate) fn add_uid(
+    alloc: Global,
+    draft: &mut Draft,
+    line: &SeenLine<'_>,
+) -> Result<(), CauseError>
     ensures taken { OnOk result (Takes name.Uid line.now draft.old draft.new) }
     ensures cause { IfErr result (λ e. IfCause e (Refuses name.Uid line.now draft.old)) }
 {
@@ -38,7 +42,7 @@ pub(crate) fn add_uid(alloc: Global, draft: &mut Draft, line: &Line) -> Result<(
     Ok(())
 }
 
-pub(crate) fn add_stamp(draft: &mut Draft, line: &Line) -> Result<(), CauseError>
+pub(crate) fn add_stamp(draft: &mut Draft, line: &SeenLine<'_>) -> Result<(), CauseError>
     ensures taken { OnOk result (Takes name.DtStamp line.now draft.old draft.new) }
     ensures cause { IfErr result (λ e. IfCause e (Refuses name.DtStamp line.now draft.old)) }
 {
@@ -47,7 +51,7 @@ pub(crate) fn add_stamp(draft: &mut Draft, line: &Line) -> Result<(), CauseError
     Ok(())
 }
 
-pub(crate) fn add_seq(draft: &mut Draft, line: &Line) -> Result<(), CauseError>
+pub(crate) fn add_seq(draft: &mut Draft, line: &SeenLine<'_>) -> Result<(), CauseError>
     ensures taken { OnOk result (Takes name.Sequence line.now draft.old draft.new) }
     ensures cause { IfErr result (λ e. IfCause e (Refuses name.Sequence line.now draft.old)) }
 {
@@ -56,7 +60,7 @@ pub(crate) fn add_seq(draft: &mut Draft, line: &Line) -> Result<(), CauseError>
     Ok(())
 }
 
-pub(crate) fn add_base(draft: &mut Draft, line: &Line) -> Result<(), CauseError>
+pub(crate) fn add_base(draft: &mut Draft, line: &SeenLine<'_>) -> Result<(), CauseError>
     ensures taken { OnOk result (Takes name.DeskBase line.now draft.old draft.new) }
     ensures cause { IfErr result (λ e. IfCause e (Refuses name.DeskBase line.now draft.old)) }
 {
@@ -65,7 +69,11 @@ pub(crate) fn add_base(draft: &mut Draft, line: &Line) -> Result<(), CauseError>
     Ok(())
 }
 
-pub(crate) fn add_rid(alloc: Global, draft: &mut Draft, line: &Line) -> Result<(), CauseError>
+pub(crate) fn add_rid(
+    alloc: Global,
+    draft: &mut Draft,
+    line: &SeenLine<'_>,
+) -> Result<(), CauseError>
     ensures taken { OnOk result (Takes name.RecurrenceId line.now draft.old draft.new) }
     ensures cause { IfErr result (λ e. IfCause e (Refuses name.RecurrenceId line.now draft.old)) }
 {
@@ -76,7 +84,11 @@ pub(crate) fn add_rid(alloc: Global, draft: &mut Draft, line: &Line) -> Result<(
     Ok(())
 }
 
-pub(crate) fn add_start(alloc: Global, draft: &mut Draft, line: &Line) -> Result<(), CauseError>
+pub(crate) fn add_start(
+    alloc: Global,
+    draft: &mut Draft,
+    line: &SeenLine<'_>,
+) -> Result<(), CauseError>
     ensures taken { OnOk result (Takes name.DtStart line.now draft.old draft.new) }
     ensures cause { IfErr result (λ e. IfCause e (Refuses name.DtStart line.now draft.old)) }
 {
@@ -85,7 +97,11 @@ pub(crate) fn add_start(alloc: Global, draft: &mut Draft, line: &Line) -> Result
     Ok(())
 }
 
-pub(crate) fn add_due(alloc: Global, draft: &mut Draft, line: &Line) -> Result<(), CauseError>
+pub(crate) fn add_due(
+    alloc: Global,
+    draft: &mut Draft,
+    line: &SeenLine<'_>,
+) -> Result<(), CauseError>
     ensures taken { OnOk result (Takes name.Due line.now draft.old draft.new) }
     ensures cause { IfErr result (λ e. IfCause e (Refuses name.Due line.now draft.old)) }
 {
@@ -94,7 +110,7 @@ pub(crate) fn add_due(alloc: Global, draft: &mut Draft, line: &Line) -> Result<(
     Ok(())
 }
 
-pub(crate) fn add_status(draft: &mut Draft, line: &Line) -> Result<(), CauseError>
+pub(crate) fn add_status(draft: &mut Draft, line: &SeenLine<'_>) -> Result<(), CauseError>
     ensures taken { OnOk result (Takes name.Status line.now draft.old draft.new) }
     ensures cause { IfErr result (λ e. IfCause e (Refuses name.Status line.now draft.old)) }
 {
@@ -103,7 +119,7 @@ pub(crate) fn add_status(draft: &mut Draft, line: &Line) -> Result<(), CauseErro
     Ok(())
 }
 
-pub(crate) fn add_percent(draft: &mut Draft, line: &Line) -> Result<(), CauseError>
+pub(crate) fn add_percent(draft: &mut Draft, line: &SeenLine<'_>) -> Result<(), CauseError>
     ensures taken { OnOk result (Takes name.PercentComplete line.now draft.old draft.new) }
     ensures cause { IfErr result (λ e. IfCause e (Refuses name.PercentComplete line.now draft.old)) }
 {
@@ -113,7 +129,7 @@ pub(crate) fn add_percent(draft: &mut Draft, line: &Line) -> Result<(), CauseErr
     Ok(())
 }
 
-pub(crate) fn add_priority(draft: &mut Draft, line: &Line) -> Result<(), CauseError>
+pub(crate) fn add_priority(draft: &mut Draft, line: &SeenLine<'_>) -> Result<(), CauseError>
     ensures taken { OnOk result (Takes name.Priority line.now draft.old draft.new) }
     ensures cause { IfErr result (λ e. IfCause e (Refuses name.Priority line.now draft.old)) }
 {
@@ -123,7 +139,11 @@ pub(crate) fn add_priority(draft: &mut Draft, line: &Line) -> Result<(), CauseEr
     Ok(())
 }
 
-pub(crate) fn add_summary(alloc: Global, draft: &mut Draft, line: &Line) -> Result<(), CauseError>
+pub(crate) fn add_summary(
+    alloc: Global,
+    draft: &mut Draft,
+    line: &SeenLine<'_>,
+) -> Result<(), CauseError>
     ensures taken { OnOk result (Takes name.Summary line.now draft.old draft.new) }
     ensures cause { IfErr result (λ e. IfCause e (Refuses name.Summary line.now draft.old)) }
 {
@@ -132,7 +152,11 @@ pub(crate) fn add_summary(alloc: Global, draft: &mut Draft, line: &Line) -> Resu
     Ok(())
 }
 
-pub(crate) fn add_organizer(alloc: Global, draft: &mut Draft, line: &Line) -> Result<(), CauseError>
+pub(crate) fn add_organizer(
+    alloc: Global,
+    draft: &mut Draft,
+    line: &SeenLine<'_>,
+) -> Result<(), CauseError>
     ensures taken { OnOk result (Takes name.Organizer line.now draft.old draft.new) }
     ensures cause { IfErr result (λ e. IfCause e (Refuses name.Organizer line.now draft.old)) }
 {
@@ -142,7 +166,7 @@ pub(crate) fn add_organizer(alloc: Global, draft: &mut Draft, line: &Line) -> Re
 }
 
 /// Whether RECURRENCE-ID has a range; RANGE of another value is refused.
-fn range_of(line: &Line) -> Result<bool, CauseError>
+fn range_of(line: &SeenLine<'_>) -> Result<bool, CauseError>
     ensures range { IfOk result (λ range. range ≡ has_range line.now) }
     ensures good { OnOk result (has_bad_range name.RecurrenceId line.now ≡ false) }
     ensures cause { IfErr result (λ e. IfCause e (λ c. (c ≡ cause.Range) × (has_bad_range name.RecurrenceId line.now ≡ true))) }
@@ -150,17 +174,16 @@ fn range_of(line: &Line) -> Result<bool, CauseError>
     if has_range(line) {
         return Ok(true);
     }
-    if line.params.has("RANGE") {
+    if line.has_param("RANGE") {
         return Err(CauseError::Cause(TodoCause::Range));
     }
     Ok(false)
 }
 
 /// Whether a line has RANGE=THISANDFUTURE (RFC 5545 3.2.13).
-fn has_range(line: &Line) -> bool
+fn has_range(line: &SeenLine<'_>) -> bool
     ensures { result ≡ has_range line.now }
 {
-    line.params
-        .first_value("RANGE")
+    line.first_value("RANGE")
         .eq_ignore_ascii_case("THISANDFUTURE")
 }

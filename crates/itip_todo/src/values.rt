@@ -14,7 +14,7 @@ use crate::property::Property;
 use crate::property_name::PropertyName;
 use crate::status::Status;
 use crate::uid::Uid;
-use itip_lines::{Line, NoMemory};
+use itip_lines::{NoMemory, SeenLine};
 use itip_moment::{Moment, Stamp, read_moment, read_stamp};
 use std::alloc::Global;
 
@@ -24,34 +24,37 @@ pub(crate) fn bad_value(property: PropertyName) -> CauseError
     CauseError::Cause(TodoCause::BadValue(property))
 }
 
-pub(crate) fn uid_of(alloc: Global, line: &Line) -> Result<Uid, CauseError>
+pub(crate) fn uid_of(alloc: Global, line: &SeenLine<'_>) -> Result<Uid, CauseError>
     ensures value { IfOk result (λ uid. IsUidOf line.now uid) }
     ensures cause { IfErr result (λ e. IfCause e (λ c. (c ≡ cause.BadValue name.Uid) × (IsGoodValue name.Uid line.now → ⊥))) }
 {
-    if line.value.as_str().is_empty() {
+    if line.value().is_empty() {
         return Err(bad_value(PropertyName::Uid));
     }
-    let text = line.value.clone()?;
-    Ok(Uid::new(alloc, text)?)
+    Ok(Uid::copy(alloc, line.value())?)
 }
 
-pub(crate) fn stamp_of(line: &Line) -> Result<Stamp, CauseError>
+pub(crate) fn stamp_of(line: &SeenLine<'_>) -> Result<Stamp, CauseError>
     ensures value { IfOk result (λ stamp. IsStampOf line.now stamp) }
     ensures cause { IfErr result (λ e. IfCause e (λ c. (c ≡ cause.BadValue name.DtStamp) × (IsGoodValue name.DtStamp line.now → ⊥))) }
 {
-    match read_stamp(line.value.as_str()) {
+    match read_stamp(line.value()) {
         Some(stamp) => Ok(stamp),
         None => Err(bad_value(PropertyName::DtStamp)),
     }
 }
 
-pub(crate) fn number_of(property: PropertyName, line: &Line, limit: u32) -> Result<u32, CauseError>
+pub(crate) fn number_of(
+    property: PropertyName,
+    line: &SeenLine<'_>,
+    limit: u32,
+) -> Result<u32, CauseError>
     ensures value { IfOk result (IsNumberUpTo limit line.now.value) }
     ensures small { IfOk result (λ n. n ≤ limit) }
     ensures cause { IfErr result (λ e. IfCause e (λ c.
         (c ≡ cause.BadValue property) × ((n : ℕ) → IsNumberUpTo limit line.now.value n → ⊥))) }
 {
-    match read_number(line.value.as_str(), limit) {
+    match read_number(line.value(), limit) {
         Some(number) => Ok(number),
         None => Err(bad_value(property)),
     }
@@ -60,36 +63,36 @@ pub(crate) fn number_of(property: PropertyName, line: &Line, limit: u32) -> Resu
 pub(crate) fn moment_of(
     alloc: Global,
     property: PropertyName,
-    line: &Line,
+    line: &SeenLine<'_>,
 ) -> Result<Moment, CauseError>
     ensures value { IfOk result (λ m. IsMomentOf line.now m) }
     ensures cause { IfErr result (λ e. IfCause e (λ c. (c ≡ cause.BadValue property) × ((m : Moment) → IsMomentOf line.now m → ⊥))) }
 {
-    let zone = line.params.first_value("TZID");
-    match read_moment(alloc, line.value.as_str(), Some(zone))? {
+    let zone = line.first_value("TZID");
+    match read_moment(alloc, line.value(), Some(zone))? {
         Some(moment) => Ok(moment),
         None => Err(bad_value(property)),
     }
 }
 
-pub(crate) fn status_of(line: &Line) -> Result<Status, CauseError>
+pub(crate) fn status_of(line: &SeenLine<'_>) -> Result<Status, CauseError>
     ensures value { IfOk result (λ s. IsStatusOf line.now s) }
     ensures cause { IfErr result (λ e. IfCause e (λ c. (c ≡ cause.BadValue name.Status) × (IsGoodValue name.Status line.now → ⊥))) }
 {
-    Status::named(line.value.as_str()).ok_or(bad_value(PropertyName::Status))
+    Status::named(line.value()).ok_or(bad_value(PropertyName::Status))
 }
 
-pub(crate) fn property_of(alloc: Global, line: &Line) -> Result<Property, NoMemory>
+pub(crate) fn property_of(alloc: Global, line: &SeenLine<'_>) -> Result<Property, NoMemory>
     ensures value { IfOk result (λ property. IsPropertyOf line.now property) }
 {
-    Property::new(alloc, &line.params, line.value.as_str())
+    Property::of_line(alloc, line)
 }
 
-pub(crate) fn organizer_of(alloc: Global, line: &Line) -> Result<Property, CauseError>
+pub(crate) fn organizer_of(alloc: Global, line: &SeenLine<'_>) -> Result<Property, CauseError>
     ensures value { IfOk result (λ property. IsOrganizerOf line.now property) }
     ensures cause { IfErr result (λ e. IfCause e (λ c. (c ≡ cause.BadValue name.Organizer) × (IsGoodValue name.Organizer line.now → ⊥))) }
 {
-    if line.value.as_str().is_empty() {
+    if line.value().is_empty() {
         return Err(bad_value(PropertyName::Organizer));
     }
     Ok(property_of(alloc, line)?)

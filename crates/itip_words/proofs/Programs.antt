@@ -1,5 +1,6 @@
 -- Commands as they are built, and what `clap` reads by them.
-use Rattle.std.proofs.Common.{◌≡◌, ℕ, List, [], ◌∷◌, ◌++◌, ◌||◌, true, false, refl, sym, ap, ap₂, ◌∙◌}
+use Rattle.std.proofs.Common.{◌≡◌, ℕ, List, Result, IfOk, ◌||◌, true, false, refl, ap, ap₂, ◌∙◌}
+use Rattle.std.proofs.lemmas.Result.{IfOk-weaker}
 use Rattle.clap.specs.Built.{AddsArg, AddsSubcommand}
 use Rattle.clap.specs.Faults.{is_simple_and_free}
 use Rattle.clap.specs.Simple.{App, HasMatchesOf, Shape, app_of, app_of_fields, is_simple, subcommand_of, subcommand_rows_of}
@@ -10,16 +11,9 @@ use Rattle.clap.specs.declared.builder.command.Command.{Command}
 use Rattle.clap.specs.declared.builder.command.Command.TheOpen.{Command-F}
 use Rattle.clap.specs.declared.builder.command.Command.TheViews.{out-Command as fields_of}
 use Rattle.clap.specs.declared.parser.matches.ArgMatches.{ArgMatches}
-use Rattle.itip_words.specs.Program.{IsRule, IsWord, AddsRules, program, with_rules}
+use Rattle.itip_words.specs.Program.{IsRule, IsWord, program}
 
 -- ---- options
-
-pub adds_none : (command : Command) → AddsRules [] command command
-adds_none command = record { app_is = refl; local = λ none. none }
-
-fold_one : (rules : List Rule) (rule : Rule) (app : App) → with_rules (rules ++ rule ∷ []) app ≡ with_rule (with_rules rules app) rule
-fold_one [] rule app = refl
-fold_one (first ∷ rules) rule app = fold_one rules rule (with_rule app first)
 
 module _ (mid new : Command) (arg : Arg) (rule : Rule) (adds : AddsArg mid arg new) (is : IsRule rule arg) where
   stays_local : (fields_of mid).has_globals ≡ false → (fields_of new).has_globals ≡ false
@@ -29,23 +23,16 @@ module _ (mid new : Command) (arg : Arg) (rule : Rule) (adds : AddsArg mid arg n
   with_one = adds.shape is.local ∙ ap (with_rule (app_of mid)) is.rule_is
 
   -- one option more
-  pub adds_one : (old : Command) (rules : List Rule) → AddsRules rules old mid → AddsRules (rules ++ rule ∷ []) old new
-  adds_one old rules before = record {
-    app_is = with_one ∙ ap (λ (a : App). with_rule a rule) before.app_is ∙ sym (fold_one rules rule (app_of old));
-    local = λ none. stays_local (before.local none);
-  }
-
   pub word_one : (app : App) → IsWord app mid → IsWord (with_rule app rule) new
   word_one app word = record {
     app_is = with_one ∙ ap (λ (a : App). with_rule a rule) word.app_is;
     local = stays_local word.local;
   }
 
--- some options more
-pub word_more : (app : App) (rules : List Rule) (old new : Command) → IsWord app old → AddsRules rules old new →
-    IsWord (with_rules rules app) new
-word_more app rules old new word adds =
-    record { app_is = adds.app_is ∙ ap (with_rules rules) word.app_is; local = adds.local word.local }
+-- the first option, which is added to a word that was made
+pub word_first : {E : Type 0} (app : App) (rule : Rule) (old : Command) (arg : Arg) (made : Result Command E) → IsWord app old → IsRule rule arg →
+    IfOk made (AddsArg old arg) → IfOk made (IsWord (with_rule app rule))
+word_first app rule old arg made word is adds = IfOk-weaker made _ _ (λ new one. word_one old new arg rule one is app word) adds
 
 -- a setting of an argument
 pub rule_set : (rule : Rule) (change : Rule → Rule) (old new set : Arg) → IsRule rule old → new ≡ set → rule_of set ≡ change (rule_of old) →

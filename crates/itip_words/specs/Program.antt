@@ -180,8 +180,3 @@ pub record IsRule (rule : Rule) (arg : Arg) : Type 0 where
 pub record IsWord (app : App) (command : Command) : Type 0 where
   pub app_is : app_of command ≡ app
   pub local : (fields_of command).has_globals ≡ false
-
--- the command has these options more
-pub record AddsRules (rules : List Rule) (old new : Command) : Type 0 where
-  pub app_is : app_of new ≡ with_rules rules (app_of old)
-  pub local : (fields_of old).has_globals ≡ false → (fields_of new).has_globals ≡ false

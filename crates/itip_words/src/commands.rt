@@ -1,10 +1,11 @@
 //! The words that there are, each with its help.
-ghost use Rattle.std.specs.Prelude.{IfOk, codes};
-ghost use Rattle.itip_words.specs.Program.{program, with_words, message_words, IsRule, IsWord, AddsRules};
+ghost use Rattle.std.specs.Prelude.{IfOk, codes, false, [], ◌∷◌};
+ghost use Rattle.itip_words.specs.Program.{program, no_word, with_words, with_rules, message_words, IsRule, IsWord};
 ghost use Rattle.itip_words.specs.Program.{run_word, office_word, check_word, compact_word, list_word, report_word, news_word};
 ghost use Rattle.itip_words.specs.Program.{explain_word, resend_word, request_word, reply_word, refresh_word, cancel_word};
-ghost use Rattle.itip_words.specs.Program.{positional, option, needed, flag, desks_rule, days_rules, window_rules, row_rules, intake_rules};
-ghost use Rattle.clap.specs.Simple.{App};
+ghost use Rattle.itip_words.specs.Program.{positional, option, needed, repeated, otherwise, flag, desks_rule, days_rules, window_rules, row_rules, intake_rules};
+ghost use Rattle.clap.specs.Walk.{Rule};
+ghost use Rattle.clap.specs.Simple.{App, new_app, with_rule, with_subcommand};
 
 use crate::help::{
     CANCEL_HELP, CHECK_HELP, COMPACT_HELP, EXPLAIN_HELP, LIST_HELP, NEWS_HELP, OFFICE_HELP,
@@ -21,258 +22,458 @@ use std::alloc::{AllocError, Global};
 pub(crate) fn command<'a>(alloc: Global) -> Result<Command<'a>, AllocError>
     ensures { IfOk result (IsWord program) }
 {
+    let program = with_input(alloc, bare_program(alloc));
+    let program = with_sources(alloc, program);
+    with_messages(alloc, program)
+}
+
+/// The program before it has words.
+fn bare_program<'a>(alloc: Global) -> Result<Command<'a>, AllocError>
+    ensures { IfOk result (IsWord no_word) }
+{
     let program = Command::new(alloc, "itipdesk")
         .bin_name("itipdesk")?
         .about("A desk for to-dos under iTIP (RFC 5546)")
         .version(VERSION)
         .subcommand_required(true)
-        .arg_required_else_help(true)
-        .subcommand(run_command(alloc)?)?
-        .subcommand(office_command(alloc)?)?
-        .subcommand(check_command(alloc)?)?
-        .subcommand(compact_command(alloc)?)?
-        .subcommand(list_command(alloc)?)?
-        .subcommand(report_command(alloc)?)?
-        .subcommand(news_command(alloc)?)?
-        .subcommand(explain_command(alloc)?)?;
-    with_messages(alloc, program)
+        .arg_required_else_help(true);
+    Ok(program)
+}
+
+// A command and an option have some forty fields each, and a proof goes through all of them at each step and at each `?` that lets go of
+// one. So an option is made in a function of its own, and what is added to a command is added to a `Result` of it: a chain has no `?`.
+
+/// A program with one word more, if there was memory for both.
+fn with_word<'a>(
+    command: Result<Command<'a>, AllocError>,
+    word: Result<Command<'a>, AllocError>,
+) -> Result<Command<'a>, AllocError>
+    ensures { (app added : App) → IfOk command.entry (IsWord app) → IfOk word.entry (IsWord added) → IfOk result (IsWord (with_subcommand app added.top)) }
+{
+    add_word(command?, word)
+}
+
+/// The same, of a program that there was memory for.
+fn add_word<'a>(
+    command: Command<'a>,
+    word: Result<Command<'a>, AllocError>,
+) -> Result<Command<'a>, AllocError>
+    ensures { (app added : App) → IsWord app command.entry → IfOk word.entry (IsWord added) → IfOk result (IsWord (with_subcommand app added.top)) }
+{
+    command.subcommand(word?)
+}
+
+/// A word with one option more, if there was memory for the word.
+fn with_arg<'a>(
+    command: Result<Command<'a>, AllocError>,
+    arg: Arg<'a>,
+) -> Result<Command<'a>, AllocError>
+    ensures { (app : App) (rule : Rule) → IfOk command.entry (IsWord app) → IsRule rule arg.entry → IfOk result (IsWord (with_rule app rule)) }
+{
+    command?.arg(arg)
+}
+
+/// A program with the words that read standard input alone.
+fn with_input<'a>(
+    alloc: Global,
+    command: Result<Command<'a>, AllocError>,
+) -> Result<Command<'a>, AllocError>
+    ensures { (app : App) → IfOk command.entry (IsWord app) → IfOk result (IsWord (with_words (run_word ∷ office_word ∷ check_word ∷ []) app)) }
+{
+    let command = with_word(command, run_command(alloc));
+    let command = with_word(command, office_command(alloc));
+    with_word(command, check_command(alloc))
+}
+
+/// A program with the words that tell what the messages of their sources come to.
+fn with_sources<'a>(
+    alloc: Global,
+    command: Result<Command<'a>, AllocError>,
+) -> Result<Command<'a>, AllocError>
+    ensures { (app : App) → IfOk command.entry (IsWord app) → IfOk result (IsWord (with_words (compact_word ∷ list_word ∷ report_word ∷ news_word ∷ explain_word ∷ []) app)) }
+{
+    let command = with_word(command, compact_command(alloc));
+    let command = with_word(command, list_command(alloc));
+    let command = with_word(command, report_command(alloc));
+    let command = with_word(command, news_command(alloc));
+    with_word(command, explain_command(alloc))
 }
 
 /// A program with the words that write a message.
-fn with_messages<'a>(alloc: Global, command: Command<'a>) -> Result<Command<'a>, AllocError>
-    ensures { (app : App) → IsWord app command.entry → IfOk result (IsWord (with_words message_words app)) }
+fn with_messages<'a>(
+    alloc: Global,
+    command: Result<Command<'a>, AllocError>,
+) -> Result<Command<'a>, AllocError>
+    ensures { (app : App) → IfOk command.entry (IsWord app) → IfOk result (IsWord (with_words message_words app)) }
 {
-    command
-        .subcommand(resend_command(alloc)?)?
-        .subcommand(request_command(alloc)?)?
-        .subcommand(reply_command(alloc)?)?
-        .subcommand(refresh_command(alloc)?)?
-        .subcommand(cancel_command(alloc)?)
+    let command = with_word(command, resend_command(alloc));
+    let command = with_word(command, request_command(alloc));
+    let command = with_word(command, reply_command(alloc));
+    let command = with_word(command, refresh_command(alloc));
+    with_word(command, cancel_command(alloc))
+}
+
+/// A word that has no options yet, with what its help says above and below them.
+fn plain_command<'a>(alloc: Global, name: &'a str, about: &'a str, below: &'a str) -> Command<'a>
+    ensures { IsWord (new_app name.entry.now) result }
+{
+    Command::new(alloc, name).about(about).after_help(below)
 }
 
 fn run_command<'a>(alloc: Global) -> Result<Command<'a>, AllocError>
     ensures { IfOk result (IsWord run_word) }
 {
-    let stream = Arg::new(alloc, "stream")
-        .long("stream")
-        .action(ArgAction::SetTrue)
-        .help("Answers each command before the next is read, for as long as commands come");
-    let load = Arg::new(alloc, "load")
-        .long("load")
-        .value_name("D=FILE")
-        .action(ArgAction::Append)
-        .help(
-            "Desk D begins with what a `!save` wrote to this file; it may be given several times",
-        );
-    let run = Command::new(alloc, "run")
-        .about("Runs a script from standard input, or serves a stream of commands")
-        .after_help(RUN_HELP)
-        .arg(desks_word(alloc))?;
-    days(alloc, run)?
-        .arg(stream)?
-        .arg(load)?
-        .arg(why_word(alloc))
+    let run = plain_command(
+        alloc,
+        "run",
+        "Runs a script from standard input, or serves a stream of commands",
+        RUN_HELP,
+    );
+    let run = run.arg(desks_word(alloc));
+    let run = days(alloc, run);
+    let run = with_arg(run, stream_word(alloc));
+    let run = with_arg(run, load_word(alloc));
+    with_arg(run, why_word(alloc))
 }
 
 fn office_command<'a>(alloc: Global) -> Result<Command<'a>, AllocError>
     ensures { IfOk result (IsWord office_word) }
 {
-    let workers = Arg::new(alloc, "workers")
-        .long("workers")
-        .value_name("N")
-        .default_value("1")
-        .help("How many workers there are: 1 to 8");
-    let office = Command::new(alloc, "office")
-        .about("Runs the jobs of a script from standard input on threads")
-        .after_help(OFFICE_HELP)
-        .arg(desks_word(alloc))?;
-    days(alloc, office)?.arg(workers)?.arg(why_word(alloc))
+    let office = plain_command(
+        alloc,
+        "office",
+        "Runs the jobs of a script from standard input on threads",
+        OFFICE_HELP,
+    );
+    let office = office.arg(desks_word(alloc));
+    let office = days(alloc, office);
+    let office = with_arg(office, workers_word(alloc));
+    with_arg(office, why_word(alloc))
 }
 
 fn check_command<'a>(alloc: Global) -> Result<Command<'a>, AllocError>
     ensures { IfOk result (IsWord check_word) }
 {
-    Command::new(alloc, "check")
-        .about("Reads a message from standard input and shows its items")
-        .after_help(CHECK_HELP)
-        .arg(why_word(alloc))
+    let check = plain_command(
+        alloc,
+        "check",
+        "Reads a message from standard input and shows its items",
+        CHECK_HELP,
+    );
+    check.arg(why_word(alloc))
 }
 
 fn compact_command<'a>(alloc: Global) -> Result<Command<'a>, AllocError>
     ensures { IfOk result (IsWord compact_word) }
 {
-    let output = Arg::new(alloc, "output")
-        .long("output")
-        .value_name("FILE")
-        .help("Replaces this file with what is kept, once all is written; - for standard output");
-    let compact = Command::new(alloc, "compact")
-        .about("Reads messages and writes what is kept of them")
-        .after_help(COMPACT_HELP)
-        .arg(output)?;
+    let compact = plain_command(
+        alloc,
+        "compact",
+        "Reads messages and writes what is kept of them",
+        COMPACT_HELP,
+    );
+    let compact = compact.arg(output_word(alloc));
     intake_words(alloc, compact)
 }
 
 fn list_command<'a>(alloc: Global) -> Result<Command<'a>, AllocError>
     ensures { IfOk result (IsWord list_word) }
 {
-    let list = Command::new(alloc, "list")
-        .about("Reads messages and writes their task list")
-        .after_help(LIST_HELP);
-    let list = row_words(alloc, days_around_today(alloc, list)?)?;
+    let list = plain_command(
+        alloc,
+        "list",
+        "Reads messages and writes their task list",
+        LIST_HELP,
+    );
+    let list = days_around_today(alloc, Ok(list));
+    let list = row_words(alloc, list);
     intake_words(alloc, list)
 }
 
 fn report_command<'a>(alloc: Global) -> Result<Command<'a>, AllocError>
     ensures { IfOk result (IsWord report_word) }
 {
-    let name = Arg::new(alloc, "name")
-        .value_name("NAME")
-        .required(true)
-        .help("Which report: load, progress, cancelled, orphans or refresh");
-    let report = Command::new(alloc, "report")
-        .about("Reads messages and writes a report of them")
-        .after_help(REPORT_HELP)
-        .arg(name)?;
-    intake_words(alloc, days_around_today(alloc, report)?)
+    let report = plain_command(
+        alloc,
+        "report",
+        "Reads messages and writes a report of them",
+        REPORT_HELP,
+    );
+    let report = report.arg(name_word(alloc));
+    let report = days_around_today(alloc, report);
+    intake_words(alloc, report)
 }
 
 fn news_command<'a>(alloc: Global) -> Result<Command<'a>, AllocError>
     ensures { IfOk result (IsWord news_word) }
 {
-    let than = Arg::new(alloc, "than")
-        .long("than")
-        .value_name("SOURCE")
-        .action(ArgAction::Append)
-        .required(true)
-        .help("What the others are compared with; it may be given several times");
-    let news = Command::new(alloc, "news")
-        .about("Reads messages and writes what counts of them that others lack")
-        .after_help(NEWS_HELP)
-        .arg(than)?;
+    let news = plain_command(
+        alloc,
+        "news",
+        "Reads messages and writes what counts of them that others lack",
+        NEWS_HELP,
+    );
+    let news = news.arg(than_word(alloc));
     intake_words(alloc, news)
 }
 
 fn explain_command<'a>(alloc: Global) -> Result<Command<'a>, AllocError>
     ensures { IfOk result (IsWord explain_word) }
 {
-    let explain = Command::new(alloc, "explain")
-        .about("Reads messages and says what they tell of a to-do, and what came of it")
-        .after_help(EXPLAIN_HELP)
-        .arg(uid_word(alloc))?;
+    let explain = plain_command(
+        alloc,
+        "explain",
+        "Reads messages and says what they tell of a to-do, and what came of it",
+        EXPLAIN_HELP,
+    );
+    let explain = explain.arg(uid_word(alloc));
     intake_words(alloc, explain)
 }
 
 fn resend_command<'a>(alloc: Global) -> Result<Command<'a>, AllocError>
     ensures { IfOk result (IsWord resend_word) }
 {
-    let resend = Command::new(alloc, "resend")
-        .about("Reads messages and writes those of a to-do that are to be sent again")
-        .after_help(RESEND_HELP)
-        .arg(uid_word(alloc))?
-        .arg(at_word(alloc))?;
+    let resend = plain_command(
+        alloc,
+        "resend",
+        "Reads messages and writes those of a to-do that are to be sent again",
+        RESEND_HELP,
+    );
+    let resend = resend.arg(uid_word(alloc));
+    let resend = with_arg(resend, at_word(alloc));
     intake_words(alloc, resend)
 }
 
 fn request_command<'a>(alloc: Global) -> Result<Command<'a>, AllocError>
     ensures { IfOk result (IsWord request_word) }
 {
-    let draft = Arg::new(alloc, "draft")
-        .value_name("DRAFT")
-        .required(true)
-        .help("The file with the to-dos, or - for standard input, which is then no source");
-    let request = Command::new(alloc, "request")
-        .about("Reads messages and writes a request of the to-dos in a draft")
-        .after_help(REQUEST_HELP)
-        .arg(draft)?
-        .arg(at_word(alloc))?;
+    let request = plain_command(
+        alloc,
+        "request",
+        "Reads messages and writes a request of the to-dos in a draft",
+        REQUEST_HELP,
+    );
+    let request = request.arg(draft_word(alloc));
+    let request = with_arg(request, at_word(alloc));
     intake_words(alloc, request)
 }
 
 fn reply_command<'a>(alloc: Global) -> Result<Command<'a>, AllocError>
     ensures { IfOk result (IsWord reply_word) }
 {
-    let status = Arg::new(alloc, "status")
-        .long("status")
-        .value_name("PARTSTAT")
-        .required(true)
-        .help("NEEDS-ACTION, ACCEPTED, DECLINED, TENTATIVE, COMPLETED or IN-PROCESS");
-    let percent = Arg::new(alloc, "percent")
-        .long("percent")
-        .value_name("N")
-        .help("How far it is: 0 to 100");
-    let reply = Command::new(alloc, "reply")
-        .about("Reads messages and writes an attendee's answer to a to-do")
-        .after_help(REPLY_HELP)
-        .arg(uid_word(alloc))?
-        .arg(answering_word(alloc))?
-        .arg(status)?
-        .arg(percent)?
-        .arg(id_word(alloc))?
-        .arg(at_word(alloc))?;
+    let reply = plain_command(
+        alloc,
+        "reply",
+        "Reads messages and writes an attendee's answer to a to-do",
+        REPLY_HELP,
+    );
+    let reply = reply.arg(uid_word(alloc));
+    let reply = with_arg(reply, answering_word(alloc));
+    let reply = with_arg(reply, status_word(alloc));
+    let reply = with_arg(reply, percent_word(alloc));
+    let reply = with_arg(reply, id_word(alloc));
+    let reply = with_arg(reply, at_word(alloc));
     intake_words(alloc, reply)
 }
 
 fn refresh_command<'a>(alloc: Global) -> Result<Command<'a>, AllocError>
     ensures { IfOk result (IsWord refresh_word) }
 {
-    let refresh = Command::new(alloc, "refresh")
-        .about("Reads messages and writes an attendee's wish to be sent a to-do again")
-        .after_help(REFRESH_HELP)
-        .arg(uid_word(alloc))?
-        .arg(answering_word(alloc))?
-        .arg(id_word(alloc))?
-        .arg(at_word(alloc))?;
+    let refresh = plain_command(
+        alloc,
+        "refresh",
+        "Reads messages and writes an attendee's wish to be sent a to-do again",
+        REFRESH_HELP,
+    );
+    let refresh = refresh.arg(uid_word(alloc));
+    let refresh = with_arg(refresh, answering_word(alloc));
+    let refresh = with_arg(refresh, id_word(alloc));
+    let refresh = with_arg(refresh, at_word(alloc));
     intake_words(alloc, refresh)
 }
 
 fn cancel_command<'a>(alloc: Global) -> Result<Command<'a>, AllocError>
     ensures { IfOk result (IsWord cancel_word) }
 {
-    let onward = Arg::new(alloc, "onward")
-        .long("onward")
-        .action(ArgAction::SetTrue)
-        .help("Cancels the instance and all after it");
-    let attendee = Arg::new(alloc, "attendee")
-        .long("attendee")
-        .value_name("ADDRESS")
-        .action(ArgAction::Append)
-        .help(
-            "Removes the attendee of this address, and cancels nothing; it may be given several times",
-        );
-    let cancel = Command::new(alloc, "cancel")
-        .about("Reads messages and writes a cancellation of a to-do, or removes attendees from it")
-        .after_help(CANCEL_HELP)
-        .arg(uid_word(alloc))?
-        .arg(id_word(alloc))?
-        .arg(onward)?
-        .arg(attendee)?
-        .arg(at_word(alloc))?;
+    let cancel = plain_command(
+        alloc,
+        "cancel",
+        "Reads messages and writes a cancellation of a to-do, or removes attendees from it",
+        CANCEL_HELP,
+    );
+    let cancel = cancel.arg(uid_word(alloc));
+    let cancel = with_arg(cancel, id_word(alloc));
+    let cancel = with_arg(cancel, onward_word(alloc));
+    let cancel = with_arg(cancel, removed_word(alloc));
+    let cancel = with_arg(cancel, at_word(alloc));
     intake_words(alloc, cancel)
+}
+
+/// An option that is a value alone, and has to be there.
+fn positional_word<'a>(alloc: Global, name: &'a str, value: &'a str, help: &'a str) -> Arg<'a>
+    ensures { IsRule (positional name.entry.now) result }
+{
+    Arg::new(alloc, name)
+        .value_name(value)
+        .required(true)
+        .help(help)
+}
+
+/// An option with a value.
+fn option_word<'a>(alloc: Global, name: &'a str, value: &'a str, help: &'a str) -> Arg<'a>
+    ensures { IsRule (option name.entry.now) result }
+{
+    Arg::new(alloc, name)
+        .long(name)
+        .value_name(value)
+        .help(help)
+}
+
+/// An option without one.
+fn flag_word<'a>(alloc: Global, name: &'a str, help: &'a str) -> Arg<'a>
+    ensures { IsRule (flag name.entry.now) result }
+{
+    Arg::new(alloc, name)
+        .long(name)
+        .action(ArgAction::SetTrue)
+        .help(help)
+}
+
+fn stream_word<'a>(alloc: Global) -> Arg<'a>
+    ensures { IsRule (flag (codes "stream")) result }
+{
+    flag_word(
+        alloc,
+        "stream",
+        "Answers each command before the next is read, for as long as commands come",
+    )
+}
+
+fn load_word<'a>(alloc: Global) -> Arg<'a>
+    ensures { IsRule (repeated (option (codes "load"))) result }
+{
+    option_word(
+        alloc,
+        "load",
+        "D=FILE",
+        "Desk D begins with what a `!save` wrote to this file; it may be given several times",
+    )
+    .action(ArgAction::Append)
+}
+
+fn workers_word<'a>(alloc: Global) -> Arg<'a>
+    ensures { IsRule (otherwise (codes "1") (option (codes "workers"))) result }
+{
+    option_word(alloc, "workers", "N", "How many workers there are: 1 to 8").default_value("1")
+}
+
+fn output_word<'a>(alloc: Global) -> Arg<'a>
+    ensures { IsRule (option (codes "output")) result }
+{
+    option_word(
+        alloc,
+        "output",
+        "FILE",
+        "Replaces this file with what is kept, once all is written; - for standard output",
+    )
+}
+
+fn name_word<'a>(alloc: Global) -> Arg<'a>
+    ensures { IsRule (positional (codes "name")) result }
+{
+    positional_word(
+        alloc,
+        "name",
+        "NAME",
+        "Which report: load, progress, cancelled, orphans or refresh",
+    )
+}
+
+fn than_word<'a>(alloc: Global) -> Arg<'a>
+    ensures { IsRule (needed (repeated (option (codes "than")))) result }
+{
+    option_word(
+        alloc,
+        "than",
+        "SOURCE",
+        "What the others are compared with; it may be given several times",
+    )
+    .action(ArgAction::Append)
+    .required(true)
 }
 
 fn uid_word<'a>(alloc: Global) -> Arg<'a>
     ensures { IsRule (positional (codes "uid")) result }
 {
-    Arg::new(alloc, "uid")
-        .value_name("UID")
-        .required(true)
-        .help("The UID of the to-do")
+    positional_word(alloc, "uid", "UID", "The UID of the to-do")
+}
+
+fn draft_word<'a>(alloc: Global) -> Arg<'a>
+    ensures { IsRule (positional (codes "draft")) result }
+{
+    positional_word(
+        alloc,
+        "draft",
+        "DRAFT",
+        "The file with the to-dos, or - for standard input, which is then no source",
+    )
 }
 
 fn answering_word<'a>(alloc: Global) -> Arg<'a>
     ensures { IsRule (needed (option (codes "attendee"))) result }
 {
-    Arg::new(alloc, "attendee")
-        .long("attendee")
-        .value_name("ADDRESS")
-        .required(true)
-        .help("Who writes: the address of an attendee, as a@example.com")
+    option_word(
+        alloc,
+        "attendee",
+        "ADDRESS",
+        "Who writes: the address of an attendee, as a@example.com",
+    )
+    .required(true)
+}
+
+fn status_word<'a>(alloc: Global) -> Arg<'a>
+    ensures { IsRule (needed (option (codes "status"))) result }
+{
+    option_word(
+        alloc,
+        "status",
+        "PARTSTAT",
+        "NEEDS-ACTION, ACCEPTED, DECLINED, TENTATIVE, COMPLETED or IN-PROCESS",
+    )
+    .required(true)
+}
+
+fn percent_word<'a>(alloc: Global) -> Arg<'a>
+    ensures { IsRule (option (codes "percent")) result }
+{
+    option_word(alloc, "percent", "N", "How far it is: 0 to 100")
+}
+
+fn onward_word<'a>(alloc: Global) -> Arg<'a>
+    ensures { IsRule (flag (codes "onward")) result }
+{
+    flag_word(alloc, "onward", "Cancels the instance and all after it")
+}
+
+fn removed_word<'a>(alloc: Global) -> Arg<'a>
+    ensures { IsRule (repeated (option (codes "attendee"))) result }
+{
+    option_word(
+        alloc,
+        "attendee",
+        "ADDRESS",
+        "Removes the attendee of this address, and cancels nothing; it may be given several times",
+    )
+    .action(ArgAction::Append)
 }
 
 fn id_word<'a>(alloc: Global) -> Arg<'a>
     ensures { IsRule (option (codes "id")) result }
 {
-    Arg::new(alloc, "id").long("id").value_name("MOMENT").help(
+    option_word(
+        alloc,
+        "id",
+        "MOMENT",
         "One instance of the to-do, as lists show it: 20260105 or TZID=Europe/Vienna:20260105T090000",
     )
 }
@@ -280,7 +481,10 @@ fn id_word<'a>(alloc: Global) -> Arg<'a>
 fn at_word<'a>(alloc: Global) -> Arg<'a>
     ensures { IsRule (option (codes "at")) result }
 {
-    Arg::new(alloc, "at").long("at").value_name("STAMP").help(
+    option_word(
+        alloc,
+        "at",
+        "STAMP",
         "The moment of writing, as 20260101T090000Z; without it that of the clock, in UTC",
     )
 }
@@ -288,110 +492,191 @@ fn at_word<'a>(alloc: Global) -> Arg<'a>
 fn desks_word<'a>(alloc: Global) -> Arg<'a>
     ensures { IsRule desks_rule result }
 {
-    Arg::new(alloc, "desks")
-        .long("desks")
-        .value_name("D")
-        .default_value("1")
-        .help("How many desks there are: 1 to 16")
+    option_word(alloc, "desks", "D", "How many desks there are: 1 to 16").default_value("1")
 }
 
 fn why_word<'a>(alloc: Global) -> Arg<'a>
     ensures { IsRule (flag (codes "why")) result }
 {
-    Arg::new(alloc, "why")
-        .long("why")
-        .action(ArgAction::SetTrue)
-        .help("Says on standard error where and why something was refused")
+    flag_word(
+        alloc,
+        "why",
+        "Says on standard error where and why something was refused",
+    )
 }
 
-/// A command with the days of a window.
-fn days<'a>(alloc: Global, command: Command<'a>) -> Result<Command<'a>, AllocError>
-    ensures { IfOk result (AddsRules days_rules command.entry) }
+/// A word with the days of a window.
+fn days<'a>(
+    alloc: Global,
+    command: Result<Command<'a>, AllocError>,
+) -> Result<Command<'a>, AllocError>
+    ensures { (app : App) → IfOk command.entry (IsWord app) → IfOk result (IsWord (with_rules days_rules app)) }
 {
-    let from = Arg::new(alloc, "from")
-        .long("from")
-        .value_name("YYYYMMDD")
-        .required(true)
-        .help("The first day that lists show");
-    let to = Arg::new(alloc, "to")
-        .long("to")
-        .value_name("YYYYMMDD")
-        .required(true)
-        .help("The day after the last that lists show, at most 3660 days later");
-    command.arg(from)?.arg(to)
+    let command = with_arg(command, from_word(alloc));
+    with_arg(command, to_word(alloc))
 }
 
-/// A command with the days of a window, which need not be given.
-fn days_around_today<'a>(alloc: Global, command: Command<'a>) -> Result<Command<'a>, AllocError>
-    ensures { IfOk result (AddsRules window_rules command.entry) }
+fn from_word<'a>(alloc: Global) -> Arg<'a>
+    ensures { IsRule (needed (option (codes "from"))) result }
 {
-    let from = Arg::new(alloc, "from")
-        .long("from")
-        .value_name("YYYYMMDD")
-        .help("The first day of the rows; without it 366 days before today, or 732 before --to");
-    let to = Arg::new(alloc, "to").long("to").value_name("YYYYMMDD").help(
+    option_word(alloc, "from", "YYYYMMDD", "The first day that lists show").required(true)
+}
+
+fn to_word<'a>(alloc: Global) -> Arg<'a>
+    ensures { IsRule (needed (option (codes "to"))) result }
+{
+    option_word(
+        alloc,
+        "to",
+        "YYYYMMDD",
+        "The day after the last that lists show, at most 3660 days later",
+    )
+    .required(true)
+}
+
+/// A word with the days of a window, which need not be given.
+fn days_around_today<'a>(
+    alloc: Global,
+    command: Result<Command<'a>, AllocError>,
+) -> Result<Command<'a>, AllocError>
+    ensures { (app : App) → IfOk command.entry (IsWord app) → IfOk result (IsWord (with_rules window_rules app)) }
+{
+    let command = with_arg(command, first_word(alloc));
+    let command = with_arg(command, after_word(alloc));
+    with_arg(command, today_word(alloc))
+}
+
+fn first_word<'a>(alloc: Global) -> Arg<'a>
+    ensures { IsRule (option (codes "from")) result }
+{
+    option_word(
+        alloc,
+        "from",
+        "YYYYMMDD",
+        "The first day of the rows; without it 366 days before today, or 732 before --to",
+    )
+}
+
+fn after_word<'a>(alloc: Global) -> Arg<'a>
+    ensures { IsRule (option (codes "to")) result }
+{
+    option_word(
+        alloc,
+        "to",
+        "YYYYMMDD",
         "The day after their last; without it 366 days after today, or 732 after --from",
-    );
-    let today = Arg::new(alloc, "today")
-        .long("today")
-        .value_name("YYYYMMDD")
-        .help("The day that is taken for today; without it that of the clock, in UTC");
-    command.arg(from)?.arg(to)?.arg(today)
+    )
 }
 
-/// A command with the words for which rows are shown, and how.
-fn row_words<'a>(alloc: Global, command: Command<'a>) -> Result<Command<'a>, AllocError>
-    ensures { IfOk result (AddsRules row_rules command.entry) }
+fn today_word<'a>(alloc: Global) -> Arg<'a>
+    ensures { IsRule (option (codes "today")) result }
 {
-    let attendee = Arg::new(alloc, "attendee")
-        .long("attendee")
-        .value_name("ADDRESS")
-        .help("Only the rows that show the attendee of this address, as a@example.com");
-    let open = Arg::new(alloc, "open")
-        .long("open")
-        .action(ArgAction::SetTrue)
-        .help("Only the rows that are neither completed nor cancelled");
-    let due_before = Arg::new(alloc, "due-before")
-        .long("due-before")
-        .value_name("DAY")
-        .help("Only the rows that are due before this day, YYYYMMDD or today");
-    let format = Arg::new(alloc, "format")
-        .long("format")
-        .value_name("FORMAT")
-        .default_value("text")
-        .help(
-            "How rows are written: text, csv (one record an attendee), json (one object a row) or html (one page)",
-        );
-    command
-        .arg(attendee)?
-        .arg(open)?
-        .arg(due_before)?
-        .arg(format)
+    option_word(
+        alloc,
+        "today",
+        "YYYYMMDD",
+        "The day that is taken for today; without it that of the clock, in UTC",
+    )
 }
 
-/// A command with its sources, and the words for how they are read.
-fn intake_words<'a>(alloc: Global, command: Command<'a>) -> Result<Command<'a>, AllocError>
-    ensures { IfOk result (AddsRules intake_rules command.entry) }
+/// A word with the options for which rows are shown, and how.
+fn row_words<'a>(
+    alloc: Global,
+    command: Result<Command<'a>, AllocError>,
+) -> Result<Command<'a>, AllocError>
+    ensures { (app : App) → IfOk command.entry (IsWord app) → IfOk result (IsWord (with_rules row_rules app)) }
 {
-    let source = Arg::new(alloc, "source")
+    let command = with_arg(command, attendee_word(alloc));
+    let command = with_arg(command, open_word(alloc));
+    let command = with_arg(command, due_before_word(alloc));
+    with_arg(command, format_word(alloc))
+}
+
+fn attendee_word<'a>(alloc: Global) -> Arg<'a>
+    ensures { IsRule (option (codes "attendee")) result }
+{
+    option_word(
+        alloc,
+        "attendee",
+        "ADDRESS",
+        "Only the rows that show the attendee of this address, as a@example.com",
+    )
+}
+
+fn open_word<'a>(alloc: Global) -> Arg<'a>
+    ensures { IsRule (flag (codes "open")) result }
+{
+    flag_word(
+        alloc,
+        "open",
+        "Only the rows that are neither completed nor cancelled",
+    )
+}
+
+fn due_before_word<'a>(alloc: Global) -> Arg<'a>
+    ensures { IsRule (option (codes "due-before")) result }
+{
+    option_word(
+        alloc,
+        "due-before",
+        "DAY",
+        "Only the rows that are due before this day, YYYYMMDD or today",
+    )
+}
+
+fn format_word<'a>(alloc: Global) -> Arg<'a>
+    ensures { IsRule (otherwise (codes "text") (option (codes "format"))) result }
+{
+    option_word(
+        alloc,
+        "format",
+        "FORMAT",
+        "How rows are written: text, csv (one record an attendee), json (one object a row) or html (one page)",
+    )
+    .default_value("text")
+}
+
+/// A word with its sources, and the options for how they are read.
+fn intake_words<'a>(
+    alloc: Global,
+    command: Result<Command<'a>, AllocError>,
+) -> Result<Command<'a>, AllocError>
+    ensures { (app : App) → IfOk command.entry (IsWord app) → IfOk result (IsWord (with_rules intake_rules app)) }
+{
+    let command = with_arg(command, source_word(alloc));
+    let command = with_arg(command, threads_word(alloc));
+    let command = with_arg(command, progress_word(alloc));
+    with_arg(command, why_word(alloc))
+}
+
+fn source_word<'a>(alloc: Global) -> Arg<'a>
+    ensures { IsRule (record (repeated (positional (codes "source"))) { required = false }) result }
+{
+    Arg::new(alloc, "source")
         .value_name("SOURCE")
         .action(ArgAction::Append)
         .help(
             "A file, a folder for the .ics files in it, or - for standard input, which is read where none is named",
-        );
-    let threads = Arg::new(alloc, "threads")
-        .long("threads")
-        .value_name("N")
-        .help("How many threads read messages: 1 to 8, as a rule as many as there are processors");
-    let progress = Arg::new(alloc, "progress")
-        .long("progress")
-        .action(ArgAction::SetTrue)
-        .help(
-            "Shows how many messages and octets were read, also where standard error is no terminal",
-        );
-    command
-        .arg(source)?
-        .arg(threads)?
-        .arg(progress)?
-        .arg(why_word(alloc))
+        )
+}
+
+fn threads_word<'a>(alloc: Global) -> Arg<'a>
+    ensures { IsRule (option (codes "threads")) result }
+{
+    option_word(
+        alloc,
+        "threads",
+        "N",
+        "How many threads read messages: 1 to 8, as a rule as many as there are processors",
+    )
+}
+
+fn progress_word<'a>(alloc: Global) -> Arg<'a>
+    ensures { IsRule (flag (codes "progress")) result }
+{
+    flag_word(
+        alloc,
+        "progress",
+        "Shows how many messages and octets were read, also where standard error is no terminal",
+    )
 }

@@ -12,21 +12,45 @@ use itip_script::read_report_name;
 use itip_streams::visible_text;
 use std::alloc::{AllocError, Global};
 
-// Each word whose value is read here, and how its usage shows it.
-const VALUES: [(&str, &str); 13] = [
-    ("desks", "--desks <D>"),
-    ("workers", "--workers <N>"),
-    ("threads", "--threads <N>"),
-    ("from", "--from <YYYYMMDD>"),
-    ("to", "--to <YYYYMMDD>"),
-    ("today", "--today <YYYYMMDD>"),
-    ("due-before", "--due-before <DAY>"),
-    ("format", "--format <FORMAT>"),
-    ("name", "<NAME>"),
-    ("id", "--id <MOMENT>"),
-    ("status", "--status <PARTSTAT>"),
-    ("percent", "--percent <N>"),
-    ("at", "--at <STAMP>"),
+// Each word whose value is read here, how its usage shows it, and what a value is that it doesn't take.
+const VALUES: [(&str, &str, &str); 13] = [
+    ("desks", "--desks <D>", "not a number from 1 to 16"),
+    ("workers", "--workers <N>", "not a number from 1 to 8"),
+    ("threads", "--threads <N>", "not a number from 1 to 8"),
+    ("from", "--from <YYYYMMDD>", "not a date, as 20260131"),
+    ("to", "--to <YYYYMMDD>", "not a date, as 20260131"),
+    ("today", "--today <YYYYMMDD>", "not a date, as 20260131"),
+    (
+        "due-before",
+        "--due-before <DAY>",
+        "neither a date, as 20260131, nor 'today'",
+    ),
+    (
+        "format",
+        "--format <FORMAT>",
+        "not one of text, csv, json and html",
+    ),
+    (
+        "name",
+        "<NAME>",
+        "not one of load, progress, cancelled, orphans and refresh",
+    ),
+    (
+        "id",
+        "--id <MOMENT>",
+        "not a moment, as 20260105, 20260105T090000, 20260105T090000Z or TZID=Europe/Vienna:20260105T090000",
+    ),
+    (
+        "status",
+        "--status <PARTSTAT>",
+        "not one of NEEDS-ACTION, ACCEPTED, DECLINED, TENTATIVE, COMPLETED and IN-PROCESS",
+    ),
+    ("percent", "--percent <N>", "not a number from 0 to 100"),
+    (
+        "at",
+        "--at <STAMP>",
+        "not a date and a time in UTC, as 20260101T090000Z",
+    ),
 ];
 
 /// What is wrong with words for which there is no call: the first that can't stand as it does beside the others, else the first bad
@@ -38,13 +62,30 @@ pub(crate) fn what_is_wrong(alloc: Global, matches: &ArgMatches<'_>) -> Result<S
     if let Some(what) = misplaced(words) {
         return told(alloc, what);
     }
-    for (id, usage) in VALUES.iter() {
+    match wrong_value(alloc, words, &VALUES)? {
+        Some(what) => Ok(what),
+        None => wrong_beside(alloc, words),
+    }
+}
+
+/// What is wrong with the first of these words whose value is bad.
+fn wrong_value(
+    alloc: Global,
+    words: &ArgMatches<'_>,
+    values: &[(&str, &str, &str)],
+) -> Result<Option<String>, AllocError> {
+    for (id, usage, why) in values.iter() {
         if let Some(value) = words.get_str(id) {
-            if let Some(why) = fault_of(alloc, id, value)? {
-                return bad_value(alloc, value, usage, why);
+            if !is_good(alloc, id, value)? {
+                return Ok(Some(bad_value(alloc, value, usage, why)?));
             }
         }
     }
+    Ok(None)
+}
+
+/// What is wrong with values that are each good by themselves.
+fn wrong_beside(alloc: Global, words: &ArgMatches<'_>) -> Result<String, AllocError> {
     if let Some(value) = wrong_load(alloc, words)? {
         let why = "not the number of a desk that no other names, =, and a file";
         return bad_value(alloc, value, "--load <D=FILE>", why);
@@ -87,49 +128,28 @@ fn wrong_load<'a>(alloc: Global, words: &ArgMatches<'a>) -> Result<Option<&'a st
     Ok(None)
 }
 
-/// What a value has to be, where it isn't.
-fn fault_of(alloc: Global, id: &str, value: &str) -> Result<Option<&'static str>, AllocError> {
-    let (is_good, why) = match id {
-        "desks" => (desks_of(value).is_some(), "not a number from 1 to 16"),
-        "workers" => (workers_of(value).is_some(), "not a number from 1 to 8"),
-        "threads" => (threads_of(value).is_some(), "not a number from 1 to 8"),
-        "due-before" => (
-            is_today(value) || read_date(value).is_some(),
-            "neither a date, as 20260131, nor 'today'",
-        ),
-        "format" => (names_format(value), "not one of text, csv, json and html"),
-        "name" => (
-            read_report_name(value.as_bytes()).is_some(),
-            "not one of load, progress, cancelled, orphans and refresh",
-        ),
-        "id" | "status" | "percent" | "at" => return fault_of_message(alloc, id, value),
-        _ => (read_date(value).is_some(), "not a date, as 20260131"),
-    };
-    Ok(if is_good { None } else { Some(why) })
+/// The word takes this value.
+fn is_good(alloc: Global, id: &str, value: &str) -> Result<bool, AllocError> {
+    match id {
+        "id" => Ok(named_moment(alloc, value)?.is_some()),
+        "status" => Ok(answer_named(value).is_some()),
+        "percent" => Ok(percent_of(value).is_some()),
+        "at" => Ok(read_stamp(value).is_some()),
+        _ => Ok(is_good_of_run(id, value)),
+    }
 }
 
-/// The same of the words for messages.
-fn fault_of_message(
-    alloc: Global,
-    id: &str,
-    value: &str,
-) -> Result<Option<&'static str>, AllocError> {
-    let (is_good, why) = match id {
-        "id" => (
-            named_moment(alloc, value)?.is_some(),
-            "not a moment, as 20260105, 20260105T090000, 20260105T090000Z or TZID=Europe/Vienna:20260105T090000",
-        ),
-        "status" => (
-            answer_named(value).is_some(),
-            "not one of NEEDS-ACTION, ACCEPTED, DECLINED, TENTATIVE, COMPLETED and IN-PROCESS",
-        ),
-        "percent" => (percent_of(value).is_some(), "not a number from 0 to 100"),
-        _ => (
-            read_stamp(value).is_some(),
-            "not a date and a time in UTC, as 20260101T090000Z",
-        ),
-    };
-    Ok(if is_good { None } else { Some(why) })
+/// The same of the words that no message is written by.
+fn is_good_of_run(id: &str, value: &str) -> bool {
+    match id {
+        "desks" => desks_of(value).is_some(),
+        "workers" => workers_of(value).is_some(),
+        "threads" => threads_of(value).is_some(),
+        "due-before" => is_today(value) || read_date(value).is_some(),
+        "format" => names_format(value),
+        "name" => read_report_name(value.as_bytes()).is_some(),
+        _ => read_date(value).is_some(),
+    }
 }
 
 /// What is wrong with days, each of which is a date.

@@ -6,7 +6,7 @@ use crate::texts::{text, year};
 use itip_lines::Text;
 use itip_items::{Item, Key};
 use itip_moment::{Moment, read_moment};
-use itip_state::ItemsOfUid;
+use itip_state::{ItemsOfUid, State};
 use itip_todo::{Uid, attendee_key};
 use itip_view::{RowsByUid, Wanted};
 use std::alloc::{AllocError, Global};
@@ -108,15 +108,15 @@ fn add(
     told.push_str(shown.as_str())
 }
 
-/// The list of the year 2026 of a desk that took these messages, made of its part for that year, and then the list of an
-/// attendee, made of the part that names the attendee.
+/// The list of the year 2026 of a desk that took these messages, made of its items for that year, and then the list of an
+/// attendee, made of the items of the to-dos that name the attendee.
 fn parts(alloc: Global, address: &str, texts: &[Vec<u8>]) -> Result<Vec<u8>, CallError> {
     let desk = desk_after(alloc, texts)?;
     let window = year()?;
-    let part = desk.part_in(window)?;
+    let part = State::of_shared(alloc, &desk.items_in(window)?)?;
     let mut told = RowsByUid::of(alloc, &part, window, &Wanted::all())?.text()?;
     told.extend_from_slice(b"of the attendee\n")?;
-    let part = desk.part_naming(address)?;
+    let part = State::of_shared(alloc, &desk.items_naming(address)?)?;
     let wanted = Wanted::showing(Some(address));
     let mut shown = RowsByUid::of(alloc, &part, window, &wanted)?.text()?;
     told.append(&mut shown)?;

@@ -7,7 +7,7 @@
 
 use crate::error::CallError;
 use crate::texts::count;
-use itip_lines::{Line, LineCause, LineError, LineRefusal, read_lines, write_line};
+use itip_lines::{LineCause, LineError, LineRefusal, SeenLine, read_lines, write_line};
 use std::alloc::{AllocError, Global};
 
 pub(crate) fn answer(
@@ -35,11 +35,11 @@ fn read(alloc: Global, text: &[u8]) -> Result<Vec<u8>, CallError> {
     Ok(out.into_bytes())
 }
 
-fn show(line: &Line, out: &mut String) -> Result<(), AllocError> {
-    out.push_str(line.name.as_str())?;
-    show_params(line.params.as_str(), out)?;
+fn show(line: &SeenLine<'_>, out: &mut String) -> Result<(), AllocError> {
+    out.push_str(line.name())?;
+    show_params(line.params(), out)?;
     out.push_str(" ")?;
-    out.push_str(line.value.as_str())?;
+    out.push_str(line.value())?;
     out.push_str("|")
 }
 
@@ -65,7 +65,7 @@ fn counted(alloc: Global, text: &[u8]) -> Result<Vec<u8>, CallError> {
 fn written(alloc: Global, before: &[u8], text: &[u8]) -> Result<Vec<u8>, CallError> {
     let mut out = Vec::from_slice(alloc, before)?;
     for line in &read_lines(alloc, text)? {
-        write_line(&line.line, &mut out)?;
+        write_line(&line.line.to_line(alloc)?, &mut out)?;
     }
     Ok(out)
 }

@@ -76,7 +76,7 @@ fn part(
     for uid in &uids {
         named.push(uid)?;
     }
-    let part = merged(alloc, texts)?.part(&named)?;
+    let part = State::of_shared(alloc, &merged(alloc, texts)?.shared_of(&named)?)?;
     truth(alloc, part.equal(&told))
 }
 

@@ -2,7 +2,7 @@ use Rattle.std.proofs.Common.{◌≡◌, ◌+◌, ◌∙◌, ℕ, List, Option, 
 use Rattle.std.specs.Prelude.{cond, is_some}
 use Rattle.std.specs.Ordering.{is_eq}
 use Rattle.std.specs.BTreeMap.{BTreeMap, IsOrdered}
-use Rattle.itip_state.proofs.Parting.{in_listed}
+use Rattle.itip_state.proofs.Listing.{in_listed}
 use Rattle.itip_desk.specs.Moves.{is_listed, tick_at, HavePlaces}
 use Rattle.itip_desk.proofs.Ticking.{uid_cmp, listed_all, taken_more, place_made, places_stay}
 use Rattle.itip_desk.proofs.moves.put_places.Goals as goal

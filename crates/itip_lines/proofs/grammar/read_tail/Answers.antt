@@ -1,14 +1,11 @@
 use Rattle.std.proofs.Common.{◌∙◌, sym, subst, arith}
 use Rattle.std.specs.Str.{IsUtf8}
-use Rattle.itip_lines.specs.Spelling.{IsTail}
 use Rattle.itip_lines.proofs.Utf8Parts.{utf8_behind}
-use Rattle.itip_lines.proofs.Lines.{lawful_tail}
 use Rattle.itip_lines.proofs.ParamLists.{wrote_no_params, wrote_more_params, lacks_next_param, lacks_colon, lacks_value, all_params}
-use Rattle.itip_lines.proofs.ParamTexts.{is_params_text}
 use Rattle.itip_lines.proofs.grammar.read_tail.Goals as goal
 
 pub loop-after-init : goal.loop-after-init
-loop-after-init c = wrote_no_params _ _ c.requires c.in_ok-params.ensures.items
+loop-after-init c = wrote_no_params _ _ c.requires c.clear.ensures.items
 
 pub read_param-requires : goal.read_param-requires
 read_param-requires c = utf8_behind 59 _ (subst IsUtf8 c.in-Some.ensures c.loop-after.invariant.has.utf8) (omega arith)
@@ -29,22 +26,10 @@ returns-then-not-are_value_octets c =
     lacks_value _ _ _ _ c.loop-after.invariant.has c.in-Some-strip.ensures
     (sym c.are_value_octets.ensures ∙ c.if-not-are_value_octets.true)
 
-pub copy-requires : goal.copy-requires
-copy-requires c = utf8_behind 58 _ (subst IsUtf8 c.in-Some-strip.ensures c.loop-after.invariant.has.utf8) (omega arith)
-
-pub from_text-requires : goal.from_text-requires
-from_text-requires c =
-    let is : IsTail c.args.text.now c.loop-after.invariant.done c.in-Some-strip.value.now =
-    all_params _ _ _ _ c.loop-after.invariant.has c.in-Some-strip.ensures
-    (sym c.are_value_octets.ensures ∙ c.if-not-are_value_octets.false) in
-    is_params_text _ c.loop-after.invariant.done (lawful_tail _ _ _ c.requires is).0 c.loop-after.invariant.wrote
-
 pub returns : goal.returns
-returns c =
-    let is : IsTail c.args.text.now c.loop-after.invariant.done c.in-Some-strip.value.now =
-    all_params _ _ _ _ c.loop-after.invariant.has c.in-Some-strip.ensures
-    (sym c.are_value_octets.ensures ∙ c.if-not-are_value_octets.false) in
-    rw (
-      c.from_text.ensures c.loop-after.invariant.done (lawful_tail _ _ _ c.requires is).0 c.loop-after.invariant.wrote,
-      c.in_ok-value.ensures,
-    ) is
+returns c = record {
+  params = c.loop-after.invariant.done;
+  is = all_params _ _ _ _ c.loop-after.invariant.has c.in-Some-strip.ensures
+      (sym c.are_value_octets.ensures ∙ c.if-not-are_value_octets.false);
+  wrote_is = c.loop-after.invariant.wrote;
+}

@@ -1,26 +1,31 @@
-use Rattle.std.proofs.Common.{sym, subst}
+use Rattle.std.proofs.Common.{◌≡◌, ◌∙◌, ℕ, List, sym, ap, subst, Option}
 use Rattle.std.specs.Str.{IsUtf8}
-use Rattle.itip_lines.proofs.Runs.{empty_from_test, some_from_test}
-use Rattle.itip_lines.proofs.Utf8Parts.{utf8_name, utf8_past_name}
-use Rattle.itip_lines.proofs.Lines.{lacks_line_name, lacks_tail, spelled_line, lawful_line}
+use Rattle.itip_lines.specs.Finding.{or_anew, IsFoundIn}
+use Rattle.itip_lines.specs.Lawful.{line_limit}
+use Rattle.itip_lines.specs.LinePlaces.{IsLineAt}
+use Rattle.itip_lines.specs.Parts.{LacksLine}
+use Rattle.itip_lines.specs.SeenOctets.{octets_of}
+use Rattle.itip_lines.specs.Spelling.{Spells}
+use Rattle.itip_lines.specs.declared.line.Line.{Line}
+use Rattle.itip_lines.proofs.Finding.{line_found, octets_found, found_at}
 use Rattle.itip_lines.proofs.grammar.read_text.Goals as goal
 
-pub returns-then-is_empty : goal.returns-then-is_empty
-returns-then-is_empty c = lacks_line_name _ _ _ c.cut_run.ensures (empty_from_test _ (sym c.if-is_empty.ensures))
-
-pub read_tail-requires : goal.read_tail-requires
-read_tail-requires c = utf8_past_name _ _ c.cut_run.ensures.passes (subst IsUtf8 c.cut_run.ensures.whole c.requires.utf8)
-
 pub returns-in_default : goal.returns-in_default
-returns-in_default c = lacks_tail _ _ _ c.cut_run.ensures (rw c.in_default.is at c.in_ok-params.ensures)
+returns-in_default c = subst LacksLine c.as_slice.ensures (rw c.in_default.is at c.in_ok-found.ensures)
 
-pub upper_name-requires : goal.upper_name-requires
-upper_name-requires c = utf8_name _ c.cut_run.ensures.passes
+pub new-requires : goal.new-requires
+new-requires c =
+    let found : IsFoundIn c.as_slice.result.now c.in-Some.found = rw c.in-Some.is at c.in_ok-found.ensures in
+    let here : IsFoundIn (octets_of c.args.text) c.in-Some.found =
+    subst (λ (t : List ℕ). IsFoundIn t c.in-Some.found) c.as_slice.ensures found in
+    subst (λ (t : List ℕ). IsLineAt t c.in-Some.found.name c.in-Some.found.value) (sym c.or_anew.ensures)
+    (found_at _ _ here c.requires.utf8 c.requires.short)
 
-pub invariant_of-result : goal.invariant_of-result
-invariant_of-result c = record {
-  lawful = lawful_line c.args.text.now _ _ _
-      (spelled_line _ _ _ _ _ _ c.cut_run.ensures (some_from_test _ (sym c.if-is_empty.ensures)) c.in_ok-name.ensures
-      (rw c.in-Some.is at c.in_ok-params.ensures))
-      c.requires.utf8 c.requires.short;
-}
+pub returns : goal.returns
+returns c =
+    let found : IsFoundIn c.as_slice.result.now c.in-Some.found = rw c.in-Some.is at c.in_ok-found.ensures in
+    let here : IsFoundIn (octets_of c.args.text) c.in-Some.found =
+    subst (λ (t : List ℕ). IsFoundIn t c.in-Some.found) c.as_slice.ensures found in
+    let line : Line = line_found _ _ here c.requires.utf8 c.requires.short in
+    let same : c.new.result ≡ line = c.new.ensures line (c.or_anew.ensures ∙ octets_found _ _ here c.requires.utf8 c.requires.short) in
+    subst (λ (l : Line). Spells (octets_of c.args.text) l.name l.params l.value) (sym same) here.spells

@@ -1,5 +1,4 @@
 use Rattle.std.proofs.Common.{◌∙◌, List, [], sym, ap, subst}
-use Rattle.std.specs.Str.{IsUtf8}
 use Rattle.std.proofs.lemmas.Result.{err_from_is_err_and}
 use Rattle.itip_lines.specs.Cutting.{NumberedText}
 use Rattle.itip_lines.specs.Stretches.{texts_behind}
@@ -17,7 +16,7 @@ pub push_line-requires-in-Fold : goal.push_line-requires-in-Fold
 push_line-requires-in-Fold c =
     let first = c.cut_stretch.ensures.lines c.args.left.number [] ∙
     ap (texts_by c.args.left.number c.cut_stretch.result.0.now) c.in-Fold.is ∙ c.in_ok-line-in-Fold.ensures.lines c.args.left.number in
-    λ whole. subst IsUtf8 (sym c.as_slice.ensures.value) (subst (λ (ts : List NumberedText). AreUtf8 ts) first (c.requires.utf8 whole)).0
+    λ whole. (subst (λ (ts : List NumberedText). AreUtf8 ts) first (c.requires.utf8 whole)).0
 
 pub returns-in_err-push_line-in-Line-clause-refused :
     goal.returns-in_err-push_line-in-Line-clause-refused
@@ -34,4 +33,4 @@ returns-in_err-push_line-in-Fold-clause-refused c =
     rw (p.1, p.2) (next_refusal c.args.left _ c.in_ok-line-in-Fold.line.items (texts_behind c.in_ok-line-in-Fold.after) _
     (c.cut_stretch.ensures.lines c.args.left.number [] ∙ ap (texts_by c.args.left.number c.cut_stretch.result.0.now) c.in-Fold.is ∙
     c.in_ok-line-in-Fold.ensures.lines c.args.left.number)
-    (rw c.as_slice.ensures.value at c.in_err-push_line-in-Fold.ensures.refused))
+    c.in_err-push_line-in-Fold.ensures.refused)

@@ -6,8 +6,8 @@ use Rattle.itip_items.specs.declared.item.Item.{Item}
 use Rattle.itip_desk.specs.Desk.{Shown}
 use Rattle.itip_office.specs.declared.error.OfficeError.{OfficeError}
 use Rattle.itip_office.specs.Exchanged.{GivesDelta, TakesAll}
-use Rattle.itip_office.proofs.Sharing.{AreDeltasOf, alone_kept}
-use Rattle.itip_office.proofs.Beside.{are_deltas, all_kept_alike, as_many, delta_errors, take_errors}
+use Rattle.itip_office.proofs.Sharing.{AreDeltasOf, some_desks, alone_kept}
+use Rattle.itip_office.proofs.Beside.{are_deltas, all_kept_alike, all_some, as_many, delta_errors, take_errors}
 use Rattle.itip_office.proofs.exchange.exchange.Goals as goal
 use Rattle.itip_office.proofs.exchange.exchange.Goals.{In_ok-given, In_ok-taken}
 
@@ -17,6 +17,9 @@ returns-then-len-desks-2-clause-kept g c = λ hs are.
     let long = c.args.parts.ok.0 in
     let few : length c.args.parts.items < 2 = omega (arith, long, c.len-2.ensures, c.if-len-lt2.true) in
     alone_kept hs c.args.parts.items few are
+
+pub returns-then-len-desks-2-clause-each : goal.returns-then-len-desks-2-clause-each
+returns-then-len-desks-2-clause-each g c = λ hs are. some_desks hs c.args.parts.items are
 
 -- what is known of the deltas, each still with its error
 each_given : (g : _) (c : In_ok-given g) → (i : ℕ) (d : Shown) (r : Result (List Item) OfficeError) → i < length c.args.parts.items →
@@ -70,3 +73,11 @@ returns-clause-kept g c = λ hs are.
     are_deltas parts c.in_ok-given.given.items deltas (given_count g before) (each_given g before) c.in_ok-deltas.ensures.all in
     all_kept_alike hs parts deltas are gives c.args.desks c.truncate.new.self.items c.in_ok-taken.taken.items c.in_ok-ended.ended.items first
     c.in_ok-taken.ensures.count (each_taken g after) c.in_ok-ended.ensures.all
+
+pub returns-clause-each : goal.returns-clause-each
+returns-clause-each g c = λ hs are.
+    let after = (goal.at.returns-clause-each g c).In_ok-taken in
+    let parts = c.args.parts.items in
+    let first : c.truncate.new.self.items ≡ take c.args.desks parts = search rules in
+    all_some hs c.in_ok-deltas.deltas.items parts are c.args.desks c.truncate.new.self.items c.in_ok-taken.taken.items
+    c.in_ok-ended.ended.items first c.in_ok-taken.ensures.count (each_taken g after) c.in_ok-ended.ensures.all

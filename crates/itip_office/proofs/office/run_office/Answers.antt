@@ -11,5 +11,5 @@ returns-clause-ended g c =
     let replies = c.in_ok-replies.replies.items in
     let are : AreRepliesFrom given sorted replies = search rules in
     has_ended c.args.desks c.args.jobs.items sorted given replies (all_heard gathered.histories) c.in_ok-desks.desks.items
-    c.in_ok-sort_by_key.ensures.permutation are gathered.tells c.in_ok-desks.ensures.count
-    (c.in_ok-desks.ensures.kept gathered.histories gathered.are)
+    c.in_ok-sort_by_key.ensures.permutation are gathered.tells c.in_ok-answers.ensures.shown c.in_ok-desks.ensures.count
+    (c.in_ok-desks.ensures.each gathered.histories gathered.are) (c.in_ok-desks.ensures.kept gathered.histories gathered.are)

@@ -1,4 +1,4 @@
-use Rattle.std.proofs.Common.{sym, ap, ◌∙◌}
+use Rattle.std.proofs.Common.{ap, ◌∙◌}
 use Rattle.itip_script.specs.Jobs.{errand_of, errands_of}
 use Rattle.itip_script.specs.LeftJobs.{errands_left}
 use Rattle.itip_office.proofs.Numbering.{none_so_far, so_far_more, all_jobs, all_others}

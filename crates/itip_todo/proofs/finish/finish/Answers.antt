@@ -1,7 +1,5 @@
 use Rattle.std.proofs.Common.{◌≡◌, ℕ, List, [], refl, inl, sym, subst, ◌∙◌, Option, Some, None}
-use Rattle.std.specs.List.{AllByRecursion}
 use Rattle.std.proofs.lemmas.Result.{err_from_is_err_and}
-use Rattle.itip_lines.specs.Joining.{IsOneLine}
 use Rattle.itip_moment.specs.declared.stamp.Stamp.{Stamp}
 use Rattle.itip_lines.specs.declared.line.Line.{Line}
 use Rattle.itip_todo.specs.Drafts.{draft_parts, IsDraftOf}
@@ -19,8 +17,8 @@ use Rattle.itip_todo.proofs.finish.finish.Goals as goal
 
 pub invariant_of-result : goal.invariant_of-result
 invariant_of-result c =
-    let rule : c.in_ok-needed.needed.rule ≡ c.args.draft.rule.items = c.in_ok-needed.ensures.rule ∙ c.as_slice.ensures.value in
-    let others : c.in_ok-needed.needed.others ≡ c.args.draft.others.items = c.in_ok-needed.ensures.others ∙ c.as_slice-2.ensures.value in
+    let rule : c.in_ok-needed.needed.rule ≡ c.args.draft.rule = c.in_ok-needed.ensures.rule in
+    let others : c.in_ok-needed.needed.others ≡ c.args.draft.others = c.in_ok-needed.ensures.others in
     let full : Parts = record {
       uid = c.in_ok-needed.needed.uid;
       stamp = c.in_ok-needed.needed.stamp;
@@ -86,12 +84,12 @@ returns-clause-found c = λ lines good is. record {
   summary = is name.Summary;
   organizer = is name.Organizer;
   attendees = c.in_ok-needed.ensures.attendees ∙ (is name.Attendee).whole;
-  rule = c.in_ok-needed.ensures.rule ∙ c.as_slice.ensures.value ∙ is name.RRule;
+  rule = c.in_ok-needed.ensures.rule ∙ is name.RRule;
   rdates = moments_of (lines_of lines name.RDate) c.args.draft.rdates c.in_ok-needed.needed.rdates (is name.RDate)
       c.in_ok-needed.ensures.rdates c.in_ok-needed.ensures.ordered.0;
   exdates = moments_of (lines_of lines name.ExDate) c.args.draft.exdates c.in_ok-needed.needed.exdates (is name.ExDate)
       c.in_ok-needed.ensures.exdates c.in_ok-needed.ensures.ordered.1;
-  others = c.in_ok-needed.ensures.others ∙ c.as_slice-2.ensures.value ∙ is name.Others;
+  others = c.in_ok-needed.ensures.others ∙ is name.Others;
 }
 
 abbrev Lacks : Draft → TodoRefusal → Type 0

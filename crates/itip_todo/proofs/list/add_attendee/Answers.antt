@@ -14,7 +14,7 @@ was_new true added e h = let never : false ≡ true = sym e ∙ h in absurd cc
 
 pub returns-clause-taken : goal.returns-clause-taken
 returns-clause-taken c =
-    let key : c.in_ok-key.key ≡ key_of c.args.line.now = c.in_ok-key.ensures ∙ ap attendee_key c.as_str-2.ensures in
+    let key : c.in_ok-key.key ≡ key_of c.args.line.now = c.in_ok-key.ensures ∙ ap attendee_key c.value-2.ensures in
     let free : contains (slice_cmp nat_cmp) c.args.draft.now.keys (key_of c.args.line.now) ≡ false =
     subst (λ (k : List ℕ). contains (slice_cmp nat_cmp) c.args.draft.now.keys k ≡ false) key
     (was_new (contains (slice_cmp nat_cmp) c.args.draft.now.keys c.in_ok-key.key) c.in_ok-insert.field-0 c.in_ok-insert.ensures.added
@@ -23,8 +23,7 @@ returns-clause-taken c =
     subst (λ (k : List ℕ). Updates (slice_cmp nat_cmp) c.args.draft.now.keys c.insert.new.self k true) key
     c.in_ok-insert.ensures.updates in
     let pushed : c.push.new.self ≡ c.args.draft.now.attendees ++ whole_property c.args.line.now ∷ [] =
-    c.in_ok-push.ensures ∙ ap (λ (v : List ℕ). c.args.draft.now.attendees ++ (record { params = c.args.line.now.params; value = v }) ∷ [])
-    c.as_str-3.ensures in
+    c.in_ok-push.ensures in
     let some : 0 < length c.args.line.now.value = grind (arith, common_steps) in
     let few : length c.args.draft.now.attendees < 2000 = omega (arith, c.if-len-ge-ATTENDEE_LIMIT.false, c.len.ensures) in
     takes_attendee c.args.line.now c.args.draft.now _ some few free updates pushed refl

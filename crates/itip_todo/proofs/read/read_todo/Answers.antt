@@ -9,7 +9,7 @@ use Rattle.itip_todo.specs.Reading.{AreGood, FirstRefusal, IfRefused, ReadsTodo,
 use Rattle.itip_todo.specs.Table.{property_of}
 use Rattle.itip_todo.specs.declared.error.TodoError.{TodoError}
 use Rattle.itip_todo.specs.declared.error.TodoRefusal.{TodoRefusal}
-use Rattle.itip_todo.proofs.Finishing.{lawful_draft, unbroken_draft}
+use Rattle.itip_todo.proofs.Finishing.{lawful_draft}
 use Rattle.itip_todo.proofs.GoodLines.{are_good_more, draft_more, first_refusal_at, parted, IfRefused-weaker}
 use Rattle.itip_todo.proofs.read.read_todo.Goals as goal
 
@@ -49,13 +49,10 @@ loop-line-preserved c =
           (c.in_ok-add_numbered.ensures.taken.draft (lines_of (plain_lines front)) c.loop-line.invariant.1)),
     )
 
-pub finish-requires-clause-lawful : goal.finish-requires-clause-lawful
-finish-requires-clause-lawful c =
-    lawful_draft (plain_lines (take c.loop-line.line-index c.args.lines.now)) c.loop-line.draft c.loop-line.invariant.1
-
-pub finish-requires-clause-rule : goal.finish-requires-clause-rule
-finish-requires-clause-rule c =
-    unbroken_draft (plain_lines (take c.loop-line.line-index c.args.lines.now)) c.loop-line.draft c.loop-line.invariant.1
+pub finish-requires : goal.finish-requires
+finish-requires c = record {
+  lawful = lawful_draft (plain_lines (take c.loop-line.line-index c.args.lines.now)) c.loop-line.draft c.loop-line.invariant.1;
+}
 
 pub returns-clause-found : goal.returns-clause-found
 returns-clause-found c =

@@ -7,5 +7,5 @@ returns-in-None-clause-cause c =
     rw c.bad_value.ensures (
       refl,
       λ n is. c.in-None.ensures.none n
-          (subst (λ (t : List ℕ). IsNumberUpTo c.args.limit t n) (sym c.as_str.ensures) is),
+          (subst (λ (t : List ℕ). IsNumberUpTo c.args.limit t n) (sym c.value.ensures) is),
     )

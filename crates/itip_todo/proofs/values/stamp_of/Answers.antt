@@ -7,5 +7,5 @@ returns-in-None-clause-cause c =
     rw c.bad_value.ensures (
       refl,
       λ (value, is). c.in-None.ensures.none value
-          (subst (λ (t : List ℕ). IsStampText t value) (sym c.as_str.ensures) is),
+          (subst (λ (t : List ℕ). IsStampText t value) (sym c.value.ensures) is),
     )

@@ -1,32 +1,8 @@
-use Rattle.std.proofs.Common.{refl}
-use Rattle.std.specs.Prelude.{codes, Some}
-use Rattle.std.proofs.lemmas.Result.{IfOk-weaker}
-use Rattle.clap.specs.Simple.{new_rule}
-use Rattle.itip_words.specs.Program.{IsRule, option}
-use Rattle.itip_words.proofs.Programs.{rule_set, adds_one, adds_none}
 use Rattle.itip_words.proofs.commands.days_around_today.Goals as goal
 
 pub returns : goal.returns
 returns c =
-    let from-0 : IsRule (new_rule (codes "from")) c.new.result =
-    record { rule_is = c.new.ensures.rule; local = c.new.ensures.optional.1 } in
-    let from-1 = rule_set _ (λ r. record r { long = Some (codes "from") }) _ _ _ from-0 c.long.ensures refl refl in
-    let from-2 = rule_set _ (λ r. record r { value_names = 1 }) _ _ _ from-1 c.value_name.ensures refl refl in
-    let from-3 = rule_set _ (λ r. r) _ _ _ from-2 c.help-from.ensures refl refl in
-    let from_is : IsRule (option (codes "from")) c.help-from.result = from-3 in
-    let to-0 : IsRule (new_rule (codes "to")) c.new-2.result =
-    record { rule_is = c.new-2.ensures.rule; local = c.new-2.ensures.optional.1 } in
-    let to-1 = rule_set _ (λ r. record r { long = Some (codes "to") }) _ _ _ to-0 c.long-2.ensures refl refl in
-    let to-2 = rule_set _ (λ r. record r { value_names = 1 }) _ _ _ to-1 c.value_name-2.ensures refl refl in
-    let to-3 = rule_set _ (λ r. r) _ _ _ to-2 c.help-to.ensures refl refl in
-    let to_is : IsRule (option (codes "to")) c.help-to.result = to-3 in
-    let today-0 : IsRule (new_rule (codes "today")) c.new-3.result =
-    record { rule_is = c.new-3.ensures.rule; local = c.new-3.ensures.optional.1 } in
-    let today-1 = rule_set _ (λ r. record r { long = Some (codes "today") }) _ _ _ today-0 c.long-3.ensures refl refl in
-    let today-2 = rule_set _ (λ r. record r { value_names = 1 }) _ _ _ today-1 c.value_name-3.ensures refl refl in
-    let today-3 = rule_set _ (λ r. r) _ _ _ today-2 c.help-today.ensures refl refl in
-    let today_is : IsRule (option (codes "today")) c.help-today.result = today-3 in
-    let none = adds_none c.args.command in
-    let some1 = adds_one _ c.in_ok-arg.field-0 _ (option (codes "from")) c.in_ok-arg.ensures from_is _ _ none in
-    let some2 = adds_one _ c.in_ok-arg-2.field-0 _ (option (codes "to")) c.in_ok-arg-2.ensures to_is _ _ some1 in
-    IfOk-weaker c.arg-3.result _ _ (λ made adds. adds_one _ made _ (option (codes "today")) adds today_is _ _ some2) c.arg-3.ensures
+    λ app word.
+    let first_given = c.with_arg-command.ensures _ _ word c.first_word.ensures in
+    let after_given = c.with_arg-command-2.ensures _ _ first_given c.after_word.ensures in
+    c.with_arg.ensures _ _ after_given c.today_word.ensures

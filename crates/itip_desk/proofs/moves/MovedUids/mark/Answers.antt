@@ -1,7 +1,7 @@
 use Rattle.std.proofs.Common.{◌≡◌, ◌+◌, ◌∙◌, ℕ, List, take, take_all, true, sym, ap, subst, arith}
 use Rattle.std.specs.Prelude.{cond, Some}
 use Rattle.std.specs.BTreeMap.{BTreeMap, IsOrdered}
-use Rattle.itip_state.proofs.Parting.{in_listed}
+use Rattle.itip_state.proofs.Listing.{in_listed}
 use Rattle.itip_desk.specs.Moves.{Moved, is_listed, tick_at, has_move}
 use Rattle.itip_desk.proofs.Ticking.{uid_cmp, taken_more, none_marked, marked_there, one_marked}
 use Rattle.itip_desk.proofs.moves.MovedUids.mark.Goals as goal

@@ -8,7 +8,8 @@ pub loop-text-preserved : goal.loop-text-preserved
 loop-text-preserved c =
     text_taken c.args.texts.now c.loop-text.text-index c.text-item.result c.loop-text.octets.items c.append.new.out.items
     c.loop-text-test.true c.text-item.is c.loop-text.invariant
-    (c.in_ok-append.ensures ∙ ap (λ (t : List ℕ). c.loop-text.octets.items ++ (t ++ 10 ∷ [])) (c.as_bytes.ensures.value ∙ c.as_str.ensures))
+    (c.in_ok-append.ensures.appended
+    ∙ ap (λ (t : List ℕ). c.loop-text.octets.items ++ (t ++ 10 ∷ [])) (c.as_bytes.ensures.value ∙ c.as_str.ensures))
 
 pub from_octets-requires : goal.from_octets-requires
 from_octets-requires c =

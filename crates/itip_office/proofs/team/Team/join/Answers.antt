@@ -1,8 +1,14 @@
 use Rattle.std.proofs.Common.{All}
 use Rattle.std.proofs.lemmas.Result.{IfOk-at_ok}
-use Rattle.itip_office.specs.Answers.{AnswersAlone}
+use Rattle.itip_office.specs.Seen.{IsOneOf, IsAnswered}
+use Rattle.itip_office.specs.Pairs.{HasKept}
 use Rattle.itip_office.proofs.team.Team.join.Goals as goal
 
-pub returns-in-Ok-Ok-clause-alone : goal.returns-in-Ok-Ok-clause-alone
-returns-in-Ok-Ok-clause-alone g c = λ desks all.
-    IfOk-at_ok (λ v. All (λ a. AnswersAlone desks a.0.work a.1) v.items) c.in-Ok-Ok.is-0 (c.join_workers-alone.ensures.alone desks all)
+pub returns-in-Ok-Ok-clause-answered : goal.returns-in-Ok-Ok-clause-answered
+returns-in-Ok-Ok-clause-answered g c = λ desks all.
+    IfOk-at_ok (λ v. All (IsAnswered desks (IsOneOf v.1.items)) v.0.items) c.in-Ok-Ok.is-0 (c.join_workers-alone.ensures.answered desks all)
+
+pub returns-in-Ok-Ok-clause-kept : goal.returns-in-Ok-Ok-clause-kept
+returns-in-Ok-Ok-clause-kept g c =
+    IfOk-at_ok (λ v. All (λ k. HasKept (g.N.Pairs.pair k.desk) (IsOneOf v.1.items) k.desk k.answers.items k.held.texts k.held.shown)
+    v.0.items) c.in-Ok-Ok.is-1 c.join_keepers-kept.ensures.kept

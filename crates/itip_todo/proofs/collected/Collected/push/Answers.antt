@@ -8,7 +8,7 @@ use Rattle.itip_todo.proofs.Placing.{places_extended, places_more, properties_pu
 use Rattle.itip_todo.proofs.collected.Collected.push.Goals as goal
 
 pub append-requires : goal.append-requires
-append-requires c = is_params_text _ c.args.params.now c.as_str.ensures.lawful c.as_str.ensures.text
+append-requires c = is_params_text _ c.args.line.now.params c.params.ensures.lawful c.params.ensures.text
 
 pub invariant_of-self : goal.invariant_of-self
 invariant_of-self c = places_extended _ _ _ c.append.ensures.extends c.self.invariant
@@ -27,7 +27,7 @@ pub returns : goal.returns
 returns c =
     properties_pushed _ _ _ _ _ _ c.append.ensures.extends c.self.invariant c.in_ok-push.ensures.items
     (c.in_ok-place.ensures.stands.1 ∙ λ i. record {
-      params = params_are _ c.args.params.now c.as_str.ensures.lawful c.as_str.ensures.text i;
-      value = c.args.value.now;
+      params = params_are _ c.args.line.now.params c.params.ensures.lawful c.params.ensures.text i;
+      value = c.value.ensures i;
     })
-    ∙ ap (λ (ps : List Property). ps ++ (record { params = c.args.params.now; value = c.args.value.now }) ∷ []) c.self.view_is
+    ∙ ap (λ (ps : List Property). ps ++ (record { params = c.args.line.now.params; value = c.args.line.now.value }) ∷ []) c.self.view_is

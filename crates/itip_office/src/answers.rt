@@ -1,0 +1,29 @@
+//! What a loop has answered.
+ghost use Rattle.std.specs.Prelude.{◌≡◌, ◌++◌, ◌∷◌, [], OnOk, IsErrOf, option_to_list};
+
+use crate::error::OfficeError;
+use crate::gate::Gate;
+use crate::job::Job;
+use crate::outcome::Outcome;
+use crate::pairs::Pairs;
+use crate::source::{Source, push_some};
+
+/// Puts an answer behind those that were found before, and what was seen for it, where something was. The gate hears that the job is done.
+pub(crate) fn keep_answer<N: Pairs, G: Gate>(
+    gate: &G,
+    found: &mut (Vec<(Job, Outcome)>, Vec<Source<N>>),
+    answer: (Job, Outcome),
+    source: Option<Source<N>>,
+) -> Result<(), OfficeError>
+    ensures answers { OnOk result (found.new.0.items ≡ found.old.0.items ++ answer ∷ []) }
+    ensures sources { OnOk result (found.new.1.items ≡ found.old.1.items ++ option_to_list source) }
+    ensures closed { IsErrOf result OfficeError.GateClosed → G.may_close }
+{
+    let number = answer.0.number;
+    push_some(&mut found.1, source)?;
+    found.0.push(answer)?;
+    if !gate.done(number) {
+        return Err(OfficeError::GateClosed);
+    }
+    Ok(())
+}

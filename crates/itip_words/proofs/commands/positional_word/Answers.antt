@@ -1,0 +1,13 @@
+use Rattle.std.proofs.Common.{true, refl}
+use Rattle.clap.specs.Simple.{new_rule}
+use Rattle.itip_words.specs.Program.{IsRule}
+use Rattle.itip_words.proofs.Programs.{rule_set}
+use Rattle.itip_words.proofs.commands.positional_word.Goals as goal
+
+pub returns : goal.returns
+returns c =
+    let fresh : IsRule (new_rule c.args.name.now) c.new.result =
+    record { rule_is = c.new.ensures.rule; local = c.new.ensures.optional.1 } in
+    let valued = rule_set _ (λ r. record r { value_names = 1 }) _ _ _ fresh c.value_name.ensures refl refl in
+    let required = rule_set _ (λ r. record r { required = true }) _ _ _ valued c.required.ensures refl refl in
+    rule_set _ (λ r. r) _ _ _ required c.help.ensures refl refl

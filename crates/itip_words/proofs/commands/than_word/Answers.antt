@@ -1,0 +1,8 @@
+use Rattle.std.proofs.Common.{refl}
+use Rattle.itip_words.specs.Program.{needed, repeated}
+use Rattle.itip_words.proofs.Programs.{rule_set}
+use Rattle.itip_words.proofs.commands.than_word.Goals as goal
+
+pub returns : goal.returns
+returns c =
+    rule_set _ needed _ _ _ (rule_set _ repeated _ _ _ c.option_word.ensures c.action.ensures refl refl) c.required.ensures refl refl

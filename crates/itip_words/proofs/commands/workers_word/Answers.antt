@@ -1,0 +1,8 @@
+use Rattle.std.proofs.Common.{refl, codes}
+use Rattle.itip_words.specs.Program.{otherwise}
+use Rattle.itip_words.proofs.Programs.{rule_set}
+use Rattle.itip_words.proofs.commands.workers_word.Goals as goal
+
+pub returns : goal.returns
+returns c =
+    rule_set _ (otherwise (codes "1")) _ _ _ c.option_word.ensures c.default_value.ensures refl refl
