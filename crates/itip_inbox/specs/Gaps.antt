@@ -13,7 +13,7 @@ IsEmptyLine text = (text ≡ 10 ∷ []) ⊎ (text ≡ 13 ∷ (10 ∷ []))
 abbrev pub IsCalendarOrEmptyLine : List ℕ → Type 0
 IsCalendarOrEmptyLine text = IsCalendar text ⊎ IsEmptyLine text
 
--- A part ends in the gap between two messages, where the rest follows: it has nothing but whole calendars and empty lines, and
+-- A part ends in a gap, before, between or behind messages, where the rest follows: it has nothing but whole calendars and empty lines, and
 -- behind none of these stands a blank, which would make its last break a fold. The gap may have empty lines on both sides of the end.
 pub record EndsInGap (part rest : List ℕ) : Type 0 where
   pub pieces : List (List ℕ)

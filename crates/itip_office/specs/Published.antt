@@ -34,8 +34,8 @@ pub record IsBeginning (publications : List Publication) (desk : ℕ) (seen : Li
   pub are : publication.batches ≡ Some batches
   pub begins : IsPrefix seen batches
 
--- These are the batches of the jobs, one for each, in order, and those of carries are of what was seen. Where nothing is published the jobs
--- are texts, each merged by its batch.
+-- These are the batches of the jobs, one for each, in order, and those of carries are of what was seen. Where there is no running
+-- desk the jobs are texts, each merged by its batch.
 abbrev pub ArePublished : ℕ → (ℕ → List (List Item) → Type 0) → List Answer → Option (List (List Item)) → Type 0
 ArePublished desk IsSeen answers None = All (λ (a : Answer). IsText a.0.work × IsMerged desk a) answers
 ArePublished desk IsSeen answers (Some batches) =
