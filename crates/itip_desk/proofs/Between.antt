@@ -1,6 +1,6 @@
 -- Which entries lie between two bounds.
 use Rattle.std.proofs.Common.{◌≡◌, ◌∙◌, ◌<◌, ◌||◌, ℕ, ℤ, ◌≤ℤ◌, ◌<ℤ◌, List, [], ◌∷◌, ◌++◌, map, refl, sym, ap, subst, inl, inr, Bool, true, false, cond}
-use Rattle.std.proofs.Common.{◌↔◌, not, ◌&&◌, arith, Option, Some, None, option_map, option_to_list}
+use Rattle.std.proofs.Common.{◌↔◌, not, ◌&&◌, arith, Option, Some, None, option_to_list}
 use Rattle.std.specs.List.{Contains, list_any}
 use Rattle.std.specs.Ordering.{nat_cmp, int_cmp, ordering_then, is_le, is_gt, is_eq, MatchOrdering}
 use Rattle.std.specs.Cmp.{tied_itself}

@@ -1,6 +1,6 @@
 -- The index after a hearing.
 use Rattle.std.proofs.Common.{◌≡◌, ◌∙◌, ◌⊎◌, inl, inr, ℕ, List, [], ◌∷◌, ◌++◌, map, refl, sym, ap, subst, Bool, true, false, ◌||◌}
-use Rattle.std.proofs.Common.{◌&&◌, not, cond, Some, Result, Ok, Err, OnOk, OnErr, ◌+◌, ◌<◌, ◌≤◌, length, take, take_all}
+use Rattle.std.proofs.Common.{◌&&◌, not, cond, Result, Ok, Err, OnOk, OnErr, ◌+◌, ◌<◌, ◌≤◌, length, take, take_all}
 use Rattle.std.proofs.Common.{get_or, option_to_list}
 use Rattle.std.specs.List.{Contains}
 use Rattle.std.specs.Ordering.{is_eq}

@@ -1,8 +1,8 @@
 -- What an index of kept items has (our own form): the items by the days on which their rows can stand, those whose rows can stand on
 -- any day, and by the attendees that their rows can show.
-use Rattle.std.specs.Prelude.{◌≡◌, ◌⊎◌, ℕ, ℤ, pos, cond, List, [], ◌++◌, map, option_to_list, Option, Bool, false}
+use Rattle.std.specs.Prelude.{◌≡◌, ◌⊎◌, ℕ, ℤ, pos, cond, List, [], ◌++◌, map, option_to_list, Bool, false}
 use Rattle.std.specs.List.{Contains}
-use Rattle.std.specs.Option.{option_map, option_cmp}
+use Rattle.std.specs.Option.{option_cmp}
 use Rattle.std.specs.declared.cmp.Ordering.{Ordering}
 use Rattle.std.specs.declared.cmp.Ordering.TheVariants.{Less, Equal, Greater}
 use Rattle.std.specs.Ordering.{nat_cmp, int_cmp, ordering_then, is_eq}

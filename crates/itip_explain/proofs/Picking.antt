@@ -1,5 +1,5 @@
 -- The latest of each key tell what is kept of all.
-use Rattle.std.proofs.Common.{◌+◌, ◌≤◌, zero, suc, length, get_or, take, arith}
+use Rattle.std.proofs.Common.{◌+◌, zero, suc, length, get_or, take, arith}
 use Rattle.std.proofs.Common.{◌≡◌, ◌<◌, ◌↔◌, ℕ, List, [], ◌∷◌, ◌++◌, map, refl, sym, ◌∙◌, ap, subst, inl, inr, false, append-nil, Option}
 use Rattle.std.proofs.Common.{Some, None, Bor}
 use Rattle.std.specs.List.{Contains}
@@ -16,7 +16,7 @@ use Rattle.itip_state.specs.Kept.{IsKept, AreKept}
 use Rattle.itip_state.proofs.Best.{later_than_less, not_later_itself}
 use Rattle.itip_state.proofs.Keeping.{Covers, covers_itself, kept_of_parts, kept_beside, are_kept_by}
 use Rattle.itip_state.proofs.Members.{none_in, cons_cases}
-use Rattle.itip_explain.specs.Latest.{told_cmp, is_before, AreLatestFirst, ArePicked, items_in}
+use Rattle.itip_explain.specs.Latest.{is_before, AreLatestFirst, ArePicked, items_in}
 use Rattle.itip_explain.specs.Told.{heard_of}
 use Rattle.itip_explain.specs.declared.told.ToldItem.{ToldItem}
 use Rattle.itip_explain.proofs.Firsts.{told_total, into_map, from_map, map_append, not_later_than, in_order, from_order}

@@ -1,10 +1,10 @@
 -- The canonical octets of a to-do, put together of their parts.
-use Rattle.std.proofs.Common.{◌≡◌, ◌∙◌, sym, ap, refl, subst, ℕ, ◌+◌, ◌<◌, ◌≤◌, List, [], ◌∷◌, ◌++◌, length, length-append, append_assoc}
+use Rattle.std.proofs.Common.{◌≡◌, ◌∙◌, sym, ap, subst, ℕ, ◌+◌, ◌<◌, ◌≤◌, List, [], ◌∷◌, ◌++◌, length, length-append, append_assoc}
 use Rattle.std.proofs.Common.{append-nil, arith}
 use Rattle.std.specs.Prelude.{codes}
 use Rattle.itip_todo.specs.Parts.{Parts}
 use Rattle.itip_todo.specs.UpTo.{AppendsEach, AppendsUpTo}
-use Rattle.itip_todo.specs.Written.{Content, contents_octets, content_octets, parts_contents, todo_contents, front_contents, rest_contents}
+use Rattle.itip_todo.specs.Written.{Content, contents_octets, parts_contents, todo_contents, front_contents, rest_contents}
 use Rattle.itip_todo.proofs.Appending.{appends_all, each_behind, then_up_to, front_and_rest}
 use Rattle.itip_todo.proofs.Contents.{contents_octets-append}
 use Rattle.itip_items.specs.Items.{bare, canonical_contents, canonical_octets, opening_contents, closing_contents, front_octets}

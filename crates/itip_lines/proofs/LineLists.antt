@@ -1,6 +1,6 @@
 -- Lines that stand as texts.
 use Rattle.std.proofs.Common.{◌≡◌, ◌∙◌, sym, ap, refl, ℕ, ◌+◌, ◌<◌, Bool, false, List, [], ◌∷◌, ◌++◌}
-use Rattle.std.proofs.Common.{take, get_or, map, length, append_assoc, subst, arith}
+use Rattle.std.proofs.Common.{take, get_or, map, length, subst, arith}
 use Rattle.std.proofs.Common.{append-nil}
 use Rattle.std.specs.Prelude.{◌||◌, OnOk, OnErr, is_ok, Result, Ok, Err, cond}
 use Rattle.std.proofs.lemmas.List.{map-append, take_more}

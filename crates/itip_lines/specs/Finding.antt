@@ -1,5 +1,5 @@
 -- How a text is found to be a line: the octets that the line is written with, and where its parts stand in them (our own form).
-use Rattle.std.specs.Prelude.{◌≡◌, ℕ, ◌+◌, List, ◌∷◌, length, Option, Some, None}
+use Rattle.std.specs.Prelude.{◌≡◌, ℕ, ◌+◌, List, length, Option, Some, None}
 use Rattle.itip_lines.specs.Lawful.{params_text, line_text}
 use Rattle.itip_lines.specs.Spelling.{Spells}
 use Rattle.itip_lines.specs.declared.grammar.Found.{Found}

@@ -26,10 +26,9 @@ use Rattle.itip_items.specs.declared.error.FormError.{FormError}
 use Rattle.itip_items.specs.declared.error.FormError.TheVariants as form_error
 use Rattle.itip_items.specs.declared.item.Item.{Item}
 use Rattle.itip_items.specs.declared.kind.Method.TheVariants as method
-use Rattle.itip_message.specs.Building.{Adds, IsOneProperty, RefusesText, RefusesMade, RefusesItem, GivesItem, next_number, bad_line, not_one, of_component, no_todo, too_large}
-use Rattle.itip_message.specs.Building.{RefusesValue, RefusesBeginning, broken_value, no_line, RefusesMoment, no_moment}
+use Rattle.itip_message.specs.Building.{Adds, IsOneProperty, RefusesText, RefusesMade, RefusesItem, GivesItem, no_todo, too_large}
+use Rattle.itip_message.specs.Building.{RefusesValue, RefusesBeginning, no_line, RefusesMoment, no_moment}
 use Rattle.itip_message.specs.Building.{AddsMoment, has_lawful_zone, moment_line_text}
-use Rattle.itip_message.specs.Message.{ReadsComponent}
 use Rattle.itip_message.specs.Refusals.{IfRefused, todo_gives, form_gives}
 use Rattle.itip_message.specs.declared.error.ReadError.{ReadError}
 use Rattle.itip_message.specs.declared.error.ReadError.TheVariants as error

@@ -1,5 +1,5 @@
 -- Components in components: BEGIN and END, and which lines stand where (RFC 5545 3.4 and 3.6; the depth is our own limit).
-use Rattle.std.specs.Prelude.{ℕ, nat_lt, Bool, cond, ◌&&◌, List, [], ◌∷◌, ◌++◌, length, codes, Option, Some, None, Result, Ok, Err}
+use Rattle.std.specs.Prelude.{ℕ, nat_lt, cond, ◌&&◌, List, [], ◌∷◌, ◌++◌, length, codes, Option, Some, None, Result, Ok, Err}
 use Rattle.std.specs.Str.{str_to_ascii_uppercase}
 use Rattle.itip_lines.specs.declared.line.Line.{Line}
 use Rattle.itip_lines.specs.declared.line.NumberedLine.{NumberedLine}

@@ -181,7 +181,9 @@ fn component_name(alloc: Global, line: &SeenLine<'_>) -> Result<Text, NoMemory>
 pub(crate) fn upper_case(alloc: Global, text: &str) -> Result<Text, NoMemory>
     ensures { IfOk result (λ upper. upper ≡ str_to_ascii_uppercase text.now) }
 {
-    Text::upper(alloc, text)
+    let mut upper = Text::copy(alloc, text)?;
+    upper.make_ascii_uppercase();
+    Ok(upper)
 }
 
 /// What a component of this name adds that begins inside these, in the line of this number.

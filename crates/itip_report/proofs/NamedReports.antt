@@ -5,26 +5,28 @@ use Rattle.std.specs.List.{Contains}
 use Rattle.itip_items.specs.declared.item.Item.{Item}
 use Rattle.itip_state.specs.Kept.{AreKept}
 use Rattle.itip_state.proofs.Keeping.{kept_again}
-use Rattle.itip_state.proofs.Members.{cons_first}
+use Rattle.itip_state.proofs.Members.{cons_first, none_in}
 use Rattle.itip_view.specs.ByUid.{AreLeft, AreAsked, AreFewLeft, AreTooManyLeft}
 use Rattle.itip_view.specs.ListText.{list_text}
-use Rattle.itip_view.specs.Rows.{AreTooMany, row_limit}
+use Rattle.itip_view.specs.Rows.{AreRows, AreTooMany, row_limit}
 use Rattle.itip_view.specs.Showing.{AreTooManyWhere}
 use Rattle.itip_view.specs.declared.by_uid.RowsByUid.{RowsByUid}
 use Rattle.itip_view.specs.declared.row.Row.{Row}
 use Rattle.itip_view.specs.declared.window.Window.{Window}
 use Rattle.itip_view.proofs.Alike.{KeepAlike, alike_back}
+use Rattle.itip_view.proofs.Gathering.{uid_of_row}
 use Rattle.itip_view.proofs.OfKept.{row_of_same}
 use Rattle.itip_view.proofs.Left.{left_where, too_many_where}
 use Rattle.itip_view.proofs.OneList.{one_view, text_or_too_many}
 use Rattle.itip_view.proofs.SameAsked.{rows_of_all, many_of_all}
-use Rattle.itip_report.specs.Load.{load_lines}
+use Rattle.itip_report.specs.Load.{firsts, load_lines}
 use Rattle.itip_report.specs.Progress.{progress_lines}
 use Rattle.itip_report.specs.Reports.{AreReportLines}
 use Rattle.itip_report.specs.Named.{TellOfRows, IsReportOf, IsOfRows, HasRowsFor, AreRowsFor}
 use Rattle.itip_report.specs.declared.report.Report.TheVariants as report
 use Rattle.itip_report.specs.declared.report_name.ReportName.{ReportName}
 use Rattle.itip_report.specs.declared.report_name.ReportName.TheVariants as name
+use Rattle.itip_report.proofs.Nothing.{reported_of_nothing}
 use Rattle.itip_report.proofs.OfKept.{lines_alike}
 use Rattle.itip_report.proofs.OneReport.{one_lines}
 
@@ -130,6 +132,41 @@ told_of_kept (Ok a) lines_of named other items asked same none are = λ window r
     told_of named items [] (lines_of a) (subst (λ (n : ReportName). AreLinesFor n items [] (lines_of a)) (sym same) are) window
     (needs_no_rows named items window [] (λ of_rows. none (subst (λ (n : ReportName). IsOfRows n) same of_rows)))
 told_of_kept (Err e) lines_of named other items asked same none are = tt
+
+-- ---- nothing heard
+
+no_row : (heard : List Item) (window : Window) (rows : List Row) → heard ≡ [] → AreRows heard window rows → rows ≡ []
+no_row heard window [] none are = refl
+no_row heard window (row ∷ rows) none are =
+    absurd (none_in row.uid (uid_of_row heard window []
+    (λ item h. absurd (none_in item (subst (λ (items : List Item). Contains items item) none h))) row
+    (are.each row (cons_first row rows))))
+
+no_load : load_lines [] ≡ []
+unfolding firsts
+no_load = refl
+
+-- nothing is told of it
+pub told_of_nothing : (named : ReportName) (heard : List Item) (lines : List (List ℕ)) → heard ≡ [] → lines ≡ [] → (window : Window)
+    (rows : List Row) → HasRowsFor named heard window rows → IsReportOf named heard window lines
+told_of_nothing name.Load heard lines none empty window rows has = record {
+  rows = rows;
+  are_rows = has.are_rows tt;
+  few = has.few tt;
+  lines_are = empty ∙ sym no_load ∙ ap load_lines (sym (no_row heard window rows none (has.are_rows tt)));
+}
+told_of_nothing name.Progress heard lines none empty window rows has = record {
+  rows = rows;
+  are_rows = has.are_rows tt;
+  few = has.few tt;
+  lines_are = empty ∙ ap progress_lines (sym (no_row heard window rows none (has.are_rows tt)));
+}
+told_of_nothing name.Cancelled heard lines none empty window rows has =
+    record { items = []; reported = reported_of_nothing report.Cancelled heard [] none refl; lines_are = empty }
+told_of_nothing name.Orphans heard lines none empty window rows has =
+    record { items = []; reported = reported_of_nothing report.Orphans heard [] none refl; lines_are = empty }
+told_of_nothing name.Refresh heard lines none empty window rows has =
+    record { items = []; reported = reported_of_nothing report.Refresh heard [] none refl; lines_are = empty }
 
 -- ---- sets that keep the same
 

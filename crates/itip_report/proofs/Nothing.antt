@@ -1,5 +1,5 @@
 -- Where a report tells something, and so may ask for memory.
-use Rattle.std.proofs.Common.{◌≡◌, ◌∙◌, refl, sym, ap, ℕ, zero, suc, ◌<◌, List, [], ◌∷◌, ◌++◌, length, map, get_or, subst, inl, inr, Option, Some, None, arith}
+use Rattle.std.proofs.Common.{◌≡◌, ◌∙◌, refl, sym, ap, ℕ, zero, suc, ◌<◌, List, [], ◌∷◌, ◌++◌, length, map, min, get_or, subst, inl, inr, Some, None, arith}
 use Rattle.std.specs.Prelude.{◌≢◌, option_to_list}
 use Rattle.std.specs.List.{Contains, flat_map}
 use Rattle.std.specs.Option.{option_map}
@@ -18,6 +18,15 @@ use Rattle.itip_report.specs.Tally.{AreTallied}
 use Rattle.itip_report.specs.declared.load.Tally.{Tally}
 use Rattle.itip_report.proofs.Mapped.{map_twice}
 use Rattle.itip_report.proofs.Tallying.{tally_lines, tally_records}
+
+-- nothing stands where none is counted
+pub counts_none : {A : Type 0} (xs : List A) (n : ℕ) → n ≡ min (length xs) 18446744073709551615 → n ≡ 0 → xs ≡ []
+counts_none [] n is none = refl
+counts_none (x ∷ xs) n is none = absurd (omega (arith, is, none))
+
+-- and something where some are
+pub counts_some : {A : Type 0} (xs : List A) (n : ℕ) → n ≡ min (length xs) 18446744073709551615 → (n ≡ 0 → ⊥) → xs ≡ [] → ⊥
+counts_some xs n is some none = let empty : length xs ≡ 0 = ap length none in some (omega (arith, is, empty))
 
 pub some_there : {A : Type 0} (xs : List A) (i : ℕ) → i < length xs → xs ≢ []
 some_there xs i below none = let empty : length xs ≡ 0 = ap length none in absurd (omega (arith, below, empty))

@@ -1,8 +1,9 @@
 //! What an organizer sends again, and the next sequence to use.
-ghost use Rattle.std.specs.Prelude.{◌≡◌, ◌++◌, IfOk, OnOk, MatchOption, map};
+ghost use Rattle.std.specs.Prelude.{◌≡◌, ◌++◌, [], IfOk, IsOk, OnOk, MatchOption, map};
 ghost use Rattle.std.specs.List.{flat_map};
 ghost use Rattle.std.specs.Option.{option_map};
 ghost use Rattle.itip_items.specs.declared.item.Item.{Item};
+ghost use Rattle.itip_state.specs.Kept.{ArePart};
 ghost use Rattle.itip_view.specs.Standing.{IsLiveSeries};
 ghost use Rattle.itip_report.specs.Organizing.{AreResent, IsResendOf, IsNext};
 
@@ -39,10 +40,15 @@ pub fn resent_items<'a>(
 }
 
 /// The messages to send again of a UID: the canonical octets of its live series item, then those of the instance and range
-/// items that stand, by moment, an instance before a range of its moment; `None` where no series item of the UID is live.
+/// items that stand, by moment, an instance before a range of its moment; `None` where no series item of the UID is live. Where
+/// nothing of the UID is kept it takes no memory, and the answer is Ok.
 pub fn resend(alloc: Global, state: &State, uid: &Uid) -> Result<Option<Vec<u8>>, NoMemory>
-    ensures { IfOk result (λ messages. IsResendOf state.now uid.now (option_map (λ bytes. bytes.items) messages)) }
+    ensures messages { IfOk result (λ messages. IsResendOf state.now uid.now (option_map (λ bytes. bytes.items) messages)) }
+    ensures succeeds { ArePart uid.now [] state.now → IsOk result }
 {
+    if !state.keeps(uid) {
+        return Ok(None);
+    }
     let items = state.of_uid(uid)?;
     resend_of(alloc, &items)
 }

@@ -12,10 +12,10 @@ use Rattle.itip_items.specs.declared.item.Item.{Item}
 use Rattle.itip_items.specs.declared.key.Key.{Key}
 use Rattle.itip_items.specs.declared.key.Key.TheVariants.{Series}
 use Rattle.itip_state.specs.DyingLaws.{less_from, from_less}
-use Rattle.itip_state.specs.Held.{UidState, can_die, items_of, uid_state_items, AreSound, AreHeld, HoldKept}
+use Rattle.itip_state.specs.Held.{UidState, can_die, items_of, uid_state_items, AreSound, HoldKept}
 use Rattle.itip_state.specs.Kept.{IsBest, IsKept, IsDead, CanDie, AreKept, AreUidsOf, IsItemsOf}
 use Rattle.itip_state.specs.Order.{IsBelow}
-use Rattle.itip_state.specs.Told.{IsOutdone, AreOutdone, AreNews}
+use Rattle.itip_state.specs.Told.{AreOutdone, AreNews}
 use Rattle.itip_state.proofs.Best.{has_best, best_above}
 use Rattle.itip_state.proofs.Keeping.{eff_up, best_part, series_kept, kept_beside}
 use Rattle.itip_state.proofs.Maps.{held_state}

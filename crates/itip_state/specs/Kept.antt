@@ -91,7 +91,7 @@ abbrev pub HasEachOnce : List Item → Type 0
 HasEachOnce = AllPairs (λ (a b : Item). a ≢ b)
 
 -- Items in the order of their keys: by UID, then the series item, instances and then ranges by recurrence id, answers,
--- and refreshes, these by instance and attendee.
+-- and refreshes, these by attendee and instance.
 abbrev pub AscendKeys : List Item → Type 0
 AscendKeys = AllPairs (λ (a b : Item). key_cmp a.key b.key ≡ Less)
 

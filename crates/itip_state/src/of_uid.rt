@@ -14,7 +14,7 @@ use itip_todo::Uid;
 use std::marker::Model;
 
 /// The kept items of one UID in the order of their keys: the series item, then instances and then ranges, each by
-/// recurrence id, then answers and then refresh requests, each by instance and attendee.
+/// recurrence id, then answers and then refresh requests, each by attendee and instance.
 #[derive(Debug, Drop)]
 pub struct ItemsOfUid<'a> {
     uid: &'a Uid,

@@ -59,17 +59,17 @@ impl<'k> KeyParts<'k> {
     }
 }
 
-/// A key beside the parts of another: by UID, then by the rest.
+/// A key beside the parts of another: by the rest, then by UID, as slots are.
 pub(crate) fn compare(key: &Key, parts: &KeyParts<'_>) -> Ordering
     ensures { result ≡ parts_cmp key.now parts.now }
 {
-    match key.uid().cmp(parts.uid) {
-        Ordering::Equal => compare_rest(key, parts),
+    match compare_rest(key, parts) {
+        Ordering::Equal => key.uid().cmp(parts.uid),
         unequal => unequal,
     }
 }
 
-/// By kind of key, then by instance and attendee.
+/// By kind of key, then by attendee and instance.
 fn compare_rest(key: &Key, parts: &KeyParts<'_>) -> Ordering
     ensures { result ≡ rest_beside key.now parts.now }
 {
@@ -79,12 +79,12 @@ fn compare_rest(key: &Key, parts: &KeyParts<'_>) -> Ordering
     }
 }
 
-/// By instance and attendee.
+/// By attendee and instance.
 fn compare_within(key: &Key, parts: &KeyParts<'_>) -> Ordering
     ensures { result ≡ within_beside key.now parts.now }
 {
-    match key.instance().cmp(&parts.instance) {
-        Ordering::Equal => key.attendee().cmp(parts.attendee),
+    match key.attendee().cmp(parts.attendee) {
+        Ordering::Equal => key.instance().cmp(&parts.instance),
         unequal => unequal,
     }
 }

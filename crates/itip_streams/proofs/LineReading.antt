@@ -3,7 +3,7 @@ use Rattle.std.proofs.Common.{◌≡◌, ◌≢◌, ◌∙◌, sym, ap, refl, su
 use Rattle.std.proofs.Common.{append_assoc, append-nil, inl, inr, Option, Some, None, true, false}
 use Rattle.std.specs.Io.KnownBytes.{Consumes, IsAtEnd}
 use Rattle.std.proofs.KnownBytes.{Consumes-nil, Consumes-trans}
-use Rattle.std.proofs.lemmas.List.{length-append, length-take-le}
+use Rattle.std.proofs.lemmas.List.{length-append, length-take-le, take-append-le}
 use Rattle.std.proofs.lemmas.List.Elements.{All-append, All-nil, All-push}
 use Rattle.itip_streams.specs.Parts.{HasNoLf, EndsLine, ReadsLine, PassesLine, ReadsWithin, ReadsOctets, PassesOctets}
 
@@ -151,6 +151,11 @@ one_read old new n buf given some within size =
     subst (λ (t : List ℕ). Consumes old new t) (ap (λ (k : ℕ). take k buf) one ∙ one_octet buf size) given
 
 -- ---- so many octets
+
+-- of a longer buffer what was brought is the front
+pub read_more : (octets buffer rest grown : List ℕ) (n : ℕ) → n ≤ length buffer → grown ≡ octets ++ take n (buffer ++ rest) →
+    grown ≡ octets ++ take n buffer
+read_more octets buffer rest grown n within is = is ∙ ap (λ (t : List ℕ). octets ++ t) (take-append-le n buffer rest within)
 
 pub more_octets : (octets : List ℕ) (n : ℕ) (buf : List ℕ) → n ≤ length buf → length (octets ++ take n buf) ≡ length octets + n
 more_octets octets n buf within = omega (arith, length-append octets (take n buf), length-take-le n buf within)

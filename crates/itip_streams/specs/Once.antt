@@ -11,10 +11,19 @@ module _ {R : Type 0} (reads : R → Option ℕ → R → List ℕ → Type 0) w
     pub buffer : List ℕ
     pub read : reads old (Some count) new buffer
 
+  -- one read gives so many octets, or fails
+  pub record ReadsOnce (given : Option ℕ) (old new : R) : Type 0 where
+    pub buffer : List ℕ
+    pub read : reads old given new buffer
+
   -- so many reads in a row give some octets each
   abbrev pub ReadsOn : ℕ → R → R → Type 0
   ReadsOn zero old new = old ≡ new
   ReadsOn (suc n) old new = (mid : R) × ReadsOn n old mid × ReadsMore mid new
+
+  -- any number of reads in a row, each of which gives some octets
+  abbrev pub ReadsSome : R → R → Type 0
+  ReadsSome old new = (times : ℕ) × ReadsOn times old new
 
   -- such reads, and then a last one that gives this
   pub record ReadsTo (last : Option ℕ) (old new : R) : Type 0 where
@@ -26,7 +35,11 @@ module _ {R : Type 0} (reads : R → Option ℕ → R → List ℕ → Type 0) w
 
   -- A failed read is the last, or none failed.
   abbrev pub FailsReading : R → R → Type 0
-  FailsReading old new = ReadsTo None old new ⊎ ((times : ℕ) × ReadsOn times old new)
+  FailsReading old new = ReadsTo None old new ⊎ ReadsSome old new
+
+  -- A read that gives no octet is the last, or each gave some.
+  abbrev pub EndsReading : R → R → Type 0
+  EndsReading old new = ReadsTo (Some 0) old new ⊎ ReadsSome old new
 
   -- No read failed.
   pub record ReadsWell (old new : R) : Type 0 where
@@ -43,9 +56,17 @@ module _ {W : Type 0} (writes : W → List ℕ → Option ℕ → W → Type 0) 
       (mid : W) × (left : List ℕ) × (count : ℕ) × WritesOn n old octets mid left × (0 < count) × writes mid left (Some count) new
       × (rest ≡ drop count left)
 
+  -- any number of such writes in a row, which leave a rest
+  abbrev pub WritesSome : W → List ℕ → W → List ℕ → Type 0
+  WritesSome old octets new rest = (times : ℕ) × WritesOn times old octets new rest
+
   -- all octets are taken so
   abbrev pub WritesAll : W → List ℕ → W → Type 0
   WritesAll old octets new = (times : ℕ) × WritesOn times old octets new []
+
+  -- all octets are taken so, and of what comes then nothing is said
+  abbrev pub WritesFirst : W → List ℕ → Type 0
+  WritesFirst old octets = (taken : W) × WritesAll old octets taken
 
   -- Such writes, and then a last one, which fails or takes no octet.
   pub record FailsWriting (old : W) (octets : List ℕ) (new : W) : Type 0 where

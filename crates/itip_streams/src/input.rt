@@ -1,9 +1,9 @@
 //! Reading octets.
-ghost use Rattle.std.specs.Prelude.{◌≡◌, ◌<◌, ◌≤◌, ◌≢◌, length, vec_len, option_map, IfOk, OnOk, IfErr, IfSome, IfNone};
-ghost use Rattle.std.specs.Prelude.{OnOk, IsErrOf};
+ghost use Rattle.std.specs.Prelude.{◌≡◌, ◌<◌, ◌≤◌, ◌≢◌, length, vec_len, option_map, IfOk, IfErr, IfSome, IfNone};
+ghost use Rattle.std.specs.Prelude.{OnOk, OnErr, IsErrOf, MatchOption, MatchBool, Some, None};
 ghost use Rattle.std.specs.Result.{result_ok};
 ghost use Rattle.std.specs.Io.KnownBytes.{ReadConsumes};
-ghost use Rattle.itip_streams.specs.Once.{FailsReading, ReadsWell};
+ghost use Rattle.itip_streams.specs.Once.{EndsReading, FailsReading, ReadsMore, ReadsOnce, ReadsSome, ReadsTo, ReadsWell};
 ghost use Rattle.itip_streams.specs.Parts.{ReadsWithin, ReadsOctets, ReadsOctet, PassesLine, PassesOctets};
 
 use crate::fault::StreamFault;
@@ -75,7 +75,7 @@ pub fn read_some<R: Read + ReadOnce>(
 /// read, and nothing held: it is `None`.
 ///
 /// A failed read is [`StreamFault::Read`] at once.
-pub fn read_line_within<R: Read>(
+pub fn read_line_within<R: Read + ReadOnce>(
     alloc: Global,
     reader: &mut R,
     limit: usize,
@@ -83,6 +83,8 @@ pub fn read_line_within<R: Read>(
     ensures reads { IfOk result (λ found. ReadsWithin limit (R.remaining reader.old) (R.remaining reader.new)
         (option_map (λ line. line.items) found)) }
     ensures fault { IfErr result (λ fault. fault ≢ StreamFault.Write) }
+    ensures well { OnOk result (ReadsWell R.reads reader.old reader.new) }
+    ensures failed { IsErrOf result StreamFault.Read → FailsReading R.reads reader.old reader.new }
 {
     let mut line = Vec::new(alloc);
     while line.len() < limit {
@@ -102,9 +104,11 @@ pub fn read_line_within<R: Read>(
 }
 
 /// Reads what is left of a line of which this octet was read.
-fn pass_line<R: Read>(reader: &mut R, last: u8) -> Result<(), StreamFault>
+fn pass_line<R: Read + ReadOnce>(reader: &mut R, last: u8) -> Result<(), StreamFault>
     ensures passes { OnOk result (PassesLine last (R.remaining reader.old) (R.remaining reader.new)) }
     ensures fault { IfErr result (λ fault. fault ≡ StreamFault.Read) }
+    ensures well { OnOk result (EndsReading R.reads reader.old reader.new) }
+    ensures failed { OnErr result (FailsReading R.reads reader.old reader.new) }
 {
     let mut last = last;
     for _ in 0..u64::MAX {
@@ -120,9 +124,12 @@ fn pass_line<R: Read>(reader: &mut R, last: u8) -> Result<(), StreamFault>
 }
 
 /// Reads one octet; none at the end.
-fn read_octet<R: Read>(reader: &mut R) -> Result<Option<u8>, StreamFault>
+fn read_octet<R: Read + ReadOnce>(reader: &mut R) -> Result<Option<u8>, StreamFault>
     ensures reads { IfOk result (ReadsOctet (R.remaining reader.old) (R.remaining reader.new)) }
     ensures fault { IfErr result (λ fault. fault ≡ StreamFault.Read) }
+    ensures well { IfOk result (λ found. MatchOption found (ReadsOnce R.reads (Some 0) reader.old reader.new)
+        (λ _. ReadsMore R.reads reader.old reader.new)) }
+    ensures failed { OnErr result (ReadsOnce R.reads None reader.old reader.new) }
 {
     let mut buffer = [0u8; 1];
     if read_some(reader, &mut buffer)? == 0 {
@@ -134,7 +141,7 @@ fn read_octet<R: Read>(reader: &mut R) -> Result<Option<u8>, StreamFault>
 /// Reads so many octets. `None` says that there were fewer: all that is left was read then.
 ///
 /// A failed read is [`StreamFault::Read`] at once.
-pub fn read_octets<R: Read>(
+pub fn read_octets<R: Read + ReadOnce>(
     alloc: Global,
     reader: &mut R,
     count: usize,
@@ -142,6 +149,9 @@ pub fn read_octets<R: Read>(
     ensures reads { IfOk result (λ found. ReadsOctets count (R.remaining reader.old) (R.remaining reader.new)
         (option_map (λ octets. octets.items) found)) }
     ensures fault { IfErr result (λ fault. fault ≢ StreamFault.Write) }
+    ensures well { IfOk result (λ found. MatchOption found (ReadsTo R.reads (Some 0) reader.old reader.new)
+        (λ _. ReadsSome R.reads reader.old reader.new)) }
+    ensures failed { IsErrOf result StreamFault.Read → ReadsTo R.reads None reader.old reader.new }
 {
     let mut octets = Vec::new(alloc);
     let mut buffer = [0u8; SMALL_ROOM];
@@ -159,9 +169,12 @@ pub fn read_octets<R: Read>(
 /// Reads past so many octets, of which a few are held at a time. `false` says that there were fewer: all that is left was read then.
 ///
 /// A failed read is [`StreamFault::Read`] at once.
-pub fn pass_octets<R: Read>(reader: &mut R, count: u64) -> Result<bool, StreamFault>
+pub fn pass_octets<R: Read + ReadOnce>(reader: &mut R, count: u64) -> Result<bool, StreamFault>
     ensures passes { IfOk result (PassesOctets count (R.remaining reader.old) (R.remaining reader.new)) }
     ensures fault { IfErr result (λ fault. fault ≡ StreamFault.Read) }
+    ensures well { IfOk result (λ all. MatchBool all (ReadsSome R.reads reader.old reader.new)
+        (ReadsTo R.reads (Some 0) reader.old reader.new)) }
+    ensures failed { OnErr result (ReadsTo R.reads None reader.old reader.new) }
 {
     let mut buffer = [0u8; SMALL_ROOM];
     let mut left = count;

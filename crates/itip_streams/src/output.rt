@@ -1,8 +1,8 @@
 //! Writing octets.
-ghost use Rattle.std.specs.Prelude.{◌≡◌, ◌≤◌, length, OnOk, OnErr, IfOk, IfErr};
+ghost use Rattle.std.specs.Prelude.{◌≡◌, ◌≤◌, ◌⊎◌, length, OnOk, OnErr, IfOk, IfErr};
 ghost use Rattle.std.specs.Io.KnownBytes.{Appends, WriteAppends};
 ghost use Rattle.std.specs.Result.{result_ok};
-ghost use Rattle.itip_streams.specs.Once.{FailsWriting, WritesAll};
+ghost use Rattle.itip_streams.specs.Once.{FailsWriting, WritesAll, WritesFirst, WritesSome};
 ghost use Rattle.itip_streams.specs.Written.{AppendsFront, MovesOut};
 
 use crate::fault::StreamFault;
@@ -33,10 +33,12 @@ pub fn write_output<W: Write + WriteOnce>(writer: &mut W, bytes: &[u8]) -> Resul
 }
 
 /// Writes all octets, and has the writer hand them on. A fault is that of [`write_output`]; where handing on fails, all may be written.
-pub fn write_at_once<W: Write>(writer: &mut W, bytes: &[u8]) -> Result<(), StreamFault>
+pub fn write_at_once<W: Write + WriteOnce>(writer: &mut W, bytes: &[u8]) -> Result<(), StreamFault>
     ensures all { OnOk result (Appends (W.contents writer.old) (W.contents writer.new) bytes.now) }
     ensures front { OnErr result (AppendsFront (W.contents writer.old) (W.contents writer.new) bytes.now) }
     ensures fault { IfErr result (λ fault. fault ≡ StreamFault.Write) }
+    ensures well { OnOk result (WritesFirst W.writes writer.old bytes.now) }
+    ensures failed { OnErr result (FailsWriting W.writes writer.old bytes.now writer.new ⊎ WritesFirst W.writes writer.old bytes.now) }
 {
     write_output(writer, bytes)?;
     match writer.flush() {
@@ -53,6 +55,8 @@ pub fn write_if_many<W: Write + WriteOnce>(
     ensures moved { OnOk result (MovesOut (W.contents writer.old) (W.contents writer.new) kept.old.items kept.new.items) }
     ensures front { OnErr result (AppendsFront (W.contents writer.old) (W.contents writer.new) kept.old.items) }
     ensures fault { IfErr result (λ fault. fault ≡ StreamFault.Write) }
+    ensures well { OnOk result (WritesSome W.writes writer.old kept.old.items writer.new kept.new.items) }
+    ensures failed { OnErr result (FailsWriting W.writes writer.old kept.old.items writer.new) }
 {
     if kept.len() >= CHUNK {
         write_output(writer, kept.as_slice())?;

@@ -70,5 +70,7 @@ pub fn participation(attendee: &Property) -> PartStat
 pub fn attendee_key(alloc: Global, address: &str) -> Result<Text, NoMemory>
     ensures { IfOk result (λ key. key ≡ attendee_key address.now) }
 {
-    Text::lower(alloc, address)
+    let mut key = Text::copy(alloc, address)?;
+    key.make_ascii_lowercase();
+    Ok(key)
 }

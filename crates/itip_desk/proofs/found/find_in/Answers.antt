@@ -1,4 +1,4 @@
-use Rattle.std.proofs.Common.{◌≡◌, [], List, refl}
+use Rattle.std.proofs.Common.{refl}
 use Rattle.itip_state.proofs.Nothing.{not_ok}
 use Rattle.itip_desk.specs.Entries.{day_cmp, day_entry}
 use Rattle.itip_desk.specs.declared.entry.Mark.TheVariants.{Day, Always}

@@ -1,4 +1,4 @@
-use Rattle.std.proofs.Common.{◌≡◌, ◌++◌, ◌∙◌, List, ℕ, map, true, false, sym, subst}
+use Rattle.std.proofs.Common.{◌≡◌, ◌∙◌, List, ℕ, map, true, false, sym, subst}
 use Rattle.itip_items.specs.declared.item.Item.{Item}
 use Rattle.itip_state.specs.Held.{UidState, HoldKept, AreHeld, items_of}
 use Rattle.itip_state.specs.Told.{AreOutdone}

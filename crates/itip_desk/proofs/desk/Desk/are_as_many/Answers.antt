@@ -1,5 +1,4 @@
-use Rattle.std.proofs.Common.{◌≡◌, ◌<◌, ◌≤◌, ◌∙◌, ℕ, List, length, inl, inr, sym, ap, subst, arith}
-use Rattle.itip_items.specs.declared.item.Item.{Item}
+use Rattle.std.proofs.Common.{◌≡◌, ◌∙◌, length, inl, sym, ap, subst, arith}
 use Rattle.itip_state.specs.Kept.{AreUidsOf}
 use Rattle.itip_desk.specs.Desk.{Shown}
 use Rattle.itip_desk.proofs.desk.Desk.are_as_many.Goals as goal
