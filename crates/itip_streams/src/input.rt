@@ -22,7 +22,7 @@ const SMALL_ROOM: usize = 4_096;
 
 /// Reads all octets, of which there may be `limit`. `None` says that there are more: one more was read, and the rest is left.
 ///
-/// A failed read is [`StreamFault::Read`] at once, and so is one read more than [`MAX_READS`].
+/// A failed read is [`StreamFault::Read`] at once, and so is one read more than [`MAX_READS`]. Where there is no memory, no read failed.
 pub fn read_within<R: Read + ReadOnce>(
     alloc: Global,
     reader: &mut R,
@@ -35,6 +35,7 @@ pub fn read_within<R: Read + ReadOnce>(
     ensures fault { IfErr result (λ fault. fault ≢ StreamFault.Write) }
     ensures well { OnOk result (ReadsWell R.reads reader.old reader.new) }
     ensures failed { IsErrOf result StreamFault.Read → FailsReading R.reads reader.old reader.new }
+    ensures stopped { IsErrOf result StreamFault.Memory → ReadsSome R.reads reader.old reader.new }
 {
     let mut text = Vec::new(alloc);
     let mut buffer = [0u8; ROOM];
@@ -85,6 +86,7 @@ pub fn read_line_within<R: Read + ReadOnce>(
     ensures fault { IfErr result (λ fault. fault ≢ StreamFault.Write) }
     ensures well { OnOk result (ReadsWell R.reads reader.old reader.new) }
     ensures failed { IsErrOf result StreamFault.Read → FailsReading R.reads reader.old reader.new }
+    ensures stopped { IsErrOf result StreamFault.Memory → ReadsSome R.reads reader.old reader.new }
 {
     let mut line = Vec::new(alloc);
     while line.len() < limit {
@@ -152,6 +154,7 @@ pub fn read_octets<R: Read + ReadOnce>(
     ensures well { IfOk result (λ found. MatchOption found (ReadsTo R.reads (Some 0) reader.old reader.new)
         (λ _. ReadsSome R.reads reader.old reader.new)) }
     ensures failed { IsErrOf result StreamFault.Read → ReadsTo R.reads None reader.old reader.new }
+    ensures stopped { IsErrOf result StreamFault.Memory → ReadsSome R.reads reader.old reader.new }
 {
     let mut octets = Vec::new(alloc);
     let mut buffer = [0u8; SMALL_ROOM];

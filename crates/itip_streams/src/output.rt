@@ -1,5 +1,5 @@
 //! Writing octets.
-ghost use Rattle.std.specs.Prelude.{◌≡◌, ◌≤◌, ◌⊎◌, length, OnOk, OnErr, IfOk, IfErr};
+ghost use Rattle.std.specs.Prelude.{◌≡◌, ◌<◌, ◌≤◌, ◌⊎◌, length, vec_len, OnOk, OnErr, IfOk, IfErr};
 ghost use Rattle.std.specs.Io.KnownBytes.{Appends, WriteAppends};
 ghost use Rattle.std.specs.Result.{result_ok};
 ghost use Rattle.itip_streams.specs.Once.{FailsWriting, WritesAll, WritesFirst, WritesSome};
@@ -33,6 +33,8 @@ pub fn write_output<W: Write + WriteOnce>(writer: &mut W, bytes: &[u8]) -> Resul
 }
 
 /// Writes all octets, and has the writer hand them on. A fault is that of [`write_output`]; where handing on fails, all may be written.
+///
+/// Nothing is said of how a writer hands octets on (`Write::flush`), nor of what it does after it took the last of them.
 pub fn write_at_once<W: Write + WriteOnce>(writer: &mut W, bytes: &[u8]) -> Result<(), StreamFault>
     ensures all { OnOk result (Appends (W.contents writer.old) (W.contents writer.new) bytes.now) }
     ensures front { OnErr result (AppendsFront (W.contents writer.old) (W.contents writer.new) bytes.now) }
@@ -57,6 +59,8 @@ pub fn write_if_many<W: Write + WriteOnce>(
     ensures fault { IfErr result (λ fault. fault ≡ StreamFault.Write) }
     ensures well { OnOk result (WritesSome W.writes writer.old kept.old.items writer.new kept.new.items) }
     ensures failed { OnErr result (FailsWriting W.writes writer.old kept.old.items writer.new) }
+    ensures few { OnOk result (vec_len kept.new < 65536) }
+    ensures same { OnErr result (kept.new ≡ kept.old) }
 {
     if kept.len() >= CHUNK {
         write_output(writer, kept.as_slice())?;

@@ -63,3 +63,7 @@ pub returns-clause-well : goal.returns-clause-well
 returns-clause-well g c =
     ends_line g.R.ReadOnce.reads _ c.loop-reader.reader _ _ c.loop-reader.invariant.well
     (rw c.in-Some-2.is at c.in_ok-octet-2.ensures.well) c.in_ok-pass_line.ensures.well
+
+pub returns-in_err-push-clause-stopped : goal.returns-in_err-push-clause-stopped
+returns-in_err-push-clause-stopped g c = λ _.
+    one_more g.R.ReadOnce.reads _ c.loop-reader.reader _ c.loop-reader.invariant.well (rw c.in-Some.is at c.in_ok-octet.ensures.well)

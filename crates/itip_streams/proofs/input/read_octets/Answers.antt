@@ -35,3 +35,8 @@ loop-buffer-preserved g c =
 
 pub returns-clause-reads : goal.returns-clause-reads
 returns-clause-reads g c = all_read c.args.count _ _ c.loop-buffer.octets.items c.loop-buffer.invariant.given (omega arith)
+
+pub returns-in_err-extend_from_slice-clause-stopped : goal.returns-in_err-extend_from_slice-clause-stopped
+returns-in_err-extend_from_slice-clause-stopped g c = λ _.
+    one_more g.R.ReadOnce.reads _ c.loop-buffer.reader _ c.loop-buffer.invariant.well
+    (gave_some g.R.ReadOnce.reads _ _ _ _ c.in_ok-brought.ensures.once c.if-brought-eq0.false)
