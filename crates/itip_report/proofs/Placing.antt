@@ -38,7 +38,7 @@ place_exact a b e =
     let uids = then_equal (slice_cmp nat_cmp (uid_of a) (uid_of b)) _ e in
     let instances = then_equal (option_cmp moment_cmp (instance_of a) (instance_of b)) _ uids.1 in
     let others = then_equal (slice_cmp nat_cmp (attendee_of a) (attendee_of b)) _ instances.1 in
-    key_exact a b (λ i. ordering_then (uids.0 i) (ordering_then (others.1 i) (ordering_then (instances.0 i) (others.0 i))))
+    key_exact a b (λ i. ordering_then (uids.0 i) (ordering_then (others.1 i) (ordering_then (others.0 i) (instances.0 i))))
 
 abbrev same_key : Item → Item → Bool
 same_key a b = is_eq (key_cmp a.key b.key)

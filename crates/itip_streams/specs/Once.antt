@@ -1,5 +1,5 @@
 -- Which reads and writes are made, of a reader and a writer of which nothing else is known (our own form).
-use Rattle.std.specs.Prelude.{◌≡◌, ◌⊎◌, ◌<◌, ℕ, zero, suc, List, [], drop, Option, Some, None}
+use Rattle.std.specs.Prelude.{◌≡◌, ◌⊎◌, ◌<◌, ℕ, zero, suc, List, [], length, drop, Option, Some, None}
 
 -- ---- reads
 
@@ -68,10 +68,11 @@ module _ {W : Type 0} (writes : W → List ℕ → Option ℕ → W → Type 0) 
   abbrev pub WritesFirst : W → List ℕ → Type 0
   WritesFirst old octets = (taken : W) × WritesAll old octets taken
 
-  -- Such writes, and then a last one, which fails or takes no octet.
+  -- Such writes, and then a last one of what is left, which fails or takes no octet.
   pub record FailsWriting (old : W) (octets : List ℕ) (new : W) : Type 0 where
     pub times : ℕ
     pub mid : W
     pub left : List ℕ
     pub before : WritesOn times old octets mid left
+    pub some : 0 < length left
     pub write : writes mid left None new ⊎ writes mid left (Some 0) new

@@ -75,7 +75,7 @@ pub fn read_some<R: Read + ReadOnce>(
 /// Reads a line with its LF, or what is left where none follows: no octets at the end. Of a line of more than `limit` octets all is
 /// read, and nothing held: it is `None`.
 ///
-/// A failed read is [`StreamFault::Read`] at once.
+/// A failed read is [`StreamFault::Read`] at once. Where there is no memory, no read failed.
 pub fn read_line_within<R: Read + ReadOnce>(
     alloc: Global,
     reader: &mut R,
@@ -140,9 +140,9 @@ fn read_octet<R: Read + ReadOnce>(reader: &mut R) -> Result<Option<u8>, StreamFa
     Ok(Some(buffer[0]))
 }
 
-/// Reads so many octets. `None` says that there were fewer: all that is left was read then.
+/// Reads exactly `count` bytes. `None` says that there were fewer: all that was left has been read then.
 ///
-/// A failed read is [`StreamFault::Read`] at once.
+/// A failed read is [`StreamFault::Read`] at once. Where there is no memory, no read failed.
 pub fn read_octets<R: Read + ReadOnce>(
     alloc: Global,
     reader: &mut R,

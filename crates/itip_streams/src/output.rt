@@ -1,5 +1,5 @@
 //! Writing octets.
-ghost use Rattle.std.specs.Prelude.{◌≡◌, ◌<◌, ◌≤◌, ◌⊎◌, length, vec_len, OnOk, OnErr, IfOk, IfErr};
+ghost use Rattle.std.specs.Prelude.{◌≡◌, ◌<◌, ◌≤◌, ◌⊎◌, [], length, vec_len, OnOk, OnErr, IfOk, IfErr};
 ghost use Rattle.std.specs.Io.KnownBytes.{Appends, WriteAppends};
 ghost use Rattle.std.specs.Result.{result_ok};
 ghost use Rattle.itip_streams.specs.Once.{FailsWriting, WritesAll, WritesFirst, WritesSome};
@@ -49,7 +49,8 @@ pub fn write_at_once<W: Write + WriteOnce>(writer: &mut W, bytes: &[u8]) -> Resu
     }
 }
 
-/// Writes the octets that are kept, and keeps none, once they are 65,536 or more. A fault is that of [`write_output`]; they are kept then.
+/// Writes all kept bytes once they are 65,536 or more, and keeps none of them then. A fault is that of [`write_output`]; `kept` is left as
+/// it was.
 pub fn write_if_many<W: Write + WriteOnce>(
     writer: &mut W,
     kept: &mut Vec<u8>,
@@ -59,7 +60,8 @@ pub fn write_if_many<W: Write + WriteOnce>(
     ensures fault { IfErr result (λ fault. fault ≡ StreamFault.Write) }
     ensures well { OnOk result (WritesSome W.writes writer.old kept.old.items writer.new kept.new.items) }
     ensures failed { OnErr result (FailsWriting W.writes writer.old kept.old.items writer.new) }
-    ensures few { OnOk result (vec_len kept.new < 65536) }
+    ensures few { OnOk result (vec_len kept.old < 65536 → kept.new ≡ kept.old) }
+    ensures none { OnOk result (65536 ≤ vec_len kept.old → kept.new.items ≡ []) }
     ensures same { OnErr result (kept.new ≡ kept.old) }
 {
     if kept.len() >= CHUNK {
