@@ -30,7 +30,7 @@ use Rattle.itip_explain.specs.Asking.{AddsAskings}
 use Rattle.itip_explain.specs.Fates.{IsNamed}
 use Rattle.itip_explain.specs.declared.asked.Asking.{Asking}
 
--- nothing is added where nothing is asked
+-- nothing is added if nothing is asked
 pub adds_none : (P : Option Key → List ℕ → Type 0) (before : List Asking) → ((by : Option Key) (attendee : List ℕ) → P by attendee → ⊥) →
     AddsAskings P before before
 adds_none P before none = record {
@@ -65,7 +65,7 @@ adds_more P Q before found asking so more here only = record {
   };
 }
 
--- the lines gone through, as asked by one
+-- the attendees on these lines, as asked by `by`
 abbrev pub AsksLines : Option Key → List Property → Option Key → List ℕ → Type 0
 AsksLines by lines = λ b attendee. (b ≡ by) × IsNamed lines attendee
 
@@ -87,7 +87,7 @@ lines_more by done line before found asking by_is named so =
       | inr new ↦ inr (by_is ∙ sym q.0, named ∙ ap (λ (l : Property). attendee_key l.value) new ∙ q.1.same)
     ])
 
--- one after the other
+-- first one, then the other
 pub adds_both : (P Q R : Option Key → List ℕ → Type 0) (a b c : List Asking) → AddsAskings P a b → AddsAskings Q b c →
     ((by : Option Key) (attendee : List ℕ) → P by attendee → R by attendee)
     → ((by : Option Key) (attendee : List ℕ) → Q by attendee → R by attendee)
@@ -119,7 +119,7 @@ adds_both P Q R a b c p q from_p from_q only = record {
   };
 }
 
--- the same under another name
+-- the same, stated by an equivalent
 pub adds_as : (P Q : Option Key → List ℕ → Type 0) (a b : List Asking) → AddsAskings P a b →
     ((by : Option Key) (attendee : List ℕ) → P by attendee ↔ Q by attendee) → AddsAskings Q a b
 adds_as P Q a b p same = record {
@@ -234,7 +234,7 @@ element_at [] i h = absurd (omega (arith, h))
 element_at (x ∷ xs) zero h = (x, cons_first x xs, λ d. refl)
 element_at (x ∷ xs) (suc i) h = let r = element_at xs i (omega (arith, h)) in (r.0, cons_later x xs r.0 r.1, r.2)
 
--- a search by halves finds exactly what is there
+-- binary search finds exactly what is there
 module _ (found : List Asking) (by : Option Key) (attendee : List ℕ)
     (up : IsSortedBy (λ a b. is_lt (pair_cmp (pair_of a) (pair_of b))) found) where
   pub found_by_halves : (r : Result ℕ ℕ) → IsSearchInRange r (length found) →
@@ -261,7 +261,7 @@ module _ (found : List Asking) (by : Option Key) (attendee : List ℕ)
         ),
   )
 
--- what is found is asked, and the other way round
+-- what is found is asked, and vice versa
 pub found_asks : (items : List Item) (found : List Asking) → AreAskings (IsAskedBy items) found → (by : Option Key) (attendee : List ℕ) →
     IsFoundBy found by attendee ↔ IsAskedBy items by attendee
 found_asks items found are by attendee = (

@@ -31,7 +31,7 @@ module _ (item : Item) where
   tells_it : (z : ToldItem) (zs : List ToldItem) → z.item ≡ item → Contains (heard_of (z ∷ zs)) item
   tells_it z zs e = subst (Contains (heard_of (z ∷ zs))) e (cons_first z.item (heard_of zs))
 
-  -- two cuts before the first that tells an item are one
+  -- two cuts before the first that tells an item are the same
   one_cut : (front : List ToldItem) (x : ToldItem) (xs : List ToldItem) (other : List ToldItem) (y : ToldItem) (ys : List ToldItem) →
       front ++ x ∷ xs ≡ other ++ y ∷ ys → x.item ≡ item → y.item ≡ item → (Contains (heard_of front) item → ⊥)
       → (Contains (heard_of other) item → ⊥) → x ≡ y

@@ -17,7 +17,7 @@ use Rattle.itip_lines.proofs.LinePlaces.{stands_at}
 use Rattle.itip_lines.proofs.Lines.{spelled_line, lawful_line}
 use Rattle.itip_lines.proofs.Roundtrip.{upper_name_same}
 
--- a text that is written as it stands
+-- a text that is written as it is
 pub as_it_stands : (name tail params value : List ℕ) → list_all is_upper_name_octet name ≡ true → tail ≡ params ++ 58 ∷ value →
     name ++ tail ≡ str_to_ascii_uppercase name ++ (params ++ 58 ∷ value)
 as_it_stands name tail params value upper same = λ i. sym (upper_name_same name upper) i ++ same i

@@ -1,4 +1,4 @@
-//! Text as a clause sees it: its octets.
+//! UTF-8 text, which contracts see as its octets.
 ghost use Rattle.std.specs.Prelude.{◌≡◌, [], IfOk, IsOk, nat_eq, refl, Some};
 ghost use Rattle.std.specs.Ordering.{nat_cmp};
 ghost use Rattle.std.specs.Str.{IsUtf8, str_to_ascii_uppercase, str_to_ascii_lowercase};
@@ -16,10 +16,10 @@ use std::fmt;
 use std::hash::{Hash, Hasher};
 use std::marker::Model;
 
-/// A text in UTF-8, compared by its octets.
+/// A UTF-8 text, compared by its bytes.
 ///
-/// One of at most 32 octets stands in the value itself and takes no memory of its own: most names, times and addresses. To
-/// copy it takes none either.
+/// A text of at most 32 bytes, as most names, times and addresses are, is stored inline: it takes no other memory, and to copy it
+/// takes none either.
 #[derive(Drop)]
 pub struct Text {
     octets: SmallVec<u8, 32>,
@@ -46,9 +46,9 @@ impl Text {
         }
     }
 
-    /// A copy of a text.
+    /// Copies a text.
     ///
-    /// It is refused memory only where the text doesn't stand in its value.
+    /// Returns an error if an allocation fails; a text of at most 32 bytes needs none.
     pub fn copy(alloc: Global, text: &str) -> Result<Text, AllocError>
         ensures copied { IfOk result (λ copy. copy ≡ text.now) }
         ensures room { StandsInPlace text.now → IsOk result }
@@ -57,14 +57,14 @@ impl Text {
         Ok(Text { octets })
     }
 
-    /// Turns its ASCII letters to upper case, in place. It takes no memory.
+    /// Converts its ASCII letters to upper case in place. Does not allocate.
     pub fn make_ascii_uppercase(&mut self)
         ensures { self.new ≡ str_to_ascii_uppercase self.old }
     {
         self.octets.as_mut_slice().make_ascii_uppercase();
     }
 
-    /// Turns its ASCII letters to lower case, in place. It takes no memory.
+    /// Converts its ASCII letters to lower case in place. Does not allocate.
     pub fn make_ascii_lowercase(&mut self)
         ensures { self.new ≡ str_to_ascii_lowercase self.old }
     {
@@ -75,12 +75,12 @@ impl Text {
     pub fn as_str(&self) -> &str
         ensures { result.now ≡ self.now }
     {
-        // The invariant: the octets are UTF-8.
+        // By the invariant the octets are UTF-8.
         unsafe { str::from_utf8_unchecked(self.octets.as_slice()) }
     }
 }
 
-/// A text that stands in its value is cloned without any memory.
+/// Cloning a text of at most 32 bytes does not allocate, and so cannot fail.
 impl Clone for Text {
     ghost is_clone = { λ text copy. copy ≡ text };
 

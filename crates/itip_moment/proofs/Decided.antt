@@ -252,7 +252,7 @@ decide_local text =
       ]
     ]
 
--- the same, and a last Z
+-- the same, and a final Z
 record IsUtc (text : List ℕ) : Type 0 where
   day : ℤ
   second : ℕ

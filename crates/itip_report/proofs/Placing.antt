@@ -61,7 +61,7 @@ less_from a b not_below apart = by (place_cmp a b) refl
         let turned : place_cmp b a ≡ Less = place_total.antisymm b a ∙ ap ordering_reverse e in
         let x : true ≡ false = sym (ap is_lt turned) ∙ not_below in absurd (cc)
 
--- a fact of pairs of a list is one of the pairs of what is made of it
+-- a fact about the pairs of a list carries over to what it is mapped to
 get_map : {X : Type 0} (item_of : X → Item) (xs : List X) (i : ℕ) (d : Item) (e : X) → i < length xs →
     get_or (map item_of xs) i d ≡ item_of (get_or xs i e)
 get_map item_of [] i d e h = absurd (omega (arith, h))

@@ -14,9 +14,9 @@ use itip_state::State;
 use itip_view::RowsByUid;
 use std::alloc::Global;
 
-/// The lines of a report over the kept items of a state. Where it tells of rows, `rows` are those of the state in a window, at most
-/// 100,000, and the report is that of the window: they are made a UID at a time. Other reports don't look at them. Where nothing is
-/// kept it takes no memory, and the answer is Ok.
+/// The lines of a report over the kept items of a state. If it is a report of rows, `rows` have to be those of the state in a window,
+/// at most 100,000, and the report is that of the window; they are made a UID at a time. Other reports don't look at them. Fails if an
+/// allocation fails. Allocates nothing if nothing is kept.
 pub fn report_lines(
     alloc: Global,
     state: &State,
@@ -33,7 +33,7 @@ pub fn report_lines(
     lines_by_name(alloc, state, name, rows)
 }
 
-/// The same, where something is kept.
+/// The same, if something is kept.
 fn lines_by_name(
     alloc: Global,
     state: &State,

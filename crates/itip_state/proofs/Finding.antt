@@ -23,7 +23,7 @@ use Rattle.itip_state.specs.Slots.{slot_cmp, slot_total, slot_exact}
 use Rattle.itip_state.proofs.Members.{none_in, cons_cases, cons_first, cons_later}
 use Rattle.itip_state.proofs.Ordered.{slot_is_key}
 
--- a key beside the parts of another is a key beside the other
+-- comparing a key with the parts of another is comparing it with the other
 pub as_key : (a key : Key) (parts : KeyParts) → HasParts key parts → parts_cmp a parts ≡ slot_cmp a key
 as_key a key parts has = λ i.
     ordering_then (ordering_then (nat_cmp (rank_of a) (sym has.rank i))
@@ -34,7 +34,7 @@ as_key a key parts has = λ i.
 abbrev pub AscendSlots : List Item → Type 0
 AscendSlots = AllPairs (λ (a b : Item). slot_cmp a.key b.key ≡ Less)
 
--- items of one UID in the order of their keys are in that of their slots
+-- items of one UID in the order of their keys are in the order of their slots
 pub slots_ascend : (uid : List ℕ) (items : List Item) → AreOf uid items → AscendKeys items → AscendSlots items
 slots_ascend uid items about ascend = λ i j d below inside.
     slot_is_key (get_or items i d).key (get_or items j d).key
@@ -90,7 +90,7 @@ module _ {X : Type 0} (item : X → Item) where
       ]
 
 module _ {X : Type 0} (item : X → Item) (key : Key) (parts : KeyParts) (has : HasParts key parts) where
-  -- the order beside the parts is the order beside the key
+  -- the order by the parts is the order by the key
   same_order : ◌≡◌ {A = X → Ordering} (λ x. slot_cmp (item x).key key) (λ x. parts_cmp (item x).key parts)
   same_order = λ i x. sym (as_key (item x).key key parts has) i
 

@@ -1,4 +1,4 @@
--- The test of each item says whether it is kept.
+-- The test of an item says whether it is kept.
 use Rattle.std.proofs.Common.{◌≡◌, List, [], ◌∷◌, ◌++◌, refl, sym, ◌∙◌, ap, subst, inl, inr, Bool, true, false, not, ◌&&◌, ◌||◌, arith, ◌↔◌}
 use Rattle.std.proofs.Common.{IsTrue}
 use Rattle.std.specs.List.{Contains, AllPairs, list_any}

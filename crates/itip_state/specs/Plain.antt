@@ -11,7 +11,7 @@ use Rattle.itip_state.specs.Held.{is_series, is_below}
 abbrev pub outdates : Item → Item → Bool
 outdates later item = is_eq (slot_cmp later.key item.key) && is_gt (revision_cmp later item)
 
--- the first is a series item that the second is dead below
+-- the first is a series item below which the second is dead
 abbrev pub kills : Item → Item → Bool
 kills series item = is_series series.key && is_below series item
 

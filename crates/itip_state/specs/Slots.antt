@@ -1,6 +1,6 @@
--- The order in which a state holds its items: by UID, then by the rest of the key, the series item first (our own
--- rule). Of items that are held under one UID, the rest is compared first: what the answers of one message share, however
--- long, is compared last.
+-- The order in which a state holds its items: by UID, then by the rest of the key, the series item first (our own rule). Among items held
+-- under one UID the rest is compared first, and in it the attendee before the instance: the instance and the UID, which the answers of one
+-- to-do of a message share, however long, are compared last.
 use Rattle.std.specs.Prelude.{◌≡◌}
 use Rattle.std.proofs.Common.{refl}
 use Rattle.std.specs.declared.cmp.Ordering.{Ordering}
@@ -29,7 +29,7 @@ rest_cmp a b =
 abbrev pub key_cmp : Key → Key → Ordering
 key_cmp a b = ordering_then (slice_cmp nat_cmp (uid_of a) (uid_of b)) (rest_cmp a b)
 
--- by the rest, then by UID: of keys of one UID the same order
+-- by the rest, then by UID: the same order for keys of one UID
 abbrev pub slot_cmp : Key → Key → Ordering
 slot_cmp a b = ordering_then (rest_cmp a b) (slice_cmp nat_cmp (uid_of a) (uid_of b))
 
@@ -44,7 +44,7 @@ key_total = then_total (on_total uid_of nat_list_cmp_total) rest_total
 pub slot_total : IsTotalOrder slot_cmp
 slot_total = then_total rest_total (on_total uid_of nat_list_cmp_total)
 
--- where one order and then another answer Equal, each does
+-- where one order followed by another says Equal, each of them does
 pub then_equal : (r s : Ordering) → ordering_then r s ≡ Equal → (r ≡ Equal) × (s ≡ Equal)
 then_equal Less s e = cc
 then_equal Equal s e = (refl, e)

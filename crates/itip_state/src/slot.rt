@@ -11,8 +11,8 @@ use std::cmp::Ordering;
 use std::marker::Model;
 use std::sync::Arc;
 
-/// The key of an item among those of its UID: by kind of key, attendee and instance, and only then by UID, which is the
-/// same. It is shared, as a revision is.
+/// The key of an item among those of its UID: in order by kind of key, attendee and instance, and only then by UID, which is the same. It
+/// is shared, as a revision is.
 #[derive(Debug, Drop)]
 pub(crate) struct Slot {
     shared: Arc<Key>,
@@ -33,7 +33,7 @@ impl Model for Slot {
 }
 
 impl Slot {
-    /// The place of this key.
+    /// The slot of this key.
     pub(crate) fn new(alloc: Global, key: Key) -> Result<Slot, NoMemory>
         ensures { IfOk result (λ slot. slot ≡ key) }
     {
@@ -50,16 +50,16 @@ impl Slot {
     }
 }
 
-/// By kind of key, attendee and instance, and then by UID.
+/// Compares by kind of key, attendee and instance, and then by UID.
 ///
-/// The answers of one message share their instance and their UID, either of which can be long.
+/// The answers of one to-do share their instance and their UID, either of which can be long: so these come last.
 pub(crate) fn compare(key: &Key, other: &Key) -> Ordering
     ensures { result ≡ slot_cmp key.now other.now }
 {
     compare_rest(key, other).then_with(|| key.uid().cmp(other.uid()))
 }
 
-/// By kind of key, attendee and instance.
+/// Compares by kind of key, attendee and instance.
 fn compare_rest(key: &Key, other: &Key) -> Ordering
     ensures { result ≡ rest_cmp key.now other.now }
 {

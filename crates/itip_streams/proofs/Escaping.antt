@@ -37,7 +37,7 @@ no_single : (octet : ℕ) → 128 ≤ octet → (ltb octet 32 || eqb octet 127) 
 no_single octet large =
     or_from (ltb octet 32) (eqb octet 127) (le-ltb octet 32 (omega arith)) (ne_eqb octet 127 (λ e. absurd (omega arith)))
 
--- no octet of a control character: one from 128 on that neither is c2 nor stands behind it
+-- no octet of a control character: one from 128 on that neither is c2 nor comes after it
 plain : (before octet : ℕ) (after : List ℕ) → 128 ≤ octet → (octet ≡ 194 → ⊥) → (before ≡ 194 → ⊥) →
     is_hidden false before octet after ≡ false
 plain before octet after large other behind_other =

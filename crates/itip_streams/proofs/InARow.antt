@@ -1,4 +1,4 @@
--- Reads in a row, of which each gives some octets, and a last one.
+-- Reads in a row, each of which returns some bytes, and a last one.
 use Rattle.std.proofs.Common.{◌≡◌, ◌≢◌, ℕ, zero, suc, List, Option, Some, None, inl, inr, subst, arith}
 use Rattle.itip_streams.specs.Once.{ReadsMore, ReadsOnce, ReadsOn, ReadsSome, ReadsTo, FailsReading, EndsReading, ReadsWell}
 
@@ -13,7 +13,7 @@ module _ {R : Type 0} (reads : R → Option ℕ → R → List ℕ → Type 0) w
   pub gave_some : (count : ℕ) (old new : R) (buffer : List ℕ) → reads old (Some count) new buffer → count ≢ 0 → ReadsMore reads old new
   gave_some count old new buffer read other = record { count = count; some = omega arith; buffer = buffer; read = read }
 
-  -- ---- one read behind others
+  -- ---- one read after others
 
   pub one_more : (old mid new : R) → ReadsSome reads old mid → ReadsMore reads mid new → ReadsSome reads old new
   one_more old mid new before more = (suc before.0, (mid, before.1, more))
@@ -31,7 +31,7 @@ module _ {R : Type 0} (reads : R → Option ℕ → R → List ℕ → Type 0) w
   pub ends_none : (old mid new : R) → ReadsSome reads old mid → ReadsOnce reads (Some 0) mid new → ReadsWell reads old new
   ends_none old mid new before once = record { count = 0; ends = to_last (Some 0) old mid new before once }
 
-  -- ---- reads behind others
+  -- ---- reads after others
 
   on_and_on : (times : ℕ) (old mid new : R) → ReadsSome reads old mid → ReadsOn reads times mid new → ReadsSome reads old new
   on_and_on zero old mid new before same = subst (λ (r : R). ReadsSome reads old r) same before

@@ -1,4 +1,4 @@
-//! Reading octets.
+//! Reading bytes.
 ghost use Rattle.std.specs.Prelude.{◌≡◌, ◌<◌, ◌≤◌, ◌≢◌, length, vec_len, option_map, IfOk, IfErr, IfSome, IfNone};
 ghost use Rattle.std.specs.Prelude.{OnOk, OnErr, IsErrOf, MatchOption, MatchBool, Some, None};
 ghost use Rattle.std.specs.Result.{result_ok};
@@ -14,15 +14,16 @@ use std::io::Read;
 /// The most reads that a text may take.
 pub const MAX_READS: u64 = 33_554_432;
 
-// How much one read may bring.
+// The most bytes of one read.
 const ROOM: usize = 65_536;
 
-// The same where a few octets are asked for.
+// The same for reads that hold only a few bytes at a time.
 const SMALL_ROOM: usize = 4_096;
 
-/// Reads all octets, of which there may be `limit`. `None` says that there are more: one more was read, and the rest is left.
+/// Reads all bytes, at most `limit`. Returns `None` if there are more: one more has been read, and the rest is left.
 ///
-/// A failed read is [`StreamFault::Read`] at once, and so is one read more than [`MAX_READS`]. Where there is no memory, no read failed.
+/// The first failed read is returned as [`StreamFault::Read`], and so is a text whose end isn't found in [`MAX_READS`] reads. If an
+/// allocation fails, the error is [`StreamFault::Memory`], and no read has failed.
 pub fn read_within<R: Read + ReadOnce>(
     alloc: Global,
     reader: &mut R,
@@ -54,9 +55,9 @@ pub fn read_within<R: Read + ReadOnce>(
     Err(StreamFault::Read)
 }
 
-/// Reads some octets to the front of a buffer, and gives their number: 0 at the end, or where the buffer is empty.
+/// Reads some bytes to the front of a buffer, and returns their number: 0 at the end, or if the buffer is empty.
 ///
-/// It reads once; a failed read is [`StreamFault::Read`].
+/// Makes one read. Fails with [`StreamFault::Read`] if that fails.
 pub fn read_some<R: Read + ReadOnce>(
     reader: &mut R,
     buffer: &mut [u8],
@@ -72,10 +73,11 @@ pub fn read_some<R: Read + ReadOnce>(
     }
 }
 
-/// Reads a line with its LF, or what is left where none follows: no octets at the end. Of a line of more than `limit` octets all is
-/// read, and nothing held: it is `None`.
+/// Reads a line with its LF, or what is left if no LF follows: no bytes at the end. Returns `None` for a line of more than `limit`
+/// bytes, LF included; all of it has been read.
 ///
-/// A failed read is [`StreamFault::Read`] at once. Where there is no memory, no read failed.
+/// The first failed read is returned as [`StreamFault::Read`]. If an allocation fails, the error is [`StreamFault::Memory`], and no
+/// read has failed.
 pub fn read_line_within<R: Read + ReadOnce>(
     alloc: Global,
     reader: &mut R,
@@ -105,7 +107,7 @@ pub fn read_line_within<R: Read + ReadOnce>(
     Ok(None)
 }
 
-/// Reads what is left of a line of which this octet was read.
+/// Reads what is left of a line, of which `last` was the last byte read.
 fn pass_line<R: Read + ReadOnce>(reader: &mut R, last: u8) -> Result<(), StreamFault>
     ensures passes { OnOk result (PassesLine last (R.remaining reader.old) (R.remaining reader.new)) }
     ensures fault { IfErr result (λ fault. fault ≡ StreamFault.Read) }
@@ -125,7 +127,7 @@ fn pass_line<R: Read + ReadOnce>(reader: &mut R, last: u8) -> Result<(), StreamF
     Err(StreamFault::Read)
 }
 
-/// Reads one octet; none at the end.
+/// Reads one byte. Returns `None` at the end.
 fn read_octet<R: Read + ReadOnce>(reader: &mut R) -> Result<Option<u8>, StreamFault>
     ensures reads { IfOk result (ReadsOctet (R.remaining reader.old) (R.remaining reader.new)) }
     ensures fault { IfErr result (λ fault. fault ≡ StreamFault.Read) }
@@ -140,9 +142,10 @@ fn read_octet<R: Read + ReadOnce>(reader: &mut R) -> Result<Option<u8>, StreamFa
     Ok(Some(buffer[0]))
 }
 
-/// Reads exactly `count` bytes. `None` says that there were fewer: all that was left has been read then.
+/// Reads exactly `count` bytes. Returns `None` if the input ends first; what was left of it has been read.
 ///
-/// A failed read is [`StreamFault::Read`] at once. Where there is no memory, no read failed.
+/// The first failed read is returned as [`StreamFault::Read`]. If an allocation fails, the error is [`StreamFault::Memory`], and no
+/// read has failed.
 pub fn read_octets<R: Read + ReadOnce>(
     alloc: Global,
     reader: &mut R,
@@ -169,9 +172,10 @@ pub fn read_octets<R: Read + ReadOnce>(
     Ok(Some(octets))
 }
 
-/// Reads past so many octets, of which a few are held at a time. `false` says that there were fewer: all that is left was read then.
+/// Reads past `count` bytes, and holds at most 4,096 of them at a time. Returns `false` if the input ends first; what was left of it has
+/// been read.
 ///
-/// A failed read is [`StreamFault::Read`] at once.
+/// The first failed read is returned as [`StreamFault::Read`].
 pub fn pass_octets<R: Read + ReadOnce>(reader: &mut R, count: u64) -> Result<bool, StreamFault>
     ensures passes { IfOk result (PassesOctets count (R.remaining reader.old) (R.remaining reader.new)) }
     ensures fault { IfErr result (λ fault. fault ≡ StreamFault.Read) }

@@ -1,4 +1,4 @@
-//! Writing octets.
+//! Writing bytes.
 ghost use Rattle.std.specs.Prelude.{◌≡◌, ◌<◌, ◌≤◌, ◌⊎◌, [], length, vec_len, OnOk, OnErr, IfOk, IfErr};
 ghost use Rattle.std.specs.Io.KnownBytes.{Appends, WriteAppends};
 ghost use Rattle.std.specs.Result.{result_ok};
@@ -9,11 +9,11 @@ use crate::fault::StreamFault;
 use crate::once::WriteOnce;
 use std::io::Write;
 
-// How many octets are kept before they are written.
+// How many bytes are kept before they are written.
 const CHUNK: usize = 65_536;
 
-/// Writes all octets. A failed write is [`StreamFault::Write`] at once, and so is one that accepts no octet;
-/// what was written is then a front of them.
+/// Writes all bytes. The first failed write is returned as [`StreamFault::Write`], and so is one that accepts no bytes; a prefix of
+/// them has been written then.
 pub fn write_output<W: Write + WriteOnce>(writer: &mut W, bytes: &[u8]) -> Result<(), StreamFault>
     ensures all { OnOk result (Appends (W.contents writer.old) (W.contents writer.new) bytes.now) }
     ensures front { OnErr result (AppendsFront (W.contents writer.old) (W.contents writer.new) bytes.now) }
@@ -32,9 +32,10 @@ pub fn write_output<W: Write + WriteOnce>(writer: &mut W, bytes: &[u8]) -> Resul
     Ok(())
 }
 
-/// Writes all octets, and has the writer hand them on. A fault is that of [`write_output`]; where handing on fails, all may be written.
+/// Writes all bytes and flushes the writer. Fails as [`write_output`] does, and with [`StreamFault::Write`] if the flush fails: then all
+/// bytes may have been written.
 ///
-/// Nothing is said of how a writer hands octets on (`Write::flush`), nor of what it does after it took the last of them.
+/// Nothing is said of how a writer flushes (`Write::flush`), nor of what it does after it has taken the last byte.
 pub fn write_at_once<W: Write + WriteOnce>(writer: &mut W, bytes: &[u8]) -> Result<(), StreamFault>
     ensures all { OnOk result (Appends (W.contents writer.old) (W.contents writer.new) bytes.now) }
     ensures front { OnErr result (AppendsFront (W.contents writer.old) (W.contents writer.new) bytes.now) }
@@ -49,8 +50,8 @@ pub fn write_at_once<W: Write + WriteOnce>(writer: &mut W, bytes: &[u8]) -> Resu
     }
 }
 
-/// Writes all kept bytes once they are 65,536 or more, and keeps none of them then. A fault is that of [`write_output`]; `kept` is left as
-/// it was.
+/// Writes all bytes of `kept` if they are 65,536 or more, and then empties it; fewer are left as they are. Fails as [`write_output`]
+/// does, and leaves `kept` unchanged then.
 pub fn write_if_many<W: Write + WriteOnce>(
     writer: &mut W,
     kept: &mut Vec<u8>,

@@ -6,7 +6,7 @@ use Rattle.itip_streams.proofs.InARow.{gave_some, one_more}
 use Rattle.itip_streams.proofs.input.read_within.Given.{Over}
 use Rattle.itip_streams.proofs.input.read_within.Goals as goal
 
--- what was read stands behind what there was
+-- what was read comes after what there was
 grown : (g : Over) (c : goal.In_ok-extend_from_slice g) →
     c.extend_from_slice.new.self.items ≡ c.loop.text.items ++ take c.in_ok-count.count c.read_some.new.buffer
 grown g c =
