@@ -133,14 +133,20 @@ def function_at(text, line):
     return max((it for it in functions_in(text) if it.first <= line <= it.last), key=lambda it: it.first, default=None)
 
 
-def body_of(edit):
-    """The file and the only function whose body an edit changes, or None."""
+def bodies_of(edit):
+    """The files and functions whose bodies an edit changes, and None where it changes something else."""
     found = set()
-    for file, old, new in edit.pairs:
+    for file, old, _ in edit.pairs:
         text = repository.text_of(repository.crates()[edit.crate].folder, file)
         at = text[: text.index(old)].count("\n") + 1 if text.count(old) == 1 else 0
         inside = function_at(text, at) if file.startswith("src/") else None
         found.add((file, inside) if inside and inside.body < at < inside.last else None)
+    return found
+
+
+def body_of(edit):
+    """The file and the only function whose body an edit changes, or None."""
+    found = bodies_of(edit)
     return found.pop() if len(found) == 1 else None
 
 
@@ -168,7 +174,7 @@ def how_together(edit, output):
     file, function = body_of(edit)
     folder = re.compile(re.escape(f"proofs/{file[len('src/') :].removesuffix('.rt')}/".replace("proofs/lib/", "proofs/")) + rf"(?:\S*/)?{function.name}/")
     said = [it for it in SAID_AT.findall(output) if it[0] == file and function.first <= int(it[1]) <= function.last]
-    if any("error" in it[2] for it in said):
+    if any(it[2].startswith("error") for it in said):
         return None
     if said:
         return "goal"
@@ -185,11 +191,9 @@ def how_of(edit, said):
     at = re.match(r": refused, as it must be: (?:note: )?(?:\./)?(src/[^:]+):(\d+):", said)
     if not at:
         return "proof"
-    texts, _ = edited(edit)
-    changed = {(file, function_at(texts[file], texts[file][: texts[file].index(new)].count("\n") + 1)) for file, _, new in edit.pairs if new in texts[file]}
-    text = texts.get(at[1]) or repository.text_of(repository.crates()[edit.crate].folder, at[1])
-    goal = at[1], function_at(text, int(at[2]))
-    return "goal" if goal in changed or any(it is None for _, it in changed) else "caller"
+    bodies = bodies_of(edit)
+    is_own = None in bodies or any(at[1] == file and it.first <= int(at[2]) <= it.last for file, it in bodies)
+    return "goal" if is_own else "caller"
 
 
 def noted(edit, how, records):
